@@ -1,0 +1,54 @@
+-- The worked example of document 01, "The page", reads and writes by evaluation, and each of its damaged forms is refused.
+use mathlib.Core.List.{List, [], _∷_}
+use mathlib.Core.Path.{_≡_, refl}
+use Prim.Native.Nat.{ℕ}
+use Rattle.model.specs.declared.Fault.the-variants.{Absent, Shape, Digits, Range, Repeated, Order}
+use Rattle.model.specs.declared.StepLine.{StepLine}
+use Rattle.model.specs.Bytes.{kindOf}
+use Rattle.model.specs.Numbers.{digitsValue, numberShape?, numberOf, digitsUpTo, digits}
+use Rattle.model.specs.Split.{consFirst, split, same?}
+use Rattle.model.specs.Model.{Model, above?, aboveLast?}
+use Rattle.model.specs.Lines.{checked, fieldsFrom, fieldsOf, consNumber, numbersOf, numbersFrom, numbersLine, headFits?, headFrom, headOf, levelOf, allOf, nameByte?, name?, nameFrom, actionFields, used?, actionFrom, actionOf, stepFits?, rising, stepFrom, stepOf}
+use Rattle.model.specs.Reading.{done, faulty, onLine, orFault, readNothing, readEnd, readSteps, readActions, readModel, readText}
+use Rattle.model.specs.Text.{headText, levelByte, actionText, stepText, actionsText, stepsText, textOf}
+
+abbrev step : ℕ → ℕ → ℕ → StepLine
+step p a q = record { source = record { 0 = p }; action = record { 0 = a }; target = record { 0 = q } }
+
+-- 0 scan 1, 0 print 2, 1 scan 1, 2 scan 3; scan is low, print high, close a release
+worked : Model
+worked = record {
+  head = record { states = 4; actions = 3; steps = 4; start = record { 0 = 0 } };
+  actions =
+      record { level = 0; name = 115 ∷ 99 ∷ 97 ∷ 110 ∷ [] }
+      ∷ record { level = 2; name = 112 ∷ 114 ∷ 105 ∷ 110 ∷ 116 ∷ [] }
+      ∷ record { level = 1; name = 99 ∷ 108 ∷ 111 ∷ 115 ∷ 101 ∷ [] }
+      ∷ [];
+  steps = step 0 0 1 ∷ step 0 1 2 ∷ step 1 0 1 ∷ step 2 0 3 ∷ [];
+}
+
+-- M,4,3,4,0 / A,L,scan / A,H,print / A,D,close / S,0,0,1 / S,0,1,2 / S,1,0,1 / S,2,0,3 / E
+text : List ℕ
+text =
+    77 ∷ 44 ∷ 52 ∷ 44 ∷ 51 ∷ 44 ∷ 52 ∷ 44 ∷ 48 ∷ 10
+    ∷ 65 ∷ 44 ∷ 76 ∷ 44 ∷ 115 ∷ 99 ∷ 97 ∷ 110 ∷ 10
+    ∷ 65 ∷ 44 ∷ 72 ∷ 44 ∷ 112 ∷ 114 ∷ 105 ∷ 110 ∷ 116 ∷ 10
+    ∷ 65 ∷ 44 ∷ 68 ∷ 44 ∷ 99 ∷ 108 ∷ 111 ∷ 115 ∷ 101 ∷ 10
+    ∷ 83 ∷ 44 ∷ 48 ∷ 44 ∷ 48 ∷ 44 ∷ 49 ∷ 10
+    ∷ 83 ∷ 44 ∷ 48 ∷ 44 ∷ 49 ∷ 44 ∷ 50 ∷ 10
+    ∷ 83 ∷ 44 ∷ 49 ∷ 44 ∷ 48 ∷ 44 ∷ 49 ∷ 10
+    ∷ 83 ∷ 44 ∷ 50 ∷ 44 ∷ 48 ∷ 44 ∷ 51 ∷ 10
+    ∷ 69 ∷ 10
+    ∷ []
+
+reads : readText text ≡ done worked
+unfolding readText readModel readActions readSteps readEnd readNothing orFault onLine stepOf stepFrom rising stepFits? actionOf actionFrom used? actionFields nameFrom name? nameByte? allOf levelOf headOf headFrom headFits? numbersLine numbersFrom numbersOf consNumber fieldsOf fieldsFrom checked above? aboveLast? same? split consFirst digitsValue numberShape? numberOf kindOf text worked
+reads = refl
+
+writes : textOf worked ≡ text
+unfolding textOf headText actionsText actionText levelByte stepsText stepText digits digitsUpTo text worked
+writes = refl
+
+empty-absent : readText [] ≡ faulty Absent 1
+unfolding readText readModel onLine split
+empty-absent = refl

@@ -1,0 +1,64 @@
+-- The promises of Read and Write.
+-- Document 01, "The operations, in the order of the work", 1 and 8, and both sections on refusals.
+use mathlib.Core.Bool.{cond}
+use mathlib.Core.List.{List, [], _∷_, _++_}
+use mathlib.Core.Option.{Option, none, some}
+use mathlib.Core.Path.{_≡_}
+use Prim.Native.Nat.{ℕ}
+use lib.ListN.{length, take, drop}
+use Rattle.model.specs.declared.read.ReadAnswer.{ReadAnswer}
+use Rattle.model.specs.declared.read.ReadAnswer.the-variants.{Done, ShortList, TooLong, Faulty}
+use Rattle.model.specs.declared.write.WriteAnswer.{WriteAnswer}
+use Rattle.model.specs.declared.write.WriteAnswer.the-variants as write-answer
+use Rattle.model.specs.Limits.{storeLength, outLength}
+use Rattle.model.specs.Faults.{Told, answers, refuses, faultNumber, firstShort}
+use Rattle.model.specs.Model.{Model}
+use Rattle.model.specs.Reading.{Reading, done, tooLong, faulty, readText}
+use Rattle.model.specs.Store.{storeOf, Good}
+
+-- ---- Read: text (no least length), store
+
+-- "Read [..] answer[s] only that [it] succeeded"; else the document's number and place
+unfoldable pub toldRead : ReadAnswer → Told
+toldRead Done = answers []
+toldRead (ShortList place) = refuses 21 place
+toldRead TooLong = refuses 1 0
+toldRead (Faulty fault line) = refuses (faultNumber fault) line
+
+-- the same of a reading: "tested before any line, place 0"; "The place is the line, counted from 1"
+unfoldable pub toldReading : Reading → Told
+toldReading (done m) = answers []
+toldReading tooLong = refuses 1 0
+toldReading (faulty fault line) = refuses (faultNumber fault) line
+
+-- the store after a reading: "Fills the store", or "All lists keep their contents"
+unfoldable pub readingStore : Reading → List ℕ → List ℕ
+readingStore (done m) store = storeOf m ++ drop storeLength store
+readingStore tooLong store = store
+readingStore (faulty fault line) store = store
+
+abbrev pub readLists : List ℕ → List ℕ → Option ℕ
+readLists text store = firstShort 1 (length text ∷ length store ∷ []) (0 ∷ storeLength ∷ [])
+
+pub record ReadPromise (text store : List ℕ) (r : ReadAnswer) (exit : List ℕ) : Type 0 where
+  pub short : (k : ℕ) → readLists text store ≡ some k → (toldRead r ≡ refuses 21 k) × (exit ≡ store)
+  pub told : readLists text store ≡ none → toldRead r ≡ toldReading (readText text)
+  pub filled : readLists text store ≡ none → exit ≡ readingStore (readText text) store
+
+-- ---- Write: store, out
+
+-- "Answers its length"; else the document's number and place
+unfoldable pub toldWrite : WriteAnswer → Told
+toldWrite (write-answer.Written length) = answers (length ∷ [])
+toldWrite (write-answer.ShortList place) = refuses 21 place
+toldWrite write-answer.NotGood = refuses 22 0
+
+abbrev pub writeLists : List ℕ → List ℕ → Option ℕ
+writeLists store out = firstShort 1 (length store ∷ length out ∷ []) (storeLength ∷ outLength ∷ [])
+
+pub record WritePromise (store out : List ℕ) (r : WriteAnswer) (exit : List ℕ) : Type 0 where
+  pub short : (k : ℕ) → writeLists store out ≡ some k → (toldWrite r ≡ refuses 21 k) × (exit ≡ out)
+  pub not-good : writeLists store out ≡ none → ¬ (Good store) → (toldWrite r ≡ refuses 22 0) × (exit ≡ out)
+  -- "The text that reads to the store": whichever text reads to it
+  pub good : writeLists store out ≡ none → (g : Good store)
+      → (toldWrite r ≡ answers (length (g .text) ∷ [])) × (exit ≡ g .text ++ drop (length (g .text)) out)

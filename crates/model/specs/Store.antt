@@ -1,0 +1,46 @@
+-- The model store.
+-- Document 01, "The model store": "3,972 numbers of 16 bits. [..] Unused places are 0."
+use mathlib.Core.List.{List, [], _∷_, _++_}
+use mathlib.Core.Path.{_≡_}
+use Prim.Native.Nat.{ℕ, _-_, _*_}
+use lib.ListN.{length, take, replicate}
+use Rattle.model.specs.declared.Head.{Head}
+use Rattle.model.specs.declared.StepLine.{StepLine}
+use Rattle.model.specs.Limits.{actionLimit, stepLimit, nameLimit, storeLength}
+use Rattle.model.specs.Model.{ActionLine, Model}
+use Rattle.model.specs.Reading.{done, readText}
+
+-- a list with zeros behind it up to n places
+unfoldable pub padded : ℕ → List ℕ → List ℕ
+padded n l = l ++ replicate (n - length l) 0
+
+-- "level (0 L, 1 D, 2 H), name length, twelve name bytes"
+unfoldable pub actionNumbers : ActionLine → List ℕ
+actionNumbers a = a .level ∷ length (a .name) ∷ padded nameLimit (a .name)
+
+unfoldable pub actionsNumbers : List ActionLine → List ℕ
+actionsNumbers [] = []
+actionsNumbers (a ∷ rest) = actionNumbers a ++ actionsNumbers rest
+
+-- "source, action, target"
+unfoldable pub stepsNumbers : List StepLine → List ℕ
+stepsNumbers [] = []
+stepsNumbers (s ∷ ss) = s .source .0 ∷ s .action .0 ∷ s .target .0 ∷ stepsNumbers ss
+
+-- "Places 0 to 3: states, actions, steps, start."
+unfoldable pub headPlaces : Head → List ℕ
+headPlaces h = h .states ∷ h .actions ∷ h .steps ∷ h .start .0 ∷ []
+
+-- the store of a model: 4 places, 64 times 14 from place 4, 1,024 times 3 from place 900
+unfoldable pub storeOf : Model → List ℕ
+storeOf m =
+    headPlaces (m .head)
+    ++ padded (14 * actionLimit) (actionsNumbers (m .actions))
+    ++ padded (3 * stepLimit) (stepsNumbers (m .steps))
+
+-- "A store is good if some text reads to it." A list longer than a store counts by its first 3,972 numbers.
+pub record Good (store : List ℕ) : Type 0 where
+  pub text : List ℕ
+  pub model : Model
+  pub reads : readText text ≡ done model
+  pub stored : storeOf model ≡ take storeLength store

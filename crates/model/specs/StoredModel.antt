@@ -1,0 +1,48 @@
+-- The model that a store holds, read off its places.
+-- Document 01, "The model store".
+use mathlib.Core.List.{List, [], _∷_, _++_}
+use mathlib.Core.Path.{_≡_}
+use Prim.Native.Nat.{ℕ, zero, suc, _+_}
+use lib.ListN.{getD, take, drop}
+use Rattle.model.specs.declared.Head.{Head}
+use Rattle.model.specs.declared.StepLine.{StepLine}
+use Rattle.model.specs.Limits.{storeLength, actionPlace, namePlace, stepPlace}
+use Rattle.model.specs.Model.{ActionLine, Model}
+use Rattle.model.specs.Store.{storeOf}
+use Rattle.model.specs.WellFormed.{WellFormed}
+
+-- "Places 0 to 3: states, actions, steps, start."
+abbrev pub headAt : List ℕ → Head
+headAt s = record { states = getD s 0 0; actions = getD s 1 0; steps = getD s 2 0; start = record { 0 = getD s 3 0 } }
+
+-- "Action i from 4 + 14i: level (0 L, 1 D, 2 H), name length, twelve name bytes."
+abbrev pub actionAt : List ℕ → ℕ → ActionLine
+actionAt s i = record {
+  level = getD s (actionPlace i) 0;
+  name = take (getD s (actionPlace i + 1) 0) (drop (namePlace i) s);
+}
+
+-- "Step j from 900 + 3j: source, action, target."
+abbrev pub stepAt : List ℕ → ℕ → StepLine
+stepAt s j = record {
+  source = record { 0 = getD s (stepPlace j) 0 };
+  action = record { 0 = getD s (stepPlace j + 1) 0 };
+  target = record { 0 = getD s (stepPlace j + 2) 0 };
+}
+
+-- f 0, f 1, up to f (n - 1)
+unfoldable pub listed : {A : Type 0} → ℕ → (ℕ → A) → List A
+listed zero f = []
+listed (suc n) f = listed n f ++ (f n ∷ [])
+
+unfoldable pub modelAt : List ℕ → Model
+modelAt s = record {
+  head = headAt s;
+  actions = listed (getD s 1 0) (actionAt s);
+  steps = listed (getD s 2 0) (stepAt s);
+}
+
+-- a store holds a well-formed model; what follows its 3,972 numbers does not count
+pub record Holds (store : List ℕ) (m : Model) : Type 0 where
+  pub well-formed : WellFormed m
+  pub stored : storeOf m ≡ take storeLength store

@@ -1,0 +1,53 @@
+-- The text of a model.
+-- Document 01, "The text".
+use mathlib.Core.Bool.{cond}
+use mathlib.Core.List.{List, [], _∷_, _++_}
+use Prim.Native.Nat.{ℕ}
+use lib.Dec.{eqb}
+use Rattle.model.specs.declared.Head.{Head}
+use Rattle.model.specs.declared.StepLine.{StepLine}
+use Rattle.model.specs.Numbers.{digits}
+use Rattle.model.specs.Model.{low, release, ActionLine, Model}
+
+-- a field after a comma (44)
+abbrev pub field : List ℕ → List ℕ
+field f = 44 ∷ f
+
+-- `M,states,actions,steps,start` and the line end (10)
+unfoldable pub headText : Head → List ℕ
+headText h =
+    (77 ∷ [])
+    ++ field (digits (h .states))
+    ++ field (digits (h .actions))
+    ++ field (digits (h .steps))
+    ++ field (digits (h .start .0))
+    ++ (10 ∷ [])
+
+-- `L`, `D` or `H`
+unfoldable pub levelByte : ℕ → ℕ
+levelByte level = cond (eqb level low) 76 (cond (eqb level release) 68 72)
+
+-- `A,level,name` and the line end
+unfoldable pub actionText : ActionLine → List ℕ
+actionText a = (65 ∷ []) ++ field (levelByte (a .level) ∷ []) ++ field (a .name) ++ (10 ∷ [])
+
+-- `S,source,action,target` and the line end
+unfoldable pub stepText : StepLine → List ℕ
+stepText s =
+    (83 ∷ [])
+    ++ field (digits (s .source .0))
+    ++ field (digits (s .action .0))
+    ++ field (digits (s .target .0))
+    ++ (10 ∷ [])
+
+unfoldable pub actionsText : List ActionLine → List ℕ
+actionsText [] = []
+actionsText (a ∷ rest) = actionText a ++ actionsText rest
+
+unfoldable pub stepsText : List StepLine → List ℕ
+stepsText [] = []
+stepsText (s ∷ ss) = stepText s ++ stepsText ss
+
+-- the lines in their order, and `E` with its line end
+unfoldable pub textOf : Model → List ℕ
+textOf m = headText (m .head) ++ actionsText (m .actions) ++ stepsText (m .steps) ++ (69 ∷ 10 ∷ [])

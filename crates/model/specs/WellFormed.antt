@@ -1,0 +1,35 @@
+-- The models that a text can state.
+-- Document 01, "The text".
+use mathlib.Core.Bool.{not}
+use mathlib.Core.List.{List, [], _∷_, _++_}
+use mathlib.Core.Path.{_≡_}
+use Prim.Native.Nat.{ℕ, _≤_}
+use lib.Dec.{T}
+use lib.ListN.{length}
+use Rattle.model.specs.declared.Head.{Head}
+use Rattle.model.specs.declared.StepLine.{StepLine}
+use Rattle.model.specs.Model.{high, ActionLine, Model, aboveLast?}
+use Rattle.model.specs.Lines.{headFits?, name?, used?, stepFits?}
+
+-- P holds of each element and the list of those before it, which begins with `before`
+unfoldable pub Each : {A : Type 0} → (List A → A → Type 0) → List A → List A → Type 0
+Each P before [] = Unit {0}
+Each P before (x ∷ xs) = P before x × Each P (before ++ (x ∷ [])) xs
+
+-- "Level is L, D or H. A name is 1 to 12 bytes of a to z and 0 to 9, used once."
+pub record ActionFits (before : List ActionLine) (a : ActionLine) : Type 0 where
+  pub level : a .level ≤ high
+  pub name : T (name? (a .name))
+  pub fresh : T (not (used? (a .name) before))
+
+-- source, action and target are there, and the step stands above the one before it
+pub record StepFits (h : Head) (before : List StepLine) (s : StepLine) : Type 0 where
+  pub in-range : T (stepFits? h s)
+  pub rising : T (aboveLast? before s)
+
+pub record WellFormed (m : Model) : Type 0 where
+  pub head : T (headFits? (m .head))
+  pub action-count : length (m .actions) ≡ m .head .actions
+  pub step-count : length (m .steps) ≡ m .head .steps
+  pub actions : Each ActionFits [] (m .actions)
+  pub steps : Each (StepFits (m .head)) [] (m .steps)

@@ -1,0 +1,5 @@
+// What a number field holds.
+pub enum Number {
+    Value(u32),
+    Bad,
+}

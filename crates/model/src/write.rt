@@ -1,0 +1,6 @@
+// What Write answers.
+pub enum WriteAnswer {
+    Written(usize),
+    ShortList(usize),
+    NotGood,
+}
