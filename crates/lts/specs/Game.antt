@@ -45,7 +45,7 @@ nextRank k (suc r) b = suc r
 -- The least j below k for which p and q are not j-alike, 0 if there is none.
 unfoldable pub rankBelow : ((ℕ → ℕ → Bool) → ℕ → ℕ → Bool) → ℕ → ℕ → ℕ → ℕ
 rankBelow round zero p q = zero
-rankBelow round (suc k) p q = nextRank k (rankBelow round k p q) (alike? round k p q)
+rankBelow round (suc k) p q = let b = alike? round k p q in nextRank k (rankBelow round k p q) b
 
 -- The rank of two of n states, computed: no rank exceeds n - 1 (document 01, "Rank").
 abbrev pub rank : ((ℕ → ℕ → Bool) → ℕ → ℕ → Bool) → ℕ → ℕ → ℕ → ℕ
