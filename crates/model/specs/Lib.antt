@@ -3,8 +3,13 @@ pub mod Decides
 pub mod Bytes
 pub mod BytesLaws
 pub mod Numbers
+pub mod All
+pub mod AllLaws
+pub mod DigitsLaws
 pub mod Split
 pub mod SplitLaws
+pub mod Join
+pub mod JoinLaws
 pub mod Model
 pub mod Faults
 pub mod Lines
