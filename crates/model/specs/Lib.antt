@@ -16,7 +16,14 @@ pub mod Lines
 pub mod Reading
 pub mod Store
 pub mod Text
+pub mod LineText
+pub mod SameLaws
+pub mod FieldsLaws
 pub mod WellFormed
+pub mod Ranges
+pub mod RangesLaws
+pub mod LineTextLaws
+pub mod ActionLineLaws
 pub mod StoredModel
 pub mod Wrote
 pub mod LineAnswers
