@@ -6,7 +6,7 @@ use Prim.Native.Nat.{ℕ, _≤_, _<_}
 use native.Mathlib.Omega.{arith}
 use lib.Dec.{leb, eqb}
 use borrow.Author.Tests.{leb-true, eqb-true, eqb-false, le-leb, lt-leb}
-use Rattle.model.specs.Bytes.{within?, kindOf, digit, smallLetter, comma, lineEnd}
+use Rattle.model.specs.Bytes.{within?, kindOf, digit, smallLetter, capital, comma, lineEnd}
 
 and-true : (s t : Bool) → s && t ≡ true → (s ≡ true) × (t ≡ true)
 and-true true t h = (refl, h)
@@ -69,6 +69,22 @@ tests-smallLetter false false true m e h = absurd (omega arith)
 tests-smallLetter false false false true e h = absurd (omega arith)
 tests-smallLetter false false false false true h = absurd (omega arith)
 tests-smallLetter false false false false false h = absurd (omega arith)
+
+tests-capital : (d s c m e : Bool) → tests d s c m e ≡ capital → c ≡ true
+unfolding tests
+tests-capital true s c m e h = absurd (omega arith)
+tests-capital false true c m e h = absurd (omega arith)
+tests-capital false false true m e h = refl
+tests-capital false false false true e h = absurd (omega arith)
+tests-capital false false false false true h = absurd (omega arith)
+tests-capital false false false false false h = absurd (omega arith)
+
+-- the capitals are bytes 65 to 90
+pub capital-within : (b : ℕ) → kindOf b ≡ capital → (65 ≤ b) × (b ≤ 90)
+unfolding kindOf tests
+capital-within b h =
+    within?-true 65 90 b
+    (tests-capital (within? 48 57 b) (within? 97 122 b) (within? 65 90 b) (eqb b 44) (eqb b 10) h)
 
 -- the small letters are bytes 97 to 122
 pub smallLetter-within : (b : ℕ) → kindOf b ≡ smallLetter → (97 ≤ b) × (b ≤ 122)

@@ -24,6 +24,7 @@ pub mod Ranges
 pub mod RangesLaws
 pub mod LineTextLaws
 pub mod ActionLineLaws
+pub mod TextLaws
 pub mod StoredModel
 pub mod Wrote
 pub mod LineAnswers
