@@ -25,6 +25,9 @@ pub mod RangesLaws
 pub mod LineTextLaws
 pub mod ActionLineLaws
 pub mod TextLaws
+pub mod TextLengthLaws
+pub mod PartsLaws
+pub mod ReadingLaws
 pub mod StoredModel
 pub mod Wrote
 pub mod LineAnswers
