@@ -20,6 +20,8 @@ pub mod LineText
 pub mod SameLaws
 pub mod FieldsLaws
 pub mod WellFormed
+pub mod EachLaws
+pub mod BlocksLaws
 pub mod Ranges
 pub mod RangesLaws
 pub mod LineTextLaws
