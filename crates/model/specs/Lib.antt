@@ -28,8 +28,10 @@ pub mod LineTextLaws
 pub mod ActionLineLaws
 pub mod TextLaws
 pub mod TextLengthLaws
+pub mod StoreLaws
 pub mod PartsLaws
 pub mod ReadingLaws
+pub mod StoredModelLaws
 pub mod StoredModel
 pub mod Wrote
 pub mod LineAnswers
