@@ -32,6 +32,10 @@ pub mod StoreLaws
 pub mod PartsLaws
 pub mod ReadingLaws
 pub mod StoredModelLaws
+pub mod GoodTest
+pub mod GoodTestLaws
+pub mod Above
+pub mod AboveLaws
 pub mod StoredModel
 pub mod Wrote
 pub mod LineAnswers
