@@ -2,11 +2,12 @@
 -- Document 01, "The text" and "The model store". Assumes nothing.
 use mathlib.Core.Bool.{Bool, true, false, not, _&&_}
 use mathlib.Core.List.{List, [], _∷_, _++_}
+use mathlib.Core.Logic.{_⊎_, inl, inr}
 use mathlib.Core.Path.{_≡_, refl, sym, ap, subst}
 use Prim.Native.Nat.{ℕ, _≤_}
-use lib.Dec.{T, leb, eqb, leb→le, le→leb, eqb→eq, eqb-refl}
+use lib.Dec.{T, T-not, leb, eqb, leb→le, le→leb, eqb→eq, eqb-refl}
 use lib.ListN.{length, take}
-use Rattle.lts.specs.TestsLaws.{and-left, and-right, and-intro}
+use Rattle.lts.specs.TestsLaws.{T-cases, and-left, and-right, and-intro}
 use Rattle.model.specs.declared.Head.{Head}
 use Rattle.model.specs.declared.StepLine.{StepLine}
 use Rattle.model.specs.Limits.{storeLength}
@@ -147,3 +148,11 @@ module _ (s : List ℕ) where
   Good→good? g =
       let h = Good→Holds s g in
       and-intro (headFits? (headAt s)) (holds? s) (h .well-formed .head) (Holds→holds? h)
+
+  -- a store is good or it is not
+  pub good-cases : Good s ⊎ (¬ (Good s))
+  good-cases = by-test (T-cases (good? s))
+    where
+      by-test : T (good? s) ⊎ T (not (good? s)) → Good s ⊎ (¬ (Good s))
+      by-test (inl t) = inl (good?→Good t)
+      by-test (inr t) = inr (λ g. T-not (good? s) t (Good→good? g))

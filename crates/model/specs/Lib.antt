@@ -40,4 +40,5 @@ pub mod StoredModel
 pub mod Wrote
 pub mod LineAnswers
 pub mod Promises
+pub mod PromisesLaws
 pub mod Examples
