@@ -6,18 +6,18 @@ use Prim.Native.Nat.{ℕ, _≤_, _<_}
 use native.Mathlib.Omega.{arith}
 use lib.Dec.{leb, eqb}
 use borrow.Author.Tests.{leb-true, eqb-true, eqb-false, le-leb, lt-leb}
-use Rattle.model.specs.Bytes.{within?, kindOf, digit, comma, lineEnd}
+use Rattle.model.specs.Bytes.{between?, kindOf, digit, comma, lineEnd}
 
 and-true : (s t : Bool) → s && t ≡ true → (s ≡ true) × (t ≡ true)
 and-true true t h = (refl, h)
 and-true false t h = let z : true ≡ false = sym h in (h, cc)
 
-pub within?-true : (least most x : ℕ) → within? least most x ≡ true → (least ≤ x) × (x ≤ most)
-within?-true least most x h =
+pub between?-true : (least most x : ℕ) → between? least most x ≡ true → (least ≤ x) × (x ≤ most)
+between?-true least most x h =
     let both = and-true (leb least x) (leb x most) h in (leb-true least x (both .0), leb-true x most (both .1))
 
-pub within?-le : (least most x : ℕ) → least ≤ x → x ≤ most → within? least most x ≡ true
-within?-le least most x h l = rw (le-leb least x h, le-leb x most l)
+pub between?-le : (least most x : ℕ) → least ≤ x → x ≤ most → between? least most x ≡ true
+between?-le least most x h l = rw (le-leb least x h, le-leb x most l)
 
 -- the kind of a byte, by the first of five tests that it passes
 tests : Bool → Bool → Bool → Bool → Bool → ℕ
@@ -36,8 +36,8 @@ tests-digit false false false false false h = absurd (omega arith)
 pub digit-within : (b : ℕ) → kindOf b ≡ digit → (48 ≤ b) × (b ≤ 57)
 unfolding kindOf tests
 digit-within b h =
-    within?-true 48 57 b
-    (tests-digit (within? 48 57 b) (within? 97 122 b) (within? 65 90 b) (eqb b 44) (eqb b 10) h)
+    between?-true 48 57 b
+    (tests-digit (between? 48 57 b) (between? 97 122 b) (between? 65 90 b) (eqb b 44) (eqb b 10) h)
 
 pub digit-kind : (b : ℕ) → 48 ≤ b → b ≤ 57 → kindOf b ≡ digit
 unfolding kindOf

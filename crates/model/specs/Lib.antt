@@ -12,6 +12,7 @@ pub mod Reading
 pub mod Store
 pub mod Text
 pub mod WellFormed
+pub mod System
 pub mod StoredModel
 pub mod Wrote
 pub mod LineAnswers
