@@ -17,7 +17,7 @@ use Rattle.model.specs.Lines.{headFits?, stepFits?}
 use Rattle.model.specs.Above.{Above, withoutStep}
 use Rattle.model.specs.Ranges.{HeadRanges}
 use Rattle.model.specs.RangesLaws.{headFits?→HeadRanges, HeadRanges→headFits?}
-use Rattle.model.specs.WellFormed.{Each, StepFits, WellFormed}
+use Rattle.model.specs.WellFormed.{EachAfter, StepFits, WellFormed}
 use Rattle.model.specs.EachLaws.{each-append, append-each, cons-each, each-of-each, each-without}
 
 -- ---- the order
@@ -131,7 +131,7 @@ aboveLast?-without before s (r ∷ rest) t h k =
     subst T (aboveLast?-append before s (r ∷ rest) t ∙ sym (aboveLast?-append before r rest t)) k
 
 pub steps-without : (h : Head) (before : List StepLine) (s : StepLine) (after : List StepLine)
-    → Each (StepFits h) [] (before ++ (s ∷ after)) → Each (StepFits h) [] (before ++ after)
+    → EachAfter (StepFits h) [] (before ++ (s ∷ after)) → EachAfter (StepFits h) [] (before ++ after)
 steps-without h before s after e =
     let a = append-each (StepFits h) [] before (s ∷ after) e in
     let c = cons-each (StepFits h) before s after (a .1) in
@@ -149,7 +149,7 @@ withoutStep-wellFormed m j w l =
     let c = w .step-count in
     let d : StepLine = record { source = record { 0 = 0 }; action = record { 0 = 0 }; target = record { 0 = 0 } } in
     let k : j < length (m .steps) = omega arith in
-    let e = subst (Each (StepFits (m .head)) []) (split-at (m .steps) j d k) (w .steps) in
+    let e = subst (EachAfter (StepFits (m .head)) []) (split-at (m .steps) j d k) (w .steps) in
     record {
       head = HeadRanges→headFits? h (record {
         states-pos = r .states-pos;

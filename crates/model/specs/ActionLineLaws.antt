@@ -11,9 +11,9 @@ use lib.ListN.{length, getD}
 use borrow.Author.Tests.{eqb-false}
 use Rattle.lts.specs.TestsLaws.{and-left, and-right, or-cases, T→true, not-T→false}
 use Rattle.model.specs.declared.Fault.the-variants.{Shape, Repeated}
-use Rattle.model.specs.Bytes.{kindOf, within?, digit, smallLetter, capital, comma}
+use Rattle.model.specs.Bytes.{kindOf, between?, digit, smallLetter, capital, comma}
 use Rattle.model.specs.Limits.{nameLimit}
-use Rattle.model.specs.RangesLaws.{within?→le}
+use Rattle.model.specs.RangesLaws.{between?→le}
 use Rattle.model.specs.Split.{same?}
 use Rattle.model.specs.SameLaws.{same?→eq, same?-refl}
 use Rattle.model.specs.All.{All}
@@ -24,7 +24,7 @@ use Rattle.model.specs.Lines.{Line, good, bad, checked, fieldsOf, levelO
 use Rattle.model.specs.Text.{levelByte}
 use Rattle.model.specs.WellFormed.{ActionFits}
 use Rattle.model.specs.LineText.{lineOf, lineOfAction}
-use Rattle.model.specs.FieldsLaws.{checked-good, good-checked, fieldsOf-line, line-of-fieldsOf}
+use Rattle.model.specs.JoinedFieldsLaws.{checked-good, good-checked, fieldsOf-line, line-of-fieldsOf}
 
 -- ---- levels
 
@@ -66,11 +66,11 @@ allOf-name (b ∷ bs) t = (by-test (or-cases (eqb (kindOf b) digit) (eqb (kindOf
 
 pub name-bytes : (f : List ℕ) → T (name? f) → All NameByte f
 unfolding name?
-name-bytes f t = allOf-name f (and-right (within? 1 nameLimit (length f)) (allOf nameByte? f) t)
+name-bytes f t = allOf-name f (and-right (between? 1 nameLimit (length f)) (allOf nameByte? f) t)
 
 pub name-length : (f : List ℕ) → T (name? f) → (1 ≤ length f) × (length f ≤ nameLimit)
 unfolding name?
-name-length f t = within?→le 1 nameLimit (length f) (and-left (within? 1 nameLimit (length f)) (allOf nameByte? f) t)
+name-length f t = between?→le 1 nameLimit (length f) (and-left (between? 1 nameLimit (length f)) (allOf nameByte? f) t)
 
 nameByte-without : (b : ℕ) → NameByte b → kindOf b ≡ comma → ⊥
 nameByte-without b (inl e) h = omega arith

@@ -18,7 +18,7 @@ pub mod Store
 pub mod Text
 pub mod LineText
 pub mod SameLaws
-pub mod FieldsLaws
+pub mod JoinedFieldsLaws
 pub mod WellFormed
 pub mod EachLaws
 pub mod BlocksLaws
@@ -36,6 +36,7 @@ pub mod GoodTest
 pub mod GoodTestLaws
 pub mod Above
 pub mod AboveLaws
+pub mod System
 pub mod StoredModel
 pub mod Wrote
 pub mod LineAnswers

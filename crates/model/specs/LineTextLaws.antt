@@ -19,7 +19,7 @@ use Rattle.model.specs.Ranges.{HeadRanges}
 use Rattle.model.specs.RangesLaws.{headFits?→HeadRanges, stepFits?→StepRanges}
 use Rattle.model.specs.WellFormed.{StepFits}
 use Rattle.model.specs.LineText.{lineOf, lineOfHead, stepPlaces, lineOfStep}
-use Rattle.model.specs.FieldsLaws.{checked-good, good-checked, Small, numbersLine-line, line-of-numbersLine}
+use Rattle.model.specs.JoinedFieldsLaws.{checked-good, good-checked, Small, numbersLine-line, line-of-numbersLine}
 
 -- ---- `M,states,actions,steps,start`
 

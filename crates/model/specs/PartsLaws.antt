@@ -26,7 +26,7 @@ use Rattle.model.specs.Model.{ActionLine, Model}
 use Rattle.model.specs.Lines.{Line, good, bad, headOf, actionOf, stepOf}
 use Rattle.model.specs.Reading.{Reading, done, tooLong, faulty, onLine, orFault, readNothing, readEnd, readSteps, readActions, headModel, readModel, readText}
 use Rattle.model.specs.Text.{textOf}
-use Rattle.model.specs.WellFormed.{Each, ActionFits, StepFits, WellFormed}
+use Rattle.model.specs.WellFormed.{EachAfter, ActionFits, StepFits, WellFormed}
 use Rattle.model.specs.RangesLaws.{headFits?→HeadRanges}
 use Rattle.model.specs.LineText.{lineOfHead, lineOfAction, lineOfStep, partsOf}
 use Rattle.model.specs.LineTextLaws.{headOf-line, line-of-headOf, stepOf-line, line-of-stepOf}
@@ -63,9 +63,9 @@ module _ {A : Type 0} (line : A → List ℕ) (Fits : List A → A → Type 0) (
     (read-suc : (n k : ℕ) (before : List A) (parts : List (List ℕ)) → read (suc n) k before parts
     ≡ onLine k parts (λ l rest. orFault k (of before l) (λ x. read n (suc k) (before ++ (x ∷ [])) rest))) where
   lines-read : ((before : List A) (x : A) → Fits before x → of before (line x) ≡ good x)
-      → (xs : List A) (k : ℕ) (before : List A) (parts : List (List ℕ)) → 0 < length parts → Each Fits before xs
+      → (xs : List A) (k : ℕ) (before : List A) (parts : List (List ℕ)) → 0 < length parts → EachAfter Fits before xs
       → read (length xs) k before (map line xs ++ parts) ≡ read 0 (k + length xs) (before ++ xs) parts
-  unfolding Each orFault
+  unfolding EachAfter orFault
   lines-read reads [] k before parts l e = let z : k + 0 ≡ k = omega arith in rw (append-nil, z)
   lines-read reads (x ∷ xs) k before parts l e =
       let n : 0 < length (map line xs ++ parts) = simp length-append (omega arith) in
@@ -82,9 +82,9 @@ module _ {A : Type 0} (line : A → List ℕ) (Fits : List A → A → Type 0) (
 
   lines-of-done : ((before : List A) (l : List ℕ) (x : A) → of before l ≡ good x → (l ≡ line x) × Fits before x)
       → (n k : ℕ) (before : List A) (parts : List (List ℕ)) (m : Model) → read n k before parts ≡ done m
-      → (xs : List A) × (rest : List (List ℕ)) × (length xs ≡ n) × (parts ≡ map line xs ++ rest) × Each Fits before xs
+      → (xs : List A) × (rest : List (List ℕ)) × (length xs ≡ n) × (parts ≡ map line xs ++ rest) × EachAfter Fits before xs
       × (read 0 (k + n) (before ++ xs) rest ≡ done m)
-  unfolding Each
+  unfolding EachAfter
   lines-of-done states zero k before parts m h =
       let z : k + 0 ≡ k = omega arith in
       ([], parts, refl, refl, tt, rw (append-nil, z) h)

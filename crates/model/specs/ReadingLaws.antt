@@ -27,7 +27,7 @@ use Rattle.model.specs.Model.{ActionLine, Model}
 use Rattle.model.specs.Lines.{Line, good, bad, headOf, actionOf, stepOf}
 use Rattle.model.specs.Reading.{Reading, done, tooLong, faulty, onLine, orFault, readNothing, readEnd, readSteps, readActions, headModel, readModel, readText}
 use Rattle.model.specs.Text.{textOf}
-use Rattle.model.specs.WellFormed.{Each, ActionFits, StepFits, WellFormed}
+use Rattle.model.specs.WellFormed.{EachAfter, ActionFits, StepFits, WellFormed}
 use Rattle.model.specs.RangesLaws.{headFits?→HeadRanges}
 use Rattle.model.specs.LineText.{lineOfHead, lineOfAction, lineOfStep, partsOf}
 use Rattle.model.specs.LineTextLaws.{headOf-line, line-of-headOf, stepOf-line, line-of-stepOf}

@@ -17,7 +17,7 @@ use Rattle.model.specs.AllLaws.{all-append, all-of-all}
 use Rattle.model.specs.Model.{ActionLine, Model}
 use Rattle.model.specs.Lines.{name?}
 use Rattle.model.specs.Store.{padded, actionNumbers, actionsNumbers, stepsNumbers, headPlaces, storeOf}
-use Rattle.model.specs.WellFormed.{Each, ActionFits, StepFits, WellFormed}
+use Rattle.model.specs.WellFormed.{EachAfter, ActionFits, StepFits, WellFormed}
 use Rattle.model.specs.EachLaws.{all-of-each}
 use Rattle.model.specs.BlocksLaws.{padded-append, padded-length, padded-all, blocks-length, blocks-drop}
 use Rattle.model.specs.Ranges.{HeadRanges}
@@ -31,14 +31,14 @@ pub actionNumbers-length : (a : ActionLine) → T (name? (a .name)) → length (
 unfolding actionNumbers
 actionNumbers-length a t = let n = name-length (a .name) t in rw (padded-length nameLimit (a .name) (n .1))
 
-actions-width : (before acts : List ActionLine) → Each ActionFits before acts → All (λ a. length (actionNumbers a) ≡ 14) acts
+actions-width : (before acts : List ActionLine) → EachAfter ActionFits before acts → All (λ a. length (actionNumbers a) ≡ 14) acts
 actions-width = all-of-each ActionFits (λ a. length (actionNumbers a) ≡ 14) (λ b a f. actionNumbers-length a (f .name))
 
 steps-width : (ss : List StepLine) → All (λ s. length (stepPlaces s) ≡ 3) ss
 steps-width [] = tt
 steps-width (s ∷ ss) = (refl, steps-width ss)
 
-pub actionsNumbers-length : (before acts : List ActionLine) → Each ActionFits before acts
+pub actionsNumbers-length : (before acts : List ActionLine) → EachAfter ActionFits before acts
     → length (actionsNumbers acts) ≡ 14 * length acts
 unfolding actionsNumbers
 actionsNumbers-length before acts e =

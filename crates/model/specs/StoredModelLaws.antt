@@ -140,5 +140,5 @@ good-text s g = textOf-of-readText (g .text) (g .model) (g .reads) .1 ∙ ap tex
 pub good-text-unique : (s : List ℕ) (g k : Good s) → g .text ≡ k .text
 good-text-unique s g k = good-text s g ∙ sym (good-text s k)
 
-pub wellFormed-of-good : (s : List ℕ) → Good s → WellFormed (modelAt s)
-wellFormed-of-good s g = Good→Holds s g .well-formed
+pub good-well-formed : (s : List ℕ) → Good s → WellFormed (modelAt s)
+good-well-formed s g = Good→Holds s g .well-formed

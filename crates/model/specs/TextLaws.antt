@@ -22,7 +22,7 @@ use Rattle.model.specs.Model.{ActionLine, Model}
 use Rattle.model.specs.Lines.{name?}
 use Rattle.model.specs.Text.{headText, levelByte, actionText, stepText, actionsText, stepsText, textOf}
 use Rattle.model.specs.Store.{headPlaces}
-use Rattle.model.specs.WellFormed.{Each, ActionFits, WellFormed}
+use Rattle.model.specs.WellFormed.{EachAfter, ActionFits, WellFormed}
 use Rattle.model.specs.LineText.{lineOf, lineOfHead, lineOfAction, stepPlaces, lineOfStep, partsOf}
 use Rattle.model.specs.ActionLineLaws.{NameByte, name-bytes, levelByte-capital}
 
@@ -126,8 +126,8 @@ steps-lineBytes : (ss : List StepLine) → All (All LineByte) (map lineOfStep ss
 steps-lineBytes [] = tt
 steps-lineBytes (s ∷ ss) = (lineOfStep-lineBytes s, steps-lineBytes ss)
 
-actions-lineBytes : (before rest : List ActionLine) → Each ActionFits before rest → All (All LineByte) (map lineOfAction rest)
-unfolding Each
+actions-lineBytes : (before rest : List ActionLine) → EachAfter ActionFits before rest → All (All LineByte) (map lineOfAction rest)
+unfolding EachAfter
 actions-lineBytes before [] e = tt
 actions-lineBytes before (a ∷ rest) e = (lineOfAction-lineBytes a (e .0 .name), actions-lineBytes (before ++ (a ∷ [])) rest (e .1))
 
