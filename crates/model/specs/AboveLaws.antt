@@ -4,7 +4,7 @@ use mathlib.Core.Bool.{Bool, _&&_, _||_}
 use mathlib.Core.List.{List, [], _∷_, _++_, append-nil}
 use mathlib.Core.Logic.{_⊎_, inl, inr}
 use mathlib.Core.Path.{_≡_, refl, sym, subst, _∙_}
-use Prim.Native.Nat.{ℕ, suc, _+_, _-_, _≤_, _<_}
+use Prim.Native.Nat.{ℕ, suc, _+_, _≤_, _<_}
 use native.Mathlib.Omega.{arith}
 use lib.Dec.{T, ltb, eqb, ltb→lt, lt→ltb, eqb→eq, eqb-refl}
 use lib.ListN.{length, getD, take, drop, length-append, length-take, length-drop}
@@ -136,9 +136,9 @@ steps-without h before s after e =
     let a = append-each (StepFits h) [] before (s ∷ after) e in
     let c = cons-each (StepFits h) before s after (a .1) in
     let w =
-        each-without (StepFits h) before s (c .0)
-        (λ ws t f. record { in-range = f .in-range; rising = aboveLast?-without before s ws t (c .0 .rising) (f .rising) })
-        [] after (c .1) in
+    each-without (StepFits h) before s (c .0)
+    (λ ws t f. record { in-range = f .in-range; rising = aboveLast?-without before s ws t (c .0 .rising) (f .rising) })
+    [] after (c .1) in
     each-append (StepFits h) [] before after (a .0) (rw append-nil at w)
 
 pub withoutStep-wellFormed : (m : Model) (j : ℕ) → WellFormed m → j < m .head .steps → WellFormed (withoutStep m j)

@@ -3,24 +3,23 @@
 use mathlib.Core.Bool.{Bool, true, false, cond, not}
 use mathlib.Core.List.{List, [], _∷_}
 use mathlib.Core.Logic.{_⊎_, inl, inr}
-use mathlib.Core.Path.{_≡_, refl, sym, ap, _∙_, subst}
-use Prim.Native.Nat.{ℕ, zero, suc, _≤_, _<_}
+use mathlib.Core.Path.{_≡_, refl, ap, _∙_, subst}
+use Prim.Native.Nat.{ℕ, zero, suc, _≤_}
 use native.Mathlib.Omega.{arith}
 use lib.Dec.{T, eqb, eqb→eq}
 use lib.ListN.{length, getD}
 use borrow.Author.Tests.{eqb-false}
-use Rattle.lts.specs.TestsLaws.{and-left, and-right, or-cases, T→true, not-T→false}
+use Rattle.lts.specs.TestsLaws.{and-left, and-right, or-cases, not-T→false}
 use Rattle.model.specs.declared.Fault.the-variants.{Shape, Repeated}
 use Rattle.model.specs.Bytes.{kindOf, between?, digit, smallLetter, capital, comma}
 use Rattle.model.specs.Limits.{nameLimit}
 use Rattle.model.specs.RangesLaws.{between?→le}
 use Rattle.model.specs.Split.{same?}
-use Rattle.model.specs.SameLaws.{same?→eq, same?-refl}
+use Rattle.model.specs.SameLaws.{same?→eq}
 use Rattle.model.specs.All.{All}
 use Rattle.model.specs.AllLaws.{all-of-all}
-use Rattle.model.specs.Join.{Without}
 use Rattle.model.specs.Model.{low, release, high, ActionLine}
-use Rattle.model.specs.Lines.{Line, good, bad, checked, fieldsOf, levelOf, allOf, nameByte?, name?, nameFrom, used?, actionFields, actionFrom, actionOf}
+use Rattle.model.specs.Lines.{Line, good, bad, fieldsOf, levelOf, allOf, nameByte?, name?, nameFrom, used?, actionFields, actionFrom, actionOf}
 use Rattle.model.specs.Text.{levelByte}
 use Rattle.model.specs.WellFormed.{ActionFits}
 use Rattle.model.specs.LineText.{lineOf, lineOfAction}

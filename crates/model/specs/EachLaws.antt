@@ -1,7 +1,6 @@
 -- Laws of `EachAfter`: what holds of each element and of the list of those before it.
 -- Assumes nothing.
 use mathlib.Core.List.{List, [], _∷_, _++_, append-assoc, append-nil}
-use mathlib.Core.Path.{_≡_, refl, sym, subst}
 use Prim.Native.Nat.{ℕ, zero, suc, _<_}
 use native.Mathlib.Omega.{arith}
 use lib.ListN.{length, getD, take}
@@ -60,9 +59,10 @@ module _ {A : Type 0} (P : List A → A → Type 0) where
       → EachAfter P before xs
   unfolding EachAfter
   getD-each before [] d h = tt
-  getD-each before (x ∷ xs) d h =
-      (rw append-nil at (h 0 (omega arith)),
-        getD-each (before ++ (x ∷ [])) xs d (λ i l. rw append-assoc (h (suc i) (omega arith))))
+  getD-each before (x ∷ xs) d h = (
+    rw append-nil at (h 0 (omega arith)),
+    getD-each (before ++ (x ∷ [])) xs d (λ i l. rw append-assoc (h (suc i) (omega arith))),
+  )
 
   -- what follows from P of an element alone holds of each
   pub all-of-each : (Q : A → Type 0) → ((before : List A) (x : A) → P before x → Q x) → (before xs : List A)

@@ -1,6 +1,6 @@
 -- Tests that compute: whether a model is well-formed, and whether a store is good.
 -- Document 01, "The text" and "The model store".
-use mathlib.Core.Bool.{Bool, true, false, not, _&&_}
+use mathlib.Core.Bool.{Bool, true, not, _&&_}
 use mathlib.Core.List.{List, [], _∷_, _++_}
 use Prim.Native.Nat.{ℕ}
 use lib.Dec.{leb, eqb}

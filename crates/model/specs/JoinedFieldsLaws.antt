@@ -3,7 +3,7 @@
 use mathlib.Core.Bool.{Bool, true, false, _&&_}
 use mathlib.Core.List.{List, [], _∷_, map}
 use mathlib.Core.Path.{_≡_, refl, sym, ap, _∙_, subst}
-use Prim.Native.Nat.{ℕ, zero, suc, _<_}
+use Prim.Native.Nat.{ℕ, _<_}
 use native.Mathlib.Omega.{arith}
 use lib.Dec.{T, eqb, eqb→eq, eqb-refl}
 use lib.ListN.{length, length-map}
@@ -17,11 +17,11 @@ use Rattle.model.specs.Bytes.{kindOf, digit, comma}
 use Rattle.model.specs.BytesLaws.{comma-only}
 use Rattle.model.specs.Numbers.{numberOf, digits}
 use Rattle.model.specs.DigitsLaws.{digits-digit, numberOf-digits, digits-of-numberOf}
-use Rattle.model.specs.Split.{split, same?}
+use Rattle.model.specs.Split.{same?}
 use Rattle.model.specs.SplitLaws.{split-first}
 use Rattle.model.specs.SameLaws.{same?→eq, same?-refl}
 use Rattle.model.specs.All.{All}
-use Rattle.model.specs.AllLaws.{all-of-all, all-map}
+use Rattle.model.specs.AllLaws.{all-of-all}
 use Rattle.model.specs.Join.{join, Without}
 use Rattle.model.specs.JoinLaws.{split-join, join-split}
 use Rattle.model.specs.Lines.{Line, good, bad, checked, fieldsFrom, fieldsOf, consNumber, numbersOf, numbersFrom, numbersLine}
@@ -92,9 +92,10 @@ digits-of-numbersOf (f ∷ fs) ns h =
 -- digits hold nothing but digits
 pub digits-without : (kind : ℕ) → (digit ≡ kind → ⊥) → (ns : List ℕ) → All (Without kind) (map digits ns)
 digits-without kind h [] = tt
-digits-without kind h (n ∷ ns) =
-    (all-of-all (λ b. kindOf b ≡ digit) (λ b. kindOf b ≡ kind → ⊥) (λ b e f. h (sym e ∙ f)) (digits n) (digits-digit n),
-      digits-without kind h ns)
+digits-without kind h (n ∷ ns) = (
+  all-of-all (λ b. kindOf b ≡ digit) (λ b. kindOf b ≡ kind → ⊥) (λ b e f. h (sym e ∙ f)) (digits n) (digits-digit n),
+  digits-without kind h ns,
+)
 
 module _ (letter : ℕ) (ns : List ℕ) where
   pub numbersLine-line : (kindOf letter ≡ comma → ⊥) → Small ns → numbersLine letter (length ns) (lineOf letter (map digits ns)) ≡ good ns

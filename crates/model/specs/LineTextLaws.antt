@@ -2,7 +2,7 @@
 -- Document 01, "The text". Assumes nothing.
 use mathlib.Core.List.{List, [], _∷_, map}
 use mathlib.Core.Path.{_≡_, refl, sym, ap, _∙_, subst}
-use Prim.Native.Nat.{ℕ, _≤_, _<_}
+use Prim.Native.Nat.{ℕ}
 use native.Mathlib.Omega.{arith}
 use lib.Dec.{T}
 use lib.ListN.{length}
@@ -84,11 +84,13 @@ module _ (h : Head) (before : List StepLine) where
       by-range ns (good t) e g =
           let c = good-checked Range (stepFits? h (stepNumbers ns)) (stepNumbers ns) t e in
           let d = good-checked Order (aboveLast? before t) t s g in
-          let k = c .1 ∙ d .1 in
-          (k, record {
-            in-range = subst (λ (x : StepLine). T (stepFits? h x)) k (c .0);
-            rising = subst (λ (x : StepLine). T (aboveLast? before x)) (d .1) (d .0);
-          })
+          let k = c .1 ∙ d .1 in (
+            k,
+            record {
+              in-range = subst (λ (x : StepLine). T (stepFits? h x)) k (c .0);
+              rising = subst (λ (x : StepLine). T (aboveLast? before x)) (d .1) (d .0);
+            },
+          )
       by-range ns (bad fault) e g = let z : _≡_ {A = ℕ} 0 1 = cc in absurd (omega arith)
 
       by-numbers : (l : Line (List ℕ)) → numbersLine 83 3 line ≡ l → stepFrom h before l ≡ good s

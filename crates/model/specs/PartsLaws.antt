@@ -3,36 +3,23 @@
 use mathlib.Core.Bool.{Bool, true, false, cond}
 use mathlib.Core.List.{List, [], _∷_, _++_, map, append-assoc, append-nil}
 use mathlib.Core.Path.{_≡_, refl, sym, ap, _∙_, subst}
-use Prim.Native.Nat.{ℕ, zero, suc, _+_, _≤_, _<_}
+use Prim.Native.Nat.{ℕ, zero, suc, _+_, _<_}
 use native.Mathlib.Omega.{arith}
-use lib.Dec.{T, ltb}
+use lib.Dec.{T}
 use lib.ListN.{length, length-append}
-use borrow.Author.Tests.{le-ltb}
-use Rattle.lts.specs.TestsLaws.{T→true}
-use Rattle.model.specs.declared.Fault.{Fault}
 use Rattle.model.specs.declared.Fault.the-variants.{Shape}
 use Rattle.model.specs.declared.Head.{Head}
 use Rattle.model.specs.declared.StepLine.{StepLine}
-use Rattle.model.specs.Bytes.{kindOf, lineEnd}
-use Rattle.model.specs.BytesLaws.{lineEnd-only}
-use Rattle.model.specs.Limits.{textLimit, outLength}
-use Rattle.model.specs.Split.{split, same?}
+use Rattle.model.specs.Split.{same?}
 use Rattle.model.specs.SameLaws.{same?→eq}
-use Rattle.model.specs.All.{All}
-use Rattle.model.specs.AllLaws.{all-of-all}
-use Rattle.model.specs.Join.{join, Without}
-use Rattle.model.specs.JoinLaws.{all-join, split-join, join-split}
 use Rattle.model.specs.Model.{ActionLine, Model}
 use Rattle.model.specs.Lines.{Line, good, bad, headOf, actionOf, stepOf}
-use Rattle.model.specs.Reading.{Reading, done, tooLong, faulty, onLine, orFault, readNothing, readEnd, readSteps, readActions, headModel, readModel, readText}
-use Rattle.model.specs.Text.{textOf}
+use Rattle.model.specs.Reading.{Reading, done, faulty, onLine, orFault, readNothing, readEnd, readSteps, readActions, readModel}
 use Rattle.model.specs.WellFormed.{EachAfter, ActionFits, StepFits, WellFormed}
 use Rattle.model.specs.RangesLaws.{headFits?→HeadRanges}
 use Rattle.model.specs.LineText.{lineOfHead, lineOfAction, lineOfStep, partsOf}
 use Rattle.model.specs.LineTextLaws.{headOf-line, line-of-headOf, stepOf-line, line-of-stepOf}
 use Rattle.model.specs.ActionLineLaws.{actionOf-line, line-of-actionOf}
-use Rattle.model.specs.TextLaws.{textOf-parts, LineByte, partsOf-lineBytes}
-use Rattle.model.specs.TextLengthLaws.{textOf-length-le}
 
 -- ---- a line, if it is there and good
 
@@ -144,11 +131,11 @@ readModel-parts m w =
     let k : 0 < length from-steps = simp length-append (omega arith) in
     let l : 0 < length (map lineOfAction (m .actions) ++ from-steps) = simp length-append (omega arith) in
     let actions =
-        lines-read lineOfAction ActionFits actionOf (actionsRead h) (λ n j b p. refl)
-        actionOf-line (m .actions) 2 [] from-steps k (w .actions) in
+    lines-read lineOfAction ActionFits actionOf (actionsRead h) (λ n j b p. refl)
+    actionOf-line (m .actions) 2 [] from-steps k (w .actions) in
     let steps =
-        lines-read lineOfStep (StepFits h) (stepOf h) (stepsRead h (m .actions)) (λ n j b p. refl)
-        (λ b s. stepOf-line h b s r) (m .steps) (2 + length (m .actions)) [] last (omega arith) (w .steps) in
+    lines-read lineOfStep (StepFits h) (stepOf h) (stepsRead h (m .actions)) (λ n j b p. refl)
+    (λ b s. stepOf-line h b s r) (m .steps) (2 + length (m .actions)) [] last (omega arith) (w .steps) in
     onLine-cons 1 (lineOfHead h) (map lineOfAction (m .actions) ++ from-steps) _ l
     ∙ rw (headOf-line h (w .head), orFault)
     (ap (λ (n : ℕ). actionsRead h n 2 [] (map lineOfAction (m .actions) ++ from-steps)) (sym (w .action-count))
@@ -173,12 +160,13 @@ partsOf-of-readModel parts m q =
     let h = f .0 in
     let l = line-of-headOf (o .0) h (f .1) in
     let a =
-        lines-of-done lineOfAction ActionFits actionOf (actionsRead h) (λ n j b p. refl)
-        line-of-actionOf (h .actions) 2 [] (o .1) m (f .2) in
+    lines-of-done lineOfAction ActionFits actionOf (actionsRead h) (λ n j b p. refl)
+    line-of-actionOf (h .actions) 2 [] (o .1) m (f .2) in
     let s =
-        lines-of-done lineOfStep (StepFits h) (stepOf h) (stepsRead h (a .0)) (λ n j b p. refl)
-        (line-of-stepOf h) (h .steps) (2 + h .actions) [] (a .1) m (a .5) in
+    lines-of-done lineOfStep (StepFits h) (stepOf h) (stepsRead h (a .0)) (λ n j b p. refl)
+    (line-of-stepOf h) (h .steps) (2 + h .actions) [] (a .1) m (a .5) in
     let e = readEnd-done (2 + h .actions + h .steps) (record { head = h; actions = a .0; steps = s .0 }) m (s .1) (s .5) in
-    subst (λ (n : Model). WellFormed n × (parts ≡ partsOf n)) (e .1)
-    (record { head = l .1; action-count = a .2; step-count = s .2; actions = a .4; steps = s .4 },
-      stated parts h (a .0) (s .0) (o .0) (o .1) (a .1) (o .2) (l .0) (a .3) (s .3 ∙ ap (λ (x : List (List ℕ)). map lineOfStep (s .0) ++ x) (e .0)))
+    subst (λ (n : Model). WellFormed n × (parts ≡ partsOf n)) (e .1) (
+      record { head = l .1; action-count = a .2; step-count = s .2; actions = a .4; steps = s .4 },
+      stated parts h (a .0) (s .0) (o .0) (o .1) (a .1) (o .2) (l .0) (a .3) (s .3 ∙ ap (λ (x : List (List ℕ)). map lineOfStep (s .0) ++ x) (e .0)),
+    )

@@ -7,7 +7,7 @@ use mathlib.Core.Path.{_≡_, refl, sym, ap, _∙_, subst}
 use Prim.Native.Nat.{ℕ, _+_, _≤_}
 use native.Mathlib.Omega.{arith}
 use lib.ListN.{length, take, drop, length-append, length-drop}
-use lib.Seq.{take-at, drop-at}
+use lib.Seq.{take-at}
 use borrow.Author.Tests.{le-ltb}
 use Rattle.model.specs.Limits.{storeLength, outLength}
 use Rattle.model.specs.Faults.{Told, answers, firstShort}
@@ -133,10 +133,11 @@ read-after-write store out exit n store′ told exit′ l k j p q =
         let s = a .0 in
         let c : length (g .text) ≡ n = cc in
         let b : take n exit ≡ g .text = ap (take n) (a .1) ∙ take-at (g .text) _ n c in
-        let d : readText (take n exit) ≡ done (g .model) = ap readText b ∙ g .reads in
-        (q .answer f ∙ ap toldReading d,
+        let d : readText (take n exit) ≡ done (g .model) = ap readText b ∙ g .reads in (
+          q .answer f ∙ ap toldReading d,
           q .filled f ∙ ap (λ (x : Reading). readingStore x store′) d
-          ∙ ap (λ (x : List ℕ). x ++ drop storeLength store′) (g .stored))
+              ∙ ap (λ (x : List ℕ). x ++ drop storeLength store′) (g .stored),
+        )
     go e f (inr c) =
         let a = p .not-good e c .0 in
         let z : _≡_ {A = ℕ} 0 1 = cc in

@@ -1,7 +1,7 @@
 -- The tests of ranges decide them.
 -- Document 01, "The text". Assumes nothing.
 use mathlib.Core.Bool.{Bool, _&&_}
-use Prim.Native.Nat.{ℕ, _≤_, _<_}
+use Prim.Native.Nat.{ℕ, _≤_}
 use lib.Dec.{T, leb, ltb, leb→le, le→leb, ltb→lt, lt→ltb}
 use Rattle.lts.specs.TestsLaws.{and-left, and-right, and-intro}
 use Rattle.model.specs.declared.Head.{Head}

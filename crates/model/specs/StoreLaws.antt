@@ -1,14 +1,13 @@
 -- The store of a well-formed model: its length, its numbers, and where each action and step of the model stands.
 -- Document 01, "The model store". Assumes nothing.
 use mathlib.Core.List.{List, [], _∷_, _++_, append-assoc}
-use mathlib.Core.Logic.{_⊎_, inl, inr}
-use mathlib.Core.Path.{_≡_, refl, sym, ap, _∙_}
-use Prim.Native.Nat.{ℕ, zero, suc, _+_, _-_, _*_, _≤_, _<_}
+use mathlib.Core.Logic.{inl, inr}
+use mathlib.Core.Path.{_≡_, refl, ap, _∙_}
+use Prim.Native.Nat.{ℕ, _+_, _-_, _*_, _<_}
 use native.Mathlib.Omega.{arith}
 use lib.Dec.{T, lit<}
 use lib.ListN.{length, getD, drop, replicate, length-append}
 use lib.Seq.{drop-append-add}
-use Rattle.model.specs.declared.Head.{Head}
 use Rattle.model.specs.declared.StepLine.{StepLine}
 use Rattle.model.specs.Limits.{actionLimit, stepLimit, nameLimit, storeLength, actionPlace, stepPlace}
 use Rattle.model.specs.BytesLaws.{digit-within, smallLetter-within}
@@ -105,9 +104,9 @@ storeOf-words m w =
     let head : All Word (headPlaces (m .head)) = (omega arith, (omega arith, (omega arith, (omega arith, tt)))) in
     let actions = all-of-each ActionFits (λ a. All Word (actionNumbers a)) actionNumbers-words [] (m .actions) (w .actions) in
     let steps =
-        all-of-each (StepFits (m .head)) (λ s. All Word (stepPlaces s))
-        (λ b s f. let u = stepFits?→StepRanges (m .head) s (f .in-range) in (omega arith, (omega arith, (omega arith, tt))))
-        [] (m .steps) (w .steps) in
+    all-of-each (StepFits (m .head)) (λ s. All Word (stepPlaces s))
+    (λ b s f. let u = stepFits?→StepRanges (m .head) s (f .in-range) in (omega arith, (omega arith, (omega arith, tt))))
+    [] (m .steps) (w .steps) in
     let actions-part : List ℕ = padded (14 * actionLimit) (actionsNumbers (m .actions)) in
     let actions-words = padded-all Word (lit< tt) (14 * actionLimit) (actionsNumbers (m .actions)) (actionsNumbers-words (m .actions) actions) in
     let steps-part : List ℕ = padded (3 * stepLimit) (stepsNumbers (m .steps)) in
@@ -125,10 +124,10 @@ module _ (m : Model) (w : WellFormed m) (rest : List ℕ) where
       let steps : List ℕ = padded (3 * stepLimit) (stepsNumbers (m .steps)) ++ rest in
       let zeros : List ℕ = replicate (14 * actionLimit - length (actionsNumbers (m .actions))) 0 in
       let b =
-          blocks-drop actionNumbers actionsNumbers 14 refl (λ a acts. refl) (m .actions) i d (zeros ++ steps)
-          (actions-width [] (m .actions) (w .actions)) h in
+      blocks-drop actionNumbers actionsNumbers 14 refl (λ a acts. refl) (m .actions) i d (zeros ++ steps)
+      (actions-width [] (m .actions) (w .actions)) h in
       let e : storeOf m ++ rest ≡ headPlaces (m .head) ++ (actionsNumbers (m .actions) ++ (zeros ++ steps)) =
-          simp (append-assoc, padded-append) in
+      simp (append-assoc, padded-append) in
       (b .0, ap (drop (actionPlace i)) e ∙ drop-append-add (headPlaces (m .head)) _ (14 * i) ∙ b .1)
 
   pub storeOf-step : (j : ℕ) (d : StepLine) → j < length (m .steps)
@@ -138,7 +137,7 @@ module _ (m : Model) (w : WellFormed m) (rest : List ℕ) where
       let before : List ℕ = headPlaces (m .head) ++ padded (14 * actionLimit) (actionsNumbers (m .actions)) in
       let zeros : List ℕ = replicate (3 * stepLimit - length (stepsNumbers (m .steps))) 0 in
       let b =
-          blocks-drop stepPlaces stepsNumbers 3 refl (λ s ss. refl) (m .steps) j d (zeros ++ rest) (steps-width (m .steps)) h in
+      blocks-drop stepPlaces stepsNumbers 3 refl (λ s ss. refl) (m .steps) j d (zeros ++ rest) (steps-width (m .steps)) h in
       let e : storeOf m ++ rest ≡ before ++ (stepsNumbers (m .steps) ++ (zeros ++ rest)) = simp (append-assoc, padded-append) in
       let l = actions-padded-length m w in
       let n : length before ≡ 900 = simp length-append (omega arith) in

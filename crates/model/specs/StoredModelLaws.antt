@@ -1,22 +1,21 @@
 -- A store that holds a well-formed model shows it: each accessor gives its part, so the model is the only one.
 -- Document 01, "The model store". Assumes nothing.
-use mathlib.Core.List.{List, [], _∷_, _++_, append-assoc, append-nil}
+use mathlib.Core.List.{List, [], _++_}
 use mathlib.Core.Logic.{_↔_}
 use mathlib.Core.Path.{_≡_, refl, sym, ap, _∙_, subst}
-use Prim.Native.Nat.{ℕ, zero, suc, _+_, _-_, _≤_, _<_}
+use Prim.Native.Nat.{ℕ, zero, suc, _+_, _≤_, _<_}
 use native.Mathlib.Omega.{arith}
 use native.Mathlib.Nat.{add-zero}
-use lib.ListN.{length, getD, take, drop, replicate, take-append-drop, length-append}
+use lib.ListN.{length, getD, take, drop, take-append-drop, length-append}
 use lib.Seq.{take-suc, take-length, take-at, getD-drop, drop-drop}
 use Rattle.model.specs.declared.Head.{Head}
 use Rattle.model.specs.declared.StepLine.{StepLine}
 use Rattle.model.specs.Limits.{nameLimit, storeLength, actionPlace, namePlace, stepPlace}
 use Rattle.model.specs.Model.{ActionLine, Model}
-use Rattle.model.specs.Reading.{done, readText}
 use Rattle.model.specs.ReadingLaws.{readText-textOf, textOf-of-readText}
 use Rattle.model.specs.Text.{textOf}
 use Rattle.model.specs.Store.{padded, actionNumbers, headPlaces, storeOf, Good}
-use Rattle.model.specs.StoreLaws.{storeOf-length, storeOf-action, storeOf-step}
+use Rattle.model.specs.StoreLaws.{storeOf-action, storeOf-step}
 use Rattle.model.specs.StoredModel.{headAt, actionAt, stepAt, listed, modelAt, Holds}
 use Rattle.model.specs.WellFormed.{WellFormed}
 use Rattle.model.specs.BlocksLaws.{padded-append}
@@ -57,9 +56,9 @@ action-at s i a more e =
     let level : getD s (actionPlace i) 0 ≡ a .level = first-of-drop s (actionNumbers a ++ more) (actionPlace i) e in
     let n : getD s (actionPlace i + 1) 0 ≡ length (a .name) = getD-of-drop s (actionNumbers a ++ more) (actionPlace i) 1 e in
     let d : drop (namePlace i) s ≡ padded nameLimit (a .name) ++ more =
-        sym (drop-drop 2 (actionPlace i) s) ∙ ap (drop 2) e in
+    sym (drop-drop 2 (actionPlace i) s) ∙ ap (drop 2) e in
     let t : take (length (a .name)) (padded nameLimit (a .name) ++ more) ≡ a .name =
-        rw padded-append (take-at (a .name) _ (length (a .name)) refl) in
+    rw padded-append (take-at (a .name) _ (length (a .name)) refl) in
     rw (level, n, d, t)
 
 step-at : (s : List ℕ) (j : ℕ) (t : StepLine) (more : List ℕ) → drop (stepPlace j) s ≡ stepPlaces t ++ more

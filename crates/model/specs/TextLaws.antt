@@ -1,9 +1,9 @@
 -- The text of a model is its lines joined by line ends, and no line holds a line end or a number above a byte.
 -- Document 01, "The text". Assumes nothing.
 use mathlib.Core.List.{List, [], _∷_, _++_, map, append-assoc}
-use mathlib.Core.Logic.{_⊎_, inl, inr}
-use mathlib.Core.Path.{_≡_, refl, sym, ap, _∙_}
-use Prim.Native.Nat.{ℕ, zero, suc, _+_, _≤_, _<_}
+use mathlib.Core.Logic.{inl, inr}
+use mathlib.Core.Path.{_≡_, refl, sym, _∙_}
+use Prim.Native.Nat.{ℕ, _+_, _<_}
 use native.Mathlib.Omega.{arith}
 use lib.Dec.{T, lit<}
 use lib.ListN.{length, length-append}
@@ -17,7 +17,7 @@ use Rattle.model.specs.DigitsLaws.{digits-digit}
 use Rattle.model.specs.All.{All}
 use Rattle.model.specs.AllLaws.{all-append, all-of-all}
 use Rattle.model.specs.Join.{join}
-use Rattle.model.specs.JoinLaws.{join-one, join-cons, all-join}
+use Rattle.model.specs.JoinLaws.{join-cons, all-join}
 use Rattle.model.specs.Model.{ActionLine, Model}
 use Rattle.model.specs.Lines.{name?}
 use Rattle.model.specs.Text.{headText, levelByte, actionText, stepText, actionsText, stepsText, textOf}
@@ -135,6 +135,7 @@ pub partsOf-lineBytes : (m : Model) → WellFormed m → All (All LineByte) (par
 unfolding kindOf
 partsOf-lineBytes m w =
     let last : List (List ℕ) = (69 ∷ []) ∷ [] ∷ [] in
-    let from-steps = all-append (All LineByte) (map lineOfStep (m .steps)) last (steps-lineBytes (m .steps)) (((lit< tt, λ z. eqb-false 3 5 refl z), tt), (tt, tt)) in
-    (lineOfHead-lineBytes (m .head),
-      all-append (All LineByte) (map lineOfAction (m .actions)) (map lineOfStep (m .steps) ++ last) (actions-lineBytes [] (m .actions) (w .actions)) from-steps)
+    let from-steps = all-append (All LineByte) (map lineOfStep (m .steps)) last (steps-lineBytes (m .steps)) (((lit< tt, λ z. eqb-false 3 5 refl z), tt), (tt, tt)) in (
+      lineOfHead-lineBytes (m .head),
+      all-append (All LineByte) (map lineOfAction (m .actions)) (map lineOfStep (m .steps) ++ last) (actions-lineBytes [] (m .actions) (w .actions)) from-steps,
+    )

@@ -1,15 +1,13 @@
 -- The lengths of a model's lines, and of its text: at most the 14,420 bytes that Write's list has.
 -- Document 01, "The operations, in the order of the work", 8. Assumes nothing.
 use mathlib.Core.List.{List, [], _∷_, _++_}
-use mathlib.Core.Path.{_≡_, refl}
-use Prim.Native.Nat.{ℕ, suc, _+_, _*_, _^_, _≤_, _<_}
+use Prim.Native.Nat.{_+_, _*_, _≤_}
 use native.Mathlib.Omega.{arith}
 use lib.Dec.{T}
 use lib.ListN.{length, length-append}
 use Rattle.model.specs.declared.Head.{Head}
 use Rattle.model.specs.declared.StepLine.{StepLine}
 use Rattle.model.specs.Limits.{outLength}
-use Rattle.model.specs.Numbers.{digits}
 use Rattle.model.specs.DigitsLaws.{digits-length-le}
 use Rattle.model.specs.Model.{ActionLine, Model}
 use Rattle.model.specs.Lines.{name?}
