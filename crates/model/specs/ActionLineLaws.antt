@@ -19,7 +19,8 @@ use Rattle.model.specs.SameLaws.{same?→eq}
 use Rattle.model.specs.All.{All}
 use Rattle.model.specs.AllLaws.{all-of-all}
 use Rattle.model.specs.Model.{low, release, high, ActionLine}
-use Rattle.model.specs.Lines.{Line, good, bad, fieldsOf, levelOf, allOf, nameByte?, name?, nameFrom, used?, actionFields, actionFrom, actionOf}
+use Rattle.model.specs.Lines.{Line, good, bad, fieldsOf, levelOf, allOf, nameByte?, name?, nameFrom, used?}
+use Rattle.model.specs.Lines.{actionFields, actionFrom, actionOf}
 use Rattle.model.specs.Text.{levelByte}
 use Rattle.model.specs.WellFormed.{ActionFits}
 use Rattle.model.specs.LineText.{lineOf, lineOfAction}
@@ -57,7 +58,11 @@ NameByte b = (kindOf b ≡ digit) ⊎ (kindOf b ≡ smallLetter)
 allOf-name : (f : List ℕ) → T (allOf nameByte? f) → All NameByte f
 unfolding allOf nameByte?
 allOf-name [] t = tt
-allOf-name (b ∷ bs) t = (by-test (or-cases (eqb (kindOf b) digit) (eqb (kindOf b) smallLetter) (and-left (nameByte? b) (allOf nameByte? bs) t)), allOf-name bs (and-right (nameByte? b) (allOf nameByte? bs) t))
+allOf-name (b ∷ bs) t =
+    let first = and-left (nameByte? b) (allOf nameByte? bs) t in (
+      by-test (or-cases (eqb (kindOf b) digit) (eqb (kindOf b) smallLetter) first),
+      allOf-name bs (and-right (nameByte? b) (allOf nameByte? bs) t),
+    )
   where
     by-test : T (eqb (kindOf b) digit) ⊎ T (eqb (kindOf b) smallLetter) → NameByte b
     by-test (inl u) = inl (eqb→eq (kindOf b) digit u)
@@ -118,8 +123,10 @@ module _ (before : List ActionLine) where
   pub actionOf-line : (a : ActionLine) → ActionFits before a → actionOf before (lineOfAction a) ≡ good a
   unfolding actionOf actionFrom actionFields nameFrom kindOf
   actionOf-line a f =
-      let level : kindOf (levelByte (a .level)) ≡ comma → ⊥ = λ z. let c = levelByte-capital (a .level) in omega arith in
-      let name = all-of-all NameByte (λ b. kindOf b ≡ comma → ⊥) nameByte-without (a .name) (name-bytes (a .name) (f .name)) in
+      let c = levelByte-capital (a .level) in
+      let level : kindOf (levelByte (a .level)) ≡ comma → ⊥ = λ z. omega arith in
+      let bytes = name-bytes (a .name) (f .name) in
+      let name = all-of-all NameByte (λ b. kindOf b ≡ comma → ⊥) nameByte-without (a .name) bytes in
       let fs : List (List ℕ) = (levelByte (a .level) ∷ []) ∷ a .name ∷ [] in
       let e = fieldsOf-line 65 fs (λ z. eqb-false 3 4 refl z) ((level, tt), (name, tt)) in
       let n = checked-good Shape (name? (a .name)) a (f .name) in

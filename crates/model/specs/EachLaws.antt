@@ -24,24 +24,28 @@ module _ {A : Type 0} (P : List A → A → Type 0) where
 
   -- ---- one list after another
 
-  pub each-append : (before xs ys : List A) → EachAfter P before xs → EachAfter P (before ++ xs) ys → EachAfter P before (xs ++ ys)
+  pub each-append : (before xs ys : List A) → EachAfter P before xs → EachAfter P (before ++ xs) ys
+      → EachAfter P before (xs ++ ys)
   unfolding EachAfter
   each-append before [] ys e f = rw append-nil at f
   each-append before (x ∷ xs) ys e f =
       (e .0, each-append (before ++ (x ∷ [])) xs ys (e .1) (rw (append-assoc before (x ∷ []) xs) f))
 
-  pub append-each : (before xs ys : List A) → EachAfter P before (xs ++ ys) → EachAfter P before xs × EachAfter P (before ++ xs) ys
+  pub append-each : (before xs ys : List A) → EachAfter P before (xs ++ ys)
+      → EachAfter P before xs × EachAfter P (before ++ xs) ys
   unfolding EachAfter
   append-each before [] ys e = (tt, rw append-nil e)
   append-each before (x ∷ xs) ys e =
       let i = append-each (before ++ (x ∷ [])) xs ys (e .1) in
       ((e .0, i .0), rw (append-assoc before (x ∷ []) xs) at (i .1))
 
-  pub each-snoc : (before xs : List A) (x : A) → EachAfter P before xs → P (before ++ xs) x → EachAfter P before (xs ++ (x ∷ []))
+  pub each-snoc : (before xs : List A) (x : A) → EachAfter P before xs → P (before ++ xs) x
+      → EachAfter P before (xs ++ (x ∷ []))
   unfolding EachAfter
   each-snoc before xs x e p = each-append before xs (x ∷ []) e (p, tt)
 
-  pub snoc-each : (before xs : List A) (x : A) → EachAfter P before (xs ++ (x ∷ [])) → EachAfter P before xs × P (before ++ xs) x
+  pub snoc-each : (before xs : List A) (x : A) → EachAfter P before (xs ++ (x ∷ []))
+      → EachAfter P before xs × P (before ++ xs) x
   unfolding EachAfter
   snoc-each before xs x e = let f = append-each before xs (x ∷ []) e in (f .0, f .1 .0)
 
@@ -71,7 +75,8 @@ module _ {A : Type 0} (P : List A → A → Type 0) where
   all-of-each Q f before [] e = tt
   all-of-each Q f before (x ∷ xs) e = (f before x (e .0), all-of-each Q f (before ++ (x ∷ [])) xs (e .1))
 
-  pub each-of-each : (Q : List A → A → Type 0) → ((before : List A) (x : A) → P before x → Q before x) → (before xs : List A)
+  pub each-of-each : (Q : List A → A → Type 0) → ((before : List A) (x : A) → P before x → Q before x)
+      → (before xs : List A)
       → EachAfter P before xs → EachAfter Q before xs
   unfolding EachAfter
   each-of-each Q f before [] e = tt

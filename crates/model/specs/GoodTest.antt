@@ -14,7 +14,7 @@ use Rattle.model.specs.Lines.{headFits?, name?, used?, stepFits?}
 use Rattle.model.specs.Store.{storeOf}
 use Rattle.model.specs.StoredModel.{headAt, modelAt}
 
--- The test of `EachAfter`. What a test leaves for later stands in a `let`, so that it is computed only if the test passes.
+-- The test of `EachAfter`. What a test leaves for later stands in a `let`: it is computed only if the test passes.
 unfoldable pub eachAfter? : {A : Type 0} → (List A → A → Bool) → List A → List A → Bool
 eachAfter? test before [] = true
 eachAfter? test before (x ∷ xs) = let rest = eachAfter? test (before ++ (x ∷ [])) xs in test before x && rest

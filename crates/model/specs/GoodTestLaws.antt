@@ -3,7 +3,7 @@
 use mathlib.Core.Bool.{Bool, not, _&&_}
 use mathlib.Core.List.{List, [], _∷_, _++_}
 use mathlib.Core.Logic.{_⊎_, inl, inr}
-use mathlib.Core.Path.{subst}
+use mathlib.Core.Path.{_≡_, subst}
 use Prim.Native.Nat.{ℕ}
 use lib.Dec.{T, T-not, leb, eqb, leb→le, le→leb, eqb→eq, eqb-refl}
 use lib.ListN.{length, take}
@@ -29,8 +29,10 @@ module _ {A : Type 0} (test : List A → A → Bool) (P : List A → A → Type 
   unfolding eachAfter? EachAfter
   eachAfter?→EachAfter f before [] t = tt
   eachAfter?→EachAfter f before (x ∷ xs) t =
-      let rest = eachAfter? test (before ++ (x ∷ [])) xs in
-      (f before x (and-left (test before x) rest t), eachAfter?→EachAfter f (before ++ (x ∷ [])) xs (and-right (test before x) rest t))
+      let rest = eachAfter? test (before ++ (x ∷ [])) xs in (
+        f before x (and-left (test before x) rest t),
+        eachAfter?→EachAfter f (before ++ (x ∷ [])) xs (and-right (test before x) rest t),
+      )
 
   pub EachAfter→eachAfter? : ((before : List A) (x : A) → P before x → T (test before x)) → (before xs : List A)
       → EachAfter P before xs → T (eachAfter? test before xs)
@@ -42,21 +44,28 @@ module _ {A : Type 0} (test : List A → A → Bool) (P : List A → A → Type 
 
 -- ---- actions and steps
 
-pub actionFits?→ActionFits : (before : List ActionLine) (a : ActionLine) → T (actionFits? before a) → ActionFits before a
+pub actionFits?→ActionFits : (before : List ActionLine) (a : ActionLine) → T (actionFits? before a)
+    → ActionFits before a
 unfolding actionFits?
 actionFits?→ActionFits before a t =
     let l = leb (a .level) high in
     let n = name? (a .name) in
     let f = not (used? (a .name) before) in
     let both = and-left (l && n) f t in
-    record { level = leb→le (a .level) high (and-left l n both); name = and-right l n both; fresh = and-right (l && n) f t }
+    record {
+      level = leb→le (a .level) high (and-left l n both);
+      name = and-right l n both;
+      fresh = and-right (l && n) f t;
+    }
 
-pub ActionFits→actionFits? : (before : List ActionLine) (a : ActionLine) → ActionFits before a → T (actionFits? before a)
+pub ActionFits→actionFits? : (before : List ActionLine) (a : ActionLine) → ActionFits before a
+    → T (actionFits? before a)
 unfolding actionFits?
 ActionFits→actionFits? before a f =
     let l = leb (a .level) high in
     let n = name? (a .name) in
-    and-intro (l && n) (not (used? (a .name) before)) (and-intro l n (le→leb (a .level) high (f .level)) (f .name)) (f .fresh)
+    and-intro (l && n) (not (used? (a .name) before))
+    (and-intro l n (le→leb (a .level) high (f .level)) (f .name)) (f .fresh)
 
 module _ (h : Head) (before : List StepLine) (s : StepLine) where
   pub stepRises?→StepFits : T (stepRises? h before s) → StepFits h before s
@@ -72,6 +81,9 @@ module _ (h : Head) (before : List StepLine) (s : StepLine) where
   StepFits→stepRises? f = and-intro (stepFits? h s) (aboveLast? before s) (f .in-range) (f .rising)
 
 -- ---- models
+
+eq→eqb : (x y : ℕ) → x ≡ y → T (eqb x y)
+eq→eqb x y e = subst (λ (z : ℕ). T (eqb x z)) e (eqb-refl x)
 
 module _ (m : Model) where
   abbrev head? : Bool
@@ -103,17 +115,20 @@ module _ (m : Model) where
             eachAfter?→EachAfter actionFits? ActionFits actionFits?→ActionFits [] (m .actions)
             (and-right (head? && actionCount? && stepCount?) actions? four);
         steps =
-            eachAfter?→EachAfter (stepRises? (m .head)) (StepFits (m .head)) (stepRises?→StepFits (m .head)) [] (m .steps)
+            eachAfter?→EachAfter (stepRises? (m .head)) (StepFits (m .head)) (stepRises?→StepFits (m .head)) []
+            (m .steps)
             (and-right (head? && actionCount? && stepCount? && actions?) steps? t);
       }
 
   pub WellFormed→wellFormed? : WellFormed m → T (wellFormed? m)
   unfolding wellFormed?
   WellFormed→wellFormed? w =
-      let ac : T actionCount? = subst (λ (n : ℕ). T (eqb (length (m .actions)) n)) (w .action-count) (eqb-refl (length (m .actions))) in
-      let sc : T stepCount? = subst (λ (n : ℕ). T (eqb (length (m .steps)) n)) (w .step-count) (eqb-refl (length (m .steps))) in
+      let ac = eq→eqb (length (m .actions)) (m .head .actions) (w .action-count) in
+      let sc = eq→eqb (length (m .steps)) (m .head .steps) (w .step-count) in
       let a = EachAfter→eachAfter? actionFits? ActionFits ActionFits→actionFits? [] (m .actions) (w .actions) in
-      let s = EachAfter→eachAfter? (stepRises? (m .head)) (StepFits (m .head)) (StepFits→stepRises? (m .head)) [] (m .steps) (w .steps) in
+      let s =
+      EachAfter→eachAfter? (stepRises? (m .head)) (StepFits (m .head)) (StepFits→stepRises? (m .head)) [] (m .steps)
+      (w .steps) in
       and-intro (head? && actionCount? && stepCount? && actions?) steps?
       (and-intro (head? && actionCount? && stepCount?) actions?
       (and-intro (head? && actionCount?) stepCount?

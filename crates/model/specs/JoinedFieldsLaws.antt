@@ -24,7 +24,8 @@ use Rattle.model.specs.All.{All}
 use Rattle.model.specs.AllLaws.{all-of-all}
 use Rattle.model.specs.Join.{join, Without}
 use Rattle.model.specs.JoinLaws.{split-join, join-split}
-use Rattle.model.specs.Lines.{Line, good, bad, checked, fieldsFrom, fieldsOf, consNumber, numbersOf, numbersFrom, numbersLine}
+use Rattle.model.specs.Lines.{Line, good, bad, checked, fieldsFrom, fieldsOf, consNumber, numbersOf, numbersFrom}
+use Rattle.model.specs.Lines.{numbersLine}
 use Rattle.model.specs.LineText.{lineOf}
 
 -- ---- what passes a test
@@ -42,14 +43,17 @@ good-checked fault false a b h = let z : _≡_ {A = ℕ} 0 1 = cc in absurd (ome
 -- ---- fields
 
 module _ (letter : ℕ) (fs : List (List ℕ)) where
-  pub fieldsOf-line : (kindOf letter ≡ comma → ⊥) → All (Without comma) fs → fieldsOf letter (length fs) (lineOf letter fs) ≡ good fs
+  pub fieldsOf-line : (kindOf letter ≡ comma → ⊥) → All (Without comma) fs
+      → fieldsOf letter (length fs) (lineOf letter fs) ≡ good fs
   unfolding fieldsOf fieldsFrom kindOf
   fieldsOf-line h a =
       let e = split-join comma 44 refl ((letter ∷ []) ∷ fs) (omega arith) ((h, tt), a) in
-      let t = and-intro (same? (letter ∷ []) (letter ∷ [])) (eqb (length fs) (length fs)) (same?-refl (letter ∷ [])) (eqb-refl (length fs)) in
+      let s = same?-refl (letter ∷ []) in
+      let t = and-intro (same? (letter ∷ []) (letter ∷ [])) (eqb (length fs) (length fs)) s (eqb-refl (length fs)) in
       rw e (checked-good Shape _ fs t)
 
-  pub line-of-fieldsOf : (n : ℕ) (line : List ℕ) → fieldsOf letter n line ≡ good fs → (line ≡ lineOf letter fs) × (length fs ≡ n)
+  pub line-of-fieldsOf : (n : ℕ) (line : List ℕ) → fieldsOf letter n line ≡ good fs
+      → (line ≡ lineOf letter fs) × (length fs ≡ n)
   unfolding fieldsOf fieldsFrom
   line-of-fieldsOf n line h =
       let w = split-first comma line in
@@ -98,7 +102,8 @@ digits-without kind h (n ∷ ns) = (
 )
 
 module _ (letter : ℕ) (ns : List ℕ) where
-  pub numbersLine-line : (kindOf letter ≡ comma → ⊥) → Small ns → numbersLine letter (length ns) (lineOf letter (map digits ns)) ≡ good ns
+  pub numbersLine-line : (kindOf letter ≡ comma → ⊥) → Small ns
+      → numbersLine letter (length ns) (lineOf letter (map digits ns)) ≡ good ns
   unfolding numbersLine numbersFrom
   numbersLine-line h s =
       let w = digits-without comma (λ z. eqb-false digit comma refl z) ns in

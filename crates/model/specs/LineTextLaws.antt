@@ -13,7 +13,8 @@ use Rattle.model.specs.declared.StepLine.{StepLine}
 use Rattle.model.specs.Bytes.{kindOf}
 use Rattle.model.specs.Numbers.{digits}
 use Rattle.model.specs.Model.{aboveLast?}
-use Rattle.model.specs.Lines.{Line, good, bad, checked, numbersLine, headFits?, headNumbers, headFrom, headOf, stepFits?, stepNumbers, rising, stepFrom, stepOf}
+use Rattle.model.specs.Lines.{Line, good, bad, checked, numbersLine, headFits?, headNumbers, headFrom, headOf}
+use Rattle.model.specs.Lines.{stepFits?, stepNumbers, rising, stepFrom, stepOf}
 use Rattle.model.specs.Store.{headPlaces}
 use Rattle.model.specs.Ranges.{HeadRanges}
 use Rattle.model.specs.RangesLaws.{headFits?→HeadRanges, stepFits?→StepRanges}
@@ -75,7 +76,8 @@ module _ (h : Head) (before : List StepLine) where
       rw (e, stepFrom, checked-good Range (stepFits? h s) s (f .in-range), rising)
       (checked-good Order (aboveLast? before s) s (f .rising))
 
-  pub line-of-stepOf : (line : List ℕ) (s : StepLine) → stepOf h before line ≡ good s → (line ≡ lineOfStep s) × StepFits h before s
+  pub line-of-stepOf : (line : List ℕ) (s : StepLine) → stepOf h before line ≡ good s
+      → (line ≡ lineOfStep s) × StepFits h before s
   unfolding stepOf stepFrom rising
   line-of-stepOf line s q = by-numbers (numbersLine 83 3 line) refl q
     where

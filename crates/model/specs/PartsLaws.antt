@@ -13,9 +13,11 @@ use Rattle.model.specs.declared.StepLine.{StepLine}
 use Rattle.model.specs.Split.{same?}
 use Rattle.model.specs.SameLaws.{same?→eq}
 use Rattle.model.specs.Model.{ActionLine, Model}
-use Rattle.model.specs.Lines.{Line, good, bad, headOf, actionOf, stepOf}
-use Rattle.model.specs.Reading.{Reading, done, faulty, onLine, orFault, readNothing, readEnd, readSteps, readActions, readModel}
+use Rattle.model.specs.Lines.{Line, good, bad, headFits?, headOf, actionOf, stepOf}
+use Rattle.model.specs.Reading.{Reading, done, faulty, onLine, orFault, readNothing, readEnd, readSteps}
+use Rattle.model.specs.Reading.{readActions, headModel, readModel}
 use Rattle.model.specs.WellFormed.{EachAfter, ActionFits, StepFits, WellFormed}
+use Rattle.model.specs.Ranges.{HeadRanges}
 use Rattle.model.specs.RangesLaws.{headFits?→HeadRanges}
 use Rattle.model.specs.LineText.{lineOfHead, lineOfAction, lineOfStep, partsOf}
 use Rattle.model.specs.LineTextLaws.{headOf-line, line-of-headOf, stepOf-line, line-of-stepOf}
@@ -29,7 +31,8 @@ unfolding onLine
 onLine-cons k line [] read h = absurd (omega arith)
 onLine-cons k line (part ∷ parts) read h = refl
 
-onLine-done : (k : ℕ) (parts : List (List ℕ)) (read : List ℕ → List (List ℕ) → Reading) (m : Model) → onLine k parts read ≡ done m
+onLine-done : (k : ℕ) (parts : List (List ℕ)) (read : List ℕ → List (List ℕ) → Reading) (m : Model)
+    → onLine k parts read ≡ done m
     → (line : List ℕ) × (rest : List (List ℕ)) × (parts ≡ line ∷ rest) × (0 < length rest) × (read line rest ≡ done m)
 unfolding onLine
 onLine-done k [] read m h = let z : _≡_ {A = ℕ} 0 1 = cc in absurd (omega arith)
@@ -57,19 +60,22 @@ module _ {A : Type 0} (line : A → List ℕ) (Fits : List A → A → Type 0) (
   lines-read reads (x ∷ xs) k before parts l e =
       let n : 0 < length (map line xs ++ parts) = simp length-append (omega arith) in
       let z : suc k + length xs ≡ k + suc (length xs) = omega arith in
+      let i = lines-read reads xs (suc k) (before ++ (x ∷ [])) parts l (e .1) in
       read-suc (length xs) k before (line x ∷ (map line xs ++ parts))
       ∙ onLine-cons k (line x) (map line xs ++ parts) _ n
-      ∙ rw (reads before x (e .0), orFault, lines-read reads xs (suc k) (before ++ (x ∷ [])) parts l (e .1), z, append-assoc)
+      ∙ rw (reads before x (e .0), orFault, i, z, append-assoc)
 
   regroup : (k n : ℕ) (before : List A) (x : A) (xs : List A) (rest : List (List ℕ)) (m : Model)
-      → read 0 (suc k + n) (before ++ (x ∷ []) ++ xs) rest ≡ done m → read 0 (k + suc n) (before ++ (x ∷ xs)) rest ≡ done m
+      → read 0 (suc k + n) (before ++ (x ∷ []) ++ xs) rest ≡ done m
+      → read 0 (k + suc n) (before ++ (x ∷ xs)) rest ≡ done m
   regroup k n before x xs rest m h =
       let z : suc k + n ≡ k + suc n = omega arith in
       rw (append-assoc, z) at h
 
   lines-of-done : ((before : List A) (l : List ℕ) (x : A) → of before l ≡ good x → (l ≡ line x) × Fits before x)
       → (n k : ℕ) (before : List A) (parts : List (List ℕ)) (m : Model) → read n k before parts ≡ done m
-      → (xs : List A) × (rest : List (List ℕ)) × (length xs ≡ n) × (parts ≡ map line xs ++ rest) × EachAfter Fits before xs
+      → (xs : List A) × (rest : List (List ℕ)) × (length xs ≡ n) × (parts ≡ map line xs ++ rest)
+      × EachAfter Fits before xs
       × (read 0 (k + n) (before ++ xs) rest ≡ done m)
   unfolding EachAfter
   lines-of-done states zero k before parts m h =
@@ -115,58 +121,92 @@ readEnd-done k m n parts h =
 
 -- ---- the parts of a text
 
-abbrev stepsRead : Head → List ActionLine → ℕ → ℕ → List StepLine → List (List ℕ) → Reading
-stepsRead h actions n k before parts = readSteps n k (record { head = h; actions = actions; steps = before }) parts
+abbrev last : List (List ℕ)
+last = (69 ∷ []) ∷ [] ∷ []
+
+abbrev model : Head → List ActionLine → List StepLine → Model
+model h actions steps = record { head = h; actions = actions; steps = steps }
+
+module _ (h : Head) (actions : List ActionLine) where
+  abbrev stepsRead : ℕ → ℕ → List StepLine → List (List ℕ) → Reading
+  stepsRead n k before parts = readSteps n k (model h actions before) parts
+
+  readSteps-lines : (k : ℕ) (steps : List StepLine) → HeadRanges h → EachAfter (StepFits h) [] steps
+      → readSteps (length steps) k (model h actions []) (map lineOfStep steps ++ last) ≡ done (model h actions steps)
+  unfolding readSteps
+  readSteps-lines k steps r e =
+      lines-read lineOfStep (StepFits h) (stepOf h) stepsRead (λ n j b p. refl)
+      (λ b s. stepOf-line h b s r) steps k [] last (omega arith) e
+      ∙ readEnd-last (k + length steps) (model h actions steps)
+
+  readSteps-done : (n k : ℕ) (parts : List (List ℕ)) (m : Model) → readSteps n k (model h actions []) parts ≡ done m
+      → (steps : List StepLine) × (length steps ≡ n) × EachAfter (StepFits h) [] steps
+      × (parts ≡ map lineOfStep steps ++ last) × (model h actions steps ≡ m)
+  unfolding readSteps
+  readSteps-done n k parts m q =
+      ended (lines-of-done lineOfStep (StepFits h) (stepOf h) stepsRead (λ n j b p. refl) (line-of-stepOf h)
+      n k [] parts m q)
+    where
+      ended : (steps : List StepLine) × (rest : List (List ℕ)) × (length steps ≡ n)
+          × (parts ≡ map lineOfStep steps ++ rest) × EachAfter (StepFits h) [] steps
+          × (readSteps 0 (k + n) (model h actions steps) rest ≡ done m)
+          → (steps : List StepLine) × (length steps ≡ n) × EachAfter (StepFits h) [] steps
+          × (parts ≡ map lineOfStep steps ++ last) × (model h actions steps ≡ m)
+      ended s =
+          let e = readEnd-done (k + n) (model h actions (s .0)) m (s .1) (s .5) in
+          (s .0, s .2, s .4, s .3 ∙ ap (λ (x : List (List ℕ)). map lineOfStep (s .0) ++ x) (e .0), e .1)
 
 abbrev actionsRead : Head → ℕ → ℕ → List ActionLine → List (List ℕ) → Reading
-actionsRead h n k before parts = readActions n k (record { head = h; actions = before; steps = [] }) parts
+actionsRead h n k before parts = readActions n k (model h before []) parts
 
 pub readModel-parts : (m : Model) → WellFormed m → readModel (partsOf m) ≡ done m
-unfolding readModel readActions readSteps orFault
+unfolding readModel readActions orFault
 readModel-parts m w =
     let h = m .head in
-    let r = headFits?→HeadRanges h (w .head) in
-    let last : List (List ℕ) = (69 ∷ []) ∷ [] ∷ [] in
     let from-steps : List (List ℕ) = map lineOfStep (m .steps) ++ last in
     let k : 0 < length from-steps = simp length-append (omega arith) in
     let l : 0 < length (map lineOfAction (m .actions) ++ from-steps) = simp length-append (omega arith) in
-    let actions =
-    lines-read lineOfAction ActionFits actionOf (actionsRead h) (λ n j b p. refl)
-    actionOf-line (m .actions) 2 [] from-steps k (w .actions) in
-    let steps =
-    lines-read lineOfStep (StepFits h) (stepOf h) (stepsRead h (m .actions)) (λ n j b p. refl)
-    (λ b s. stepOf-line h b s r) (m .steps) (2 + length (m .actions)) [] last (omega arith) (w .steps) in
     onLine-cons 1 (lineOfHead h) (map lineOfAction (m .actions) ++ from-steps) _ l
     ∙ rw (headOf-line h (w .head), orFault)
     (ap (λ (n : ℕ). actionsRead h n 2 [] (map lineOfAction (m .actions) ++ from-steps)) (sym (w .action-count))
-    ∙ actions
-    ∙ ap (λ (n : ℕ). stepsRead h (m .actions) n (2 + length (m .actions)) [] from-steps) (sym (w .step-count))
-    ∙ steps
-    ∙ readEnd-last (2 + length (m .actions) + length (m .steps)) m)
+    ∙ lines-read lineOfAction ActionFits actionOf (actionsRead h) (λ n j b p. refl) actionOf-line
+    (m .actions) 2 [] from-steps k (w .actions)
+    ∙ ap (λ (n : ℕ). readSteps n (2 + length (m .actions)) (model h (m .actions) []) from-steps) (sym (w .step-count))
+    ∙ readSteps-lines h (m .actions) (2 + length (m .actions)) (m .steps) (headFits?→HeadRanges h (w .head)) (w .steps))
 
--- the model of a head, actions and steps that were read
-stated : (parts : List (List ℕ)) (h : Head) (actions : List ActionLine) (steps : List StepLine)
+joined : (parts : List (List ℕ)) (h : Head) (actions : List ActionLine) (steps : List StepLine)
     (line : List ℕ) (from-actions from-steps : List (List ℕ)) → parts ≡ line ∷ from-actions → line ≡ lineOfHead h
-    → from-actions ≡ map lineOfAction actions ++ from-steps → from-steps ≡ map lineOfStep steps ++ ((69 ∷ []) ∷ [] ∷ [])
-    → parts ≡ partsOf (record { head = h; actions = actions; steps = steps })
-stated parts h actions steps line from-actions from-steps p l a s = rw (p, l, a, s)
+    → from-actions ≡ map lineOfAction actions ++ from-steps → from-steps ≡ map lineOfStep steps ++ last
+    → parts ≡ partsOf (model h actions steps)
+joined parts h actions steps line from-actions from-steps p l a s = rw (p, l, a, s)
 
 pub partsOf-of-readModel : (parts : List (List ℕ)) (m : Model) → readModel parts ≡ done m
     → WellFormed m × (parts ≡ partsOf m)
-unfolding readModel readActions readSteps
-partsOf-of-readModel parts m q =
-    let o = onLine-done 1 parts _ m q in
-    let f = orFault-done 1 (headOf (o .0)) _ m (o .4) in
-    let h = f .0 in
-    let l = line-of-headOf (o .0) h (f .1) in
-    let a =
-    lines-of-done lineOfAction ActionFits actionOf (actionsRead h) (λ n j b p. refl)
-    line-of-actionOf (h .actions) 2 [] (o .1) m (f .2) in
-    let s =
-    lines-of-done lineOfStep (StepFits h) (stepOf h) (stepsRead h (a .0)) (λ n j b p. refl)
-    (line-of-stepOf h) (h .steps) (2 + h .actions) [] (a .1) m (a .5) in
-    let e = readEnd-done (2 + h .actions + h .steps) (record { head = h; actions = a .0; steps = s .0 }) m (s .1) (s .5) in
-    subst (λ (n : Model). WellFormed n × (parts ≡ partsOf n)) (e .1) (
-      record { head = l .1; action-count = a .2; step-count = s .2; actions = a .4; steps = s .4 },
-      stated parts h (a .0) (s .0) (o .0) (o .1) (a .1) (o .2) (l .0) (a .3) (s .3 ∙ ap (λ (x : List (List ℕ)). map lineOfStep (s .0) ++ x) (e .0)),
-    )
+unfolding readModel readActions
+partsOf-of-readModel parts m q = first (onLine-done 1 parts _ m q)
+  where
+    whole : (line : List ℕ) (rest : List (List ℕ)) (h : Head) → parts ≡ line ∷ rest
+        → (line ≡ lineOfHead h) × T (headFits? h)
+        → (actions : List ActionLine) × (after : List (List ℕ)) × (length actions ≡ h .actions)
+        × (rest ≡ map lineOfAction actions ++ after) × EachAfter ActionFits [] actions
+        × (readSteps (h .steps) (2 + h .actions) (model h actions []) after ≡ done m)
+        → WellFormed m × (parts ≡ partsOf m)
+    whole line rest h p l a =
+        let s = readSteps-done h (a .0) (h .steps) (2 + h .actions) (a .1) m (a .5) in
+        subst (λ (n : Model). WellFormed n × (parts ≡ partsOf n)) (s .4) (
+          record { head = l .1; action-count = a .2; step-count = s .1; actions = a .4; steps = s .2 },
+          joined parts h (a .0) (s .0) line rest (a .1) p (l .0) (a .3) (s .3),
+        )
+
+    second : (line : List ℕ) (rest : List (List ℕ)) → parts ≡ line ∷ rest
+        → (h : Head) × (headOf line ≡ good h) × (readActions (h .actions) 2 (model h [] []) rest ≡ done m)
+        → WellFormed m × (parts ≡ partsOf m)
+    second line rest p f =
+        whole line rest (f .0) p (line-of-headOf line (f .0) (f .1))
+        (lines-of-done lineOfAction ActionFits actionOf (actionsRead (f .0)) (λ n j b p. refl) line-of-actionOf
+        (f .0 .actions) 2 [] rest m (f .2))
+
+    first : (line : List ℕ) × (rest : List (List ℕ)) × (parts ≡ line ∷ rest) × (0 < length rest)
+        × (orFault 1 (headOf line) (λ h. readActions (h .actions) 2 (headModel h) rest) ≡ done m)
+        → WellFormed m × (parts ≡ partsOf m)
+    first o = second (o .0) (o .1) (o .2) (orFault-done 1 (headOf (o .0)) _ m (o .4))

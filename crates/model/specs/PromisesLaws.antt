@@ -17,7 +17,8 @@ use Rattle.model.specs.ReadingLaws.{textOf-of-readText}
 use Rattle.model.specs.Store.{storeOf, Good}
 use Rattle.model.specs.StoreLaws.{storeOf-length}
 use Rattle.model.specs.GoodTestLaws.{good-cases}
-use Rattle.model.specs.Promises.{OnStore, toldReading, readingStore, readLists, ReadPromise, writeLists, WritePromise}
+use Rattle.model.specs.Promises.{OnStore, toldReading, readingStore, readLists, ReadPromise, writeLists}
+use Rattle.model.specs.Promises.{WritePromise}
 
 -- ---- lists that are long enough
 
@@ -25,7 +26,8 @@ pub readLists-none : (text store : List ℕ) → storeLength ≤ length store �
 unfolding firstShort
 readLists-none text store h = rw (le-ltb (length text) 0 (omega arith), le-ltb (length store) storeLength h)
 
-pub writeLists-none : (store out : List ℕ) → storeLength ≤ length store → outLength ≤ length out → writeLists store out ≡ none
+pub writeLists-none : (store out : List ℕ) → storeLength ≤ length store → outLength ≤ length out
+    → writeLists store out ≡ none
 unfolding firstShort
 writeLists-none store out h l = rw (le-ltb (length store) storeLength h, le-ltb (length out) outLength l)
 
@@ -52,7 +54,8 @@ module _ (text store : List ℕ) (told told′ : Told) (exit exit′ : List ℕ)
 pub onStore-unique : {A : Type 0} (lists : Option ℕ) (store : List ℕ) (told told′ : Told) (entry exit exit′ : A)
     (Done : Told → A → Good store → Type 0)
     → ((g : Good store) → Done told exit g → Done told′ exit′ g → (told ≡ told′) × (exit ≡ exit′))
-    → OnStore lists store told (exit ≡ entry) (Done told exit) → OnStore lists store told′ (exit′ ≡ entry) (Done told′ exit′)
+    → OnStore lists store told (exit ≡ entry) (Done told exit)
+    → OnStore lists store told′ (exit′ ≡ entry) (Done told′ exit′)
     → (told ≡ told′) × (exit ≡ exit′)
 onStore-unique lists store told told′ entry exit exit′ Done pins p q = go (option-cases lists) (good-cases store)
   where
@@ -67,7 +70,8 @@ onStore-unique lists store told told′ entry exit exit′ Done pins p q = go (o
         let b = q .not-good e n in
         (a .0 ∙ sym (b .0), a .1 ∙ sym (b .1))
 
-pub writePromise-unique : (store out : List ℕ) (told told′ : Told) (exit exit′ : List ℕ) → WritePromise store out told exit
+pub writePromise-unique : (store out : List ℕ) (told told′ : Told) (exit exit′ : List ℕ)
+    → WritePromise store out told exit
     → WritePromise store out told′ exit′ → (told ≡ told′) × (exit ≡ exit′)
 writePromise-unique store out told told′ exit exit′ =
     onStore-unique (writeLists store out) store told told′ out exit exit′
@@ -82,7 +86,8 @@ done-of-told (done m) h = (m, refl)
 done-of-told tooLong h = let z : _≡_ {A = ℕ} 0 1 = cc in absurd (omega arith)
 done-of-told (faulty fault line) h = let z : _≡_ {A = ℕ} 0 1 = cc in absurd (omega arith)
 
-module _ (text store exit : List ℕ) (long : storeLength ≤ length store) (p : ReadPromise text store (answers []) exit) where
+module _ (text store exit : List ℕ) (long : storeLength ≤ length store)
+    (p : ReadPromise text store (answers []) exit) where
   -- the model that a successful Read has read, and the store that it leaves
   pub read-done : (m : Model) × (readText text ≡ done m) × (exit ≡ storeOf m ++ drop storeLength store)
   unfolding readingStore

@@ -22,7 +22,7 @@ use Rattle.model.specs.Reading.{done, tooLong, readModel, readText}
 use Rattle.model.specs.Text.{textOf}
 use Rattle.model.specs.WellFormed.{WellFormed}
 use Rattle.model.specs.LineText.{partsOf}
-use Rattle.model.specs.TextLaws.{textOf-parts, LineByte, partsOf-lineBytes}
+use Rattle.model.specs.TextLaws.{textOf-parts, partsOf-all}
 use Rattle.model.specs.TextLengthLaws.{textOf-length-le}
 use Rattle.model.specs.PartsLaws.{readModel-parts, partsOf-of-readModel}
 
@@ -31,7 +31,7 @@ use Rattle.model.specs.PartsLaws.{readModel-parts, partsOf-of-readModel}
 split-textOf : (m : Model) → WellFormed m → split lineEnd (textOf m) ≡ partsOf m
 unfolding kindOf
 split-textOf m w =
-    let bytes = all-of-all (All LineByte) (Without lineEnd) (λ l. all-of-all LineByte (λ b. kindOf b ≡ lineEnd → ⊥) (λ b p. p .1) l) (partsOf m) (partsOf-lineBytes m w) in
+    let bytes = partsOf-all m w (λ b. kindOf b ≡ lineEnd → ⊥) (λ b p. p .1) in
     ap (split lineEnd) (textOf-parts m) ∙ split-join lineEnd 10 refl (partsOf m) (omega arith) bytes
 
 -- what is written reads back
@@ -76,7 +76,7 @@ readText-length-le t m q =
 
 pub textOf-bytes : (m : Model) → WellFormed m → All (λ b. b < 256) (textOf m)
 textOf-bytes m w =
-    let bytes = all-of-all (All LineByte) (All (λ b. b < 256)) (λ l. all-of-all LineByte (λ b. b < 256) (λ b p. p .0) l) (partsOf m) (partsOf-lineBytes m w) in
+    let bytes = partsOf-all m w (λ b. b < 256) (λ b p. p .0) in
     subst (All (λ b. b < 256)) (sym (textOf-parts m)) (all-join (λ b. b < 256) 10 (lit< tt) (partsOf m) bytes)
 
 -- a text that reads is a list of bytes

@@ -53,25 +53,31 @@ action-at : (s : List ℕ) (i : ℕ) (a : ActionLine) (more : List ℕ) → drop
     → actionAt s i ≡ a
 unfolding actionNumbers
 action-at s i a more e =
-    let level : getD s (actionPlace i) 0 ≡ a .level = first-of-drop s (actionNumbers a ++ more) (actionPlace i) e in
-    let n : getD s (actionPlace i + 1) 0 ≡ length (a .name) = getD-of-drop s (actionNumbers a ++ more) (actionPlace i) 1 e in
-    let d : drop (namePlace i) s ≡ padded nameLimit (a .name) ++ more =
-    sym (drop-drop 2 (actionPlace i) s) ∙ ap (drop 2) e in
-    let t : take (length (a .name)) (padded nameLimit (a .name) ++ more) ≡ a .name =
-    rw padded-append (take-at (a .name) _ (length (a .name)) refl) in
-    rw (level, n, d, t)
+    let all : List ℕ = actionNumbers a ++ more in
+    let level : getD s (actionPlace i) 0 ≡ a .level = first-of-drop s all (actionPlace i) e in
+    let n : getD s (actionPlace i + 1) 0 ≡ length (a .name) = getD-of-drop s all (actionPlace i) 1 e in
+    let d : drop (namePlace i) s ≡ drop 2 all = sym (drop-drop 2 (actionPlace i) s) ∙ ap (drop 2) e in
+    rw (level, n, d, padded-append nameLimit (a .name) more, take-at (a .name) _ (length (a .name)) refl)
 
 step-at : (s : List ℕ) (j : ℕ) (t : StepLine) (more : List ℕ) → drop (stepPlace j) s ≡ stepPlaces t ++ more
     → stepAt s j ≡ t
 step-at s j t more e =
-    let source : getD s (stepPlace j) 0 ≡ t .source .0 = first-of-drop s (stepPlaces t ++ more) (stepPlace j) e in
-    let action : getD s (stepPlace j + 1) 0 ≡ t .action .0 = getD-of-drop s (stepPlaces t ++ more) (stepPlace j) 1 e in
-    let target : getD s (stepPlace j + 2) 0 ≡ t .target .0 = getD-of-drop s (stepPlaces t ++ more) (stepPlace j) 2 e in
+    let all : List ℕ = stepPlaces t ++ more in
+    let source : getD s (stepPlace j) 0 ≡ t .source .0 = first-of-drop s all (stepPlace j) e in
+    let action : getD s (stepPlace j + 1) 0 ≡ t .action .0 = getD-of-drop s all (stepPlace j) 1 e in
+    let target : getD s (stepPlace j + 2) 0 ≡ t .target .0 = getD-of-drop s all (stepPlace j) 2 e in
     rw (source, action, target)
 
 model-of-parts : (h : Head) (actions : List ActionLine) (steps : List StepLine) (m : Model) → h ≡ m .head
     → actions ≡ m .actions → steps ≡ m .steps → record { head = h; actions = actions; steps = steps } ≡ m
 model-of-parts h actions steps m p q r = rw (p, q, r)
+
+-- what stands past the end of a list
+abbrev noAction : ActionLine
+noAction = record { level = 0; name = [] }
+
+abbrev noStep : StepLine
+noStep = record { source = record { 0 = 0 }; action = record { 0 = 0 }; target = record { 0 = 0 } }
 
 module _ (s : List ℕ) (m : Model) (h : Holds s m) where
   pub holds-store : s ≡ storeOf m ++ drop storeLength s
@@ -95,14 +101,12 @@ module _ (s : List ℕ) (m : Model) (h : Holds s m) where
   pub modelAt-holds : modelAt s ≡ m
   unfolding modelAt
   modelAt-holds =
-      let action : ActionLine = record { level = 0; name = [] } in
-      let step : StepLine = record { source = record { 0 = 0 }; action = record { 0 = 0 }; target = record { 0 = 0 } } in
       let e = headAt-holds in
       let a : getD s 1 0 ≡ length (m .actions) = ap (λ (x : Head). x .actions) e ∙ sym (h .well-formed .action-count) in
       let t : getD s 2 0 ≡ length (m .steps) = ap (λ (x : Head). x .steps) e ∙ sym (h .well-formed .step-count) in
       model-of-parts (headAt s) (listed (getD s 1 0) (actionAt s)) (listed (getD s 2 0) (stepAt s)) m e
-      (listed-all (m .actions) action (actionAt s) (getD s 1 0) a (λ i. actionAt-holds i action))
-      (listed-all (m .steps) step (stepAt s) (getD s 2 0) t (λ j. stepAt-holds j step))
+      (listed-all (m .actions) noAction (actionAt s) (getD s 1 0) a (λ i. actionAt-holds i noAction))
+      (listed-all (m .steps) noStep (stepAt s) (getD s 2 0) t (λ j. stepAt-holds j noStep))
 
 -- ---- good stores
 
