@@ -37,6 +37,7 @@ pub mod GoodTestLaws
 pub mod Above
 pub mod AboveLaws
 pub mod System
+pub mod WellFormedLaws
 pub mod StoredModel
 pub mod Wrote
 pub mod LineAnswers
