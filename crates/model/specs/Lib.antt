@@ -44,3 +44,4 @@ pub mod LineAnswers
 pub mod Promises
 pub mod PromisesLaws
 pub mod Examples
+pub mod GoodTestExamples

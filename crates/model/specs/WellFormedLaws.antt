@@ -58,6 +58,7 @@ module _ (m : Model) (w : WellFormed m) where
   step-above i zero h l = absurd (omega arith)
   step-above i (suc j) h l = go (step-above i j) (lt-suc-cases h)
     where
-      go : (i < j → j < length (m .steps) → Above (step m i) (step m j)) → (i ≡ j) ⊎ (i < j) → Above (step m i) (step m (suc j))
+      go : (i < j → j < length (m .steps) → Above (step m i) (step m j)) → (i ≡ j) ⊎ (i < j)
+          → Above (step m i) (step m (suc j))
       go ih (inl e) = rw e (step-above-suc j l)
       go ih (inr k) = above-trans (step m i) (step m j) (step m (suc j)) (ih k (omega arith)) (step-above-suc j l)
