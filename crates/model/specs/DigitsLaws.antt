@@ -7,9 +7,9 @@ use mathlib.Core.Path.{_≡_, refl, sym, ap, _∙_}
 use Prim.Native.Nat.{ℕ, zero, suc, _+_, _-_, _*_, _/_, _%_, _^_, _≤_, _<_}
 use native.Mathlib.Omega.{arith}
 use native.Mathlib.Nat.{pow-suc, pow-le-pow-right, lt-of-lt-of-le}
-use lib.Dec.{leb, ltb, eqb, lit<}
+use lib.Dec.{leb, eqb, lit<}
 use lib.ListN.{length, getD, length-append, List·getD-append}
-use borrow.Author.Tests.{ltb-true, ltb-false, leb-true, eqb-true, eqb-false, lt-ltb, le-ltb, le-leb, eq-eqb, ne-eqb}
+use borrow.Author.Tests.{leb-true, eqb-true, eqb-false, lt-ltb, le-ltb, le-leb, eq-eqb, ne-eqb}
 use Rattle.lts.specs.TestsLaws.{lt-or-le}
 use Rattle.model.specs.declared.number.Number.the-variants.{Value, Bad}
 use Rattle.model.specs.Bytes.{digit, kindOf}
@@ -132,7 +132,8 @@ digitsUpTo-suc (suc k) n h p = go (digitsUpTo-suc k) (lt-or-le n 10)
         let b = before-last k n g h in
         rw (digitsUpTo-le (suc k) n g, digitsUpTo-le k n g, ih (n / 10) (b .0) (b .1))
 
-digits-digitsUpTo : (j k n : ℕ) → n < 10 ^ k → 0 < k → j + k ≡ 5 → digits n ≡ digitsUpTo k n
+-- the five places that `digits` allows are enough, and no more than k are used
+pub digits-digitsUpTo : (j k n : ℕ) → n < 10 ^ k → 0 < k → j + k ≡ 5 → digits n ≡ digitsUpTo k n
 unfolding digits
 digits-digitsUpTo zero k n h p e = let q : k ≡ 5 = omega arith in rw q
 digits-digitsUpTo (suc j) k n h p e =
@@ -186,7 +187,7 @@ digitsUpTo-cons k v d p h =
     let b : (v * 10 + d) % 10 ≡ d = omega arith in
     rw (digitsUpTo-le k (v * 10 + d) (omega arith), a, b)
 
--- digits that follow those of v, up to the value n: they are the last digits of n, and bound it
+-- digits that follow those of v, up to the value n, are the last digits of n
 digitsUpTo-of-value : (ds : List ℕ) (v k n : ℕ) → 0 < v → digitsValue v ds ≡ Value n
     → digitsUpTo (k + length ds) n ≡ digitsUpTo k v ++ ds
 digitsUpTo-of-value [] v k n p h =
@@ -213,7 +214,7 @@ value-lt (d ∷ ds) v k n p h =
     let e = pow-suc 10 k in
     rw z (value-lt ds (v * 10 + (d - 48)) (suc k) n (omega arith) (sym (value-cons v d ds q) ∙ h))
 
--- a digit, and digits after it that it does not lead with 0
+-- a digit, and digits after it unless it is 0
 digits-of-value : (b : ℕ) (ds : List ℕ) (n : ℕ) → length ds ≤ 4 → (0 < length ds → b ≡ 48 → ⊥)
     → digitsValue 0 (b ∷ ds) ≡ Value n → (b ∷ ds ≡ digits n) × (n < 100000)
 digits-of-value b [] n l z h =

@@ -1,6 +1,6 @@
 -- The store of a model of document 01, "Bench models", is good by evaluation, and with one number changed it is not.
 use mathlib.Core.Bool.{true, false}
-use mathlib.Core.List.{List, [], _∷_}
+use mathlib.Core.List.{[], _∷_}
 use mathlib.Core.Path.{_≡_, refl}
 use lib.ListN.{set}
 use Rattle.model.specs.Bytes.{kindOf}

@@ -16,13 +16,13 @@ pub mod Lines
 pub mod Reading
 pub mod Store
 pub mod Text
+pub mod Ranges
 pub mod LineText
 pub mod SameLaws
 pub mod JoinedFieldsLaws
 pub mod WellFormed
 pub mod EachLaws
 pub mod BlocksLaws
-pub mod Ranges
 pub mod RangesLaws
 pub mod LineTextLaws
 pub mod ActionLineLaws

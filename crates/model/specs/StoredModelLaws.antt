@@ -14,7 +14,7 @@ use Rattle.model.specs.Limits.{nameLimit, storeLength, actionPlace, name
 use Rattle.model.specs.Model.{ActionLine, Model}
 use Rattle.model.specs.ReadingLaws.{readText-textOf, textOf-of-readText}
 use Rattle.model.specs.Text.{textOf}
-use Rattle.model.specs.Store.{padded, actionNumbers, headPlaces, storeOf, Good}
+use Rattle.model.specs.Store.{actionNumbers, headPlaces, storeOf, Good}
 use Rattle.model.specs.StoreLaws.{storeOf-length, storeOf-action, storeOf-step}
 use Rattle.model.specs.StoredModel.{headAt, actionAt, stepAt, listed, modelAt, Holds}
 use Rattle.model.specs.System.{source, action, target, level}

@@ -1,19 +1,16 @@
 -- What a well-formed model says of each of its actions and steps.
 -- Document 01, "The text". Assumes nothing.
-use mathlib.Core.Bool.{not}
-use mathlib.Core.List.{List, [], _∷_, _++_}
+use mathlib.Core.List.{[], _∷_, _++_}
 use mathlib.Core.Logic.{_⊎_, inl, inr}
-use mathlib.Core.Path.{_≡_, refl, sym, ap, _∙_, subst}
+use mathlib.Core.Path.{_≡_}
 use Prim.Native.Nat.{ℕ, zero, suc, _+_, _≤_, _<_}
 use native.Mathlib.Omega.{arith}
 use lib.Dec.{T}
 use lib.ListN.{length, getD, take}
 use lib.Seq.{take-suc}
 use Rattle.lts.specs.TestsLaws.{lt-suc-cases}
-use Rattle.model.specs.declared.StepLine.{StepLine}
 use Rattle.model.specs.Model.{high, ActionLine, Model, aboveLast?}
-use Rattle.model.specs.Lines.{name?}
-use Rattle.model.specs.WellFormed.{EachAfter, ActionFits, StepFits, WellFormed}
+use Rattle.model.specs.WellFormed.{ActionFits, StepFits, WellFormed}
 use Rattle.model.specs.EachLaws.{each-getD}
 use Rattle.model.specs.Above.{Above}
 use Rattle.model.specs.AboveLaws.{above?→Above, above-trans, aboveLast?-append}
