@@ -1,10 +1,10 @@
 -- Moves that a test decides make a game, so all that is shown of ranks holds of them. Document 01, "Alike".
 -- Assumes nothing.
 use mathlib.Core.Logic.{_⊎_, inl, inr}
-use mathlib.Core.Bool.{Bool, not, _&&_, _||_}
+use mathlib.Core.Bool.{Bool, not, _&&_}
 use Prim.Native.Nat.{ℕ}
 use lib.Dec.{T, T-not, not-T}
-use Rattle.lts.specs.Tests.{all, any}
+use Rattle.lts.specs.Tests.{all}
 use Rattle.lts.specs.TestsLaws.{
   and-intro,
   and-left,

@@ -14,6 +14,10 @@ pub mod ThinLaws
 pub mod LowLaws
 pub mod NoninterferenceLaws
 pub mod Word
+pub mod WordLaws
+pub mod FirstWordLaws
+pub mod Agree
+pub mod AgreeLaws
 pub mod Decided
 pub mod DecidedLaws
 pub mod DistanceLaws

@@ -1,20 +1,20 @@
 -- k-alike states allow the same low sequences of length k and less, so bisimilar states allow the same ones; in a
 -- deterministic model allowing the same ones is a bisimulation. Document 01, "Possible"; section 4.2 of source 000.
 -- Assumes nothing.
-use mathlib.Core.Path.{_≡_, refl, sym, subst}
+use mathlib.Core.Path.{refl}
 use mathlib.Core.List.{List, [], _∷_}
 use mathlib.Core.Logic.{_↔_}
 use mathlib.Core.Bool.{Bool}
-use Prim.Native.Nat.{ℕ, zero, suc, _≤_, _<_}
+use Prim.Native.Nat.{ℕ, zero, suc, _≤_}
 use native.Mathlib.Nat.{not-suc-le-zero}
 use native.Mathlib.Omega.{arith}
 use lib.Dec.{T}
 use lib.ListN.{length}
-use Rattle.lts.specs.Alike.{Moves, Alike, Bisimulation, Bisimilar, BisimilarBy}
+use Rattle.lts.specs.Alike.{Moves, Alike, Bisimulation, Bisimilar}
 use Rattle.lts.specs.AlikeLaws.{alike-sym, bisimilar→Alike}
 use Rattle.lts.specs.Game.{Game}
 use Rattle.lts.specs.RankLaws.{bisimilar↔BisimilarBy}
-use Rattle.lts.specs.Run.{Run, Allows, Reachable, begin, onward, Deterministic, Bounded}
+use Rattle.lts.specs.Run.{Run, Allows, Reachable, onward, Deterministic, Bounded}
 use Rattle.lts.specs.RunLaws.{allows-cons, allows-uncons, reachable-lt}
 use Rattle.lts.specs.Noninterference.{Levels, Low, LowMove, SameLow}
 

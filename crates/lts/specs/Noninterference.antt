@@ -2,7 +2,7 @@
 -- Document 01, "The meaning"; definitions 14 and 19 to 22 of source 000. Assumes nothing.
 use mathlib.Core.Logic.{_↔_}
 use mathlib.Core.List.{List, [], _∷_}
-use mathlib.Core.Bool.{Bool, true, false, not, _&&_, _||_, cond}
+use mathlib.Core.Bool.{Bool, false, not, _&&_, _||_, cond}
 use Prim.Native.Nat.{ℕ}
 use lib.Dec.{T}
 use Rattle.lts.specs.Alike.{Moves, Relation, Bisimilar}
