@@ -36,6 +36,10 @@ answered? n l move? R p q = all l (λ a. all n (met? n move? R p q a))
 unfoldable pub answers? : ℕ → ℕ → (ℕ → ℕ → ℕ → Bool) → (ℕ → ℕ → Bool) → ℕ → ℕ → Bool
 answers? n l move? R p q = let r = answered? n l move? (λ x y. R y x) q p in answered? n l move? R p q && r
 
+-- Each pair of states in R is answered one way, inside R.
+unfoldable pub simulation? : ℕ → ℕ → (ℕ → ℕ → ℕ → Bool) → (ℕ → ℕ → Bool) → Bool
+simulation? n l move? R = all n (λ p. all n (λ q. let r = answered? n l move? R p q in not (R p q) || r))
+
 -- One move leads from a state that passes S to q.
 abbrev pub entered? : ℕ → ℕ → (ℕ → ℕ → ℕ → Bool) → (ℕ → Bool) → ℕ → Bool
 entered? n l move? S q = any n (λ p. let s = S p in any l (λ a. move? p a q) && s)

@@ -1,8 +1,8 @@
 -- Moves that a test decides make a game, so all that is shown of ranks holds of them. Document 01, "Alike".
 -- Assumes nothing.
 use mathlib.Core.Logic.{_⊎_, inl, inr}
-use mathlib.Core.Bool.{Bool, not, _&&_}
-use Prim.Native.Nat.{ℕ}
+use mathlib.Core.Bool.{Bool, not, _&&_, _||_}
+use Prim.Native.Nat.{ℕ, _<_}
 use lib.Dec.{T, T-not, not-T}
 use Rattle.lts.specs.Tests.{all}
 use Rattle.lts.specs.TestsLaws.{
@@ -19,7 +19,7 @@ use Rattle.lts.specs.TestsLaws.{
 }
 use Rattle.lts.specs.Alike.{Moves, Answered}
 use Rattle.lts.specs.Game.{Game, Opening, by-first, by-second}
-use Rattle.lts.specs.Decided.{Decided, answer?, met?, answered?, answers?}
+use Rattle.lts.specs.Decided.{Decided, answer?, met?, answered?, answers?, simulation?}
 
 module _ (Move : Moves) (n l : ℕ) (move? : ℕ → ℕ → ℕ → Bool) (D : Decided Move n l move?) where
   pub answered?→Answered : (R : ℕ → ℕ → Bool) (p q : ℕ) → T (answered? n l move? R p q)
@@ -67,3 +67,13 @@ module _ (Move : Moves) (n l : ℕ) (move? : ℕ → ℕ → ℕ → Bool) (D : 
           → T (not (answered? n l move? R p q)) ⊎ T (not (answered? n l move? (λ x y. R y x) q p)) → Opening Move R p q
       go R p q (inl u) = let o = not-answered?→Move R p q u in by-first (o .0) (o .1) (o .2) (o .3)
       go R p q (inr u) = let o = not-answered?→Move (λ x y. R y x) q p u in by-second (o .0) (o .1) (o .2) (o .3)
+
+  -- A simulation found by the test, cut down to the states, is one.
+  pub simulation?→Answered : (R : ℕ → ℕ → Bool) → T (simulation? n l move? R) → (p q : ℕ)
+      → (p < n) × (q < n) × T (R p q) → Answered Move (λ x y. (x < n) × (y < n) × T (R x y)) p q
+  unfolding simulation?
+  simulation?→Answered R t p q (lp, lq, r) a p′ m =
+      let f = all→Each n (λ p. all n (λ q. not (R p q) || answered? n l move? R p q)) t p lp in
+      let u = all→Each n (λ q. not (R p q) || answered? n l move? R p q) f q lq in
+      let h = answered?→Answered R p q (implies-elim (R p q) (answered? n l move? R p q) u r) a p′ m in
+      (h .0, h .1, (D .target-lt p a p′ m, D .target-lt q a (h .0) (h .1), h .2))

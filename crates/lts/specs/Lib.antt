@@ -21,3 +21,7 @@ pub mod AgreeLaws
 pub mod Decided
 pub mod DecidedLaws
 pub mod DistanceLaws
+pub mod Checked
+pub mod CheckedLaws
+pub mod Listed
+pub mod Examples

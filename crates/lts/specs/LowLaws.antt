@@ -10,7 +10,7 @@ use native.Mathlib.Nat.{not-suc-le-zero}
 use native.Mathlib.Omega.{arith}
 use lib.Dec.{T}
 use lib.ListN.{length}
-use Rattle.lts.specs.Alike.{Moves, Alike, Bisimulation, Bisimilar}
+use Rattle.lts.specs.Alike.{Moves, Relation, Answered, Alike, Bisimulation, Bisimilar}
 use Rattle.lts.specs.AlikeLaws.{alike-sym, bisimilar→Alike}
 use Rattle.lts.specs.Game.{Game}
 use Rattle.lts.specs.RankLaws.{bisimilar↔BisimilarBy}
@@ -40,6 +40,15 @@ module _ (L : Levels) (Step : Moves) where
       → Allows Step p w ↔ Allows Step q w
   alike-allows k w p q l h a =
       (alike-allows-one k w p q l h a, alike-allows-one k w q p l h (alike-sym (LowMove L Step) k p q a))
+
+  -- Where q answers p one way, inside a relation that keeps answering so, q allows what p allows.
+  pub simulation-allows : (R : Relation) → ((p q : ℕ) → R p q → Answered (LowMove L Step) R p q) → (w : List ℕ) → Low L w
+      → (p q : ℕ) → R p q → Allows Step p w → Allows Step q w
+  unfolding Run Low
+  simulation-allows R f [] l p q r h = (q, refl)
+  simulation-allows R f (a ∷ w) l p q r (e, h) =
+      let m = f p q r a (h .0) (l .0, h .1) in
+      allows-cons Step q a (m .0) w (m .1 .1) (simulation-allows R f w (l .1) (h .0) (m .0) (m .2) (e, h .2))
 
   pub bisimilar→SameLow : (p q : ℕ) → Bisimilar (LowMove L Step) p q → SameLow L Step p q
   bisimilar→SameLow p q b w l =
