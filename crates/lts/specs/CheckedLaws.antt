@@ -34,15 +34,17 @@ pub low-game : (L : Levels) (Step : Moves) (n l : ℕ) (step? : ℕ → ℕ → 
     → Game (LowMove L Step) n (answers? n l (lowMove? L step?))
 low-game L Step n l step? D = decided-game (LowMove L Step) n l (lowMove? L step?) (decided-low L Step n l step? D)
 
-module _ (L : Levels) (Step : Moves) (Start : ℕ → Type 0) (n l : ℕ) (step? : ℕ → ℕ → ℕ → Bool) (start? : ℕ → Bool)
+-- The computed rank under the low steps is the rank.
+pub low-rank-is-rank : (L : Levels) (Step : Moves) (n l : ℕ) (step? : ℕ → ℕ → ℕ → Bool) → Decided Step n l step?
+    → (p q : ℕ) → p < n → q < n → Rank (LowMove L Step) p q (lowRank L n l step? p q)
+low-rank-is-rank L Step n l step? D =
+    rank-is-rank (LowMove L Step) n (answers? n l (lowMove? L step?)) (low-game L Step n l step? D)
+
+module _ (Step : Moves) (Start : ℕ → Type 0) (n l : ℕ) (step? : ℕ → ℕ → ℕ → Bool) (start? : ℕ → Bool)
     (D : Decided Step n l step?) (S : DecidedStarts Start n start?) where
   -- The reachable steps, for short.
   abbrev reached? : ℕ → ℕ → ℕ → Bool
   reached? = reachableStep? n l step? start?
-
-  -- The computed rank under the low steps is the rank.
-  pub low-rank-is-rank : (p q : ℕ) → p < n → q < n → Rank (LowMove L Step) p q (lowRank L n l step? p q)
-  low-rank-is-rank = rank-is-rank (LowMove L Step) n (answers? n l (lowMove? L step?)) (low-game L Step n l step? D)
 
   reachable-step : (p a q : ℕ) → Reachable Step Start p → Step p a q → T (reached? p a q)
   reachable-step p a q r s = and-intro (step? p a q) (within? n l step? start? (n - 1) p) (D .Move→move? p a q s)
@@ -55,48 +57,6 @@ module _ (L : Levels) (Step : Moves) (Start : ℕ → Type 0) (n l : ℕ) (step?
         (and-right (step? p a q) (within? n l step? start? (n - 1) p) t),
     D .move?→Move p a q (and-left (step? p a q) (within? n l step? start? (n - 1) p) t),
   )
-
-  -- ---- BNID
-
-  pub bnid?→BNID : T (bnid? L n l step? start?) → BNID L Step Start
-  unfolding bnid?
-  bnid?→BNID t p a q r h s = bisimilar-of-rank (LowMove L Step) p q (lowRank L n l step? p q)
-      (eqb→eq (lowRank L n l step? p q) 0 zero-rank)
-      (low-rank-is-rank p q (D .source-lt p a q s) (D .target-lt p a q s))
-    where
-      f : ℕ → ℕ → ℕ → Bool
-      f = highStep? L n l step? start?
-
-      at-p : T (all l (λ a. all n (f p a)))
-      at-p = all→Each n (λ p. all l (λ a. all n (f p a))) t p (D .source-lt p a q s)
-
-      at-a : T (all n (f p a))
-      at-a = all→Each l (λ a. all n (f p a)) at-p a (D .label-lt p a q s)
-
-      at-q : T (f p a q)
-      at-q = all→Each n (f p a) at-a q (D .target-lt p a q s)
-
-      zero-rank : T (eqb (lowRank L n l step? p q) 0)
-      zero-rank = implies-elim (L .high? a && reached? p a q) (eqb (lowRank L n l step? p q) 0) at-q
-          (and-intro (L .high? a) (reached? p a q) h (reachable-step p a q r s))
-
-  pub BNID→bnid? : BNID L Step Start → T (bnid? L n l step? start?)
-  unfolding bnid?
-  BNID→bnid? b = Each→all n (λ p. all l (λ a. all n (f p a))) (λ p lp. Each→all l (λ a. all n (f p a)) (λ a la.
-      Each→all n (f p a) (λ q lq. implies-intro (L .high? a && reached? p a q)
-      (eqb (lowRank L n l step? p q) 0) (zero-rank p a q lp lq))))
-    where
-      f : ℕ → ℕ → ℕ → Bool
-      f = highStep? L n l step? start?
-
-      zero-rank : (p a q : ℕ) → p < n → q < n → T (L .high? a && reached? p a q)
-          → T (eqb (lowRank L n l step? p q) 0)
-      zero-rank p a q lp lq t =
-          let h = and-left (L .high? a) (reached? p a q) t in
-          let s = reachableStep?→Reachable p a q (and-right (L .high? a) (reached? p a q) t) in
-          let e : lowRank L n l step? p q ≡ 0 = rank-of-rank (LowMove L Step) n (answers? n l (lowMove? L step?))
-          (low-game L Step n l step? D) p q 0 lp lq (bisimilar (b p a q (s .0) h (s .1))) in
-          rw e tt
 
   -- ---- deterministic
 
@@ -137,3 +97,46 @@ module _ (L : Levels) (Step : Moves) (Start : ℕ → Type 0) (n l : ℕ) (step?
           let u = D .move?→Move p a r (and-right (reached? p a q) (step? p a r) t) in
           let e : q ≡ r = d p a q r (s .0) (s .1) u in
           rw e (eqb-refl r)
+
+  -- ---- BNID
+
+  module _ (L : Levels) where
+    pub bnid?→BNID : T (bnid? L n l step? start?) → BNID L Step Start
+    unfolding bnid?
+    bnid?→BNID t p a q r h s = bisimilar-of-rank (LowMove L Step) p q (lowRank L n l step? p q)
+        (eqb→eq (lowRank L n l step? p q) 0 zero-rank)
+        (low-rank-is-rank L Step n l step? D p q (D .source-lt p a q s) (D .target-lt p a q s))
+      where
+        f : ℕ → ℕ → ℕ → Bool
+        f = highStep? L n l step? start?
+
+        at-p : T (all l (λ a. all n (f p a)))
+        at-p = all→Each n (λ p. all l (λ a. all n (f p a))) t p (D .source-lt p a q s)
+
+        at-a : T (all n (f p a))
+        at-a = all→Each l (λ a. all n (f p a)) at-p a (D .label-lt p a q s)
+
+        at-q : T (f p a q)
+        at-q = all→Each n (f p a) at-a q (D .target-lt p a q s)
+
+        zero-rank : T (eqb (lowRank L n l step? p q) 0)
+        zero-rank = implies-elim (L .high? a && reached? p a q) (eqb (lowRank L n l step? p q) 0) at-q
+            (and-intro (L .high? a) (reached? p a q) h (reachable-step p a q r s))
+
+    pub BNID→bnid? : BNID L Step Start → T (bnid? L n l step? start?)
+    unfolding bnid?
+    BNID→bnid? b = Each→all n (λ p. all l (λ a. all n (f p a))) (λ p lp. Each→all l (λ a. all n (f p a)) (λ a la.
+        Each→all n (f p a) (λ q lq. implies-intro (L .high? a && reached? p a q)
+        (eqb (lowRank L n l step? p q) 0) (zero-rank p a q lp lq))))
+      where
+        f : ℕ → ℕ → ℕ → Bool
+        f = highStep? L n l step? start?
+
+        zero-rank : (p a q : ℕ) → p < n → q < n → T (L .high? a && reached? p a q)
+            → T (eqb (lowRank L n l step? p q) 0)
+        zero-rank p a q lp lq t =
+            let h = and-left (L .high? a) (reached? p a q) t in
+            let s = reachableStep?→Reachable p a q (and-right (L .high? a) (reached? p a q) t) in
+            let e : lowRank L n l step? p q ≡ 0 = rank-of-rank (LowMove L Step) n (answers? n l (lowMove? L step?))
+            (low-game L Step n l step? D) p q 0 lp lq (bisimilar (b p a q (s .0) h (s .1))) in
+            rw e tt

@@ -3,7 +3,7 @@
 use mathlib.Core.Path.{_≡_, refl}
 use mathlib.Core.Logic.{inl}
 use mathlib.Core.List.{List, [], _∷_}
-use mathlib.Core.Bool.{Bool, true, false, not, _&&_, _||_}
+use mathlib.Core.Bool.{Bool, false, _&&_, _||_}
 use Prim.Native.Nat.{ℕ, zero, suc, _<_}
 use native.Mathlib.Omega.{arith}
 use lib.Dec.{T, eqb}
@@ -11,7 +11,7 @@ use Rattle.lts.specs.Tests.{all, any}
 use Rattle.lts.specs.Alike.{Rank}
 use Rattle.lts.specs.AlikeLaws.{separated-of-rank}
 use Rattle.lts.specs.Game.{alike?, rankBelow}
-use Rattle.lts.specs.Run.{Run, Reachable, begin, onward, Deterministic, Distance}
+use Rattle.lts.specs.Run.{Run, begin, onward, Deterministic, Distance}
 use Rattle.lts.specs.Noninterference.{
   Levels,
   Levelled,
@@ -34,16 +34,19 @@ use Rattle.lts.specs.FirstWordLaws.{first-word-one, first-word-cons}
 use Rattle.lts.specs.Decided.{Decided, answered?, answers?, simulation?, within?}
 use Rattle.lts.specs.DecidedLaws.{simulation?→Answered}
 use Rattle.lts.specs.DistanceLaws.{distance-suc}
-use Rattle.lts.specs.Checked.{lowMove?, lowRank, bnid?, deterministic?}
-use Rattle.lts.specs.CheckedLaws.{
-  decided-low,
-  low-game,
-  low-rank-is-rank,
-  bnid?→BNID,
-  BNID→bnid?,
-  deterministic?→Deterministic,
+use Rattle.lts.specs.Checked.{lowMove?, bnid?, deterministic?}
+use Rattle.lts.specs.CheckedLaws.{decided-low}
+use Rattle.lts.specs.Listed.{System, arrow, step?, start?, Step, Start}
+use Rattle.lts.specs.ListedLaws.{
+  decided,
+  decided-starts,
+  bounded,
+  listed-deterministic,
+  listed-game,
+  listed-rank,
+  listed-passed,
+  listed-refused,
 }
-use Rattle.lts.specs.Listed.{System, arrow, step?, start?, Step, Start, decided, decided-starts, bounded}
 
 -- ---- actions and levels
 
@@ -90,24 +93,7 @@ close-low-sequence : thin closeLow (print ∷ scan ∷ close ∷ print ∷ scan 
 unfolding thin released?
 close-low-sequence = refl
 
--- ---- what the tests compute, as facts on the definitions
-
-rank : (L : Levels) (M : System) (p q r : ℕ) → p < M .states → q < M .states → lowRank L (M .states) 3 (step? M) p q ≡ r
-    → Rank (LowMove L (Step M)) p q r
-rank L M p q r lp lq e =
-    rw e at (low-rank-is-rank L (Step M) (Start M) (M .states) 3 (step? M) (start? M) (decided M) (decided-starts M) p q lp lq)
-
-passed : (L : Levels) (M : System) → T (bnid? L (M .states) 3 (step? M) (start? M)) → BNID L (Step M) (Start M)
-passed L M t = bnid?→BNID L (Step M) (Start M) (M .states) 3 (step? M) (start? M) (decided M) (decided-starts M) t
-
-refused : (L : Levels) (M : System) → bnid? L (M .states) 3 (step? M) (start? M) ≡ false → ¬ (BNID L (Step M) (Start M))
-refused L M e b =
-    rw e at (BNID→bnid? L (Step M) (Start M) (M .states) 3 (step? M) (start? M) (decided M) (decided-starts M) b)
-
-det : (M : System) → T (deterministic? (M .states) 3 (step? M) (start? M)) → Deterministic (Step M) (Start M)
-det M t = deterministic?→Deterministic usual (Step M) (Start M) (M .states) 3 (step? M) (start? M) (decided M) (decided-starts M) t
-
--- ---- 0 scan 1, 0 print 2, 1 scan 1, 2 scan 3: the ends of the print step offer the same actions, and differ at depth 2
+-- ---- 0 scan 1, 0 print 2, 1 scan 1, 2 scan 3: the ends of print offer the same actions, and differ at depth 2
 
 abbrev pageSystem : System
 pageSystem = record {
@@ -118,24 +104,24 @@ pageSystem = record {
 
 page-rank : Rank (LowMove usual (Step pageSystem)) 0 2 2
 unfolding rankBelow alike? answers? answered? all any
-page-rank = rank usual pageSystem 0 2 2 (omega arith) (omega arith) refl
+page-rank = listed-rank pageSystem usual 0 2 2 (omega arith) (omega arith) refl
 
 page-rank-last : Rank (LowMove usual (Step pageSystem)) 0 3 1
 unfolding rankBelow alike? answers? answered? all any
-page-rank-last = rank usual pageSystem 0 3 1 (omega arith) (omega arith) refl
+page-rank-last = listed-rank pageSystem usual 0 3 1 (omega arith) (omega arith) refl
 
 page-refused : ¬ (BNID usual (Step pageSystem) (Start pageSystem))
 unfolding bnid? rankBelow alike? answers? answered? within? all any
-page-refused = refused usual pageSystem refl
+page-refused = listed-refused pageSystem usual refl
 
 page-deterministic : Deterministic (Step pageSystem) (Start pageSystem)
 unfolding deterministic? within? all any
-page-deterministic = det pageSystem tt
+page-deterministic = listed-deterministic pageSystem tt
 
 page-not-INI : ¬ (INI usual (Step pageSystem) (Start pageSystem))
 page-not-INI ini = page-refused (bnid↔INI usual (Step pageSystem) (Start pageSystem) 4 (bounded pageSystem)
     (usual-levelled pageSystem) page-deterministic (answers? 4 3 (lowMove? usual (step? pageSystem)))
-    (low-game usual (Step pageSystem) 4 3 (step? pageSystem) (decided pageSystem)) .1 ini)
+    (listed-game pageSystem usual) .1 ini)
 
 page-distance : Distance (Step pageSystem) (Start pageSystem) 3 2
 unfolding within? all any
@@ -151,7 +137,7 @@ page-last-letter = first-word-one usual (Step pageSystem) 1 3 scan tt
 page-word : FirstWord usual (Step pageSystem) 0 2 2 (scan ∷ scan ∷ [])
 page-word = first-word-cons usual (Step pageSystem) (Start pageSystem) 4
     (answers? 4 3 (lowMove? usual (step? pageSystem)))
-    (low-game usual (Step pageSystem) 4 3 (step? pageSystem) (decided pageSystem)) page-deterministic 0 0 2 scan 1 3
+    (listed-game pageSystem usual) page-deterministic 0 0 2 scan 1 3
     (scan ∷ []) (begin tt) (onward {a = print} (begin {p = 0} tt) tt)
     (separated-of-rank (LowMove usual (Step pageSystem)) 0 2 2 (omega arith) page-rank) (tt, tt) (tt, tt)
     (λ b x y l. absurd (omega arith)) page-last-letter
@@ -165,7 +151,8 @@ page-end = ((1, (1, tt, (1, tt, refl))), λ z. end (z .1 .0) (z .1 .1) (z .1 .2 
     end (suc zero) s y t = s
     end (suc (suc zero)) s y t = s
     end (suc (suc (suc zero))) s y t = t
-    end (suc (suc (suc (suc x)))) s y t = absurd (omega (arith, decided pageSystem .target-lt 2 scan (suc (suc (suc (suc x)))) s))
+    end (suc (suc (suc (suc x)))) s y t =
+        absurd (omega (arith, decided pageSystem .target-lt 2 scan (suc (suc (suc (suc x)))) s))
 
 -- ---- 0 print 1, 1 close 2, 2 scan 2: a release is never played, and a high step before it may be told
 
@@ -178,16 +165,16 @@ releaseSystem = record {
 
 release-passed : BNID usual (Step releaseSystem) (Start releaseSystem)
 unfolding bnid? rankBelow alike? answers? answered? within? all any
-release-passed = passed usual releaseSystem tt
+release-passed = listed-passed releaseSystem usual tt
 
--- The same with close low: only the target has a low step, so the source is played against, not for.
+-- The same with close low: only the target of print has a low step, so one way alone would not separate the two.
 close-low-rank : Rank (LowMove closeLow (Step releaseSystem)) 0 1 1
 unfolding rankBelow alike? answers? answered? all any
-close-low-rank = rank closeLow releaseSystem 0 1 1 (omega arith) (omega arith) refl
+close-low-rank = listed-rank releaseSystem closeLow 0 1 1 (omega arith) (omega arith) refl
 
 close-low-refused : ¬ (BNID closeLow (Step releaseSystem) (Start releaseSystem))
 unfolding bnid? rankBelow alike? answers? answered? within? all any
-close-low-refused = refused closeLow releaseSystem refl
+close-low-refused = listed-refused releaseSystem closeLow refl
 
 -- ---- 0 scan 2, 0 scan 3, 0 print 1, 1 scan 2, 2 scan 3: refused, though both ends allow the same low sequences
 
@@ -200,11 +187,11 @@ branchingSystem = record {
 
 branching-rank : Rank (LowMove usual (Step branchingSystem)) 0 1 2
 unfolding rankBelow alike? answers? answered? all any
-branching-rank = rank usual branchingSystem 0 1 2 (omega arith) (omega arith) refl
+branching-rank = listed-rank branchingSystem usual 0 1 2 (omega arith) (omega arith) refl
 
 branching-refused : ¬ (BNID usual (Step branchingSystem) (Start branchingSystem))
 unfolding bnid? rankBelow alike? answers? answered? within? all any
-branching-refused = refused usual branchingSystem refl
+branching-refused = listed-refused branchingSystem usual refl
 
 -- Each follows the other: 1 goes to 2 where 0 stops in 3.
 branching-same-low : SameLow usual (Step branchingSystem) 0 1
@@ -238,8 +225,8 @@ unreachedSystem starts = record { states = 3; starts = starts; steps = arrow 1 p
 
 unreached-passed : BNID usual (Step (unreachedSystem (0 ∷ []))) (Start (unreachedSystem (0 ∷ [])))
 unfolding bnid? rankBelow alike? answers? answered? within? all any
-unreached-passed = passed usual (unreachedSystem (0 ∷ [])) tt
+unreached-passed = listed-passed (unreachedSystem (0 ∷ [])) usual tt
 
 two-starts-refused : ¬ (BNID usual (Step (unreachedSystem (0 ∷ 1 ∷ []))) (Start (unreachedSystem (0 ∷ 1 ∷ []))))
 unfolding bnid? rankBelow alike? answers? answered? within? all any
-two-starts-refused = refused usual (unreachedSystem (0 ∷ 1 ∷ [])) refl
+two-starts-refused = listed-refused (unreachedSystem (0 ∷ 1 ∷ [])) usual refl

@@ -24,4 +24,5 @@ pub mod DistanceLaws
 pub mod Checked
 pub mod CheckedLaws
 pub mod Listed
+pub mod ListedLaws
 pub mod Examples

@@ -42,8 +42,8 @@ module _ (L : Levels) (Step : Moves) where
       (alike-allows-one k w p q l h a, alike-allows-one k w q p l h (alike-sym (LowMove L Step) k p q a))
 
   -- Where q answers p one way, inside a relation that keeps answering so, q allows what p allows.
-  pub simulation-allows : (R : Relation) → ((p q : ℕ) → R p q → Answered (LowMove L Step) R p q) → (w : List ℕ) → Low L w
-      → (p q : ℕ) → R p q → Allows Step p w → Allows Step q w
+  pub simulation-allows : (R : Relation) → ((p q : ℕ) → R p q → Answered (LowMove L Step) R p q) → (w : List ℕ)
+      → Low L w → (p q : ℕ) → R p q → Allows Step p w → Allows Step q w
   unfolding Run Low
   simulation-allows R f [] l p q r h = (q, refl)
   simulation-allows R f (a ∷ w) l p q r (e, h) =
