@@ -4,19 +4,8 @@ use mathlib.Core.Path.{_≡_, subst}
 use mathlib.Core.Logic.{_⊎_, inl, inr, _↔_}
 use mathlib.Core.Bool.{Bool}
 use Prim.Native.Nat.{ℕ, zero, suc, _<_}
-use Rattle.lts.specs.Alike.{
-  Moves,
-  Relation,
-  Answered,
-  Answers,
-  Alike,
-  Bisimilar,
-  BisimilarBy,
-  Separated,
-  Rank,
-  bisimilar,
-  separated,
-}
+use Rattle.lts.specs.Alike.{Moves, Relation, Answered, Answers, Alike, Bisimilar, BisimilarBy, Separated, Rank}
+use Rattle.lts.specs.Alike.{bisimilar, separated}
 use Rattle.lts.specs.AlikeLaws.{alike-suc}
 use Rattle.lts.specs.Game.{Game}
 use Rattle.lts.specs.RankLaws.{bisimilar↔BisimilarBy}

@@ -9,19 +9,8 @@ use native.Mathlib.Decide.{le-ind}
 use lib.Dec.{T, eqb, eqb→eq, eqb-refl}
 use Rattle.lts.specs.Tests.{any}
 use Rattle.lts.specs.TestsLaws.{and-intro, and-left, and-right, any→Some, Some→any, lt-or-le}
-use Rattle.lts.specs.Alike.{
-  Moves,
-  Relation,
-  Answers,
-  Alike,
-  Bisimulation,
-  Bisimilar,
-  BisimilarBy,
-  Separated,
-  Rank,
-  bisimilar,
-  separated,
-}
+use Rattle.lts.specs.Alike.{Moves, Relation, Answers, Alike, Bisimulation, Bisimilar, BisimilarBy, Separated}
+use Rattle.lts.specs.Alike.{Rank, bisimilar, separated}
 
 module _ (Move : Moves) where
   -- What answers inside R answers inside a relation that holds R.

@@ -8,21 +8,8 @@ use native.Mathlib.Nat.{not-suc-le-zero}
 use native.Mathlib.Omega.{arith}
 use lib.Dec.{T, T-not, not-T}
 use Rattle.lts.specs.Tests.{any}
-use Rattle.lts.specs.TestsLaws.{
-  T-cases,
-  and-intro,
-  and-left,
-  and-right,
-  lt-or-le,
-  all→Each,
-  Each→all,
-  any→Some,
-  not-any→Each,
-  count-le,
-  count-lt-count,
-  count-pos,
-  least-of-passes,
-}
+use Rattle.lts.specs.TestsLaws.{T-cases, and-intro, and-left, and-right, lt-or-le, all→Each, Each→all, any→Some}
+use Rattle.lts.specs.TestsLaws.{not-any→Each, count-le, count-lt-count, count-pos, least-of-passes}
 use Rattle.lts.specs.Alike.{Moves, Alike}
 use Rattle.lts.specs.AlikeLaws.{alike-suc, alike-refl, alike-sym, alike-trans}
 use Rattle.lts.specs.Game.{Game, alike?, Settled, Separates}

@@ -5,18 +5,8 @@ use mathlib.Core.Bool.{Bool, not, _&&_, _||_}
 use Prim.Native.Nat.{ℕ, _<_}
 use lib.Dec.{T, T-not, not-T}
 use Rattle.lts.specs.Tests.{all}
-use Rattle.lts.specs.TestsLaws.{
-  and-intro,
-  and-left,
-  and-right,
-  not-and-cases,
-  implies-elim,
-  not-implies,
-  all→Each,
-  not-all→Some,
-  any→Some,
-  not-any→Each,
-}
+use Rattle.lts.specs.TestsLaws.{and-intro, and-left, and-right, not-and-cases, implies-elim, not-implies}
+use Rattle.lts.specs.TestsLaws.{all→Each, not-all→Some, any→Some, not-any→Each}
 use Rattle.lts.specs.Alike.{Moves, Answered}
 use Rattle.lts.specs.Game.{Game, Opening, by-first, by-second}
 use Rattle.lts.specs.Decided.{Decided, answer?, met?, answered?, answers?, simulation?}

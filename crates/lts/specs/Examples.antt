@@ -1,9 +1,9 @@
--- Small systems made by hand, judged by the definitions, and the two thinnings of document 01, "Bench models": a wrong
--- definition is refused here. Assumes nothing.
+-- Small systems, judged by the definitions through the tests: a wrong definition or test is refused here.
+-- Document 01, "The page" and "Bench models". Assumes nothing.
 use mathlib.Core.Path.{_≡_, refl}
 use mathlib.Core.Logic.{inl}
-use mathlib.Core.List.{List, [], _∷_}
-use mathlib.Core.Bool.{Bool, false, _&&_, _||_}
+use mathlib.Core.List.{[], _∷_}
+use mathlib.Core.Bool.{Bool, true, false, _&&_, _||_}
 use Prim.Native.Nat.{ℕ, zero, suc, _<_}
 use native.Mathlib.Omega.{arith}
 use lib.Dec.{T, eqb}
@@ -12,21 +12,8 @@ use Rattle.lts.specs.Alike.{Rank}
 use Rattle.lts.specs.AlikeLaws.{separated-of-rank}
 use Rattle.lts.specs.Game.{alike?, rankBelow}
 use Rattle.lts.specs.Run.{Run, begin, onward, Deterministic, Distance}
-use Rattle.lts.specs.Noninterference.{
-  Levels,
-  Levelled,
-  low,
-  release,
-  high,
-  LevelledSteps,
-  released?,
-  thin,
-  Low,
-  LowMove,
-  SameLow,
-  BNID,
-  INI,
-}
+use Rattle.lts.specs.Noninterference.{Levels, Levelled, low, release, high, LevelledSteps, LowMove, SameLow}
+use Rattle.lts.specs.Noninterference.{BNID, INI}
 use Rattle.lts.specs.NoninterferenceLaws.{bnid↔INI}
 use Rattle.lts.specs.LowLaws.{simulation-allows}
 use Rattle.lts.specs.Word.{OnlyFrom, FirstWord}
@@ -34,38 +21,110 @@ use Rattle.lts.specs.FirstWordLaws.{first-word-one, first-word-cons}
 use Rattle.lts.specs.Decided.{Decided, answered?, answers?, simulation?, within?}
 use Rattle.lts.specs.DecidedLaws.{simulation?→Answered}
 use Rattle.lts.specs.DistanceLaws.{distance-suc}
-use Rattle.lts.specs.Checked.{lowMove?, bnid?, deterministic?}
+use Rattle.lts.specs.Checked.{lowMove?, lowRank, bnid?, deterministic?}
 use Rattle.lts.specs.CheckedLaws.{decided-low}
-use Rattle.lts.specs.Listed.{System, arrow, step?, start?, Step, Start}
-use Rattle.lts.specs.ListedLaws.{
-  decided,
-  decided-starts,
-  bounded,
-  listed-deterministic,
-  listed-game,
-  listed-rank,
-  listed-passed,
-  listed-refused,
+use Rattle.lts.specs.Listed.{System, step?, start?, Step, Start}
+use Rattle.lts.specs.ListedLaws.{decided, decided-starts, bounded, listed-deterministic, listed-game}
+use Rattle.lts.specs.ListedLaws.{listed-rank, listed-passed, listed-refused}
+use Rattle.lts.specs.ExamplesByHand.{page-scan-scan}
+use Rattle.lts.specs.ExampleSystems.{scan, print, usual, closeLow}
+use Rattle.lts.specs.ExampleSystems.{pageSystem, releaseSystem, branchingSystem, unreachedSystem}
+
+-- ---- what the tests compute
+
+-- The computed rank of p and q in M.
+abbrev rankIn : Levels → System → ℕ → ℕ → ℕ
+rankIn L M p q = lowRank L (M .states) 3 (step? M) p q
+
+-- The test of BNID for M.
+abbrev bnidIn? : Levels → System → Bool
+bnidIn? L M = bnid? L (M .states) 3 (step? M) (start? M)
+
+record Computed : Type 0 where
+  page-rank : rankIn usual pageSystem 0 2 ≡ 2
+  page-rank-last : rankIn usual pageSystem 0 3 ≡ 1
+  close-low-rank : rankIn closeLow releaseSystem 0 1 ≡ 1
+  branching-rank : rankIn usual branchingSystem 0 1 ≡ 2
+  unreached-rank : rankIn usual (unreachedSystem (0 ∷ [])) 1 2 ≡ 1
+  page : bnidIn? usual pageSystem ≡ false
+  release : bnidIn? usual releaseSystem ≡ true
+  close-low : bnidIn? closeLow releaseSystem ≡ false
+  branching : bnidIn? usual branchingSystem ≡ false
+  unreached : bnidIn? usual (unreachedSystem (0 ∷ [])) ≡ true
+  two-starts : bnidIn? usual (unreachedSystem (0 ∷ 1 ∷ [])) ≡ false
+
+computed : Computed
+unfolding bnid? rankBelow alike? answers? answered? within? all any
+computed = record {
+  page-rank = refl;
+  page-rank-last = refl;
+  close-low-rank = refl;
+  branching-rank = refl;
+  unreached-rank = refl;
+  page = refl;
+  release = refl;
+  close-low = refl;
+  branching = refl;
+  unreached = refl;
+  two-starts = refl;
 }
 
--- ---- actions and levels
+-- ---- and so the definitions say
 
-abbrev scan : ℕ
-scan = 0
+page-rank : Rank (LowMove usual (Step pageSystem)) 0 2 2
+page-rank = listed-rank pageSystem usual 0 2 2 (omega arith) (omega arith) (computed .page-rank)
 
-abbrev print : ℕ
-print = 1
+close-low-rank : Rank (LowMove closeLow (Step releaseSystem)) 0 1 1
+close-low-rank = listed-rank releaseSystem closeLow 0 1 1 (omega arith) (omega arith) (computed .close-low-rank)
 
-abbrev close : ℕ
-close = 2
+branching-rank : Rank (LowMove usual (Step branchingSystem)) 0 1 2
+branching-rank = listed-rank branchingSystem usual 0 1 2 (omega arith) (omega arith) (computed .branching-rank)
 
--- The levels of document 01, "The page".
-abbrev usual : Levels
-usual = record { low? = eqb scan; release? = eqb close; high? = eqb print }
+page-refused : ¬ (BNID usual (Step pageSystem) (Start pageSystem))
+page-refused = listed-refused pageSystem usual (computed .page)
 
--- The same with close low.
-abbrev closeLow : Levels
-closeLow = record { low? = λ a. eqb scan a || eqb close a; release? = λ a. false; high? = eqb print }
+release-passed : BNID usual (Step releaseSystem) (Start releaseSystem)
+release-passed = listed-passed releaseSystem usual (computed .release)
+
+close-low-refused : ¬ (BNID closeLow (Step releaseSystem) (Start releaseSystem))
+close-low-refused = listed-refused releaseSystem closeLow (computed .close-low)
+
+branching-refused : ¬ (BNID usual (Step branchingSystem) (Start branchingSystem))
+branching-refused = listed-refused branchingSystem usual (computed .branching)
+
+unreached-passed : BNID usual (Step (unreachedSystem (0 ∷ []))) (Start (unreachedSystem (0 ∷ [])))
+unreached-passed = listed-passed (unreachedSystem (0 ∷ [])) usual (computed .unreached)
+
+two-starts-refused : ¬ (BNID usual (Step (unreachedSystem (0 ∷ 1 ∷ []))) (Start (unreachedSystem (0 ∷ 1 ∷ []))))
+two-starts-refused = listed-refused (unreachedSystem (0 ∷ 1 ∷ [])) usual (computed .two-starts)
+
+-- Both ends of the branching system's print step allow the same low sequences: each follows the other, and 1 goes to 2
+-- where 0 stops in 3.
+branching-same-low : SameLow usual (Step branchingSystem) 0 1
+unfolding simulation? answered? all any
+branching-same-low w l = (
+  simulation-allows usual (Step branchingSystem) (λ x y. (x < 4) × (y < 4) × T (there x y))
+      (simulation?→Answered Moved 4 3 moved? decides there tt) w l 0 1 (omega arith, omega arith, tt),
+  simulation-allows usual (Step branchingSystem) (λ x y. (x < 4) × (y < 4) × T (back x y))
+      (simulation?→Answered Moved 4 3 moved? decides back tt) w l 1 0 (omega arith, omega arith, tt),
+)
+  where
+    Moved : ℕ → ℕ → ℕ → Type 0
+    Moved = LowMove usual (Step branchingSystem)
+
+    moved? : ℕ → ℕ → ℕ → Bool
+    moved? = lowMove? usual (step? branchingSystem)
+
+    decides : Decided Moved 4 3 moved?
+    decides = decided-low usual (Step branchingSystem) 4 3 (step? branchingSystem) (decided branchingSystem)
+
+    there : ℕ → ℕ → Bool
+    there x y = (eqb x 0 && eqb y 1) || ((eqb x 2 && eqb y 2) || eqb x 3)
+
+    back : ℕ → ℕ → Bool
+    back x y = (eqb x 1 && eqb y 0) || ((eqb x 2 && eqb y 2) || eqb x 3)
+
+-- ---- the page's system: deterministic, so its sequences tell
 
 usual-levelled : (M : System) → LevelledSteps usual (Step M) (Start M)
 usual-levelled M p a q r s = go a (decided M .label-lt p a q s)
@@ -75,44 +134,6 @@ usual-levelled M p a q r s = go a (decided M .label-lt p a q s)
     go (suc zero) h = high tt tt tt
     go (suc (suc zero)) h = release tt tt tt
     go (suc (suc (suc a))) h = absurd (omega arith)
-
--- ---- thinned sequences
-
--- print scan close print scan thins to print scan close scan.
-print-scan-close-print-scan : thin usual (print ∷ scan ∷ close ∷ print ∷ scan ∷ []) ≡ print ∷ scan ∷ close ∷ scan ∷ []
-unfolding thin released?
-print-scan-close-print-scan = refl
-
--- The empty sequence thins to itself.
-empty-sequence : thin usual [] ≡ []
-unfolding thin
-empty-sequence = refl
-
--- With close low nothing is released, and both prints go.
-close-low-sequence : thin closeLow (print ∷ scan ∷ close ∷ print ∷ scan ∷ []) ≡ scan ∷ close ∷ scan ∷ []
-unfolding thin released?
-close-low-sequence = refl
-
--- ---- 0 scan 1, 0 print 2, 1 scan 1, 2 scan 3: the ends of print offer the same actions, and differ at depth 2
-
-abbrev pageSystem : System
-pageSystem = record {
-  states = 4;
-  starts = 0 ∷ [];
-  steps = arrow 0 scan 1 ∷ arrow 0 print 2 ∷ arrow 1 scan 1 ∷ arrow 2 scan 3 ∷ [];
-}
-
-page-rank : Rank (LowMove usual (Step pageSystem)) 0 2 2
-unfolding rankBelow alike? answers? answered? all any
-page-rank = listed-rank pageSystem usual 0 2 2 (omega arith) (omega arith) refl
-
-page-rank-last : Rank (LowMove usual (Step pageSystem)) 0 3 1
-unfolding rankBelow alike? answers? answered? all any
-page-rank-last = listed-rank pageSystem usual 0 3 1 (omega arith) (omega arith) refl
-
-page-refused : ¬ (BNID usual (Step pageSystem) (Start pageSystem))
-unfolding bnid? rankBelow alike? answers? answered? within? all any
-page-refused = listed-refused pageSystem usual refl
 
 page-deterministic : Deterministic (Step pageSystem) (Start pageSystem)
 unfolding deterministic? within? all any
@@ -144,89 +165,4 @@ page-word = first-word-cons usual (Step pageSystem) (Start pageSystem) 4
 
 page-end : OnlyFrom (Step pageSystem) 0 2 (scan ∷ scan ∷ [])
 unfolding Run
-page-end = ((1, (1, tt, (1, tt, refl))), λ z. end (z .1 .0) (z .1 .1) (z .1 .2 .0) (z .1 .2 .1))
-  where
-    end : (x : ℕ) → T (step? pageSystem 2 scan x) → (y : ℕ) → T (step? pageSystem x scan y) → ⊥
-    end zero s y t = s
-    end (suc zero) s y t = s
-    end (suc (suc zero)) s y t = s
-    end (suc (suc (suc zero))) s y t = t
-    end (suc (suc (suc (suc x)))) s y t =
-        absurd (omega (arith, decided pageSystem .target-lt 2 scan (suc (suc (suc (suc x)))) s))
-
--- ---- 0 print 1, 1 close 2, 2 scan 2: a release is never played, and a high step before it may be told
-
-abbrev releaseSystem : System
-releaseSystem = record {
-  states = 3;
-  starts = 0 ∷ [];
-  steps = arrow 0 print 1 ∷ arrow 1 close 2 ∷ arrow 2 scan 2 ∷ [];
-}
-
-release-passed : BNID usual (Step releaseSystem) (Start releaseSystem)
-unfolding bnid? rankBelow alike? answers? answered? within? all any
-release-passed = listed-passed releaseSystem usual tt
-
--- The same with close low: only the target of print has a low step, so one way alone would not separate the two.
-close-low-rank : Rank (LowMove closeLow (Step releaseSystem)) 0 1 1
-unfolding rankBelow alike? answers? answered? all any
-close-low-rank = listed-rank releaseSystem closeLow 0 1 1 (omega arith) (omega arith) refl
-
-close-low-refused : ¬ (BNID closeLow (Step releaseSystem) (Start releaseSystem))
-unfolding bnid? rankBelow alike? answers? answered? within? all any
-close-low-refused = listed-refused releaseSystem closeLow refl
-
--- ---- 0 scan 2, 0 scan 3, 0 print 1, 1 scan 2, 2 scan 3: refused, though both ends allow the same low sequences
-
-abbrev branchingSystem : System
-branchingSystem = record {
-  states = 4;
-  starts = 0 ∷ [];
-  steps = arrow 0 scan 2 ∷ arrow 0 scan 3 ∷ arrow 0 print 1 ∷ arrow 1 scan 2 ∷ arrow 2 scan 3 ∷ [];
-}
-
-branching-rank : Rank (LowMove usual (Step branchingSystem)) 0 1 2
-unfolding rankBelow alike? answers? answered? all any
-branching-rank = listed-rank branchingSystem usual 0 1 2 (omega arith) (omega arith) refl
-
-branching-refused : ¬ (BNID usual (Step branchingSystem) (Start branchingSystem))
-unfolding bnid? rankBelow alike? answers? answered? within? all any
-branching-refused = listed-refused branchingSystem usual refl
-
--- Each follows the other: 1 goes to 2 where 0 stops in 3.
-branching-same-low : SameLow usual (Step branchingSystem) 0 1
-unfolding simulation? answered? all any
-branching-same-low w l = (
-  simulation-allows usual (Step branchingSystem) (λ x y. (x < 4) × (y < 4) × T (there x y))
-      (simulation?→Answered Moved 4 3 moved? decides there tt) w l 0 1 (omega arith, omega arith, tt),
-  simulation-allows usual (Step branchingSystem) (λ x y. (x < 4) × (y < 4) × T (back x y))
-      (simulation?→Answered Moved 4 3 moved? decides back tt) w l 1 0 (omega arith, omega arith, tt),
-)
-  where
-    Moved : ℕ → ℕ → ℕ → Type 0
-    Moved = LowMove usual (Step branchingSystem)
-
-    moved? : ℕ → ℕ → ℕ → Bool
-    moved? = lowMove? usual (step? branchingSystem)
-
-    decides : Decided Moved 4 3 moved?
-    decides = decided-low usual (Step branchingSystem) 4 3 (step? branchingSystem) (decided branchingSystem)
-
-    there : ℕ → ℕ → Bool
-    there x y = (eqb x 0 && eqb y 1) || ((eqb x 2 && eqb y 2) || eqb x 3)
-
-    back : ℕ → ℕ → Bool
-    back x y = (eqb x 1 && eqb y 0) || ((eqb x 2 && eqb y 2) || eqb x 3)
-
--- ---- three states, 1 print 2, 2 scan 2: passed, the print step being unreachable; refused if 1 is a start too
-
-abbrev unreachedSystem : List ℕ → System
-unreachedSystem starts = record { states = 3; starts = starts; steps = arrow 1 print 2 ∷ arrow 2 scan 2 ∷ [] }
-
-unreached-passed : BNID usual (Step (unreachedSystem (0 ∷ []))) (Start (unreachedSystem (0 ∷ [])))
-unfolding bnid? rankBelow alike? answers? answered? within? all any
-unreached-passed = listed-passed (unreachedSystem (0 ∷ [])) usual tt
-
-two-starts-refused : ¬ (BNID usual (Step (unreachedSystem (0 ∷ 1 ∷ []))) (Start (unreachedSystem (0 ∷ 1 ∷ []))))
-unfolding bnid? rankBelow alike? answers? answered? within? all any
-two-starts-refused = listed-refused (unreachedSystem (0 ∷ 1 ∷ [])) usual refl
+page-end = ((1, (1, tt, (1, tt, refl))), λ z. page-scan-scan (z .1 .0) (z .1 .2 .0) (z .1 .1) (z .1 .2 .1))

@@ -25,4 +25,6 @@ pub mod Checked
 pub mod CheckedLaws
 pub mod Listed
 pub mod ListedLaws
+pub mod ExampleSystems
+pub mod ExamplesByHand
 pub mod Examples

@@ -1,6 +1,6 @@
 -- Listed systems are decided, so what the tests compute are facts on the definitions. Assumes nothing.
 use mathlib.Core.Path.{_≡_}
-use mathlib.Core.Bool.{false, _&&_}
+use mathlib.Core.Bool.{true, false, _&&_}
 use Prim.Native.Nat.{ℕ, _<_}
 use lib.Dec.{T, ltb, ltb→lt}
 use Rattle.lts.specs.TestsLaws.{and-left, and-right}
@@ -10,13 +10,8 @@ use Rattle.lts.specs.Run.{Deterministic, Bounded}
 use Rattle.lts.specs.Noninterference.{Levels, LowMove, BNID}
 use Rattle.lts.specs.Decided.{Decided, DecidedStarts, answers?}
 use Rattle.lts.specs.Checked.{lowMove?, lowRank, bnid?, deterministic?}
-use Rattle.lts.specs.CheckedLaws.{
-  low-game,
-  low-rank-is-rank,
-  bnid?→BNID,
-  BNID→bnid?,
-  deterministic?→Deterministic,
-}
+use Rattle.lts.specs.CheckedLaws.{low-game, low-rank-is-rank, bnid?→BNID, BNID→bnid?}
+use Rattle.lts.specs.CheckedLaws.{deterministic?→Deterministic}
 use Rattle.lts.specs.Listed.{System, has, leads, step?, start?, Step, Start}
 
 module _ (M : System) where
@@ -61,8 +56,9 @@ module _ (M : System) where
         → Rank (LowMove L (Step M)) p q r
     listed-rank p q r lp lq e = rw e at (low-rank-is-rank L (Step M) (M .states) 3 (step? M) decided p q lp lq)
 
-    pub listed-passed : T (bnid? L (M .states) 3 (step? M) (start? M)) → BNID L (Step M) (Start M)
-    listed-passed t = bnid?→BNID (Step M) (Start M) (M .states) 3 (step? M) (start? M) decided decided-starts L t
+    pub listed-passed : bnid? L (M .states) 3 (step? M) (start? M) ≡ true → BNID L (Step M) (Start M)
+    listed-passed e =
+        bnid?→BNID (Step M) (Start M) (M .states) 3 (step? M) (start? M) decided decided-starts L (rw e tt)
 
     pub listed-refused : bnid? L (M .states) 3 (step? M) (start? M) ≡ false → ¬ (BNID L (Step M) (Start M))
     listed-refused e b =

@@ -14,23 +14,8 @@ use Rattle.lts.specs.AlikeLaws.{bisimilar-answer, bisimilar-refl, bisimi
 use Rattle.lts.specs.Game.{Game}
 use Rattle.lts.specs.Run.{Run, Reachable, begin, onward, Deterministic, Bounded}
 use Rattle.lts.specs.RunLaws.{run-snoc, reachable→Run, reachable-lt, run-unique}
-use Rattle.lts.specs.Noninterference.{
-  Levels,
-  Levelled,
-  low,
-  release,
-  high,
-  LevelledSteps,
-  released?,
-  thin,
-  LowMove,
-  SameLow,
-  BNID,
-  NID,
-  ThinnedRun,
-  INI,
-  ThinnedBisimilar,
-}
+use Rattle.lts.specs.Noninterference.{Levels, Levelled, low, release, high, LevelledSteps, released?, thin}
+use Rattle.lts.specs.Noninterference.{LowMove, SameLow, BNID, NID, ThinnedRun, INI, ThinnedBisimilar}
 use Rattle.lts.specs.ThinLaws.{thin-cons-drop, thin-cons-keep, thin-snoc-high}
 use Rattle.lts.specs.LowLaws.{bisimilar→SameLow, same-low-sym, same-low-trans, same-low→Bisimilar}
 

@@ -10,13 +10,8 @@ use native.Mathlib.Omega.{arith}
 use lib.Dec.{T}
 use Rattle.lts.specs.TestsLaws.{lt-suc-cases}
 use Rattle.lts.specs.Alike.{Moves, Alike, Bisimilar, BisimilarBy, Separated, Rank, bisimilar}
-use Rattle.lts.specs.AlikeLaws.{
-  alike-le,
-  bisimulation→Alike,
-  bisimilar→BisimilarBy,
-  rank-of-separated,
-  rank-unique,
-}
+use Rattle.lts.specs.AlikeLaws.{alike-le, bisimulation→Alike, bisimilar→BisimilarBy, rank-of-separated}
+use Rattle.lts.specs.AlikeLaws.{rank-unique}
 use Rattle.lts.specs.Game.{Game, alike?, nextRank, rankBelow, rank}
 use Rattle.lts.specs.GameLaws.{alike?→Alike, Alike→alike?, bisimilar-of-settled, rank-le-settled}
 use Rattle.lts.specs.ClassesLaws.{settled-exists}
