@@ -9,7 +9,7 @@ use Rattle.lts.specs.TestsLaws.{and-intro, and-left, and-right, implies-
 use Rattle.lts.specs.Alike.{Moves, Rank, bisimilar}
 use Rattle.lts.specs.AlikeLaws.{bisimilar-of-rank}
 use Rattle.lts.specs.Game.{Game}
-use Rattle.lts.specs.RankLaws.{rank-is-rank, rank-of-rank}
+use Rattle.lts.specs.RankLaws.{rank→Rank, Rank→rank}
 use Rattle.lts.specs.Run.{Reachable, Deterministic}
 use Rattle.lts.specs.Noninterference.{Levels, LowMove, BNID}
 use Rattle.lts.specs.Decided.{Decided, DecidedStarts, answers?, within?}
@@ -35,10 +35,10 @@ pub low-game : (L : Levels) (Step : Moves) (n l : ℕ) (step? : ℕ → ℕ → 
 low-game L Step n l step? D = decided-game (LowMove L Step) n l (lowMove? L step?) (decided-low L Step n l step? D)
 
 -- The computed rank under the low steps is the rank.
-pub low-rank-is-rank : (L : Levels) (Step : Moves) (n l : ℕ) (step? : ℕ → ℕ → ℕ → Bool) → Decided Step n l step?
+pub lowRank→Rank : (L : Levels) (Step : Moves) (n l : ℕ) (step? : ℕ → ℕ → ℕ → Bool) → Decided Step n l step?
     → (p q : ℕ) → p < n → q < n → Rank (LowMove L Step) p q (lowRank L n l step? p q)
-low-rank-is-rank L Step n l step? D =
-    rank-is-rank (LowMove L Step) n (answers? n l (lowMove? L step?)) (low-game L Step n l step? D)
+lowRank→Rank L Step n l step? D =
+    rank→Rank (LowMove L Step) n (answers? n l (lowMove? L step?)) (low-game L Step n l step? D)
 
 module _ (Step : Moves) (Start : ℕ → Type 0) (n l : ℕ) (step? : ℕ → ℕ → ℕ → Bool) (start? : ℕ → Bool)
     (D : Decided Step n l step?) (S : DecidedStarts Start n start?) where
@@ -105,7 +105,7 @@ module _ (Step : Moves) (Start : ℕ → Type 0) (n l : ℕ) (step? : ℕ → �
     unfolding bnid?
     bnid?→BNID t p a q r h s = bisimilar-of-rank (LowMove L Step) p q (lowRank L n l step? p q)
         (eqb→eq (lowRank L n l step? p q) 0 zero-rank)
-        (low-rank-is-rank L Step n l step? D p q (D .source-lt p a q s) (D .target-lt p a q s))
+        (lowRank→Rank L Step n l step? D p q (D .source-lt p a q s) (D .target-lt p a q s))
       where
         f : ℕ → ℕ → ℕ → Bool
         f = highStep? L n l step? start?
@@ -137,6 +137,6 @@ module _ (Step : Moves) (Start : ℕ → Type 0) (n l : ℕ) (step? : ℕ → �
         zero-rank p a q lp lq t =
             let h = and-left (L .high? a) (reached? p a q) t in
             let s = reachableStep?→Reachable p a q (and-right (L .high? a) (reached? p a q) t) in
-            let e : lowRank L n l step? p q ≡ 0 = rank-of-rank (LowMove L Step) n (answers? n l (lowMove? L step?))
+            let e : lowRank L n l step? p q ≡ 0 = Rank→rank (LowMove L Step) n (answers? n l (lowMove? L step?))
             (low-game L Step n l step? D) p q 0 lp lq (bisimilar (b p a q (s .0) h (s .1))) in
             rw e tt

@@ -14,13 +14,33 @@ use Rattle.lts.specs.Alike.{Moves, Alike}
 use Rattle.lts.specs.AlikeLaws.{alike-suc, alike-refl, alike-sym, alike-trans}
 use Rattle.lts.specs.Game.{Game, alike?, Settled, Separates}
 use Rattle.lts.specs.GameLaws.{alike?→Alike, Alike→alike?, ¬Alike→not-alike?, not-alike?→¬Alike}
-use Rattle.lts.specs.Classes.{lowest?, classes}
+use Rattle.lts.specs.Classes.{Class, lowest?, classes}
 
--- m is k-alike to p and the lowest of its class.
-record Lowest (Move : Moves) (round : (ℕ → ℕ → Bool) → ℕ → ℕ → Bool) (k p m : ℕ) : Type 0 where
-  le : m ≤ p
-  alike : Alike Move k m p
-  lowest : T (lowest? round k m)
+-- ---- the class of a state
+
+module _ (Move : Moves) where
+  pub class-le : (k p c : ℕ) → Class Move k p c → c ≤ p
+  class-le k p c x = go (lt-or-le p c)
+    where
+      go : (p < c) ⊎ (c ≤ p) → c ≤ p
+      go (inl l) = absurd (x .lowest p l (alike-refl Move k p))
+      go (inr l) = l
+
+  -- k-alike states have one class.
+  pub class-unique : (k p q c d : ℕ) → Alike Move k p q → Class Move k p c → Class Move k q d → c ≡ d
+  class-unique k p q c d h x y = go (lt-or-le c d) (lt-or-le d c)
+    where
+      go : (c < d) ⊎ (d ≤ c) → (d < c) ⊎ (c ≤ d) → c ≡ d
+      go (inl l) e = absurd (y .lowest c l (alike-trans Move k c p q (x .alike) h))
+      go (inr l) (inl m) =
+          absurd (x .lowest d m (alike-trans Move k d q p (y .alike) (alike-sym Move k p q h)))
+      go (inr l) (inr m) = omega arith
+
+  -- States of one class are k-alike.
+  pub alike-of-class : (k p q c : ℕ) → Class Move k p c → Class Move k q c → Alike Move k p q
+  alike-of-class k p q c x y = alike-trans Move k p c q (alike-sym Move k c p (x .alike)) (y .alike)
+
+-- ---- the classes, counted
 
 module _ (Move : Moves) (n : ℕ) (round : (ℕ → ℕ → Bool) → ℕ → ℕ → Bool) (G : Game Move n round) where
   lowest?→¬Alike : (k i : ℕ) → T (lowest? round k i) → (q : ℕ) → q < i → ¬ (Alike Move k q i)
@@ -34,15 +54,18 @@ module _ (Move : Moves) (n : ℕ) (round : (ℕ → ℕ → Bool) → ℕ → �
   lowest-suc : (k i : ℕ) → T (lowest? round k i) → T (lowest? round (suc k) i)
   lowest-suc k i t = ¬Alike→lowest? (suc k) i (λ q l h. lowest?→¬Alike k i t q l (alike-suc Move k q i h))
 
-  -- Each state has a representative.
-  lowest-exists : (k p : ℕ) → (m : ℕ) × Lowest Move round k p m
-  lowest-exists k p =
-      let s = least-of-passes (λ q. alike? round k q p) p (Alike→alike? Move n round G k p p (alike-refl Move k p)) in
-      let m = s .0 in
-      let h : Alike Move k m p = alike?→Alike Move n round G k m p (s .2 .passes) in
-      let f : (q : ℕ) → q < m → ¬ (Alike Move k q m) = λ q l g.
-      not-alike?→¬Alike Move n round G k q p (s .2 .none-below q l) (alike-trans Move k q m p g h) in
-      (m, record { le = s .1; alike = h; lowest = ¬Alike→lowest? k m f })
+  pub class-exists : (k p : ℕ) → (c : ℕ) × Class Move k p c
+  class-exists k p =
+      let s = least-of-passes (λ q. alike? round k q p) p (Alike→alike? Move n round G k p p (alike-refl Move k p)) in (
+        s .0,
+        record {
+          alike = alike?→Alike Move n round G k (s .0) p (s .2 .passes);
+          lowest = λ q l. not-alike?→¬Alike Move n round G k q p (s .2 .none-below q l);
+        },
+      )
+
+  class-lowest : (k p c : ℕ) → Class Move k p c → T (lowest? round k c)
+  class-lowest k p c x = ¬Alike→lowest? k c (λ q l h. x .lowest q l (alike-trans Move k q c p h (x .alike)))
 
   -- A state with a lower one k-alike to it represents nothing.
   not-lowest : (k i j : ℕ) → i < j → Alike Move k i j → T (not (lowest? round k j))
@@ -50,22 +73,22 @@ module _ (Move : Moves) (n : ℕ) (round : (ℕ → ℕ → Bool) → ℕ → �
 
   -- Each round that separates a pair adds a class.
   pub classes-lt : (k : ℕ) → Separates Move n k → classes round n k < classes round n (suc k)
-  classes-lt k s = go (lowest-exists (suc k) (s .one)) (lowest-exists (suc k) (s .other))
+  classes-lt k s = go (class-exists (suc k) (s .one)) (class-exists (suc k) (s .other))
     where
       -- y, lowest after the round, was not before it: x below it was k-alike to it
-      new : (x y z : ℕ) → z < n → Lowest Move round (suc k) z y → x < y → Alike Move k x y
+      new : (x y z : ℕ) → z < n → Class Move (suc k) z y → x < y → Alike Move k x y
           → classes round n k < classes round n (suc k)
       new x y z l m g h =
-          let c : y ≤ z = m .le in
+          let c : y ≤ z = class-le Move (suc k) z y m in
           count-lt-count n (lowest? round k) (lowest? round (suc k)) (λ i _. lowest-suc k i) y (omega arith)
-          (not-lowest k x y g h) (m .lowest)
+          (not-lowest k x y g h) (class-lowest (suc k) z y m)
 
       near : (x y : ℕ) → Alike Move (suc k) x (s .one) → Alike Move (suc k) y (s .other) → Alike Move k x y
       near x y f g = alike-trans Move k x (s .one) y (alike-suc Move k x (s .one) f)
           (alike-trans Move k (s .one) (s .other) y (s .alike)
           (alike-sym Move k y (s .other) (alike-suc Move k y (s .other) g)))
 
-      go : (m : ℕ) × Lowest Move round (suc k) (s .one) m → (m : ℕ) × Lowest Move round (suc k) (s .other) m
+      go : (c : ℕ) × Class Move (suc k) (s .one) c → (c : ℕ) × Class Move (suc k) (s .other) c
           → classes round n k < classes round n (suc k)
       go (x, f) (y, g) = cases (lt-or-le x y) (lt-or-le y x)
         where

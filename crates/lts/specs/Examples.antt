@@ -74,9 +74,6 @@ computed = record {
 page-rank : Rank (LowMove usual (Step pageSystem)) 0 2 2
 page-rank = listed-rank pageSystem usual 0 2 2 (omega arith) (omega arith) (computed .page-rank)
 
-close-low-rank : Rank (LowMove closeLow (Step releaseSystem)) 0 1 1
-close-low-rank = listed-rank releaseSystem closeLow 0 1 1 (omega arith) (omega arith) (computed .close-low-rank)
-
 branching-rank : Rank (LowMove usual (Step branchingSystem)) 0 1 2
 branching-rank = listed-rank branchingSystem usual 0 1 2 (omega arith) (omega arith) (computed .branching-rank)
 

@@ -5,10 +5,11 @@ use mathlib.Core.Path.{_≡_, refl, sym, subst}
 use mathlib.Core.Logic.{_⊎_, inl, inr}
 use mathlib.Core.List.{[], _∷_}
 use mathlib.Core.Bool.{false, _&&_, _||_}
-use Prim.Native.Nat.{ℕ}
+use Prim.Native.Nat.{ℕ, zero, suc, _<_}
+use native.Mathlib.Omega.{arith}
 use lib.Dec.{T, eqb, eqb→eq, ltb}
 use Rattle.lts.specs.TestsLaws.{and-left, or-cases}
-use Rattle.lts.specs.Alike.{Alike}
+use Rattle.lts.specs.Alike.{Alike, Rank, separated}
 use Rattle.lts.specs.Noninterference.{released?, thin, LowMove}
 use Rattle.lts.specs.Listed.{step?, Step}
 use Rattle.lts.specs.ExampleSystems.{scan, print, close, usual, closeLow, pageSystem, releaseSystem}
@@ -45,7 +46,7 @@ page-scan-target x s =
 pub page-scan-scan : (x y : ℕ) → T (step? pageSystem 2 scan x) → ¬ (T (step? pageSystem x scan y))
 page-scan-scan x y s t = subst (λ (z : ℕ). T (step? pageSystem z scan y)) (sym (page-scan-target x s)) t
 
--- scan leads from 0 to 1, which answers another, and from 2 to 3, which does not: more is compared than what is offered.
+-- scan leads from 0 to 1, which answers another, and from 2 to 3, which does not: depth 1 would not tell.
 page-not-alike : ¬ (Alike (LowMove usual (Step pageSystem)) 2 0 2)
 unfolding Alike
 page-not-alike h =
@@ -57,6 +58,16 @@ page-not-alike h =
 close-low-not-alike : ¬ (Alike (LowMove closeLow (Step releaseSystem)) 1 0 1)
 unfolding Alike
 close-low-not-alike h = h .back close 2 (tt, tt) .1 .1
+
+-- Its rank is 1, neither 0 nor 2.
+close-low-rank : Rank (LowMove closeLow (Step releaseSystem)) 0 1 1
+unfolding Alike
+close-low-rank = separated (λ b. b .bisimulation 0 1 (b .pairs) .back close 2 (tt, tt) .1 .1)
+    (record { not-alike = close-low-not-alike; alike-before = before })
+  where
+    before : (j : ℕ) → j < 1 → Alike (LowMove closeLow (Step releaseSystem)) j 0 1
+    before zero l = tt
+    before (suc j) l = absurd (omega arith)
 
 -- With close a release neither has a low move: release steps are never played.
 release-alike : Alike (LowMove usual (Step releaseSystem)) 1 0 1

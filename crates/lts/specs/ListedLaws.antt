@@ -10,7 +10,7 @@ use Rattle.lts.specs.Run.{Deterministic, Bounded}
 use Rattle.lts.specs.Noninterference.{Levels, LowMove, BNID}
 use Rattle.lts.specs.Decided.{Decided, DecidedStarts, answers?}
 use Rattle.lts.specs.Checked.{lowMove?, lowRank, bnid?, deterministic?}
-use Rattle.lts.specs.CheckedLaws.{low-game, low-rank-is-rank, bnid?→BNID, BNID→bnid?}
+use Rattle.lts.specs.CheckedLaws.{low-game, lowRank→Rank, bnid?→BNID, BNID→bnid?}
 use Rattle.lts.specs.CheckedLaws.{deterministic?→Deterministic}
 use Rattle.lts.specs.Listed.{System, has, leads, step?, start?, Step, Start}
 
@@ -54,7 +54,7 @@ module _ (M : System) where
 
     pub listed-rank : (p q r : ℕ) → p < M .states → q < M .states → lowRank L (M .states) 3 (step? M) p q ≡ r
         → Rank (LowMove L (Step M)) p q r
-    listed-rank p q r lp lq e = rw e at (low-rank-is-rank L (Step M) (M .states) 3 (step? M) decided p q lp lq)
+    listed-rank p q r lp lq e = rw e at (lowRank→Rank L (Step M) (M .states) 3 (step? M) decided p q lp lq)
 
     pub listed-passed : bnid? L (M .states) 3 (step? M) (start? M) ≡ true → BNID L (Step M) (Start M)
     listed-passed e =

@@ -68,9 +68,9 @@ module _ (Move : Moves) (n : ℕ) (round : (ℕ → ℕ → Bool) → ℕ → �
   found-below p q (suc k) = found-next p q k (rankBelow round k p q) (found-below p q k) (alike? round k p q) refl
 
   -- The computed rank is the rank.
-  pub rank-is-rank : (p q : ℕ) → p < n → q < n → Rank Move p q (rank round n p q)
+  pub rank→Rank : (p q : ℕ) → p < n → q < n → Rank Move p q (rank round n p q)
   unfolding FoundBelow
-  rank-is-rank p q lp lq = go (rank round n p q) (found-below p q n)
+  rank→Rank p q lp lq = go (rank round n p q) (found-below p q n)
     where
       go : (r : ℕ) → FoundBelow p q n r → Rank Move p q r
       go r (inl f) =
@@ -79,10 +79,10 @@ module _ (Move : Moves) (n : ℕ) (round : (ℕ → ℕ → Bool) → ℕ → �
       go r (inr f) = rank-of-separated Move p q r (f .1)
 
   -- The one rank of p and q is the one computed.
-  pub rank-of-rank : (p q r : ℕ) → p < n → q < n → Rank Move p q r → rank round n p q ≡ r
-  rank-of-rank p q r lp lq x = rank-unique Move p q (rank round n p q) r (rank-is-rank p q lp lq) x
+  pub Rank→rank : (p q r : ℕ) → p < n → q < n → Rank Move p q r → rank round n p q ≡ r
+  Rank→rank p q r lp lq x = rank-unique Move p q (rank round n p q) r (rank→Rank p q lp lq) x
 
   pub rank-exists : (p q : ℕ) → p < n → q < n → (r : ℕ) × (r < n) × Rank Move p q r
   rank-exists p q lp lq =
-      let x = rank-is-rank p q lp lq in
+      let x = rank→Rank p q lp lq in
       (rank round n p q, rank-lt p q (rank round n p q) lp lq x, x)
