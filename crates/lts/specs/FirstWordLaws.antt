@@ -72,26 +72,27 @@ module _ (L : Levels) (Step : Moves) where
 
 module _ (L : Levels) (Step : Moves) (Start : ℕ → Type 0) (n : ℕ) (round : (ℕ → ℕ → Bool) → ℕ → ℕ → Bool)
     (G : Game (LowMove L Step) n round) (det : Deterministic Step Start) where
-  -- Of two states that the round k+2 separates, the targets of an action are separated by the round k+1, or are
-  -- (k+1)-alike.
+  -- Of two states that the round k+2 separates, the targets of an action are k-alike; so they are (k+1)-alike, or the
+  -- round k+1 separates them.
+  pub targets-separated : (k p q b x y : ℕ) → Reachable Step Start q → Separated (LowMove L Step) p q (suc (suc k))
+      → LowMove L Step p b x → LowMove L Step q b y → ¬ (Alike (LowMove L Step) (suc k) x y)
+      → Separated (LowMove L Step) x y (suc k)
+  unfolding Alike
+  targets-separated k p q b x y rq s m o d =
+      let h = s .alike-before (suc k) (omega arith) .there b x m in
+      let e : h .0 ≡ y = det q b (h .0) y rq (h .1 .1) (o .1) in
+      let near : Alike (LowMove L Step) k x y = subst (λ (z : ℕ). Alike (LowMove L Step) k x z) e (h .2) in
+      record { not-alike = d; alike-before = λ j l. alike-le (LowMove L Step) x y j k (omega arith) near }
+
   targets-alike : (k p q b x y : ℕ) → Reachable Step Start q → Separated (LowMove L Step) p q (suc (suc k))
       → LowMove L Step p b x → LowMove L Step q b y → ¬ (Separated (LowMove L Step) x y (suc k))
       → Alike (LowMove L Step) (suc k) x y
-  unfolding Alike
   targets-alike k p q b x y rq s m o d = go (alike-cases (LowMove L Step) n round G (suc k) x y)
     where
-      near : Alike (LowMove L Step) k x y
-      near =
-          let h = s .alike-before (suc k) (omega arith) .there b x m in
-          subst (λ (z : ℕ). Alike (LowMove L Step) k x z) (det q b (h .0) y rq (h .1 .1) (o .1)) (h .2)
-
       go : Alike (LowMove L Step) (suc k) x y ⊎ ¬ (Alike (LowMove L Step) (suc k) x y)
           → Alike (LowMove L Step) (suc k) x y
       go (inl h) = h
-      go (inr h) = absurd (d (record {
-        not-alike = h;
-        alike-before = λ j l. alike-le (LowMove L Step) x y j k (omega arith) near;
-      }))
+      go (inr h) = absurd (d (targets-separated k p q b x y rq s m o h))
 
   -- Where the lower action b has no targets that the round k+1 separates, no word of length k+2 that begins with b is
   -- possible from just one.

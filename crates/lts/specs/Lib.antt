@@ -23,6 +23,7 @@ pub mod DecidedLaws
 pub mod DistanceLaws
 pub mod Checked
 pub mod CheckedLaws
+pub mod FirstWordExistsLaws
 pub mod Listed
 pub mod ListedLaws
 pub mod ExampleSystems
