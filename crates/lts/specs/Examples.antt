@@ -1,5 +1,9 @@
 -- Small systems, judged by the definitions through the tests: a wrong definition or test is refused here.
 -- Document 01, "The page" and "Bench models". Assumes nothing.
+pub mod Systems
+pub mod Listed
+pub mod ListedLaws
+pub mod ByHand
 use mathlib.Core.Path.{_≡_, refl}
 use mathlib.Core.Logic.{inl}
 use mathlib.Core.List.{[], _∷_}
@@ -23,12 +27,12 @@ use Rattle.lts.specs.DecidedLaws.{simulation?→Answered}
 use Rattle.lts.specs.DistanceLaws.{distance-suc}
 use Rattle.lts.specs.Checked.{lowMove?, lowRank, bnid?, deterministic?}
 use Rattle.lts.specs.CheckedLaws.{decided-low}
-use Rattle.lts.specs.Listed.{System, step?, start?, Step, Start}
-use Rattle.lts.specs.ListedLaws.{decided, decided-starts, bounded, listed-deterministic, listed-game}
-use Rattle.lts.specs.ListedLaws.{listed-rank, listed-passed, listed-refused}
-use Rattle.lts.specs.ExamplesByHand.{page-scan-scan}
-use Rattle.lts.specs.ExampleSystems.{scan, print, usual, closeLow}
-use Rattle.lts.specs.ExampleSystems.{pageSystem, releaseSystem, branchingSystem, unreachedSystem}
+use Rattle.lts.specs.Examples.Listed.{System, step?, start?, Step, Start}
+use Rattle.lts.specs.Examples.ListedLaws.{decided, decided-starts, bounded, listed-deterministic, listed-game}
+use Rattle.lts.specs.Examples.ListedLaws.{listed-rank, listed-passed, listed-refused}
+use Rattle.lts.specs.Examples.ByHand.{page-scan-scan}
+use Rattle.lts.specs.Examples.Systems.{scan, print, usual, closeLow}
+use Rattle.lts.specs.Examples.Systems.{pageSystem, releaseSystem, branchingSystem, unreachedSystem}
 
 -- ---- what the tests compute
 

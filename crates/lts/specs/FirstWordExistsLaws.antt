@@ -1,7 +1,7 @@
 -- Two reachable states of a deterministic model that some round separates have a first word by action numbers among the
 -- shortest: the lowest letter that will do is found by a test, and the targets have theirs. Document 01, operation 6.
 -- Assumes nothing.
-use mathlib.Core.Path.{_≡_, refl, subst}
+use mathlib.Core.Path.{_≡_, refl}
 use mathlib.Core.Logic.{_⊎_, inl, inr}
 use mathlib.Core.List.{List, [], _∷_}
 use mathlib.Core.Bool.{Bool, not, _&&_, _||_}

@@ -24,8 +24,4 @@ pub mod DistanceLaws
 pub mod Checked
 pub mod CheckedLaws
 pub mod FirstWordExistsLaws
-pub mod Listed
-pub mod ListedLaws
-pub mod ExampleSystems
-pub mod ExamplesByHand
 pub mod Examples

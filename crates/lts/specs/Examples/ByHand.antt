@@ -11,8 +11,8 @@ use lib.Dec.{T, eqb, eqb→eq, ltb}
 use Rattle.lts.specs.TestsLaws.{and-left, or-cases}
 use Rattle.lts.specs.Alike.{Alike, Rank, separated}
 use Rattle.lts.specs.Noninterference.{released?, thin, LowMove}
-use Rattle.lts.specs.Listed.{step?, Step}
-use Rattle.lts.specs.ExampleSystems.{scan, print, close, usual, closeLow, pageSystem, releaseSystem}
+use Rattle.lts.specs.Examples.Listed.{step?, Step}
+use Rattle.lts.specs.Examples.Systems.{scan, print, close, usual, closeLow, pageSystem, releaseSystem}
 
 -- ---- thinned sequences
 

@@ -4,7 +4,7 @@ use mathlib.Core.Bool.{false, _||_}
 use Prim.Native.Nat.{ℕ}
 use lib.Dec.{eqb}
 use Rattle.lts.specs.Noninterference.{Levels}
-use Rattle.lts.specs.Listed.{System, arrow}
+use Rattle.lts.specs.Examples.Listed.{System, arrow}
 
 abbrev pub scan : ℕ
 scan = 0

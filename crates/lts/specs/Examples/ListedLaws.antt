@@ -12,7 +12,7 @@ use Rattle.lts.specs.Decided.{Decided, DecidedStarts, answers?}
 use Rattle.lts.specs.Checked.{lowMove?, lowRank, bnid?, deterministic?}
 use Rattle.lts.specs.CheckedLaws.{low-game, lowRank→Rank, bnid?→BNID, BNID→bnid?}
 use Rattle.lts.specs.CheckedLaws.{deterministic?→Deterministic}
-use Rattle.lts.specs.Listed.{System, has, leads, step?, start?, Step, Start}
+use Rattle.lts.specs.Examples.Listed.{System, has, leads, step?, start?, Step, Start}
 
 module _ (M : System) where
   inside : (p a q : ℕ) → T (step? M p a q) → (p < M .states) × (a < 3) × (q < M .states)
