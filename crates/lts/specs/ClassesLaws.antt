@@ -8,8 +8,9 @@ use native.Mathlib.Nat.{not-suc-le-zero}
 use native.Mathlib.Omega.{arith}
 use lib.Dec.{T, T-not, not-T}
 use Rattle.lts.specs.Tests.{any}
-use Rattle.lts.specs.TestsLaws.{T-cases, and-intro, and-left, and-right, lt-or-le, all→Each, Each→all, any→Some}
-use Rattle.lts.specs.TestsLaws.{not-any→Each, count-le, count-lt-count, count-pos, least-of-passes}
+use Rattle.lts.specs.TestsLaws.{T-cases, and-intro, and-left, and-right, lt-or-le, eq-of-not-lt, le-of-not-lt}
+use Rattle.lts.specs.TestsLaws.{all→Each, Each→all, any→Some, not-any→Each, count-le, count-lt-count, count-pos}
+use Rattle.lts.specs.TestsLaws.{least-of-passes}
 use Rattle.lts.specs.Alike.{Moves, Alike}
 use Rattle.lts.specs.AlikeLaws.{alike-suc, alike-refl, alike-sym, alike-trans}
 use Rattle.lts.specs.Game.{Game, alike?, Settled, Separates}
@@ -20,21 +21,13 @@ use Rattle.lts.specs.Classes.{Class, lowest?, classes}
 
 module _ (Move : Moves) where
   pub class-le : (k p c : ℕ) → Class Move k p c → c ≤ p
-  class-le k p c x = go (lt-or-le p c)
-    where
-      go : (p < c) ⊎ (c ≤ p) → c ≤ p
-      go (inl l) = absurd (x .lowest p l (alike-refl Move k p))
-      go (inr l) = l
+  class-le k p c x = le-of-not-lt c p (λ l. x .lowest p l (alike-refl Move k p))
 
   -- k-alike states have one class.
   pub class-unique : (k p q c d : ℕ) → Alike Move k p q → Class Move k p c → Class Move k q d → c ≡ d
-  class-unique k p q c d h x y = go (lt-or-le c d) (lt-or-le d c)
-    where
-      go : (c < d) ⊎ (d ≤ c) → (d < c) ⊎ (c ≤ d) → c ≡ d
-      go (inl l) e = absurd (y .lowest c l (alike-trans Move k c p q (x .alike) h))
-      go (inr l) (inl m) =
-          absurd (x .lowest d m (alike-trans Move k d q p (y .alike) (alike-sym Move k p q h)))
-      go (inr l) (inr m) = omega arith
+  class-unique k p q c d h x y = eq-of-not-lt c d
+      (λ l. y .lowest c l (alike-trans Move k c p q (x .alike) h))
+      (λ l. x .lowest d l (alike-trans Move k d q p (y .alike) (alike-sym Move k p q h)))
 
   -- States of one class are k-alike.
   pub alike-of-class : (k p q c : ℕ) → Class Move k p c → Class Move k q c → Alike Move k p q
@@ -119,17 +112,17 @@ module _ (Move : Moves) (n : ℕ) (round : (ℕ → ℕ → Bool) → ℕ → �
   -- ---- whether a round separates a pair
 
   -- The round after the k-th separates p and q.
-  abbrev parts? : ℕ → ℕ → ℕ → Bool
-  parts? k p q = alike? round k p q && not (alike? round (suc k) p q)
+  abbrev separatesPair? : ℕ → ℕ → ℕ → Bool
+  separatesPair? k p q = alike? round k p q && not (alike? round (suc k) p q)
 
   abbrev separates? : ℕ → Bool
-  separates? k = any n (λ p. any n (λ q. parts? k p q))
+  separates? k = any n (λ p. any n (λ q. separatesPair? k p q))
 
   separates?→Separates : (k : ℕ) → T (separates? k) → Separates Move n k
   separates?→Separates k t =
-      let x = any→Some n (λ p. any n (λ q. parts? k p q)) t in
+      let x = any→Some n (λ p. any n (λ q. separatesPair? k p q)) t in
       let p = x .0 in
-      let y = any→Some n (λ q. parts? k p q) (x .2) in
+      let y = any→Some n (λ q. separatesPair? k p q) (x .2) in
       let q = y .0 in
       let u : T (alike? round k p q) = and-left (alike? round k p q) (not (alike? round (suc k) p q)) (y .2) in
       let v = and-right (alike? round k p q) (not (alike? round (suc k) p q)) (y .2) in
@@ -145,12 +138,15 @@ module _ (Move : Moves) (n : ℕ) (round : (ℕ → ℕ → Bool) → ℕ → �
   not-separates?→Settled : (k : ℕ) → T (not (separates? k)) → Settled Move n k
   not-separates?→Settled k t p q lp lq h = go (T-cases (alike? round (suc k) p q))
     where
-      none : T (not (parts? k p q))
-      none = not-any→Each n (λ q. parts? k p q) (not-any→Each n (λ p. any n (λ q. parts? k p q)) t p lp) q lq
+      row : T (not (any n (λ q. separatesPair? k p q)))
+      row = not-any→Each n (λ p. any n (λ q. separatesPair? k p q)) t p lp
+
+      none : T (not (separatesPair? k p q))
+      none = not-any→Each n (λ q. separatesPair? k p q) row q lq
 
       go : T (alike? round (suc k) p q) ⊎ T (not (alike? round (suc k) p q)) → Alike Move (suc k) p q
       go (inl u) = alike?→Alike Move n round G (suc k) p q u
-      go (inr u) = absurd (T-not (parts? k p q) none
+      go (inr u) = absurd (T-not (separatesPair? k p q) none
           (and-intro (alike? round k p q) (not (alike? round (suc k) p q)) (Alike→alike? Move n round G k p q h) u))
 
   pub separates-or-settled : (k : ℕ) → Separates Move n k ⊎ Settled Move n k

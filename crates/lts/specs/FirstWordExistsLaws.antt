@@ -99,26 +99,27 @@ module _ (L : Levels) (Step : Moves) (Start : ℕ → Type 0) (n l : ℕ) (step?
 
   -- ---- a letter before the last
 
-  -- The action a has targets of p and of q that are not k-alike.
-  abbrev apart? : ℕ → ℕ → ℕ → ℕ → ℕ → ℕ → Bool
-  apart? k p q a x y = (move? p a x && move? q a y) && not (alike? round k x y)
+  -- The action a leads from p to x and from q to y, which are not k-alike.
+  abbrev targets? : ℕ → ℕ → ℕ → ℕ → ℕ → ℕ → Bool
+  targets? k p q a x y = (move? p a x && move? q a y) && not (alike? round k x y)
 
-  abbrev parts? : ℕ → ℕ → ℕ → ℕ → Bool
-  parts? k p q a = any n (λ x. any n (apart? k p q a x))
+  -- The action a has such targets.
+  abbrev letter? : ℕ → ℕ → ℕ → ℕ → Bool
+  letter? k p q a = any n (λ x. any n (targets? k p q a x))
 
-  -- Two targets of p and of q under the action a that are not k-alike.
-  record Parted (k p q a : ℕ) : Type 0 where
+  -- Targets of p and of q under the action a that are not k-alike: a can be the next letter of a word.
+  record Letter (k p q a : ℕ) : Type 0 where
     first : ℕ
     second : ℕ
     move-first : LowMove L Step p a first
     move-second : LowMove L Step q a second
     not-alike : ¬ (Alike (LowMove L Step) k first second)
 
-  parts?→Parted : (k p q a : ℕ) → T (parts? k p q a) → Parted k p q a
-  parts?→Parted k p q a t =
-      let i = any→Some n (λ x. any n (apart? k p q a x)) t in
+  letter?→Letter : (k p q a : ℕ) → T (letter? k p q a) → Letter k p q a
+  letter?→Letter k p q a t =
+      let i = any→Some n (λ x. any n (targets? k p q a x)) t in
       let x = i .0 in
-      let j = any→Some n (apart? k p q a x) (i .2) in
+      let j = any→Some n (targets? k p q a x) (i .2) in
       let y = j .0 in
       let u = and-left (move? p a x && move? q a y) (not (alike? round k x y)) (j .2) in
       let M = decided-low L Step n l step? D in
@@ -131,25 +132,25 @@ module _ (L : Levels) (Step : Moves) (Start : ℕ → Type 0) (n l : ℕ) (step?
             (and-right (move? p a x && move? q a y) (not (alike? round k x y)) (j .2));
       }
 
-  Parted→parts? : (k p q a : ℕ) → Parted k p q a → T (parts? k p q a)
-  Parted→parts? k p q a z =
+  Letter→letter? : (k p q a : ℕ) → Letter k p q a → T (letter? k p q a)
+  Letter→letter? k p q a z =
       let x = z .first in
       let y = z .second in
       let M = decided-low L Step n l step? D in
       let u = and-intro (move? p a x) (move? q a y) (M .Move→move? p a x (z .move-first))
       (M .Move→move? q a y (z .move-second)) in
       let v = ¬Alike→not-alike? (LowMove L Step) n round G k x y (z .not-alike) in
-      Some→any n (λ x. any n (apart? k p q a x)) x (M .target-lt p a x (z .move-first))
-      (Some→any n (apart? k p q a x) y (M .target-lt q a y (z .move-second))
+      Some→any n (λ x. any n (targets? k p q a x)) x (M .target-lt p a x (z .move-first))
+      (Some→any n (targets? k p q a x) y (M .target-lt q a y (z .move-second))
       (and-intro (move? p a x && move? q a y) (not (alike? round k x y)) u v))
 
   -- Two states that the round k+2 separates have such targets under some action: an opening and its answer.
-  parted-exists : (k p q : ℕ) → Separated (LowMove L Step) p q (suc (suc k)) → (a : ℕ) × Parted (suc k) p q a
+  letter-exists : (k p q : ℕ) → Separated (LowMove L Step) p q (suc (suc k)) → (a : ℕ) × Letter (suc k) p q a
   unfolding Alike alike?
-  parted-exists k p q s = go (G .fails (alike? round (suc k)) p q
+  letter-exists k p q s = go (G .fails (alike? round (suc k)) p q
       (¬Alike→not-alike? (LowMove L Step) n round G (suc (suc k)) p q (s .not-alike)))
     where
-      go : Opening (LowMove L Step) (alike? round (suc k)) p q → (a : ℕ) × Parted (suc k) p q a
+      go : Opening (LowMove L Step) (alike? round (suc k)) p q → (a : ℕ) × Letter (suc k) p q a
       go (by-first a x m f) =
           let h = s .alike-before 1 (omega arith) .there a x m in (
             a,
@@ -180,22 +181,22 @@ module _ (L : Levels) (Step : Moves) (Start : ℕ → Type 0) (n l : ℕ) (step?
       first-word-last p q (separated→Shortest L Step Start n round G det p q 1 rp rq s)
   first-word-exists (suc (suc k)) p q rp rq s = go (first-word-exists (suc k))
     where
-      some : (a : ℕ) × Parted (suc k) p q a
-      some = parted-exists k p q s
+      some : (a : ℕ) × Letter (suc k) p q a
+      some = letter-exists k p q s
 
-      least : (a : ℕ) × (a ≤ some .0) × Least (parts? (suc k) p q) a
-      least = least-of-passes (parts? (suc k) p q) (some .0) (Parted→parts? (suc k) p q (some .0) (some .1))
+      least : (a : ℕ) × (a ≤ some .0) × Least (letter? (suc k) p q) a
+      least = least-of-passes (letter? (suc k) p q) (some .0) (Letter→letter? (suc k) p q (some .0) (some .1))
 
       a : ℕ
       a = least .0
 
-      z : Parted (suc k) p q a
-      z = parts?→Parted (suc k) p q a (least .2 .passes)
+      z : Letter (suc k) p q a
+      z = letter?→Letter (suc k) p q a (least .2 .passes)
 
       none-lower : (b x y : ℕ) → b < a → LowMove L Step p b x → LowMove L Step q b y
           → ¬ (Separated (LowMove L Step) x y (suc k))
-      none-lower b x y h m o d = T-not (parts? (suc k) p q b) (least .2 .none-below b h)
-          (Parted→parts? (suc k) p q b
+      none-lower b x y h m o d = T-not (letter? (suc k) p q b) (least .2 .none-below b h)
+          (Letter→letter? (suc k) p q b
           (record { first = x; second = y; move-first = m; move-second = o; not-alike = d .not-alike }))
 
       go : ((p q : ℕ) → Reachable Step Start p → Reachable Step Start q → Separated (LowMove L Step) p q (suc k)

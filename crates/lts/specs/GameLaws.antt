@@ -5,7 +5,7 @@ use mathlib.Core.Bool.{Bool, not, _&&_}
 use Prim.Native.Nat.{ℕ, zero, suc, _≤_, _<_}
 use native.Mathlib.Omega.{arith}
 use lib.Dec.{T, T-not, not-T, ltb, ltb→lt, lt→ltb}
-use Rattle.lts.specs.TestsLaws.{T-cases, and-intro, and-left, and-right, lt-or-le}
+use Rattle.lts.specs.TestsLaws.{T-cases, and-intro, and-left, and-right, le-of-not-lt}
 use Rattle.lts.specs.Alike.{Moves, Answers, Alike, Bisimulation, Bisimilar, Separated, Rank, bisimilar, separated}
 use Rattle.lts.specs.AlikeLaws.{answers-map, alike-le, answers-below}
 use Rattle.lts.specs.Game.{Opening, by-first, by-second, Game, alike?, Settled, Separates}
@@ -96,8 +96,5 @@ module _ (Move : Moves) (n : ℕ) (round : (ℕ → ℕ → Bool) → ℕ → �
   -- No rank exceeds the last round that separated a pair.
   pub rank-le-settled : (k p q r : ℕ) → Settled Move n k → p < n → q < n → Rank Move p q r → r ≤ k
   rank-le-settled k p q r s lp lq (bisimilar b) = omega arith
-  rank-le-settled k p q r s lp lq (separated d x) = go (lt-or-le k r)
-    where
-      go : (k < r) ⊎ (r ≤ k) → r ≤ k
-      go (inl l) = absurd (d (bisimilar-of-settled k p q s lp lq (x .alike-before k l)))
-      go (inr l) = l
+  rank-le-settled k p q r s lp lq (separated d x) =
+      le-of-not-lt r k (λ l. d (bisimilar-of-settled k p q s lp lq (x .alike-before k l)))

@@ -108,9 +108,10 @@ module _ (L : Levels) (Step : Moves) (Start : ℕ → Type 0) (n : ℕ) (B : Bou
         (subst (λ (z : ℕ). SameLow L Step z y) (sym c) (same-low-sym L Step y (g .0) (g .2)))
 
     -- Change request (xii), second sentence.
-    pub bnid→SameLow : BNID L Step Start → (s : ℕ) → Start s → (v w : List ℕ) (x y : ℕ) → Run Step s v x
+    pub same-low-of-same-thin : BNID L Step Start → (s : ℕ) → Start s → (v w : List ℕ) (x y : ℕ) → Run Step s v x
         → Run Step s w y → thin L v ≡ thin L w → SameLow L Step x y
-    bnid→SameLow bnid s i v w x y h g e = meet s i v w x y e (bnid→INI bnid s i v x h) (bnid→INI bnid s i w y g)
+    same-low-of-same-thin bnid s i v w x y h g e =
+        meet s i v w x y e (bnid→INI bnid s i v x h) (bnid→INI bnid s i w y g)
 
     -- A run and the run with one high step more have the same thinned sequence.
     pub ini→NID : INI L Step Start → NID L Step Start

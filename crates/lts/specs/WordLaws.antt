@@ -8,7 +8,7 @@ use Prim.Native.Nat.{ℕ, zero, suc, _≤_, _<_}
 use native.Mathlib.Omega.{arith}
 use lib.Dec.{T}
 use lib.ListN.{length}
-use Rattle.lts.specs.TestsLaws.{T-cases, lt-or-le}
+use Rattle.lts.specs.TestsLaws.{T-cases, eq-of-not-lt, le-of-not-lt}
 use Rattle.lts.specs.Alike.{Moves, Answers, Separated, Rank, bisimilar, separated}
 use Rattle.lts.specs.AlikeLaws.{separated-of-rank}
 use Rattle.lts.specs.Game.{Game, Opening, by-first, by-second, alike?}
@@ -61,16 +61,11 @@ module _ (Step : Moves) (Start : ℕ → Type 0) (det : Deterministic Step Start
 -- ---- the shortest
 
 pub shortest-unique : (L : Levels) (Step : Moves) (p q j k : ℕ) → Shortest L Step p q j → Shortest L Step p q k → j ≡ k
-shortest-unique L Step p q j k x y = go (lt-or-le j k) (lt-or-le k j)
+shortest-unique L Step p q j k x y = eq-of-not-lt j k (not-shorter j k x y) (not-shorter k j y x)
   where
     not-shorter : (j k : ℕ) → Shortest L Step p q j → Shortest L Step p q k → j < k → ⊥
     not-shorter j k x y l = just-one-not-both Step p q (x .word) (x .just-one)
         (y .none-shorter (x .word) (x .is-low) (omega (arith, x .length-is)))
-
-    go : (j < k) ⊎ (k ≤ j) → (k < j) ⊎ (j ≤ k) → j ≡ k
-    go (inl l) d = absurd (not-shorter j k x y l)
-    go (inr l) (inl d) = absurd (not-shorter k j y x d)
-    go (inr l) (inr d) = omega arith
 
 module _ (L : Levels) (Step : Moves) (Start : ℕ → Type 0) (n : ℕ) (round : (ℕ → ℕ → Bool) → ℕ → ℕ → Bool)
     (G : Game (LowMove L Step) n round) (det : Deterministic Step Start) where
@@ -140,15 +135,13 @@ module _ (L : Levels) (Step : Moves) (Start : ℕ → Type 0) (n : ℕ) (round :
       go t = record {
         word = t .word;
         is-low = t .is-low;
-        length-is = exact (lt-or-le (length (t .word)) k);
+        length-is =
+            let l : k ≤ length (t .word) = le-of-not-lt k (length (t .word)) (λ l.
+            just-one-not-both Step p q (t .word) (t .just-one) (none-shorter (t .word) (t .is-low) l)) in
+            omega (arith, t .length-le);
         just-one = t .just-one;
         none-shorter = none-shorter;
       }
-        where
-          exact : (length (t .word) < k) ⊎ (k ≤ length (t .word)) → length (t .word) ≡ k
-          exact (inl l) =
-              absurd (just-one-not-both Step p q (t .word) (t .just-one) (none-shorter (t .word) (t .is-low) l))
-          exact (inr l) = omega (arith, t .length-le)
 
   -- The rank above 0 is the length of the shortest low sequences possible from just one of the two.
   pub rank↔Shortest : Bounded Step Start n → (p q k : ℕ) → Reachable Step Start p → Reachable Step Start q → 0 < k
