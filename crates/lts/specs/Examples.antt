@@ -46,7 +46,7 @@ bnidIn? L M = bnid? L (M .states) 3 (step? M) (start? M)
 
 record Computed : Type 0 where
   page-rank : rankIn usual pageSystem 0 2 ≡ 2
-  page-rank-last : rankIn usual pageSystem 0 3 ≡ 1
+  page-rank-next : rankIn usual pageSystem 1 3 ≡ 1
   close-low-rank : rankIn closeLow releaseSystem 0 1 ≡ 1
   branching-rank : rankIn usual branchingSystem 0 1 ≡ 2
   unreached-rank : rankIn usual (unreachedSystem (0 ∷ [])) 1 2 ≡ 1
@@ -61,7 +61,7 @@ computed : Computed
 unfolding bnid? rankBelow alike? answers? answered? within? all any
 computed = record {
   page-rank = refl;
-  page-rank-last = refl;
+  page-rank-next = refl;
   close-low-rank = refl;
   branching-rank = refl;
   unreached-rank = refl;
@@ -77,6 +77,9 @@ computed = record {
 
 page-rank : Rank (LowMove usual (Step pageSystem)) 0 2 2
 page-rank = listed-rank pageSystem usual 0 2 2 (omega arith) (omega arith) (computed .page-rank)
+
+page-rank-next : Rank (LowMove usual (Step pageSystem)) 1 3 1
+page-rank-next = listed-rank pageSystem usual 1 3 1 (omega arith) (omega arith) (computed .page-rank-next)
 
 branching-rank : Rank (LowMove usual (Step branchingSystem)) 0 1 2
 branching-rank = listed-rank branchingSystem usual 0 1 2 (omega arith) (omega arith) (computed .branching-rank)
@@ -151,17 +154,18 @@ page-distance = distance-suc (Step pageSystem) (Start pageSystem) 4 3 (step? pag
     (decided pageSystem) (decided-starts pageSystem) 3 1 tt tt
 
 -- scan is possible from 1 and not from 3, and scan scan from 0 and not from 2.
-page-last-letter : FirstWord usual (Step pageSystem) 1 3 1 (scan ∷ [])
+page-last-letter : FirstWord usual (Step pageSystem) 1 3 (scan ∷ [])
 unfolding Run
 page-last-letter = first-word-one usual (Step pageSystem) 1 3 scan tt
     (inl ((1, (1, tt, refl)), λ z. z .1 .1)) (λ b l. absurd (omega arith))
 
-page-word : FirstWord usual (Step pageSystem) 0 2 2 (scan ∷ scan ∷ [])
+page-word : FirstWord usual (Step pageSystem) 0 2 (scan ∷ scan ∷ [])
 page-word = first-word-cons usual (Step pageSystem) (Start pageSystem) 4
     (answers? 4 3 (lowMove? usual (step? pageSystem)))
     (listed-game pageSystem usual) page-deterministic 0 0 2 scan 1 3
     (scan ∷ []) (begin tt) (onward {a = print} (begin {p = 0} tt) tt)
     (separated-of-rank (LowMove usual (Step pageSystem)) 0 2 2 (omega arith) page-rank) (tt, tt) (tt, tt)
+    (separated-of-rank (LowMove usual (Step pageSystem)) 1 3 1 (omega arith) page-rank-next)
     (λ b x y l. absurd (omega arith)) page-last-letter
 
 page-end : OnlyFrom (Step pageSystem) 0 2 (scan ∷ scan ∷ [])

@@ -81,11 +81,11 @@ module _ (L : Levels) (Step : Moves) (Start : ℕ → Type 0) (n l : ℕ) (step?
   JustOne→just? p q a t (inr x) = and-intro (L .low? a) (only? p q a || only? q p a) t
       (or-right (only? p q a) (only? q p a) (OnlyFrom→only? q p a x))
 
-  first-word-last : (p q : ℕ) → Shortest L Step p q 1 → (w : List ℕ) × FirstWord L Step p q 1 w
+  first-word-last : (p q : ℕ) → Shortest L Step p q 1 → (w : List ℕ) × FirstWord L Step p q w
   unfolding Low
   first-word-last p q x = go (x .word) (x .length-is) (x .is-low) (x .just-one)
     where
-      go : (w : List ℕ) → length w ≡ 1 → Low L w → JustOne Step p q w → (w : List ℕ) × FirstWord L Step p q 1 w
+      go : (w : List ℕ) → length w ≡ 1 → Low L w → JustOne Step p q w → (w : List ℕ) × FirstWord L Step p q w
       go [] e lo o = absurd (omega arith)
       go (a ∷ []) e lo o =
           let m = least-of-passes (just? p q) a (JustOne→just? p q a (lo .0) o) in
@@ -175,7 +175,7 @@ module _ (L : Levels) (Step : Moves) (Start : ℕ → Type 0) (n l : ℕ) (step?
           )
 
   pub first-word-exists : (k p q : ℕ) → Reachable Step Start p → Reachable Step Start q
-      → Separated (LowMove L Step) p q k → (w : List ℕ) × FirstWord L Step p q k w
+      → Separated (LowMove L Step) p q k → (w : List ℕ) × FirstWord L Step p q w
   first-word-exists zero p q rp rq s = absurd (omega (arith, separated-pos (LowMove L Step) p q 0 s))
   first-word-exists (suc zero) p q rp rq s =
       first-word-last p q (separated→Shortest L Step Start n round G det p q 1 rp rq s)
@@ -200,12 +200,12 @@ module _ (L : Levels) (Step : Moves) (Start : ℕ → Type 0) (n l : ℕ) (step?
           (record { first = x; second = y; move-first = m; move-second = o; not-alike = d .not-alike }))
 
       go : ((p q : ℕ) → Reachable Step Start p → Reachable Step Start q → Separated (LowMove L Step) p q (suc k)
-          → (w : List ℕ) × FirstWord L Step p q (suc k) w) → (w : List ℕ) × FirstWord L Step p q (suc (suc k)) w
+          → (w : List ℕ) × FirstWord L Step p q w) → (w : List ℕ) × FirstWord L Step p q w
       go ih =
           let d = targets-separated L Step Start n round G det k p q a (z .first) (z .second) rq s (z .move-first)
           (z .move-second) (z .not-alike) in
           let w = ih (z .first) (z .second) (onward rp (z .move-first .1)) (onward rq (z .move-second .1)) d in (
             a ∷ w .0,
             first-word-cons L Step Start n round G det k p q a (z .first) (z .second) (w .0) rp rq s
-                (z .move-first) (z .move-second) none-lower (w .1),
+                (z .move-first) (z .move-second) d none-lower (w .1),
           )

@@ -1,7 +1,7 @@
 -- Letter by letter, the first by action numbers of the shortest low sequences that just one of two states allows: the
 -- lowest action whose targets have a rank one less, then the first of the targets; at rank 1 the lowest action that
 -- just one of the two has. Document 01, operation 6. Assumes nothing.
-use mathlib.Core.Path.{_≡_, refl, sym, subst, ap}
+use mathlib.Core.Path.{_≡_, refl, sym, subst}
 use mathlib.Core.Logic.{_⊎_, inl, inr}
 use mathlib.Core.List.{List, [], _∷_}
 use mathlib.Core.Bool.{Bool}
@@ -9,17 +9,18 @@ use Prim.Native.Nat.{ℕ, suc, _≤_, _<_}
 use native.Mathlib.Omega.{arith}
 use lib.Dec.{T}
 use lib.ListN.{length}
-use Rattle.lts.specs.TestsLaws.{lt-or-le}
+use Rattle.lts.specs.TestsLaws.{lt-or-le, le-of-not-lt}
 use Rattle.lts.specs.Alike.{Moves, Alike, Separated}
 use Rattle.lts.specs.AlikeLaws.{alike-le, alike-sym}
 use Rattle.lts.specs.Game.{Game}
 use Rattle.lts.specs.GameLaws.{alike-cases}
-use Rattle.lts.specs.Run.{Run, Reachable, Deterministic}
+use Rattle.lts.specs.Run.{Run, Reachable, onward, Deterministic}
 use Rattle.lts.specs.RunLaws.{allows-cons}
 use Rattle.lts.specs.Noninterference.{Levels, Low, LowMove}
 use Rattle.lts.specs.LowLaws.{alike-allows}
 use Rattle.lts.specs.Word.{OnlyFrom, JustOne, NotAfter, FirstWord}
-use Rattle.lts.specs.WordLaws.{just-one-cons, just-one-uncons}
+use Rattle.lts.specs.WordLaws.{just-one-cons, just-one-uncons, just-one-not-both, separated-length-le}
+use Rattle.lts.specs.WordLaws.{separated→Shortest}
 
 -- ---- the order by action numbers
 
@@ -33,29 +34,36 @@ not-after-antisym (a ∷ u) (b ∷ v) (inl x) (inr y) = absurd (omega (arith, y 
 not-after-antisym (a ∷ u) (b ∷ v) (inr x) (inl y) = absurd (omega (arith, x .0))
 not-after-antisym (a ∷ u) (b ∷ v) (inr x) (inr y) = let e = not-after-antisym u v (x .1) (y .1) in cc (e, x .0)
 
-pub first-word-unique : (L : Levels) (Step : Moves) (p q k : ℕ) (v w : List ℕ) → FirstWord L Step p q k v
-    → FirstWord L Step p q k w → v ≡ w
-first-word-unique L Step p q k v w x y = not-after-antisym v w (x .first w (y .is-low) (y .length-is) (y .just-one))
-    (y .first v (x .is-low) (x .length-is) (x .just-one))
+pub first-word-unique : (L : Levels) (Step : Moves) (p q : ℕ) (v w : List ℕ) → FirstWord L Step p q v
+    → FirstWord L Step p q w → v ≡ w
+first-word-unique L Step p q v w x y = not-after-antisym v w
+    (x .first w (y .is-low) (y .just-one) (sym e)) (y .first v (x .is-low) (x .just-one) e)
+  where
+    e : length v ≡ length w
+    e = omega (arith, x .shortest w (y .is-low) (y .just-one), y .shortest v (x .is-low) (x .just-one))
 
 -- ---- the last letter
 
 -- The lowest low action that just one of the two has.
 pub first-word-one : (L : Levels) (Step : Moves) (p q a : ℕ) → T (L .low? a) → JustOne Step p q (a ∷ [])
-    → ((b : ℕ) → b < a → T (L .low? b) → ¬ (JustOne Step p q (b ∷ []))) → FirstWord L Step p q 1 (a ∷ [])
-unfolding Low NotAfter
-first-word-one L Step p q a lo o f = record { is-low = (lo, tt); length-is = refl; just-one = o; first = least }
+    → ((b : ℕ) → b < a → T (L .low? b) → ¬ (JustOne Step p q (b ∷ []))) → FirstWord L Step p q (a ∷ [])
+unfolding Low NotAfter Run
+first-word-one L Step p q a lo o f = record { is-low = (lo, tt); just-one = o; shortest = shortest; first = least }
   where
-    at : (b : ℕ) → T (L .low? b) → JustOne Step p q (b ∷ []) → (a < b) ⊎ (b ≤ a) → (b < a) ⊎ (a ≤ b)
-        → (a < b) ⊎ ((a ≡ b) × Unit {0})
-    at b lb y (inl c) d = inl c
-    at b lb y (inr c) (inl d) = absurd (f b d lb y)
-    at b lb y (inr c) (inr d) = inr (omega arith, tt)
+    shortest : (v : List ℕ) → Low L v → JustOne Step p q v → 1 ≤ length v
+    shortest [] lv y = absurd (just-one-not-both Step p q [] y (λ _. (q, refl), λ _. (p, refl)))
+    shortest (b ∷ v) lv y = omega arith
 
-    least : (v : List ℕ) → Low L v → length v ≡ 1 → JustOne Step p q v → NotAfter (a ∷ []) v
-    least [] lv e y = absurd (omega arith)
-    least (b ∷ []) lv e y = at b (lv .0) y (lt-or-le a b) (lt-or-le b a)
-    least (b ∷ (c ∷ v)) lv e y = absurd (omega arith)
+    at : (b : ℕ) → T (L .low? b) → JustOne Step p q (b ∷ []) → (a < b) ⊎ (b ≤ a) → (a < b) ⊎ ((a ≡ b) × Unit {0})
+    at b lb y (inl c) = inl c
+    at b lb y (inr c) =
+        let d : a ≤ b = le-of-not-lt a b (λ h. f b h lb y) in
+        inr (omega arith, tt)
+
+    least : (v : List ℕ) → Low L v → JustOne Step p q v → length v ≡ 1 → NotAfter (a ∷ []) v
+    least [] lv y e = absurd (omega arith)
+    least (b ∷ []) lv y e = at b (lv .0) y (lt-or-le a b)
+    least (b ∷ (c ∷ v)) lv y e = absurd (omega arith)
 
 -- ---- a letter before the last
 
@@ -112,35 +120,51 @@ module _ (L : Levels) (Step : Moves) (Start : ℕ → Type 0) (n : ℕ) (round :
             (targets-alike k p q b (h .0) y rq s (h .1) m (f (h .0) y (h .1) m)),
       )) o
 
+  -- The first word is as long as the rank.
+  pub first-word-length : (p q k : ℕ) (w : List ℕ) → Reachable Step Start p → Reachable Step Start q
+      → Separated (LowMove L Step) p q k → FirstWord L Step p q w → length w ≡ k
+  first-word-length p q k w rp rq s i =
+      let x = separated→Shortest L Step Start n round G det p q k rp rq s in
+      let u : length w ≤ length (x .word) = i .shortest (x .word) (x .is-low) (x .just-one) in
+      omega (arith, x .length-is, separated-length-le L Step p q k s w (i .is-low) (i .just-one))
+
   -- The lowest action whose targets the round k+1 separates, then the first word of the targets.
   pub first-word-cons : (k p q a p′ q′ : ℕ) (w : List ℕ) → Reachable Step Start p → Reachable Step Start q
       → Separated (LowMove L Step) p q (suc (suc k)) → LowMove L Step p a p′ → LowMove L Step q a q′
+      → Separated (LowMove L Step) p′ q′ (suc k)
       → ((b x y : ℕ) → b < a → LowMove L Step p b x → LowMove L Step q b y
       → ¬ (Separated (LowMove L Step) x y (suc k)))
-      → FirstWord L Step p′ q′ (suc k) w → FirstWord L Step p q (suc (suc k)) (a ∷ w)
+      → FirstWord L Step p′ q′ w → FirstWord L Step p q (a ∷ w)
   unfolding Low NotAfter
-  first-word-cons k p q a p′ q′ w rp rq s m o f i = record {
+  first-word-cons k p q a p′ q′ w rp rq s m o t f i = record {
     is-low = (m .0, i .is-low);
-    length-is = ap suc (i .length-is);
     just-one = just-one-cons Step Start det p q a p′ q′ w rp rq (m .1) (o .1) (i .just-one);
+    shortest = shortest;
     first = least;
   }
     where
-      at : (b : ℕ) (v : List ℕ) → T (L .low? b) → Low L v → length v ≡ suc k → JustOne Step p q (b ∷ v)
-          → (a < b) ⊎ (b ≤ a) → (b < a) ⊎ (a ≤ b) → (a < b) ⊎ ((a ≡ b) × NotAfter w v)
-      at b v lo lv e y (inl c) d = inl c
-      at b v lo lv e y (inr c) (inl d) =
-          absurd (no-lower k p q b v rp rq s (λ x z. f b x z d) lo lv (omega arith) y)
-      at b v lo lv e y (inr c) (inr d) = inr (
+      size : length w ≡ suc k
+      size = first-word-length p′ q′ (suc k) w (onward rp (m .1)) (onward rq (o .1)) t i
+
+      shortest : (v : List ℕ) → Low L v → JustOne Step p q v → suc (length w) ≤ length v
+      shortest v lv y = omega (arith, size, separated-length-le L Step p q (suc (suc k)) s v lv y)
+
+      at : (b : ℕ) (v : List ℕ) → T (L .low? b) → Low L v → length v ≡ length w → JustOne Step p q (b ∷ v)
+          → (a < b) ⊎ (b ≤ a) → (a < b) ⊎ ((a ≡ b) × NotAfter w v)
+      at b v lo lv e y (inl c) = inl c
+      at b v lo lv e y (inr c) = inr (
         g,
-        i .first v lv e
+        i .first v lv
             (just-one-uncons Step Start det p q a p′ q′ v rp rq (m .1) (o .1)
-            (subst (λ (c : ℕ). JustOne Step p q (c ∷ v)) (sym g) y)),
+            (subst (λ (c : ℕ). JustOne Step p q (c ∷ v)) (sym g) y)) e,
       )
         where
-          g : a ≡ b
-          g = omega arith
+          d : a ≤ b
+          d = le-of-not-lt a b (λ h. no-lower k p q b v rp rq s (λ x z. f b x z h) lo lv (omega (arith, size)) y)
 
-      least : (v : List ℕ) → Low L v → length v ≡ suc (suc k) → JustOne Step p q v → NotAfter (a ∷ w) v
-      least [] lv e y = absurd (omega arith)
-      least (b ∷ v) lv e y = at b v (lv .0) (lv .1) (omega arith) y (lt-or-le a b) (lt-or-le b a)
+          g : a ≡ b
+          g = omega (arith, d)
+
+      least : (v : List ℕ) → Low L v → JustOne Step p q v → length v ≡ suc (length w) → NotAfter (a ∷ w) v
+      least [] lv y e = absurd (omega arith)
+      least (b ∷ v) lv y e = at b v (lv .0) (lv .1) (omega arith) y (lt-or-le a b)

@@ -67,6 +67,18 @@ shortest-unique L Step p q j k x y = eq-of-not-lt j k (not-shorter j k x y) (not
     not-shorter j k x y l = just-one-not-both Step p q (x .word) (x .just-one)
         (y .none-shorter (x .word) (x .is-low) (omega (arith, x .length-is)))
 
+-- States that the round k separates allow the same low sequences shorter than k.
+pub separated-allows : (L : Levels) (Step : Moves) (p q k : ℕ) → Separated (LowMove L Step) p q k → (w : List ℕ)
+    → Low L w → length w < k → Allows Step p w ↔ Allows Step q w
+separated-allows L Step p q k x w l h =
+    alike-allows L Step (length w) w p q l (omega arith) (x .alike-before (length w) h)
+
+-- So a low sequence that just one of them allows is no shorter than k.
+pub separated-length-le : (L : Levels) (Step : Moves) (p q k : ℕ) → Separated (LowMove L Step) p q k → (w : List ℕ)
+    → Low L w → JustOne Step p q w → k ≤ length w
+separated-length-le L Step p q k x w l j =
+    le-of-not-lt k (length w) (λ h. just-one-not-both Step p q w j (separated-allows L Step p q k x w l h))
+
 module _ (L : Levels) (Step : Moves) (Start : ℕ → Type 0) (n : ℕ) (round : (ℕ → ℕ → Bool) → ℕ → ℕ → Bool)
     (G : Game (LowMove L Step) n round) (det : Deterministic Step Start) where
   -- Any two reachable states that are not k-alike have a low sequence of length at most k that just one allows.
@@ -128,19 +140,14 @@ module _ (L : Levels) (Step : Moves) (Start : ℕ → Type 0) (n : ℕ) (round :
   separated→Shortest p q k rp rq x =
       go (word-within k p q rp rq (¬Alike→not-alike? (LowMove L Step) n round G k p q (x .not-alike)))
     where
-      none-shorter : (w : List ℕ) → Low L w → length w < k → Allows Step p w ↔ Allows Step q w
-      none-shorter w l h = alike-allows L Step (length w) w p q l (omega arith) (x .alike-before (length w) h)
-
       go : WordWithin L Step k p q → Shortest L Step p q k
       go t = record {
         word = t .word;
         is-low = t .is-low;
         length-is =
-            let l : k ≤ length (t .word) = le-of-not-lt k (length (t .word)) (λ l.
-            just-one-not-both Step p q (t .word) (t .just-one) (none-shorter (t .word) (t .is-low) l)) in
-            omega (arith, t .length-le);
+            omega (arith, t .length-le, separated-length-le L Step p q k x (t .word) (t .is-low) (t .just-one));
         just-one = t .just-one;
-        none-shorter = none-shorter;
+        none-shorter = separated-allows L Step p q k x;
       }
 
   -- The rank above 0 is the length of the shortest low sequences possible from just one of the two.

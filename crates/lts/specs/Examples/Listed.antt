@@ -11,6 +11,7 @@ pub record Arrow : Type 0 where
   pub action : ℕ
   pub target : ℕ
 
+-- The step from p with the action a to q.
 abbrev pub arrow : ℕ → ℕ → ℕ → Arrow
 arrow p a q = record { source = p; action = a; target = q }
 
@@ -38,8 +39,10 @@ step? M p a q = leads (M .steps) p a q && (ltb p (M .states) && (ltb a 3 && ltb 
 abbrev pub start? : System → ℕ → Bool
 start? M p = has (M .starts) p && ltb p (M .states)
 
+-- A step of M with the action a leads from p to q.
 abbrev pub Step : System → Moves
 Step M p a q = T (step? M p a q)
 
+-- p is a start of M.
 abbrev pub Start : System → ℕ → Type 0
 Start M p = T (start? M p)

@@ -6,12 +6,15 @@ use lib.Dec.{eqb}
 use Rattle.lts.specs.Noninterference.{Levels}
 use Rattle.lts.specs.Examples.Listed.{System, arrow}
 
+-- Action 0.
 abbrev pub scan : ℕ
 scan = 0
 
+-- Action 1.
 abbrev pub print : ℕ
 print = 1
 
+-- Action 2.
 abbrev pub close : ℕ
 close = 2
 
