@@ -42,21 +42,28 @@ module _ (Step : Moves) where
   pub only-from-unique : (p q : ℕ) (w : List ℕ) → OnlyFrom Step p q w → ¬ (OnlyFrom Step q p w)
   only-from-unique p q w x y = x .1 (y .0)
 
+-- After a letter that both allow, the rest is possible from just one target, and from the same side, exactly where the
+-- whole is possible from just one.
 module _ (Step : Moves) (Start : ℕ → Type 0) (det : Deterministic Step Start) where
-  -- After a letter that both allow, the rest is possible from just one target exactly where the whole is from just one.
-  module _ (p q a p′ q′ : ℕ) (w : List ℕ) (rp : Reachable Step Start p) (rq : Reachable Step Start q)
-      (s : Step p a p′) (t : Step q a q′) where
-    pub just-one-cons : JustOne Step p′ q′ w → JustOne Step p q (a ∷ w)
-    just-one-cons (inl (x, y)) =
-        inl (allows-cons Step p a p′ w s x, λ z. y (allows-uncons Step Start det q a q′ w rq t z))
-    just-one-cons (inr (x, y)) =
-        inr (allows-cons Step q a q′ w t x, λ z. y (allows-uncons Step Start det p a p′ w rp s z))
+  pub only-from-cons : (p q a p′ q′ : ℕ) (w : List ℕ) → Reachable Step Start q → Step p a p′ → Step q a q′
+      → OnlyFrom Step p′ q′ w → OnlyFrom Step p q (a ∷ w)
+  only-from-cons p q a p′ q′ w rq s t (x, y) =
+      (allows-cons Step p a p′ w s x, λ z. y (allows-uncons Step Start det q a q′ w rq t z))
 
-    pub just-one-uncons : JustOne Step p q (a ∷ w) → JustOne Step p′ q′ w
-    just-one-uncons (inl (x, y)) =
-        inl (allows-uncons Step Start det p a p′ w rp s x, λ z. y (allows-cons Step q a q′ w t z))
-    just-one-uncons (inr (x, y)) =
-        inr (allows-uncons Step Start det q a q′ w rq t x, λ z. y (allows-cons Step p a p′ w s z))
+  pub only-from-uncons : (p q a p′ q′ : ℕ) (w : List ℕ) → Reachable Step Start p → Step p a p′ → Step q a q′
+      → OnlyFrom Step p q (a ∷ w) → OnlyFrom Step p′ q′ w
+  only-from-uncons p q a p′ q′ w rp s t (x, y) =
+      (allows-uncons Step Start det p a p′ w rp s x, λ z. y (allows-cons Step q a q′ w t z))
+
+  pub just-one-cons : (p q a p′ q′ : ℕ) (w : List ℕ) → Reachable Step Start p → Reachable Step Start q → Step p a p′
+      → Step q a q′ → JustOne Step p′ q′ w → JustOne Step p q (a ∷ w)
+  just-one-cons p q a p′ q′ w rp rq s t (inl x) = inl (only-from-cons p q a p′ q′ w rq s t x)
+  just-one-cons p q a p′ q′ w rp rq s t (inr x) = inr (only-from-cons q p a q′ p′ w rp t s x)
+
+  pub just-one-uncons : (p q a p′ q′ : ℕ) (w : List ℕ) → Reachable Step Start p → Reachable Step Start q → Step p a p′
+      → Step q a q′ → JustOne Step p q (a ∷ w) → JustOne Step p′ q′ w
+  just-one-uncons p q a p′ q′ w rp rq s t (inl x) = inl (only-from-uncons p q a p′ q′ w rp s t x)
+  just-one-uncons p q a p′ q′ w rp rq s t (inr x) = inr (only-from-uncons q p a q′ p′ w rq t s x)
 
 -- ---- the shortest
 
