@@ -1,29 +1,28 @@
 -- Two reachable states of a deterministic model that some round separates have a first word by action numbers among the
 -- shortest: the lowest letter that will do is found by a test, and the targets have theirs. Document 01, operation 6.
 -- Assumes nothing.
-use mathlib.Core.Path.{_≡_, refl}
+use mathlib.Core.Path.{refl}
 use mathlib.Core.Logic.{_⊎_, inl, inr}
 use mathlib.Core.List.{List, [], _∷_}
 use mathlib.Core.Bool.{Bool, not, _&&_, _||_}
 use Prim.Native.Nat.{ℕ, zero, suc, _≤_, _<_}
 use native.Mathlib.Omega.{arith}
 use lib.Dec.{T, T-not, not-T}
-use lib.ListN.{length}
 use Rattle.lts.specs.Tests.{any, Least}
 use Rattle.lts.specs.TestsLaws.{and-intro, and-left, and-right, or-left, or-right, or-cases, any→Some, Some→any}
 use Rattle.lts.specs.TestsLaws.{least-of-passes}
 use Rattle.lts.specs.Alike.{Moves, Alike, Separated}
 use Rattle.lts.specs.AlikeLaws.{separated-pos}
-use Rattle.lts.specs.Game.{Game, Opening, by-first, by-second, alike?}
+use Rattle.lts.specs.Game.{Game, alike?}
 use Rattle.lts.specs.GameLaws.{¬Alike→not-alike?, not-alike?→¬Alike}
 use Rattle.lts.specs.Run.{Run, Allows, Reachable, onward, Deterministic}
-use Rattle.lts.specs.Noninterference.{Levels, Low, LowMove}
+use Rattle.lts.specs.Noninterference.{Levels, LowMove}
 use Rattle.lts.specs.Decided.{Decided, answers?}
 use Rattle.lts.specs.Checked.{lowMove?}
 use Rattle.lts.specs.CheckedLaws.{decided-low, low-game}
-use Rattle.lts.specs.Word.{OnlyFrom, JustOne, Shortest, FirstWord}
-use Rattle.lts.specs.WordLaws.{separated→Shortest}
+use Rattle.lts.specs.Word.{OnlyFrom, JustOne, FirstWord}
 use Rattle.lts.specs.FirstWordLaws.{first-word-one, first-word-cons, targets-separated}
+use Rattle.lts.specs.FirstWordLaws.{letter-of-separated-one, letter-of-separated}
 
 module _ (L : Levels) (Step : Moves) (Start : ℕ → Type 0) (n l : ℕ) (step? : ℕ → ℕ → ℕ → Bool)
     (D : Decided Step n l step?) (det : Deterministic Step Start) where
@@ -81,21 +80,16 @@ module _ (L : Levels) (Step : Moves) (Start : ℕ → Type 0) (n l : ℕ) (step?
   JustOne→just? p q a t (inr x) = and-intro (L .low? a) (only? p q a || only? q p a) t
       (or-right (only? p q a) (only? q p a) (OnlyFrom→only? q p a x))
 
-  first-word-last : (p q : ℕ) → Shortest L Step p q 1 → (w : List ℕ) × FirstWord L Step p q w
-  unfolding Low
-  first-word-last p q x = go (x .word) (x .length-is) (x .is-low) (x .just-one)
-    where
-      go : (w : List ℕ) → length w ≡ 1 → Low L w → JustOne Step p q w → (w : List ℕ) × FirstWord L Step p q w
-      go [] e lo o = absurd (omega arith)
-      go (a ∷ []) e lo o =
-          let m = least-of-passes (just? p q) a (JustOne→just? p q a (lo .0) o) in
-          let b = m .0 in (
-            b ∷ [],
-            first-word-one L Step p q b (and-left (L .low? b) (only? p q b || only? q p b) (m .2 .passes))
-                (just?→JustOne p q b (m .2 .passes))
-                (λ c h lc j. T-not (just? p q c) (m .2 .none-below c h) (JustOne→just? p q c lc j)),
-          )
-      go (a ∷ (b ∷ w)) e lo o = absurd (omega arith)
+  first-word-last : (p q : ℕ) → Separated (LowMove L Step) p q 1 → (w : List ℕ) × FirstWord L Step p q w
+  first-word-last p q s =
+      let x = letter-of-separated-one L Step Start n round G det p q s in
+      let m = least-of-passes (just? p q) (x .0) (JustOne→just? p q (x .0) (x .1) (x .2)) in
+      let b = m .0 in (
+        b ∷ [],
+        first-word-one L Step p q b (and-left (L .low? b) (only? p q b || only? q p b) (m .2 .passes))
+            (just?→JustOne p q b (m .2 .passes))
+            (λ c h lc j. T-not (just? p q c) (m .2 .none-below c h) (JustOne→just? p q c lc j)),
+      )
 
   -- ---- a letter before the last
 
@@ -144,48 +138,24 @@ module _ (L : Levels) (Step : Moves) (Start : ℕ → Type 0) (n l : ℕ) (step?
       (Some→any n (targets? k p q a x) y (M .target-lt q a y (z .move-second))
       (and-intro (move? p a x && move? q a y) (not (alike? round k x y)) u v))
 
-  -- Two states that the round k+2 separates have such targets under some action: an opening and its answer.
-  letter-exists : (k p q : ℕ) → Separated (LowMove L Step) p q (suc (suc k)) → (a : ℕ) × Letter (suc k) p q a
-  unfolding Alike alike?
-  letter-exists k p q s = go (G .fails (alike? round (suc k)) p q
-      (¬Alike→not-alike? (LowMove L Step) n round G (suc (suc k)) p q (s .not-alike)))
-    where
-      go : Opening (LowMove L Step) (alike? round (suc k)) p q → (a : ℕ) × Letter (suc k) p q a
-      go (by-first a x m f) =
-          let h = s .alike-before 1 (omega arith) .there a x m in (
-            a,
-            record {
-              first = x;
-              second = h .0;
-              move-first = m;
-              move-second = h .1;
-              not-alike = not-alike?→¬Alike (LowMove L Step) n round G (suc k) x (h .0) (f (h .0) (h .1));
-            },
-          )
-      go (by-second a y m f) =
-          let h = s .alike-before 1 (omega arith) .back a y m in (
-            a,
-            record {
-              first = h .0;
-              second = y;
-              move-first = h .1;
-              move-second = m;
-              not-alike = not-alike?→¬Alike (LowMove L Step) n round G (suc k) (h .0) y (f (h .0) (h .1));
-            },
-          )
-
   pub first-word-exists : (k p q : ℕ) → Reachable Step Start p → Reachable Step Start q
       → Separated (LowMove L Step) p q k → (w : List ℕ) × FirstWord L Step p q w
   first-word-exists zero p q rp rq s = absurd (omega (arith, separated-pos (LowMove L Step) p q 0 s))
-  first-word-exists (suc zero) p q rp rq s =
-      first-word-last p q (separated→Shortest L Step Start n round G det p q 1 rp rq s)
+  first-word-exists (suc zero) p q rp rq s = first-word-last p q s
   first-word-exists (suc (suc k)) p q rp rq s = go (first-word-exists (suc k))
     where
-      some : (a : ℕ) × Letter (suc k) p q a
-      some = letter-exists k p q s
+      found : (b x y : ℕ) → LowMove L Step p b x → LowMove L Step q b y → Separated (LowMove L Step) x y (suc k)
+          → T (letter? (suc k) p q b)
+      found b x y m o d = Letter→letter? (suc k) p q b
+          (record { first = x; second = y; move-first = m; move-second = o; not-alike = d .not-alike })
+
+      some : (a : ℕ) × T (letter? (suc k) p q a)
+      some =
+          let (b, x, y, m, o, d) = letter-of-separated L Step Start n round G det k p q rq s in
+          (b, found b x y m o d)
 
       least : (a : ℕ) × (a ≤ some .0) × Least (letter? (suc k) p q) a
-      least = least-of-passes (letter? (suc k) p q) (some .0) (Letter→letter? (suc k) p q (some .0) (some .1))
+      least = least-of-passes (letter? (suc k) p q) (some .0) (some .1)
 
       a : ℕ
       a = least .0
@@ -195,9 +165,7 @@ module _ (L : Levels) (Step : Moves) (Start : ℕ → Type 0) (n l : ℕ) (step?
 
       none-lower : (b x y : ℕ) → b < a → LowMove L Step p b x → LowMove L Step q b y
           → ¬ (Separated (LowMove L Step) x y (suc k))
-      none-lower b x y h m o d = T-not (letter? (suc k) p q b) (least .2 .none-below b h)
-          (Letter→letter? (suc k) p q b
-          (record { first = x; second = y; move-first = m; move-second = o; not-alike = d .not-alike }))
+      none-lower b x y h m o d = T-not (letter? (suc k) p q b) (least .2 .none-below b h) (found b x y m o d)
 
       go : ((p q : ℕ) → Reachable Step Start p → Reachable Step Start q → Separated (LowMove L Step) p q (suc k)
           → (w : List ℕ) × FirstWord L Step p q w) → (w : List ℕ) × FirstWord L Step p q w

@@ -4,7 +4,7 @@
 use mathlib.Core.Path.{_≡_, refl, sym, subst}
 use mathlib.Core.Logic.{_⊎_, inl, inr}
 use mathlib.Core.List.{List, [], _∷_}
-use mathlib.Core.Bool.{Bool}
+use mathlib.Core.Bool.{Bool, not}
 use Prim.Native.Nat.{ℕ, suc, _≤_, _<_}
 use native.Mathlib.Omega.{arith}
 use lib.Dec.{T}
@@ -12,8 +12,8 @@ use lib.ListN.{length}
 use Rattle.lts.specs.TestsLaws.{lt-or-le, le-of-not-lt}
 use Rattle.lts.specs.Alike.{Moves, Alike, Separated}
 use Rattle.lts.specs.AlikeLaws.{alike-le, alike-sym}
-use Rattle.lts.specs.Game.{Game}
-use Rattle.lts.specs.GameLaws.{alike-cases}
+use Rattle.lts.specs.Game.{Game, Opening, by-first, by-second, alike?}
+use Rattle.lts.specs.GameLaws.{alike-cases, ¬Alike→not-alike?, not-alike?→¬Alike}
 use Rattle.lts.specs.Run.{Run, Reachable, onward, Deterministic}
 use Rattle.lts.specs.RunLaws.{allows-cons}
 use Rattle.lts.specs.Noninterference.{Levels, Low, LowMove}
@@ -101,6 +101,37 @@ module _ (L : Levels) (Step : Moves) (Start : ℕ → Type 0) (n : ℕ) (round :
           → Alike (LowMove L Step) (suc k) x y
       go (inl h) = h
       go (inr h) = absurd (d (targets-separated k p q b x y rq s m o h))
+
+  -- Of two states that the round 1 separates, just one has some low action.
+  pub letter-of-separated-one : (p q : ℕ) → Separated (LowMove L Step) p q 1
+      → (a : ℕ) × T (L .low? a) × JustOne Step p q (a ∷ [])
+  unfolding alike? Run
+  letter-of-separated-one p q s = go (G .fails (alike? round 0) p q
+      (¬Alike→not-alike? (LowMove L Step) n round G 1 p q (s .not-alike)))
+    where
+      go : Opening (LowMove L Step) (alike? round 0) p q → (a : ℕ) × T (L .low? a) × JustOne Step p q (a ∷ [])
+      go (by-first a x m f) = (a, m .0, inl ((x, (x, m .1, refl)), λ z. f (z .1 .0) (m .0, z .1 .1)))
+      go (by-second a y m f) = (a, m .0, inr ((y, (y, m .1, refl)), λ z. f (z .1 .0) (m .0, z .1 .1)))
+
+  -- Of two states that the round k+2 separates, some action leads to states that the round k+1 separates: an opening
+  -- and its answer.
+  pub letter-of-separated : (k p q : ℕ) → Reachable Step Start q → Separated (LowMove L Step) p q (suc (suc k))
+      → (a x y : ℕ) × LowMove L Step p a x × LowMove L Step q a y × Separated (LowMove L Step) x y (suc k)
+  unfolding Alike alike?
+  letter-of-separated k p q rq s = go (G .fails (alike? round (suc k)) p q
+      (¬Alike→not-alike? (LowMove L Step) n round G (suc (suc k)) p q (s .not-alike)))
+    where
+      apart : (x y : ℕ) → T (not (alike? round (suc k) x y)) → ¬ (Alike (LowMove L Step) (suc k) x y)
+      apart x y t = not-alike?→¬Alike (LowMove L Step) n round G (suc k) x y t
+
+      go : Opening (LowMove L Step) (alike? round (suc k)) p q
+          → (a x y : ℕ) × LowMove L Step p a x × LowMove L Step q a y × Separated (LowMove L Step) x y (suc k)
+      go (by-first a x m f) =
+          let (y, o, _) = s .alike-before 1 (omega arith) .there a x m in
+          (a, x, y, m, o, targets-separated k p q a x y rq s m o (apart x y (f y o)))
+      go (by-second a y o f) =
+          let (x, m, _) = s .alike-before 1 (omega arith) .back a y o in
+          (a, x, y, m, o, targets-separated k p q a x y rq s m o (apart x y (f x m)))
 
   -- Where the lower action b has no targets that the round k+1 separates, no word of length k+2 that begins with b is
   -- possible from just one.
