@@ -45,3 +45,4 @@ pub mod Promises
 pub mod PromisesLaws
 pub mod Examples
 pub mod GoodTestExamples
+pub mod CornerCases

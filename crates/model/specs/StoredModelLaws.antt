@@ -177,6 +177,10 @@ good-model s g = sym (modelAt-holds s (g .model) (holds-of-good s g))
 pub good-text : (s : List ℕ) (g : Good s) → g .text ≡ textOf (modelAt s)
 good-text s g = textOf-of-readText (g .text) (g .model) (g .reads) .1 ∙ ap textOf (good-model s g)
 
+-- whatever text reads to a store that holds m is the text of m
+pub holds-text : (s : List ℕ) (m : Model) → Holds s m → (g : Good s) → g .text ≡ textOf m
+holds-text s m h g = good-text s g ∙ ap textOf (modelAt-holds s m h)
+
 pub good-text-unique : (s : List ℕ) (g k : Good s) → g .text ≡ k .text
 good-text-unique s g k = good-text s g ∙ sym (good-text s k)
 

@@ -2,7 +2,7 @@
 -- Document 01, "The text". Assumes nothing.
 use mathlib.Core.List.{List, [], _∷_, _++_, map, append-assoc}
 use mathlib.Core.Logic.{inl, inr}
-use mathlib.Core.Path.{_≡_, refl, sym, _∙_}
+use mathlib.Core.Path.{_≡_, refl, sym, ap, _∙_}
 use Prim.Native.Nat.{ℕ, _+_, _<_}
 use native.Mathlib.Omega.{arith}
 use lib.Dec.{T, lit<}
@@ -19,13 +19,14 @@ use Rattle.model.specs.AllLaws.{all-intro, all-append, all-map, all-of-a
 use Rattle.model.specs.Join.{join}
 use Rattle.model.specs.JoinLaws.{join-cons, all-join}
 use Rattle.model.specs.Model.{ActionLine, Model}
-use Rattle.model.specs.Lines.{name?}
+use Rattle.model.specs.Lines.{good, headFits?, headOf, name?, actionOf, stepOf}
 use Rattle.model.specs.Text.{headText, levelByte, actionText, stepText, actionsText, stepsText, textOf}
 use Rattle.model.specs.Store.{headPlaces}
-use Rattle.model.specs.WellFormed.{ActionFits, WellFormed}
+use Rattle.model.specs.WellFormed.{ActionFits, StepFits, WellFormed}
 use Rattle.model.specs.EachLaws.{all-of-each}
 use Rattle.model.specs.LineText.{LineByte, lineOf, lineOfHead, lineOfAction, stepPlaces, lineOfStep, partsOf}
-use Rattle.model.specs.ActionLineLaws.{NameByte, name-bytes, levelByte-capital}
+use Rattle.model.specs.ActionLineLaws.{NameByte, name-bytes, levelByte-capital, line-of-actionOf}
+use Rattle.model.specs.LineTextLaws.{line-of-headOf, line-of-stepOf}
 
 -- ---- a line's text is the line and its end
 
@@ -40,6 +41,25 @@ actionText-line a = refl
 pub stepText-line : (s : StepLine) → stepText s ≡ lineOfStep s ++ (10 ∷ [])
 unfolding stepText join
 stepText-line s = simp append-assoc
+
+-- ---- a line that reads is, with its end, the text of what it states
+
+pub headText-of-headOf : (line : List ℕ) (h : Head) → headOf line ≡ good h
+    → (line ++ (10 ∷ []) ≡ headText h) × T (headFits? h)
+headText-of-headOf line h q =
+    let l = line-of-headOf line h q in (ap (λ (x : List ℕ). x ++ (10 ∷ [])) (l .0) ∙ sym (headText-line h), l .1)
+
+pub actionText-of-actionOf : (before : List ActionLine) (line : List ℕ) (a : ActionLine) → actionOf before line ≡ good a
+    → (line ++ (10 ∷ []) ≡ actionText a) × ActionFits before a
+actionText-of-actionOf before line a q =
+    let l = line-of-actionOf before line a q in
+    (ap (λ (x : List ℕ). x ++ (10 ∷ [])) (l .0) ∙ sym (actionText-line a), l .1)
+
+pub stepText-of-stepOf : (h : Head) (before : List StepLine) (line : List ℕ) (s : StepLine)
+    → stepOf h before line ≡ good s → (line ++ (10 ∷ []) ≡ stepText s) × StepFits h before s
+stepText-of-stepOf h before line s q =
+    let l = line-of-stepOf h before line s q in
+    (ap (λ (x : List ℕ). x ++ (10 ∷ [])) (l .0) ∙ sym (stepText-line s), l .1)
 
 -- ---- the text is the lines joined
 
