@@ -66,7 +66,8 @@ record Refused : Type 0 where
   level-unknown : readText (head ++ (65 ∷ 44 ∷ 77 ∷ 44 ∷ 97 ∷ 10 ∷ []) ++ first) ≡ faulty Shape 2
   name-capital : readText (head ++ (65 ∷ 44 ∷ 76 ∷ 44 ∷ 65 ∷ 10 ∷ []) ++ first) ≡ faulty Shape 2
   name-empty : readText (head ++ (65 ∷ 44 ∷ 76 ∷ 44 ∷ 10 ∷ []) ++ first) ≡ faulty Shape 2
-  name-of-thirteen : readText (head ++ (65 ∷ 44 ∷ 76 ∷ 44 ∷ []) ++ replicate 13 97 ++ (10 ∷ []) ++ first) ≡ faulty Shape 2
+  name-of-thirteen : readText (head ++ (65 ∷ 44 ∷ 76 ∷ 44 ∷ []) ++ replicate 13 97 ++ (10 ∷ []) ++ first)
+      ≡ faulty Shape 2
   -- M,2,2,2,0 with A,L,a twice
   name-repeated : readText ((77 ∷ 44 ∷ 50 ∷ 44 ∷ 50 ∷ 44 ∷ 50 ∷ 44 ∷ 48 ∷ 10 ∷ []) ++ action ++ action ++ first)
       ≡ faulty Repeated 3
