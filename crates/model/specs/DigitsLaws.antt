@@ -132,7 +132,6 @@ digitsUpTo-suc (suc k) n h p = go (digitsUpTo-suc k) (lt-or-le n 10)
         let b = before-last k n g h in
         rw (digitsUpTo-le (suc k) n g, digitsUpTo-le k n g, ih (n / 10) (b .0) (b .1))
 
--- the five places that `digits` allows are enough, and no more than k are used
 pub digits-digitsUpTo : (j k n : ℕ) → n < 10 ^ k → 0 < k → j + k ≡ 5 → digits n ≡ digitsUpTo k n
 unfolding digits
 digits-digitsUpTo zero k n h p e = let q : k ≡ 5 = omega arith in rw q
@@ -187,32 +186,22 @@ digitsUpTo-cons k v d p h =
     let b : (v * 10 + d) % 10 ≡ d = omega arith in
     rw (digitsUpTo-le k (v * 10 + d) (omega arith), a, b)
 
--- digits that follow those of v, up to the value n, are the last digits of n
-digitsUpTo-of-value : (ds : List ℕ) (v k n : ℕ) → 0 < v → digitsValue v ds ≡ Value n
-    → digitsUpTo (k + length ds) n ≡ digitsUpTo k v ++ ds
-digitsUpTo-of-value [] v k n p h =
+-- digits that follow those of v, up to the value n, are the last digits of n; and as many digits bound n
+digitsUpTo-of-value : (ds : List ℕ) (v k n : ℕ) → 0 < v → v < 10 ^ k → digitsValue v ds ≡ Value n
+    → (digitsUpTo (k + length ds) n ≡ digitsUpTo k v ++ ds) × (n < 10 ^ (k + length ds))
+digitsUpTo-of-value [] v k n p l h =
     let e : v ≡ n = cc (value-nil v) in
     let z : k + 0 ≡ k = omega arith in
-    rw (append-nil, z, e)
-digitsUpTo-of-value (d ∷ ds) v k n p h =
+    (rw (append-nil, z, e), rw (z, ← e) l)
+digitsUpTo-of-value (d ∷ ds) v k n p l h =
     let q = value-digit v d ds n h in
     let r = digit-within d q in
     let m : 48 + (d - 48) ≡ d = omega arith in
     let z : k + suc (length ds) ≡ suc k + length ds = omega arith in
-    let i = digitsUpTo-of-value ds (v * 10 + (d - 48)) (suc k) n (omega arith) (sym (value-cons v d ds q) ∙ h) in
-    rw (z, i, digitsUpTo-cons k v (d - 48) p (omega arith), m, append-assoc)
-
-value-lt : (ds : List ℕ) (v k n : ℕ) → v < 10 ^ k → digitsValue v ds ≡ Value n → n < 10 ^ (k + length ds)
-value-lt [] v k n p h =
-    let e : v ≡ n = cc (value-nil v) in
-    let z : k + 0 ≡ k = omega arith in
-    rw (z, ← e) p
-value-lt (d ∷ ds) v k n p h =
-    let q = value-digit v d ds n h in
-    let r = digit-within d q in
-    let z : k + suc (length ds) ≡ suc k + length ds = omega arith in
     let e = pow-suc 10 k in
-    rw z (value-lt ds (v * 10 + (d - 48)) (suc k) n (omega arith) (sym (value-cons v d ds q) ∙ h))
+    let u = sym (value-cons v d ds q) ∙ h in
+    let i = digitsUpTo-of-value ds (v * 10 + (d - 48)) (suc k) n (omega arith) (omega arith) u in
+    (rw (z, i .0, digitsUpTo-cons k v (d - 48) p (omega arith), m, append-assoc), rw z (i .1))
 
 -- a digit, and digits after it unless it is 0
 digits-of-value : (b : ℕ) (ds : List ℕ) (n : ℕ) → length ds ≤ 4 → (0 < length ds → b ≡ 48 → ⊥)
@@ -232,13 +221,12 @@ digits-of-value b (d ∷ ds) n l z h =
     let u = sym (value-cons 0 b (d ∷ ds) q) ∙ h in
     let m : 48 + v ≡ b = omega arith in
     let k : ℕ = 1 + suc (length ds) in
-    let w = digitsUpTo-of-value (d ∷ ds) v 1 n (omega arith) u in
-    let t = value-lt (d ∷ ds) v 1 n (omega arith) u in
+    let w = digitsUpTo-of-value (d ∷ ds) v 1 n (omega arith) (omega arith) u in
     let five : k ≤ 5 = omega arith in
     let p : 10 ^ k ≤ 10 ^ 5 = pow-le-pow-right (lit< tt) five in
-    let c = digits-digitsUpTo (3 - length ds) k n t (omega arith) (omega arith) in
+    let c = digits-digitsUpTo (3 - length ds) k n (w .1) (omega arith) (omega arith) in
     let one = digitsUpTo-lt 0 v (omega arith) ∙ ap (λ (x : ℕ). x ∷ []) m in
-    (sym (c ∙ w ∙ ap (λ (x : List ℕ). x ++ (d ∷ ds)) one), lt-of-lt-of-le t p)
+    (sym (c ∙ w .0 ∙ ap (λ (x : List ℕ). x ++ (d ∷ ds)) one), lt-of-lt-of-le (w .1) p)
 
 pub digits-of-numberOf : (f : List ℕ) (n : ℕ) → numberOf f ≡ Value n → (f ≡ digits n) × (n < 100000)
 unfolding numberOf numberShape?
