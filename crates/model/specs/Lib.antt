@@ -15,5 +15,6 @@ pub mod WellFormed
 pub mod StoredModel
 pub mod Wrote
 pub mod LineAnswers
+pub mod PartAnswers
 pub mod Promises
 pub mod Examples
