@@ -2,12 +2,15 @@ pub mod Limits
 pub mod Decides
 pub mod Bytes
 pub mod BytesLaws
+pub mod TableLaws
 pub mod Numbers
+pub mod NumbersLaws
 pub mod Split
 pub mod SplitLaws
 pub mod Model
 pub mod Faults
 pub mod Lines
+pub mod LinesLaws
 pub mod Reading
 pub mod Store
 pub mod Text
@@ -16,5 +19,6 @@ pub mod StoredModel
 pub mod Wrote
 pub mod LineAnswers
 pub mod PartAnswers
+pub mod ActionLaws
 pub mod Promises
 pub mod Examples

@@ -1,0 +1,103 @@
+-- The line of an action by its parts: level, name, and the test of a name byte by byte.
+-- Document 01, "The text": "Level is L, D or H. A name is 1 to 12 bytes of a to z and 0 to 9". Assumes nothing.
+use mathlib.Core.Bool.{Bool, true, false, cond, _&&_}
+use mathlib.Core.List.{List, [], _∷_}
+use mathlib.Core.Logic.{_⊎_, inl, inr}
+use mathlib.Core.Path.{_≡_, refl, ap, _∙_}
+use Prim.Native.Nat.{ℕ, _≤_, _<_}
+use native.Mathlib.Omega.{arith}
+use lib.Dec.{leb, eqb}
+use lib.ListN.{length, getD}
+use borrow.Author.Tests.{eq-eqb, ne-eqb, le-leb, lt-leb}
+use Rattle.model.specs.declared.Fault.the-variants.{Shape}
+use Rattle.model.specs.Bytes.{digit, smallLetter, capital, kindOf, within?}
+use Rattle.model.specs.Split.{same?}
+use Rattle.model.specs.Limits.{nameLimit}
+use Rattle.model.specs.Model.{ActionLine}
+use Rattle.model.specs.Lines.{Line, good, bad, checked, levelOf, allOf, nameByte?, name?, nameFrom, actionFields}
+use Rattle.model.specs.PartAnswers.{levelNumber}
+
+-- ---- levels
+
+-- the letters of levels are capitals
+pub levelNumber-other : (b : ℕ) → (kindOf b ≡ capital → ⊥) → levelNumber b ≡ 3
+unfolding levelNumber kindOf
+levelNumber-other b h =
+    rw (ne-eqb b 76 (λ e. h (ap kindOf e)), ne-eqb b 68 (λ e. h (ap kindOf e)), ne-eqb b 72 (λ e. h (ap kindOf e)))
+
+pub levelOf-byte : (b : ℕ) → (levelNumber b ≡ 3 → ⊥) → levelOf (b ∷ []) ≡ good (levelNumber b)
+unfolding levelOf levelNumber same?
+levelOf-byte b h = go (eqb b 76) (eqb b 68) (eqb b 72) h
+  where
+    go : (l d e : Bool) → (_≡_ {A = ℕ} (cond l 0 (cond d 1 (cond e 2 3))) 3 → ⊥)
+        → _≡_ {A = Line ℕ} (cond (l && true) (good 0) (cond (d && true) (good 1) (cond (e && true) (good 2) (bad Shape))))
+        (good (cond l 0 (cond d 1 (cond e 2 3))))
+    go true d e n = refl
+    go false true e n = refl
+    go false false true n = refl
+    go false false false n = absurd (n refl)
+
+pub levelOf-other : (b : ℕ) → levelNumber b ≡ 3 → levelOf (b ∷ []) ≡ bad Shape
+unfolding levelOf levelNumber same?
+levelOf-other b h = go (eqb b 76) (eqb b 68) (eqb b 72) h
+  where
+    go : (l d e : Bool) → _≡_ {A = ℕ} (cond l 0 (cond d 1 (cond e 2 3))) 3
+        → _≡_ {A = Line ℕ} (cond (l && true) (good 0) (cond (d && true) (good 1) (cond (e && true) (good 2) (bad Shape))))
+        (bad Shape)
+    go true d e n = absurd (omega arith)
+    go false true e n = absurd (omega arith)
+    go false false true n = absurd (omega arith)
+    go false false false n = refl
+
+-- a field that is not one byte long is no level
+pub levelOf-long : (f : List ℕ) → ((x : ℕ) → same? f (x ∷ []) ≡ false) → levelOf f ≡ bad Shape
+unfolding levelOf
+levelOf-long f h = rw (h 76, h 68, h 72)
+
+-- ---- names
+
+pub allName-nil : allOf nameByte? [] ≡ true
+unfolding allOf
+allName-nil = refl
+
+pub allName-cons : (b : ℕ) (bs : List ℕ) → (kindOf b ≡ digit) ⊎ (kindOf b ≡ smallLetter)
+    → allOf nameByte? (b ∷ bs) ≡ allOf nameByte? bs
+unfolding allOf nameByte?
+allName-cons b bs (inl h) = rw (eq-eqb (kindOf b) digit h)
+allName-cons b bs (inr h) =
+    let e : kindOf b ≡ digit → ⊥ = λ z. omega arith in
+    rw (ne-eqb (kindOf b) digit e, eq-eqb (kindOf b) smallLetter h)
+
+pub allName-bad : (b : ℕ) (bs : List ℕ) → (kindOf b ≡ digit → ⊥) → (kindOf b ≡ smallLetter → ⊥)
+    → allOf nameByte? (b ∷ bs) ≡ false
+unfolding allOf nameByte?
+allName-bad b bs h l = rw (ne-eqb (kindOf b) digit h, ne-eqb (kindOf b) smallLetter l)
+
+name-tests : (f : List ℕ) {l m : Bool} → leb 1 (length f) ≡ l → leb (length f) nameLimit ≡ m
+    → name? f ≡ l && m && allOf nameByte? f
+unfolding name?
+name-tests f e g = rw (← e, ← g)
+
+pub name-short : (f : List ℕ) → length f < 1 → name? f ≡ false
+name-short f h = name-tests f (lt-leb 1 (length f) h) refl
+
+pub name-long : (f : List ℕ) → nameLimit < length f → name? f ≡ false
+name-long f h = let l : 1 ≤ length f = omega arith in name-tests f (le-leb 1 (length f) l) (lt-leb (length f) nameLimit h)
+
+pub name-all : (f : List ℕ) → 1 ≤ length f → length f ≤ nameLimit → name? f ≡ allOf nameByte? f
+name-all f l m = name-tests f (le-leb 1 (length f) l) (le-leb (length f) nameLimit m)
+
+-- ---- the line from its fields
+
+-- no level
+pub actionFields-bad : (f : List ℕ) (fs : List (List ℕ)) → levelOf f ≡ bad Shape
+    → actionFields (good (f ∷ fs)) ≡ bad Shape
+unfolding actionFields nameFrom
+actionFields-bad f fs e = ap (λ (x : Line ℕ). nameFrom x (getD (f ∷ fs) 1 [])) e
+
+pub actionFields-good : (f name : List ℕ) (level : ℕ) {t : Bool} → levelOf f ≡ good level → name? name ≡ t
+    → actionFields (good (f ∷ name ∷ [])) ≡ checked Shape t (record { level = level; name = name })
+unfolding actionFields nameFrom
+actionFields-good f name level e g =
+    ap (λ (x : Line ℕ). nameFrom x name) e
+    ∙ ap (λ (x : Bool). checked {A = ActionLine} Shape x (record { level = level; name = name })) g
