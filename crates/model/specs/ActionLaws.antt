@@ -4,18 +4,19 @@ use mathlib.Core.Bool.{Bool, true, false, cond, _&&_}
 use mathlib.Core.List.{List, [], _∷_}
 use mathlib.Core.Logic.{_⊎_, inl, inr}
 use mathlib.Core.Path.{_≡_, refl, ap, _∙_}
-use Prim.Native.Nat.{ℕ, _≤_, _<_}
+use Prim.Native.Nat.{ℕ, _+_, _≤_, _<_}
 use native.Mathlib.Omega.{arith}
 use lib.Dec.{leb, eqb}
-use lib.ListN.{length, getD}
+use lib.ListN.{length, drop, getD}
 use borrow.Author.Tests.{eq-eqb, ne-eqb, le-leb, lt-leb}
 use Rattle.model.specs.declared.Fault.the-variants.{Shape}
-use Rattle.model.specs.Bytes.{digit, smallLetter, capital, kindOf, within?}
-use Rattle.model.specs.Split.{same?}
+use Rattle.model.specs.Bytes.{digit, smallLetter, capital, comma, kindOf}
+use Rattle.model.specs.Split.{split, indexOf, same?}
 use Rattle.model.specs.Limits.{nameLimit}
 use Rattle.model.specs.Model.{ActionLine}
-use Rattle.model.specs.Lines.{Line, good, bad, checked, levelOf, allOf, nameByte?, name?, nameFrom, actionFields}
+use Rattle.model.specs.Lines.{Line, good, bad, checked, fieldsOf, levelOf, allOf, nameByte?, name?, nameFrom, actionFields}
 use Rattle.model.specs.PartAnswers.{levelNumber}
+use Rattle.model.specs.FieldsLaws.{split-one, byte-field, not-byte-field}
 
 -- ---- levels
 
@@ -101,3 +102,38 @@ unfolding actionFields nameFrom
 actionFields-good f name level e g =
     ap (λ (x : Line ℕ). nameFrom x name) e
     ∙ ap (λ (x : Bool). checked {A = ActionLine} Shape x (record { level = level; name = name })) g
+
+-- ---- by the place of the second comma
+
+module _ (line : List ℕ) (fields : fieldsOf 65 2 line ≡ good (split comma (drop 2 line)))
+    (two : length (split comma (drop 2 line)) ≡ 2) (le : 2 ≤ length line)
+    (e : ℕ) (found : e ≡ 2 + indexOf comma (drop 2 line)) where
+  pub action-other-place : (e ≡ 3 → ⊥) → actionFields (fieldsOf 65 2 line) ≡ bad Shape
+  action-other-place other =
+      let w = not-byte-field line 2 e le found other in
+      ap actionFields (fields ∙ ap good (w .2)) ∙ actionFields-bad (w .0) (w .1) (levelOf-long (w .0) (w .3))
+
+  module _ (three : e ≡ 3) where
+    level : (4 ≤ length line) × (split comma (drop 2 line) ≡ (getD line 2 0 ∷ []) ∷ split comma (drop 4 line))
+    level = byte-field line 2 e le found three (omega arith)
+
+    pub action-length : 4 ≤ length line
+    action-length = level .0
+
+    parts : split comma (drop 2 line) ≡ (getD line 2 0 ∷ []) ∷ drop 4 line ∷ []
+    parts =
+        let k = ap length (level .1) in
+        let one : length (split comma (drop 4 line)) ≡ 1 = omega arith in
+        level .1 ∙ ap (λ (fs : List (List ℕ)). (getD line 2 0 ∷ []) ∷ fs) (split-one comma (drop 4 line) one)
+
+    pub action-level : levelNumber (getD line 2 0) ≡ 3 → actionFields (fieldsOf 65 2 line) ≡ bad Shape
+    action-level h =
+        ap actionFields (fields ∙ ap good parts)
+        ∙ actionFields-bad (getD line 2 0 ∷ []) (drop 4 line ∷ []) (levelOf-other (getD line 2 0) h)
+
+    pub action-name : {t : Bool} → (levelNumber (getD line 2 0) ≡ 3 → ⊥) → name? (drop 4 line) ≡ t
+        → actionFields (fieldsOf 65 2 line)
+        ≡ checked Shape t (record { level = levelNumber (getD line 2 0); name = drop 4 line })
+    action-name h n =
+        ap actionFields (fields ∙ ap good parts)
+        ∙ actionFields-good (getD line 2 0 ∷ []) (drop 4 line) (levelNumber (getD line 2 0)) (levelOf-byte (getD line 2 0) h) n

@@ -10,7 +10,6 @@ pub mod SplitLaws
 pub mod Model
 pub mod Faults
 pub mod Lines
-pub mod LinesLaws
 pub mod Reading
 pub mod Store
 pub mod Text
@@ -19,6 +18,9 @@ pub mod StoredModel
 pub mod Wrote
 pub mod LineAnswers
 pub mod PartAnswers
+pub mod FieldsLaws
+pub mod LinesLaws
 pub mod ActionLaws
+pub mod RowLaws
 pub mod Promises
 pub mod Examples

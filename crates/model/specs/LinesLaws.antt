@@ -1,155 +1,24 @@
--- A line by its parts: the fields after a letter, a letter and numbers, and the tests on line 1 and on a step.
+-- The tests on line 1 and on a step, part by part, and what they give.
 -- Document 01, "The text". Assumes nothing.
 use mathlib.Core.Bool.{Bool, true, false, _&&_, _||_}
-use mathlib.Core.List.{List, [], _∷_}
+use mathlib.Core.List.{List, []}
 use mathlib.Core.Path.{_≡_, refl, sym, ap, _∙_}
-use Prim.Native.Nat.{ℕ, zero, suc, _+_, _-_, _≤_, _<_}
+use Prim.Native.Nat.{ℕ, _≤_, _<_}
 use native.Mathlib.Omega.{arith}
 use lib.Dec.{leb, ltb, eqb}
-use lib.ListN.{length, take, drop, getD, length-drop}
-use lib.Seq.{getD-drop}
-use borrow.Author.Tests.{ltb-true, ltb-false, leb-true, lt-ltb, le-ltb, eq-eqb, ne-eqb}
+use borrow.Author.Tests.{ltb-true, leb-true, lt-ltb, le-ltb, eq-eqb, ne-eqb}
 use Rattle.model.specs.declared.Fault.{Fault}
-use Rattle.model.specs.declared.Fault.the-variants.{Shape, Range, Order}
+use Rattle.model.specs.declared.Fault.the-variants.{Range, Order}
 use Rattle.model.specs.declared.Head.{Head}
 use Rattle.model.specs.declared.StepLine.{StepLine}
-use Rattle.model.specs.Bytes.{comma, within?, kindOf}
+use Rattle.model.specs.Bytes.{within?}
 use Rattle.model.specs.BytesLaws.{and-true, within?-true}
-use Rattle.model.specs.Split.{consFirst, split, indexOf, same?}
-use Rattle.model.specs.SplitLaws.{split-end, split-cons, split-first, split-part, split-last, split-none, split-found, found-le}
 use Rattle.model.specs.Limits.{stateLimit, actionLimit, stepLimit}
-use Rattle.model.specs.Model.{above?}
-use Rattle.model.specs.Lines.{Line, good, bad, checked, fieldsFrom, fieldsOf, numbersOf, numbersFrom, numbersLine, headFits?, stepFits?}
+use Rattle.model.specs.Model.{above?, aboveLast?}
+use Rattle.model.specs.Lines.{Line, good, bad, checked, numbersLine, headFits?, headNumbers, headFrom, headOf, stepFits?, stepNumbers, rising, stepFrom, stepOf}
+use Rattle.model.specs.LineAnswers.{Last}
 
--- ---- the number of parts
-
-pub count-end : (kind b : ℕ) (bs : List ℕ) → kindOf b ≡ kind
-    → length (split kind (b ∷ bs)) ≡ suc (length (split kind bs))
-count-end kind b bs h = ap length (split-end kind b bs h)
-
-pub count-cons : (kind b : ℕ) (bs : List ℕ) → (kindOf b ≡ kind → ⊥)
-    → length (split kind (b ∷ bs)) ≡ length (split kind bs)
-unfolding consFirst
-count-cons kind b bs h =
-    let w = split-first kind bs in
-    ap length (split-cons kind b bs h ∙ ap (consFirst b) (w .2)) ∙ sym (ap length (w .2))
-
--- ---- the first part, and the only part
-
--- with one part, the part is the whole
-pub split-one : (kind : ℕ) (s : List ℕ) → length (split kind s) ≡ 1 → split kind s ≡ s ∷ []
-split-one kind s h = go (ltb (indexOf kind s) (length s)) refl
-  where
-    go : (t : Bool) → ltb (indexOf kind s) (length s) ≡ t → split kind s ≡ s ∷ []
-    go true e =
-        let more = split-first kind (drop (suc (indexOf kind s)) s) in
-        let n = ap length (split-found kind s (ltb-true (indexOf kind s) (length s) e)) in
-        let m = ap length (more .2) in
-        absurd (omega arith)
-    go false e = split-none kind s (ltb-false (indexOf kind s) (length s) e)
-
-module _ (kind : ℕ) (s : List ℕ) (at e : ℕ) (le : at ≤ length s) (found : e ≡ at + indexOf kind (drop at s)) where
-  -- whether or not another part follows
-  pub split-take : (parts : List (List ℕ)) × (split kind (drop at s) ≡ take (e - at) (drop at s) ∷ parts)
-  split-take = go (ltb e (length s)) refl
-    where
-      go : (t : Bool) → ltb e (length s) ≡ t
-          → (parts : List (List ℕ)) × (split kind (drop at s) ≡ take (e - at) (drop at s) ∷ parts)
-      go true b = (split kind (drop (e + 1) s), split-part kind s at e le found (ltb-true e (length s) b))
-      go false b = ([], split-last kind s at e le found (ltb-false e (length s) b))
-
-  -- another part follows
-  pub split-more : 1 < length (split kind (drop at s)) → e < length s
-  split-more h = go (ltb e (length s)) refl
-    where
-      go : (t : Bool) → ltb e (length s) ≡ t → e < length s
-      go true b = ltb-true e (length s) b
-      go false b = let n = ap length (split-last kind s at e le found (ltb-false e (length s) b)) in absurd (omega arith)
-
--- ---- a field of one byte
-
-and-nil : (t : Bool) → t && false ≡ false
-and-nil true = refl
-and-nil false = refl
-
--- a part that is not one byte long is no letter
-same?-take : (k : ℕ) (l : List ℕ) (x : ℕ) → k ≤ length l → (k ≡ 1 → ⊥) → same? (take k l) (x ∷ []) ≡ false
-unfolding same?
-same?-take zero l x le h = refl
-same?-take (suc zero) l x le h = absurd (h refl)
-same?-take (suc (suc k)) [] x le h = absurd (omega arith)
-same?-take (suc (suc k)) (a ∷ []) x le h = absurd (omega arith)
-same?-take (suc (suc k)) (a ∷ b ∷ l) x le h = and-nil (eqb a x)
-
-pub same?-byte : (b x : ℕ) → b ≡ x → same? (b ∷ []) (x ∷ []) ≡ true
-unfolding same?
-same?-byte b x h = rw (eq-eqb b x h)
-
-pub same?-other : (b x : ℕ) → (b ≡ x → ⊥) → same? (b ∷ []) (x ∷ []) ≡ false
-unfolding same?
-same?-other b x h = rw (ne-eqb b x h)
-
-take-one : (l : List ℕ) → 0 < length l → take 1 l ≡ getD l 0 0 ∷ []
-take-one [] h = absurd (omega arith)
-take-one (x ∷ xs) h = refl
-
-module _ (line : List ℕ) (at e : ℕ) (le : at ≤ length line) (found : e ≡ at + indexOf comma (drop at line)) where
-  -- the comma after a field of one byte stands one place further on
-  pub byte-field : e ≡ at + 1 → 1 < length (split comma (drop at line))
-      → (at + 2 ≤ length line) × (split comma (drop at line) ≡ (getD line at 0 ∷ []) ∷ split comma (drop (at + 2) line))
-  byte-field one many =
-      let l = split-more comma line at e le found many in
-      let d = length-drop at line in
-      let k : e - at ≡ 1 = omega arith in
-      let m : e + 1 ≡ at + 2 = omega arith in
-      let z : at + 0 ≡ at = omega arith in
-      let n : 0 < length (drop at line) = omega arith in
-      (omega arith, split-part comma line at e le found l ∙ rw (k, m, take-one (drop at line) n, getD-drop, z))
-
-  pub not-byte-field : (e ≡ at + 1 → ⊥)
-      → (f : List ℕ) × (fs : List (List ℕ)) × (split comma (drop at line) ≡ f ∷ fs) × ((x : ℕ) → same? f (x ∷ []) ≡ false)
-  not-byte-field other =
-      let w = split-take comma line at e le found in
-      let b = found-le comma line at e le found in
-      let d = length-drop at line in
-      (take (e - at) (drop at line), w .0, w .1, λ x. same?-take (e - at) (drop at line) x (omega arith) (λ z. other (omega arith)))
-
--- ---- the fields after a letter
-
-module _ (letter n : ℕ) (line f : List ℕ) (fs : List (List ℕ)) (parts : split comma line ≡ f ∷ fs) where
-  test : (t : Bool) → same? f (letter ∷ []) && eqb (length fs) n ≡ t → fieldsOf letter n line ≡ checked Shape t fs
-  unfolding fieldsOf fieldsFrom
-  test t h = ap (fieldsFrom letter n) parts ∙ ap (λ (u : Bool). checked Shape u fs) h
-
-  -- another letter
-  pub fields-letter : same? f (letter ∷ []) ≡ false → fieldsOf letter n line ≡ bad Shape
-  unfolding checked
-  fields-letter h = test false (ap (λ (t : Bool). t && eqb (length fs) n) h)
-
-  -- another number of fields
-  pub fields-count : (length fs ≡ n → ⊥) → fieldsOf letter n line ≡ bad Shape
-  unfolding checked
-  fields-count h =
-      test false
-      (ap (λ (t : Bool). same? f (letter ∷ []) && t) (ne-eqb (length fs) n h) ∙ and-nil (same? f (letter ∷ [])))
-
-  pub fields-good : same? f (letter ∷ []) ≡ true → length fs ≡ n → fieldsOf letter n line ≡ good fs
-  unfolding checked
-  fields-good h k =
-      test true
-      (ap (λ (t : Bool). t && eqb (length fs) n) h ∙ eq-eqb (length fs) n k)
-
-pub numbersLine-bad : (letter n : ℕ) (line : List ℕ) (fault : Fault) → fieldsOf letter n line ≡ bad fault
-    → numbersLine letter n line ≡ bad fault
-unfolding numbersLine numbersFrom
-numbersLine-bad letter n line fault e = ap numbersFrom e
-
-pub numbersLine-good : (letter n : ℕ) (line : List ℕ) (fs : List (List ℕ)) → fieldsOf letter n line ≡ good fs
-    → numbersLine letter n line ≡ numbersOf fs
-unfolding numbersLine numbersFrom
-numbersLine-good letter n line fs e = ap numbersFrom e
-
--- ---- tests, part by part
+-- ---- line 1
 
 pub headFits-tests : (h : Head) {s a n l : Bool} → within? 1 stateLimit (h .states) ≡ s → within? 1 actionLimit (h .actions) ≡ a
     → leb (h .steps) stepLimit ≡ n → ltb (h .start .0) (h .states) ≡ l → headFits? h ≡ s && a && n && l
@@ -185,6 +54,18 @@ headFits?→HeadRange h e =
       steps-le = leb-true (h .steps) stepLimit (two .1);
       start-lt = ltb-true (h .start .0) (h .states) (three .1);
     }
+
+module _ (line : List ℕ) where
+  pub headOf-bad : {fault : Fault} → numbersLine 77 4 line ≡ bad fault → headOf line ≡ bad fault
+  unfolding headOf headFrom
+  headOf-bad e = ap headFrom e
+
+  pub headOf-numbers : {ns : List ℕ} {t : Bool} → numbersLine 77 4 line ≡ good ns → headFits? (headNumbers ns) ≡ t
+      → headOf line ≡ checked Range t (headNumbers ns)
+  unfolding headOf headFrom
+  headOf-numbers {ns} e f = ap headFrom e ∙ ap (λ (u : Bool). checked Range u (headNumbers ns)) f
+
+-- ---- steps
 
 pub stepFits-tests : (h : Head) (s : StepLine) {p a q : Bool} → ltb (s .source .0) (h .states) ≡ p
     → ltb (s .action .0) (h .actions) ≡ a → ltb (s .target .0) (h .states) ≡ q → stepFits? h s ≡ p && a && q
@@ -246,3 +127,33 @@ module _ (s t : StepLine) where
     above-target m n =
         tests (le-ltb (s .source .0) (t .source .0) le) same-source (le-ltb (s .action .0) (t .action .0) m)
         (eq-eqb (s .action .0) (t .action .0) (omega arith))
+
+module _ (h : Head) (before : List StepLine) (line : List ℕ) where
+  pub stepOf-bad : {fault : Fault} → numbersLine 83 3 line ≡ bad fault → stepOf h before line ≡ bad fault
+  unfolding stepOf stepFrom
+  stepOf-bad e = ap (stepFrom h before) e
+
+  module _ (ns : List ℕ) (e : numbersLine 83 3 line ≡ good ns) where
+    numbers : {t : Bool} → stepFits? h (stepNumbers ns) ≡ t
+        → stepOf h before line ≡ rising before (checked Range t (stepNumbers ns))
+    unfolding stepOf stepFrom
+    numbers f = ap (stepFrom h before) e ∙ ap (λ (u : Bool). rising before (checked Range u (stepNumbers ns))) f
+
+    pub stepOf-range : stepFits? h (stepNumbers ns) ≡ false → stepOf h before line ≡ bad Range
+    unfolding rising checked
+    stepOf-range f = numbers f
+
+    pub stepOf-order : {u : Bool} → stepFits? h (stepNumbers ns) ≡ true → aboveLast? before (stepNumbers ns) ≡ u
+        → stepOf h before line ≡ checked Order u (stepNumbers ns)
+    unfolding rising checked
+    stepOf-order f a = numbers f ∙ ap (λ (v : Bool). checked Order v (stepNumbers ns)) a
+
+-- the first step stands above those before it
+pub last-nil : {before : List StepLine} {j : ℕ} {last : StepLine} (s : StepLine) → Last before j last → j ≡ 0
+    → aboveLast? before s ≡ true
+unfolding aboveLast?
+last-nil s l z = ap (λ (x : List StepLine). aboveLast? x s) (l .nil z)
+
+pub last-cons : {before : List StepLine} {j : ℕ} {last : StepLine} (s : StepLine) → Last before j last → (j ≡ 0 → ⊥)
+    → aboveLast? before s ≡ above? last s
+last-cons s l z = l .cons (omega arith) s

@@ -8,7 +8,7 @@ use borrow.Author.Needs.{needs}
 use Rattle.model.specs.Split.{split}
 use Rattle.model.specs.SplitLaws.{split-nil}
 use Rattle.model.specs.NumbersLaws.{drop-byte}
-use Rattle.model.specs.LinesLaws.{count-end, count-cons}
+use Rattle.model.specs.FieldsLaws.{count-end, count-cons}
 use Rattle.model.proofs.line.count.Statement.{statement}
 use Rattle.model.proofs.line.count.Tie as tie
 
@@ -45,7 +45,7 @@ loop-again c =
     let d = ap (λ x. length (split (a .k) x)) (drop-byte (a .s .now) (l .loop .i) lt) in
     ⊎-elim
     (λ w. let m = d ∙ count-end _ _ _ (sym e ∙ w .0 .taken) in omega arith)
-    (λ w. let m = d ∙ count-cons _ _ _ (λ z. w .left (e ∙ z)) in omega arith)
+    (λ w. let m = d ∙ count-cons _ _ _ (λ z. w .0 .left (e ∙ z)) in omega arith)
     (c .if1 .came)
 
 returns : tie.Need-returns Inv-loop μ-loop
