@@ -3,7 +3,7 @@
 use mathlib.Core.Bool.{Bool, true, false, cond, _&&_}
 use mathlib.Core.List.{List, [], _∷_}
 use mathlib.Core.Logic.{_⊎_, inl, inr}
-use mathlib.Core.Path.{_≡_, refl, ap, _∙_}
+use mathlib.Core.Path.{_≡_, refl, sym, ap, _∙_}
 use Prim.Native.Nat.{ℕ, _+_, _≤_, _<_}
 use native.Mathlib.Omega.{arith}
 use lib.Dec.{leb, eqb}
@@ -15,7 +15,7 @@ use Rattle.model.specs.Split.{split, indexOf, same?}
 use Rattle.model.specs.Limits.{nameLimit}
 use Rattle.model.specs.Model.{ActionLine}
 use Rattle.model.specs.Lines.{Line, good, bad, checked, fieldsOf, levelOf, allOf, nameByte?, name?, nameFrom, actionFields}
-use Rattle.model.specs.PartAnswers.{levelNumber}
+use Rattle.model.specs.PartAnswers.{Fields, levelNumber}
 use Rattle.model.specs.FieldsLaws.{split-one, byte-field, not-byte-field}
 
 -- ---- levels
@@ -31,7 +31,8 @@ unfolding levelOf levelNumber same?
 levelOf-byte b h = go (eqb b 76) (eqb b 68) (eqb b 72) h
   where
     go : (l d e : Bool) → (_≡_ {A = ℕ} (cond l 0 (cond d 1 (cond e 2 3))) 3 → ⊥)
-        → _≡_ {A = Line ℕ} (cond (l && true) (good 0) (cond (d && true) (good 1) (cond (e && true) (good 2) (bad Shape))))
+        → _≡_ {A = Line ℕ}
+        (cond (l && true) (good 0) (cond (d && true) (good 1) (cond (e && true) (good 2) (bad Shape))))
         (good (cond l 0 (cond d 1 (cond e 2 3))))
     go true d e n = refl
     go false true e n = refl
@@ -43,7 +44,8 @@ unfolding levelOf levelNumber same?
 levelOf-other b h = go (eqb b 76) (eqb b 68) (eqb b 72) h
   where
     go : (l d e : Bool) → _≡_ {A = ℕ} (cond l 0 (cond d 1 (cond e 2 3))) 3
-        → _≡_ {A = Line ℕ} (cond (l && true) (good 0) (cond (d && true) (good 1) (cond (e && true) (good 2) (bad Shape))))
+        → _≡_ {A = Line ℕ}
+        (cond (l && true) (good 0) (cond (d && true) (good 1) (cond (e && true) (good 2) (bad Shape))))
         (bad Shape)
     go true d e n = absurd (omega arith)
     go false true e n = absurd (omega arith)
@@ -83,57 +85,43 @@ pub name-short : (f : List ℕ) → length f < 1 → name? f ≡ false
 name-short f h = name-tests f (lt-leb 1 (length f) h) refl
 
 pub name-long : (f : List ℕ) → nameLimit < length f → name? f ≡ false
-name-long f h = let l : 1 ≤ length f = omega arith in name-tests f (le-leb 1 (length f) l) (lt-leb (length f) nameLimit h)
+name-long f h =
+    let l : 1 ≤ length f = omega arith in
+    name-tests f (le-leb 1 (length f) l) (lt-leb (length f) nameLimit h)
 
 pub name-all : (f : List ℕ) → 1 ≤ length f → length f ≤ nameLimit → name? f ≡ allOf nameByte? f
 name-all f l m = name-tests f (le-leb 1 (length f) l) (le-leb (length f) nameLimit m)
 
--- ---- the line from its fields
+-- ---- the line by the place of its second comma
 
--- no level
-pub actionFields-bad : (f : List ℕ) (fs : List (List ℕ)) → levelOf f ≡ bad Shape
-    → actionFields (good (f ∷ fs)) ≡ bad Shape
-unfolding actionFields nameFrom
-actionFields-bad f fs e = ap (λ (x : Line ℕ). nameFrom x (getD (f ∷ fs) 1 [])) e
-
-pub actionFields-good : (f name : List ℕ) (level : ℕ) {t : Bool} → levelOf f ≡ good level → name? name ≡ t
-    → actionFields (good (f ∷ name ∷ [])) ≡ checked Shape t (record { level = level; name = name })
-unfolding actionFields nameFrom
-actionFields-good f name level e g =
-    ap (λ (x : Line ℕ). nameFrom x name) e
-    ∙ ap (λ (x : Bool). checked {A = ActionLine} Shape x (record { level = level; name = name })) g
-
--- ---- by the place of the second comma
-
-module _ (line : List ℕ) (fields : fieldsOf 65 2 line ≡ good (split comma (drop 2 line)))
-    (two : length (split comma (drop 2 line)) ≡ 2) (le : 2 ≤ length line)
+module _ (line : List ℕ) (r : Bool) (fields : Fields 65 2 line r) (yes : r ≡ true)
     (e : ℕ) (found : e ≡ 2 + indexOf comma (drop 2 line)) where
   pub action-other-place : (e ≡ 3 → ⊥) → actionFields (fieldsOf 65 2 line) ≡ bad Shape
+  unfolding actionFields nameFrom
   action-other-place other =
-      let w = not-byte-field line 2 e le found other in
-      ap actionFields (fields ∙ ap good (w .2)) ∙ actionFields-bad (w .0) (w .1) (levelOf-long (w .0) (w .3))
+      let w = not-byte-field line 2 e (fields .yes-length yes) found other in
+      ap actionFields (fields .yes-fields yes ∙ ap good (w .2))
+      ∙ ap (λ (x : Line ℕ). nameFrom x (getD (w .0 ∷ w .1) 1 [])) (levelOf-long (w .0) (w .3))
 
-  module _ (three : e ≡ 3) where
-    level : (4 ≤ length line) × (split comma (drop 2 line) ≡ (getD line 2 0 ∷ []) ∷ split comma (drop 4 line))
-    level = byte-field line 2 e le found three (omega arith)
+  -- a level of one byte, and the name is the rest
+  pub action-parts : e ≡ 3 → (4 ≤ length line)
+      × (actionFields (fieldsOf 65 2 line) ≡ nameFrom (levelOf (getD line 2 0 ∷ [])) (drop 4 line))
+  unfolding actionFields
+  action-parts three =
+      let n = fields .yes-count yes in
+      let level = byte-field line 2 e (fields .yes-length yes) found three (omega arith) in
+      let k = ap length (level .1) in
+      let one : length (split comma (drop 4 line)) ≡ 1 = omega arith in
+      let parts = level .1 ∙ ap (λ (fs : List (List ℕ)). (getD line 2 0 ∷ []) ∷ fs) (split-one comma (drop 4 line) one) in
+      (level .0, ap actionFields (fields .yes-fields yes ∙ ap good parts))
 
-    pub action-length : 4 ≤ length line
-    action-length = level .0
+pub nameFrom-bad : (b : ℕ) (name : List ℕ) → levelNumber b ≡ 3 → nameFrom (levelOf (b ∷ [])) name ≡ bad Shape
+unfolding nameFrom
+nameFrom-bad b name h = ap (λ (x : Line ℕ). nameFrom x name) (levelOf-other b h)
 
-    parts : split comma (drop 2 line) ≡ (getD line 2 0 ∷ []) ∷ drop 4 line ∷ []
-    parts =
-        let k = ap length (level .1) in
-        let one : length (split comma (drop 4 line)) ≡ 1 = omega arith in
-        level .1 ∙ ap (λ (fs : List (List ℕ)). (getD line 2 0 ∷ []) ∷ fs) (split-one comma (drop 4 line) one)
-
-    pub action-level : levelNumber (getD line 2 0) ≡ 3 → actionFields (fieldsOf 65 2 line) ≡ bad Shape
-    action-level h =
-        ap actionFields (fields ∙ ap good parts)
-        ∙ actionFields-bad (getD line 2 0 ∷ []) (drop 4 line ∷ []) (levelOf-other (getD line 2 0) h)
-
-    pub action-name : {t : Bool} → (levelNumber (getD line 2 0) ≡ 3 → ⊥) → name? (drop 4 line) ≡ t
-        → actionFields (fieldsOf 65 2 line)
-        ≡ checked Shape t (record { level = levelNumber (getD line 2 0); name = drop 4 line })
-    action-name h n =
-        ap actionFields (fields ∙ ap good parts)
-        ∙ actionFields-good (getD line 2 0 ∷ []) (drop 4 line) (levelNumber (getD line 2 0)) (levelOf-byte (getD line 2 0) h) n
+pub nameFrom-good : (b level : ℕ) (name : List ℕ) {t : Bool} → level ≡ levelNumber b → (level ≡ 3 → ⊥) → name? name ≡ t
+    → nameFrom (levelOf (b ∷ [])) name ≡ checked Shape t (record { level = level; name = name })
+unfolding nameFrom
+nameFrom-good b level name e h n =
+    ap (λ (x : Line ℕ). nameFrom x name) (levelOf-byte b (λ z. h (e ∙ z)) ∙ ap good (sym e))
+    ∙ ap (λ (x : Bool). checked {A = ActionLine} Shape x (record { level = level; name = name })) n

@@ -14,7 +14,7 @@ use Rattle.model.specs.declared.Fault.the-variants.{Shape}
 use Rattle.model.specs.Bytes.{comma, kindOf}
 use Rattle.model.specs.Split.{consFirst, split, indexOf, same?}
 use Rattle.model.specs.SplitLaws.{split-end, split-cons, split-first, split-part, split-last, split-none, split-found, found-le}
-use Rattle.model.specs.Lines.{Line, good, bad, checked, fieldsFrom, fieldsOf, numbersOf, numbersFrom, numbersLine}
+use Rattle.model.specs.Lines.{good, bad, checked, fieldsFrom, fieldsOf, numbersOf, numbersFrom, numbersLine}
 use Rattle.model.specs.PartAnswers.{Fields}
 
 -- ---- the number of parts
@@ -60,7 +60,9 @@ module _ (kind : ℕ) (s : List ℕ) (at e : ℕ) (le : at ≤ length s) (found 
     where
       go : (t : Bool) → ltb e (length s) ≡ t → e < length s
       go true b = ltb-true e (length s) b
-      go false b = let n = ap length (split-last kind s at e le found (ltb-false e (length s) b)) in absurd (omega arith)
+      go false b =
+          let n = ap length (split-last kind s at e le found (ltb-false e (length s) b)) in
+          absurd (omega arith)
 
 -- ---- a field of one byte
 
@@ -103,12 +105,14 @@ module _ (line : List ℕ) (at e : ℕ) (le : at ≤ length line) (found : e ≡
       (omega arith, split-part comma line at e le found l ∙ rw (k, m, take-one (drop at line) n, getD-drop, z))
 
   pub not-byte-field : (e ≡ at + 1 → ⊥)
-      → (f : List ℕ) × (fs : List (List ℕ)) × (split comma (drop at line) ≡ f ∷ fs) × ((x : ℕ) → same? f (x ∷ []) ≡ false)
+      → (f : List ℕ) × (fs : List (List ℕ)) × (split comma (drop at line) ≡ f ∷ fs)
+      × ((x : ℕ) → same? f (x ∷ []) ≡ false)
   not-byte-field other =
       let w = split-take comma line at e le found in
       let b = found-le comma line at e le found in
       let d = length-drop at line in
-      (take (e - at) (drop at line), w .0, w .1, λ x. same?-take (e - at) (drop at line) x (omega arith) (λ z. other (omega arith)))
+      let l : e - at ≤ length (drop at line) = omega arith in
+      (take (e - at) (drop at line), w .0, w .1, λ x. same?-take (e - at) (drop at line) x l (λ z. other (omega arith)))
 
 -- ---- the fields after a letter
 
@@ -159,39 +163,35 @@ fields-no letter n line e =
       no-fields = λ z. e;
     }
 
-module _ (letter n : ℕ) (line : List ℕ) (count e : ℕ) (pos : 0 < n) (counted : length (split comma line) ≡ count + 1)
-    (found : e ≡ 0 + indexOf comma (drop 0 line)) where
-  pub fields-other-count : (count ≡ n → ⊥) → Fields letter n line false
-  fields-other-count other =
-      let w = split-first comma line in
-      let k = ap length (w .2) in
-      fields-no letter n line (fields-count letter n line (w .0) (w .1) (w .2) (λ z. other (omega arith)))
+pub fields-other-count : (letter n : ℕ) (line : List ℕ) (count : ℕ) → length (split comma line) ≡ count + 1
+    → (count ≡ n → ⊥) → Fields letter n line false
+fields-other-count letter n line count counted other =
+    let w = split-first comma line in
+    let k = ap length (w .2) in
+    fields-no letter n line (fields-count letter n line (w .0) (w .1) (w .2) (λ z. other (omega arith)))
 
+module _ (letter n : ℕ) (line : List ℕ) (e : ℕ) (found : e ≡ 0 + indexOf comma (drop 0 line)) where
   pub fields-other-place : (e ≡ 1 → ⊥) → Fields letter n line false
   fields-other-place other =
       let w = not-byte-field line 0 e (omega arith) found other in
       fields-no letter n line (fields-letter letter n line (w .0) (w .1) (w .2) (w .3 letter))
 
-  module _ (same : count ≡ n) (one : e ≡ 1) where
-    first : (2 ≤ length line) × (split comma line ≡ (getD line 0 0 ∷ []) ∷ split comma (drop 2 line))
-    first = byte-field line 0 e (omega arith) found one (omega arith)
-
-    pub fields-first-length : 0 < length line
-    fields-first-length = let l = first .0 in omega arith
-
+-- the first field is one byte
+module _ (letter n : ℕ) (line : List ℕ) (parts : split comma line ≡ (getD line 0 0 ∷ []) ∷ split comma (drop 2 line))
+  where
     pub fields-other-letter : (getD line 0 0 ≡ letter → ⊥) → Fields letter n line false
     fields-other-letter other =
         fields-no letter n line
-        (fields-letter letter n line (getD line 0 0 ∷ []) (split comma (drop 2 line)) (first .1)
+        (fields-letter letter n line (getD line 0 0 ∷ []) (split comma (drop 2 line)) parts
         (same?-other (getD line 0 0) letter other))
 
-    pub fields-yes : getD line 0 0 ≡ letter → Fields letter n line true
-    fields-yes h =
-        let k = ap length (first .1) in
+    pub fields-yes : 2 ≤ length line → length (split comma line) ≡ n + 1 → getD line 0 0 ≡ letter → Fields letter n line true
+    fields-yes le counted h =
+        let k = ap length parts in
         let l : length (split comma (drop 2 line)) ≡ n = omega arith in
         record {
-          yes-length = λ z. first .0;
-          yes-fields = λ z. fields-good letter n line (getD line 0 0 ∷ []) (split comma (drop 2 line)) (first .1)
+          yes-length = λ z. le;
+          yes-fields = λ z. fields-good letter n line (getD line 0 0 ∷ []) (split comma (drop 2 line)) parts
               (same?-byte (getD line 0 0) letter h) l;
           yes-count = λ z. l;
           no-fields = λ z. absurd (clash (sym z));

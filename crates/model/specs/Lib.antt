@@ -4,6 +4,7 @@ pub mod Bytes
 pub mod BytesLaws
 pub mod TableLaws
 pub mod Numbers
+pub mod ListLaws
 pub mod NumbersLaws
 pub mod Split
 pub mod SplitLaws

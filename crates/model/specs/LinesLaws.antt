@@ -1,8 +1,8 @@
 -- The tests on line 1 and on a step, part by part, and what they give.
 -- Document 01, "The text". Assumes nothing.
 use mathlib.Core.Bool.{Bool, true, false, _&&_, _||_}
-use mathlib.Core.List.{List, []}
-use mathlib.Core.Path.{_≡_, refl, sym, ap, _∙_}
+use mathlib.Core.List.{List}
+use mathlib.Core.Path.{_≡_, refl, ap, _∙_}
 use Prim.Native.Nat.{ℕ, _≤_, _<_}
 use native.Mathlib.Omega.{arith}
 use lib.Dec.{leb, ltb, eqb}
@@ -15,12 +15,13 @@ use Rattle.model.specs.Bytes.{within?}
 use Rattle.model.specs.BytesLaws.{and-true, within?-true}
 use Rattle.model.specs.Limits.{stateLimit, actionLimit, stepLimit}
 use Rattle.model.specs.Model.{above?, aboveLast?}
-use Rattle.model.specs.Lines.{Line, good, bad, checked, numbersLine, headFits?, headNumbers, headFrom, headOf, stepFits?, stepNumbers, rising, stepFrom, stepOf}
+use Rattle.model.specs.Lines.{good, bad, checked, numbersLine, headFits?, headNumbers, headFrom, headOf, stepFits?, stepNumbers, rising, stepFrom, stepOf}
 use Rattle.model.specs.LineAnswers.{Last}
 
 -- ---- line 1
 
-pub headFits-tests : (h : Head) {s a n l : Bool} → within? 1 stateLimit (h .states) ≡ s → within? 1 actionLimit (h .actions) ≡ a
+pub headFits-tests : (h : Head) {s a n l : Bool} → within? 1 stateLimit (h .states) ≡ s
+    → within? 1 actionLimit (h .actions) ≡ a
     → leb (h .steps) stepLimit ≡ n → ltb (h .start .0) (h .states) ≡ l → headFits? h ≡ s && a && n && l
 unfolding headFits?
 headFits-tests h e f g k = rw (← e, ← f, ← g, ← k)
@@ -106,7 +107,8 @@ module _ (s t : StepLine) where
   pub not-above-source : t .source .0 < s .source .0 → above? s t ≡ false
   not-above-source h =
       let le : t .source .0 ≤ s .source .0 = omega arith in
-      tests (le-ltb (s .source .0) (t .source .0) le) (ne-eqb (s .source .0) (t .source .0) (λ e. omega arith)) refl refl
+      let ne : s .source .0 ≡ t .source .0 → ⊥ = λ e. omega arith in
+      tests (le-ltb (s .source .0) (t .source .0) le) (ne-eqb (s .source .0) (t .source .0) ne) refl refl
 
   module _ (le : t .source .0 ≤ s .source .0) (ge : s .source .0 ≤ t .source .0) where
     same-source : eqb (s .source .0) (t .source .0) ≡ true

@@ -8,16 +8,11 @@ use native.Mathlib.Nat.{pow-suc}
 use native.Mathlib.Numerals.{add-one}
 use native.Mathlib.Omega.{arith}
 use lib.Dec.{leb}
-use lib.ListN.{length, drop, getD}
-use lib.Seq.{drop-cons}
+use lib.ListN.{length, getD}
 use borrow.Author.Tests.{le-leb, lt-leb, eq-eqb, ne-eqb}
 use Rattle.model.specs.declared.number.Number.the-variants.{Value, Bad}
 use Rattle.model.specs.Bytes.{digit, kindOf}
 use Rattle.model.specs.Numbers.{digitsValue, numberShape?, numberOf}
-
--- the first of the bytes that are left, at a place below the length
-pub drop-byte : (s : List ℕ) (i : ℕ) → i < length s → drop i s ≡ getD s i 0 ∷ drop (i + 1) s
-drop-byte s i h = rw (add-one, drop-cons s i 0)
 
 pub pow-next : (i : ℕ) → 10 ^ (i + 1) ≡ 10 * 10 ^ i
 pow-next i = rw (add-one, pow-suc) (omega arith)
@@ -26,7 +21,8 @@ pub digitsValue-nil : (v : ℕ) → digitsValue v [] ≡ Value v
 unfolding digitsValue
 digitsValue-nil v = refl
 
-pub digitsValue-cons : (v b : ℕ) (bs : List ℕ) → kindOf b ≡ digit → digitsValue v (b ∷ bs) ≡ digitsValue (v * 10 + (b - 48)) bs
+pub digitsValue-cons : (v b : ℕ) (bs : List ℕ) → kindOf b ≡ digit
+    → digitsValue v (b ∷ bs) ≡ digitsValue (v * 10 + (b - 48)) bs
 unfolding digitsValue
 digitsValue-cons v b bs h = rw (eq-eqb (kindOf b) digit h)
 

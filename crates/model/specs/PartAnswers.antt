@@ -7,6 +7,8 @@ use Prim.Native.Nat.{ℕ, _≤_}
 use lib.Dec.{eqb}
 use lib.ListN.{length, drop}
 use Rattle.model.specs.declared.Fault.the-variants.{Shape}
+use Rattle.model.specs.declared.Head.{Head}
+use Rattle.model.specs.declared.StepLine.{StepLine}
 use Rattle.model.specs.declared.line.RowRead.{RowRead}
 use Rattle.model.specs.declared.line.RowRead.the-variants.{Good, Bad}
 use Rattle.model.specs.Bytes.{comma}
@@ -28,3 +30,12 @@ pub record Fields (letter n : ℕ) (line : List ℕ) (r : Bool) : Type 0 where
 -- 0 for L, 1 for D, 2 for H, 3 for any other byte
 unfoldable pub levelNumber : ℕ → ℕ
 levelNumber b = cond (eqb b 76) 0 (cond (eqb b 68) 1 (cond (eqb b 72) 2 3))
+
+-- line 1, or a step, of these numbers
+abbrev pub headOfNumbers : ℕ → ℕ → ℕ → ℕ → Head
+headOfNumbers states actions steps start =
+    record { states = states; actions = actions; steps = steps; start = record { 0 = start } }
+
+abbrev pub stepOfNumbers : ℕ → ℕ → ℕ → StepLine
+stepOfNumbers source action target =
+    record { source = record { 0 = source }; action = record { 0 = action }; target = record { 0 = target } }

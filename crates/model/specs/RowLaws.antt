@@ -2,7 +2,7 @@
 -- Document 01, "The text". Assumes nothing. Only functions that read a line of numbers cite it.
 use mathlib.Core.List.{List, [], _∷_, _++_, append-nil, append-assoc}
 use mathlib.Core.Path.{_≡_, refl, sym, ap, _∙_}
-use Prim.Native.Nat.{ℕ, suc, _+_, _-_, _≤_, _<_}
+use Prim.Native.Nat.{ℕ, _+_, _-_, _≤_, _<_}
 use native.Mathlib.Numerals.{add-one}
 use native.Mathlib.Omega.{arith}
 use lib.ListN.{length, take, drop, set, length-set}
@@ -15,7 +15,7 @@ use Rattle.model.specs.declared.number.Number.the-variants.{Value, Bad}
 use Rattle.model.specs.Bytes.{comma}
 use Rattle.model.specs.Numbers.{numberOf}
 use Rattle.model.specs.Split.{split, indexOf}
-use Rattle.model.specs.SplitLaws.{split-first, split-part, split-last, found-le}
+use Rattle.model.specs.SplitLaws.{split-first, split-part, split-last}
 use Rattle.model.specs.FieldsLaws.{split-take}
 use Rattle.model.specs.Lines.{Line, good, bad, consNumber, numbersOf}
 use Rattle.model.specs.PartAnswers.{rowRead}
@@ -29,7 +29,8 @@ prepend-nil : (l : Line (List ℕ)) → prepend [] l ≡ l
 prepend-nil (good ms) = refl
 prepend-nil (bad fault) = refl
 
-prepend-cons : (ns : List ℕ) (v : ℕ) (l : Line (List ℕ)) → prepend ns (consNumber (Value v) l) ≡ prepend (ns ++ (v ∷ [])) l
+prepend-cons : (ns : List ℕ) (v : ℕ) (l : Line (List ℕ))
+    → prepend ns (consNumber (Value v) l) ≡ prepend (ns ++ (v ∷ [])) l
 unfolding consNumber
 prepend-cons ns v (good ms) = ap good (sym (append-assoc ns (v ∷ []) ms))
 prepend-cons ns v (bad fault) = refl
@@ -68,7 +69,8 @@ module _ (line : List ℕ) (from : ℕ) (out : List ℕ) (at i : ℕ) (s : Store
       omega arith
 
   module _ (e : ℕ) (found : e ≡ at + indexOf comma (drop at line)) where
-    pub stored-bad : numberOf (take (e - at) (drop at line)) ≡ Bad → numbersOf (split comma (drop from line)) ≡ bad Digits
+    pub stored-bad : numberOf (take (e - at) (drop at line)) ≡ Bad
+        → numbersOf (split comma (drop from line)) ≡ bad Digits
     stored-bad b =
         let w = split-take comma line at e (s .at-le) found in
         s .numbers

@@ -7,7 +7,6 @@ use crate::StepLine;
 use crate::bytes::kind;
 use crate::number::Number;
 use crate::number::parse_number;
-
 ghost use mathlib.Core.List.{List};
 ghost use mathlib.Core.Path.{_≡_};
 ghost use Prim.Native.Nat.{_+_, _≤_, _<_};
@@ -16,9 +15,10 @@ ghost use Rattle.model.specs.declared.StepLine.{StepLine};
 ghost use Rattle.model.specs.Bytes.{capital, comma, kindOf, within?};
 ghost use Rattle.model.specs.Split.{split, indexOf};
 ghost use Rattle.model.specs.Model.{above?};
-ghost use Rattle.model.specs.Lines.{fieldsOf, numbersOf, numbersLine, headFits?, headOf, name?, actionFields, stepFits?, stepOf};
+ghost use Rattle.model.specs.Lines.{fieldsOf, numbersOf, numbersLine, headFits?, headOf, name?, actionFields};
+ghost use Rattle.model.specs.Lines.{stepFits?, stepOf};
 ghost use Rattle.model.specs.LineAnswers.{headRead, actionRead, stepRead, Last};
-ghost use Rattle.model.specs.PartAnswers.{rowRead, Fields, levelNumber};
+ghost use Rattle.model.specs.PartAnswers.{rowRead, Fields, levelNumber, headOfNumbers, stepOfNumbers};
 
 // Line 1: its numbers, or its fault.
 pub enum HeadRead {
@@ -139,7 +139,7 @@ fn within(least: u32, most: u32, x: u32) -> bool
 
 // Whether line 1 may have these numbers.
 fn head_fits(states: u32, actions: u32, steps: u32, start: u32) -> bool
-    ensures { λ r. ⌜ r ≡ headFits? (record { states = states; actions = actions; steps = steps; start = record { 0 = start } }) ⌝ }
+    ensures { λ r. ⌜ r ≡ headFits? (headOfNumbers states actions steps start) ⌝ }
 {
     if !within(1, 128, states) {
         return false;
@@ -240,7 +240,7 @@ pub fn action_line(line: &[u8]) -> ActionRead
 
 // Whether the states and the action of a step are there.
 fn step_fits(head: Head, source: u32, action: u32, target: u32) -> bool
-    ensures { λ r. ⌜ r ≡ stepFits? head (record { source = record { 0 = source }; action = record { 0 = action }; target = record { 0 = target } }) ⌝ }
+    ensures { λ r. ⌜ r ≡ stepFits? head (stepOfNumbers source action target) ⌝ }
 {
     let states = head.states as u32;
     let actions = head.actions as u32;

@@ -1,6 +1,5 @@
 // Number fields.
 use crate::bytes::kind;
-
 ghost use mathlib.Core.Path.{_≡_};
 ghost use Prim.Native.Nat.{_≤_};
 ghost use lib.ListN.{length};

@@ -1,13 +1,13 @@
 -- `count` adds one for each byte that ends a part: the parts found and those that are left make up all parts.
 use mathlib.Core.Logic.{⊎-elim}
 use mathlib.Core.Path.{_≡_, sym, ap, _∙_}
-use Prim.Native.Nat.{suc, _+_, _-_, _≤_, _<_}
+use Prim.Native.Nat.{_+_, _-_, _≤_, _<_}
 use native.Mathlib.Omega.{arith}
 use lib.ListN.{length, drop, drop-of-length-le}
 use borrow.Author.Needs.{needs}
 use Rattle.model.specs.Split.{split}
 use Rattle.model.specs.SplitLaws.{split-nil}
-use Rattle.model.specs.NumbersLaws.{drop-byte}
+use Rattle.model.specs.ListLaws.{drop-next}
 use Rattle.model.specs.FieldsLaws.{count-end, count-cons}
 use Rattle.model.proofs.line.count.Statement.{statement}
 use Rattle.model.proofs.line.count.Tie as tie
@@ -42,7 +42,7 @@ loop-again c =
     let a = l .before .before .args in
     let lt : l .loop .i < length (a .s .now) = omega arith in
     let e = c .before .kind .ensures in
-    let d = ap (λ x. length (split (a .k) x)) (drop-byte (a .s .now) (l .loop .i) lt) in
+    let d = ap (λ x. length (split (a .k) x)) (drop-next (a .s .now) (l .loop .i) lt) in
     ⊎-elim
     (λ w. let m = d ∙ count-end _ _ _ (sym e ∙ w .0 .taken) in omega arith)
     (λ w. let m = d ∙ count-cons _ _ _ (λ z. w .0 .left (e ∙ z)) in omega arith)

@@ -6,7 +6,7 @@ use lib.ListN.{length, drop, drop-of-length-le}
 use borrow.Author.Needs.{needs}
 use Rattle.model.specs.Split.{indexOf}
 use Rattle.model.specs.SplitLaws.{indexOf-nil, indexOf-end, indexOf-cons}
-use Rattle.model.specs.NumbersLaws.{drop-byte}
+use Rattle.model.specs.ListLaws.{drop-next}
 use Rattle.model.proofs.line.find.Statement.{statement}
 use Rattle.model.proofs.line.find.Tie as tie
 
@@ -31,7 +31,7 @@ returns c =
     let a = l .before .before .args in
     let lt : l .loop .i < length (a .s .now) = omega arith in
     let e : indexOf (a .k) (drop (l .loop .i) (a .s .now)) ≡ 0 =
-      rw (drop-byte _ _ lt) (indexOf-end _ _ _ (sym (c .before .kind .ensures) ∙ c .if1 .taken)) in
+    rw (drop-next _ _ lt) (indexOf-end _ _ _ (sym (c .before .kind .ensures) ∙ c .if1 .taken)) in
     omega arith
 
 add-i : tie.Need-add-i Inv-loop μ-loop
@@ -46,7 +46,7 @@ loop-again c =
     let a = l .before .before .args in
     let lt : l .loop .i < length (a .s .now) = omega arith in
     let e : indexOf (a .k) (drop (l .loop .i) (a .s .now)) ≡ suc (indexOf (a .k) (drop (l .loop .i + 1) (a .s .now))) =
-      rw (drop-byte _ _ lt) (indexOf-cons _ _ _ (λ z. c .if1 .left (c .before .kind .ensures ∙ z))) in
+    rw (drop-next _ _ lt) (indexOf-cons _ _ _ (λ z. c .if1 .left (c .before .kind .ensures ∙ z))) in
     omega arith
 
 returns-2 : tie.Need-returns-2 Inv-loop μ-loop
@@ -54,7 +54,7 @@ returns-2 c =
     let l = c .before in
     let a = l .before .before .args in
     let e : indexOf (a .k) (drop (l .loop .i) (a .s .now)) ≡ 0 =
-      rw (drop-of-length-le (a .s .now) {i = l .loop .i} (c .loop-test .left)) (indexOf-nil _) in
+    rw (drop-of-length-le (a .s .now) {i = l .loop .i} (c .loop-test .left)) (indexOf-nil _) in
     omega arith
 
 pub find-spec : {M : Type 1} → statement M

@@ -25,7 +25,8 @@ returns-5 c =
     let last = c .before .before in
     let action = last .before .before .before in
     let same = action .before .before .before in
-    sym (above-target _ _ (same .before .before .before .if1 .left) (same .if2 .left) (action .if3 .left) (last .if4 .left))
+    let source = same .before .before .before in
+    sym (above-target _ _ (source .if1 .left) (same .if2 .left) (action .if3 .left) (last .if4 .left))
 
 pub is-above-spec : {M : Type 1} → statement M
 is-above-spec = tie.close (tie.spec returns returns-2 returns-3 returns-4 returns-5)

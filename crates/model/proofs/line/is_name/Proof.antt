@@ -6,7 +6,7 @@ use native.Mathlib.Omega.{arith}
 use lib.ListN.{length, drop, drop-of-length-le}
 use borrow.Author.Needs.{needs}
 use Rattle.model.specs.Lines.{allOf, nameByte?}
-use Rattle.model.specs.NumbersLaws.{drop-byte}
+use Rattle.model.specs.ListLaws.{drop-next}
 use Rattle.model.specs.ActionLaws.{allName-nil, allName-cons, allName-bad, name-short, name-long, name-all}
 use Rattle.model.proofs.line.is_name.Statement.{statement}
 use Rattle.model.proofs.line.is_name.Tie as tie
@@ -42,7 +42,7 @@ returns-3 c =
     let lt : l .loop .i < length f = omega arith in
     let e = k .kind .ensures in
     sym
-    (name-all f (i .0) (i .1) ∙ sym (i .3) ∙ ap (allOf nameByte?) (drop-byte f (l .loop .i) lt)
+    (name-all f (i .0) (i .1) ∙ sym (i .3) ∙ ap (allOf nameByte?) (drop-next f (l .loop .i) lt)
     ∙ allName-bad _ _ (λ z. c .before .if3 .taken (e ∙ z)) (λ z. c .if4 .taken (e ∙ z)))
 
 add-i : tie.Need-add-i Inv-loop μ-loop
@@ -60,7 +60,8 @@ loop-again c =
     let lt : l .loop .i < length f = omega arith in
     let e = sym (k .kind .ensures) in
     let kinds = ⊎-elim (λ w. inr (e ∙ w .1 .left)) (λ w. inl (e ∙ w .left)) (c .if3 .came) in
-    (i .0, i .1, omega arith, sym (allName-cons _ _ kinds) ∙ sym (ap (allOf nameByte?) (drop-byte f (l .loop .i) lt)) ∙ i .3)
+    let next = ap (allOf nameByte?) (drop-next f (l .loop .i) lt) in
+    (i .0, i .1, omega arith, sym (allName-cons _ _ kinds) ∙ sym next ∙ i .3)
 
 returns-4 : tie.Need-returns-4 Inv-loop μ-loop
 returns-4 c =

@@ -56,7 +56,8 @@ returns c =
     let p = c .before .before in
     let f = p .before .before in
     let l = f .before .before in
-    stored-bad _ _ _ _ _ (l .loop .inv .2) (f .find .result) (f .find .ensures) (sym (p .parse-number .ensures) ∙ c .enum-told .given .1)
+    let bad = sym (p .parse-number .ensures) ∙ c .enum-told .given .1 in
+    stored-bad _ _ _ _ _ (l .loop .inv .2) (f .find .result) (f .find .ensures) bad
 
 mul-out : tie.Need-mul-out Inv-loop μ-loop
 mul-out c = search needs
@@ -94,10 +95,11 @@ loop-again c =
     let l = f .before .before in
     let value = sym (p .parse-number .ensures) ∙ k .before .v .given .1 in
     let b = ends f in
-    let w : f .find .result < length (l .before .before .before .args .line .now) = omega arith in
-    (simp length-set (l .loop .inv .0),
-    omega arith,
-    stored-next _ _ _ _ _ (l .loop .inv .2) (f .find .result) (f .find .ensures) _ value w)
+    let w : f .find .result < length (l .before .before .before .args .line .now) = omega arith in (
+      simp length-set (l .loop .inv .0),
+      omega arith,
+      stored-next _ _ _ _ _ (l .loop .inv .2) (f .find .result) (f .find .ensures) _ value w,
+    )
 
 same-length-3 : tie.Need-same-length-3 Inv-loop μ-loop
 same-length-3 c = search needs

@@ -7,9 +7,10 @@ use native.Mathlib.Omega.{arith}
 use lib.Dec.{lit<}
 use lib.ListN.{length, drop, getD, drop-of-length-le}
 use borrow.Author.Needs.{needs}
+use Rattle.model.specs.ListLaws.{drop-next}
 use Rattle.model.specs.BytesLaws.{digit-within}
 use Rattle.model.specs.Numbers.{digitsValue}
-use Rattle.model.specs.NumbersLaws.{drop-byte, digitsValue-nil, digitsValue-cons, digitsValue-bad, pow-next}
+use Rattle.model.specs.NumbersLaws.{digitsValue-nil, digitsValue-cons, digitsValue-bad, pow-next}
 use Rattle.model.proofs.number.digits_value.Statement.{statement}
 use Rattle.model.proofs.number.digits_value.Tie as tie
 
@@ -46,7 +47,7 @@ returns c =
     let l = c .before .before .before .before in
     let lt : l .loop .i < length (l .before .before .args .f .now) = omega arith in
     sym (digitsValue-bad (l .loop .v) _ _ (λ h. c .if1 .taken (c .before .kind .ensures ∙ h)))
-    ∙ sym (ap (digitsValue (l .loop .v)) (drop-byte _ _ lt)) ∙ l .loop .inv .2
+    ∙ sym (ap (digitsValue (l .loop .v)) (drop-next _ _ lt)) ∙ l .loop .inv .2
 
 mul-v : tie.Need-mul-v Inv-loop μ-loop
 mul-v c = omega (arith, at-digit c)
@@ -70,11 +71,12 @@ loop-again : tie.Need-loop-again Inv-loop μ-loop
 loop-again c =
     let l = c .before .before .before .before in
     let lt : l .loop .i < length (l .before .before .args .f .now) = omega arith in
-    let s = pow-next (l .loop .i) in
-    (omega arith,
-    omega (arith, at-digit c),
-    sym (digitsValue-cons (l .loop .v) _ _ (sym (c .before .kind .ensures) ∙ c .if1 .left))
-    ∙ sym (ap (digitsValue (l .loop .v)) (drop-byte _ _ lt)) ∙ l .loop .inv .2)
+    let s = pow-next (l .loop .i) in (
+      omega arith,
+      omega (arith, at-digit c),
+      sym (digitsValue-cons (l .loop .v) _ _ (sym (c .before .kind .ensures) ∙ c .if1 .left))
+          ∙ sym (ap (digitsValue (l .loop .v)) (drop-next _ _ lt)) ∙ l .loop .inv .2,
+    )
 
 returns-2 : tie.Need-returns-2 Inv-loop μ-loop
 returns-2 c =
