@@ -14,7 +14,8 @@ use Rattle.model.specs.Bytes.{digit, smallLetter, capital, comma, kindOf
 use Rattle.model.specs.Split.{split, indexOf, same?}
 use Rattle.model.specs.Limits.{nameLimit}
 use Rattle.model.specs.Model.{ActionLine}
-use Rattle.model.specs.Lines.{Line, good, bad, checked, fieldsOf, levelOf, allOf, nameByte?, name?, nameFrom, actionFields}
+use Rattle.model.specs.Lines.{Line, good, bad, checked, fieldsOf, levelOf, allOf, nameByte?, name?, nameFrom}
+use Rattle.model.specs.Lines.{actionFields}
 use Rattle.model.specs.PartAnswers.{Fields, levelNumber}
 use Rattle.model.specs.FieldsLaws.{split-one, byte-field, not-byte-field}
 
@@ -112,7 +113,8 @@ module _ (line : List ℕ) (r : Bool) (fields : Fields 65 2 line r) (yes : r ≡
       let level = byte-field line 2 e (fields .yes-length yes) found three (omega arith) in
       let k = ap length (level .1) in
       let one : length (split comma (drop 4 line)) ≡ 1 = omega arith in
-      let parts = level .1 ∙ ap (λ (fs : List (List ℕ)). (getD line 2 0 ∷ []) ∷ fs) (split-one comma (drop 4 line) one) in
+      let name = split-one comma (drop 4 line) one in
+      let parts = level .1 ∙ ap (λ (fs : List (List ℕ)). (getD line 2 0 ∷ []) ∷ fs) name in
       (level .0, ap actionFields (fields .yes-fields yes ∙ ap good parts))
 
 pub nameFrom-bad : (b : ℕ) (name : List ℕ) → levelNumber b ≡ 3 → nameFrom (levelOf (b ∷ [])) name ≡ bad Shape

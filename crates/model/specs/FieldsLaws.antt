@@ -13,7 +13,8 @@ use Rattle.model.specs.declared.Fault.{Fault}
 use Rattle.model.specs.declared.Fault.the-variants.{Shape}
 use Rattle.model.specs.Bytes.{comma, kindOf}
 use Rattle.model.specs.Split.{consFirst, split, indexOf, same?}
-use Rattle.model.specs.SplitLaws.{split-end, split-cons, split-first, split-part, split-last, split-none, split-found, found-le}
+use Rattle.model.specs.SplitLaws.{split-end, split-cons, split-first, split-part, split-last, split-none}
+use Rattle.model.specs.SplitLaws.{split-found, found-le}
 use Rattle.model.specs.Lines.{good, bad, checked, fieldsFrom, fieldsOf, numbersOf, numbersFrom, numbersLine}
 use Rattle.model.specs.PartAnswers.{Fields}
 
@@ -185,7 +186,8 @@ module _ (letter n : ℕ) (line : List ℕ) (parts : split comma line ≡ (getD 
         (fields-letter letter n line (getD line 0 0 ∷ []) (split comma (drop 2 line)) parts
         (same?-other (getD line 0 0) letter other))
 
-    pub fields-yes : 2 ≤ length line → length (split comma line) ≡ n + 1 → getD line 0 0 ≡ letter → Fields letter n line true
+    pub fields-yes : 2 ≤ length line → length (split comma line) ≡ n + 1 → getD line 0 0 ≡ letter
+        → Fields letter n line true
     fields-yes le counted h =
         let k = ap length parts in
         let l : length (split comma (drop 2 line)) ≡ n = omega arith in

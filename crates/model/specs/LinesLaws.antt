@@ -15,7 +15,8 @@ use Rattle.model.specs.Bytes.{within?}
 use Rattle.model.specs.BytesLaws.{and-true, within?-true}
 use Rattle.model.specs.Limits.{stateLimit, actionLimit, stepLimit}
 use Rattle.model.specs.Model.{above?, aboveLast?}
-use Rattle.model.specs.Lines.{good, bad, checked, numbersLine, headFits?, headNumbers, headFrom, headOf, stepFits?, stepNumbers, rising, stepFrom, stepOf}
+use Rattle.model.specs.Lines.{good, bad, checked, numbersLine, headFits?, headNumbers, headFrom, headOf}
+use Rattle.model.specs.Lines.{stepFits?, stepNumbers, rising, stepFrom, stepOf}
 use Rattle.model.specs.LineAnswers.{Last}
 
 -- ---- line 1

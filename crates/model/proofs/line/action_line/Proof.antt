@@ -24,7 +24,8 @@ parts : (c : tie.Else2) → let line = c .before .before .before .before .before
     × (actionFields (fieldsOf 65 2 line) ≡ nameFrom (levelOf (getD line 2 0 ∷ [])) (drop 4 line))
 parts c =
     let p = c .before .before in
-    action-parts _ _ (p .before .fields .ensures) (not-false _ (p .if1 .left)) _ (c .before .find .ensures) (c .if2 .left)
+    let yes = not-false _ (p .if1 .left) in
+    action-parts _ _ (p .before .fields .ensures) yes _ (c .before .find .ensures) (c .if2 .left)
 
 fields-requires : tie.Need-fields-requires
 unfolding kindOf

@@ -60,4 +60,14 @@ returns-2 c =
 pub find-spec : {M : Type 1} → statement M
 find-spec =
     tie.close
-    (tie.spec Inv-loop μ-loop loop-holds shared-slice-read-kind kind-requires returns add-i loop-less loop-again returns-2)
+    (tie.spec
+    Inv-loop
+    μ-loop
+    loop-holds
+    shared-slice-read-kind
+    kind-requires
+    returns
+    add-i
+    loop-less
+    loop-again
+    returns-2)

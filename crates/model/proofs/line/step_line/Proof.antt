@@ -9,7 +9,8 @@ use borrow.Author.Tests.{not-true, not-false}
 use Rattle.model.specs.Bytes.{kindOf}
 use Rattle.model.specs.Lines.{good, checked, numbersLine, stepFits?, stepNumbers}
 use Rattle.model.specs.LineAnswers.{stepRead}
-use Rattle.model.specs.LinesLaws.{StepRange, stepFits?→StepRange, stepOf-bad, stepOf-range, stepOf-order, last-nil, last-cons}
+use Rattle.model.specs.LinesLaws.{StepRange, stepFits?→StepRange, stepOf-bad, stepOf-range, stepOf-order}
+use Rattle.model.specs.LinesLaws.{last-nil, last-cons}
 use Rattle.model.specs.RowLaws.{row-bad, row-good}
 use Rattle.model.proofs.line.step_line.Statement.{statement}
 use Rattle.model.proofs.line.step_line.Tie as tie
