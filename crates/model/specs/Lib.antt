@@ -2,10 +2,13 @@ pub mod Limits
 pub mod Decides
 pub mod Bytes
 pub mod BytesLaws
+pub mod TableLaws
 pub mod Numbers
 pub mod All
 pub mod AllLaws
 pub mod DigitsLaws
+pub mod ListLaws
+pub mod NumbersLaws
 pub mod Split
 pub mod SplitLaws
 pub mod Join
@@ -41,6 +44,11 @@ pub mod WellFormedLaws
 pub mod StoredModel
 pub mod Wrote
 pub mod LineAnswers
+pub mod PartAnswers
+pub mod FieldsLaws
+pub mod LinesLaws
+pub mod ActionLaws
+pub mod RowLaws
 pub mod Promises
 pub mod PromisesLaws
 pub mod Examples
