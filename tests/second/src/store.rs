@@ -1,0 +1,161 @@
+//! The model store, and the model as plain data.
+
+use crate::text::{parse, read, spell};
+use crate::Refusal;
+
+/// Least length of a model store.
+pub const STORE: usize = 3_972;
+/// Least length of the distances.
+pub const DISTANCES: usize = 128;
+/// Least length of the rank table.
+pub const TABLE: usize = 16_384;
+/// Least length of a run.
+pub const RUN: usize = 127;
+/// Least length of a word.
+pub const WORD: usize = 127;
+/// Least length of the list that takes a page.
+pub const PAGE: usize = 5_000;
+/// Least length of the list that takes a written text.
+pub const WRITTEN: usize = 14_420;
+
+pub const MOST_STATES: usize = 128;
+pub const MOST_ACTIONS: usize = 64;
+pub const MOST_STEPS: usize = 1_024;
+pub const LONGEST_NAME: usize = 12;
+
+const ACTIONS_FROM: usize = 4;
+const ACTION_PLACES: usize = 14;
+const STEPS_FROM: usize = 900;
+const STEP_PLACES: usize = 3;
+
+/// First place of an action in the store.
+pub fn action_place(action: usize) -> usize {
+    ACTIONS_FROM + ACTION_PLACES * action
+}
+
+/// First place of a step in the store.
+pub fn step_place(step: usize) -> usize {
+    STEPS_FROM + STEP_PLACES * step
+}
+
+#[derive(Debug, Clone, Copy, PartialEq, Eq)]
+pub enum Level {
+    Low,
+    Release,
+    High,
+}
+
+impl Level {
+    /// The letter of the level in a text.
+    pub fn letter(self) -> u8 {
+        match self {
+            Level::Low => b'L',
+            Level::Release => b'D',
+            Level::High => b'H',
+        }
+    }
+
+    /// The number of the level in a store.
+    pub fn number(self) -> u16 {
+        match self {
+            Level::Low => 0,
+            Level::Release => 1,
+            Level::High => 2,
+        }
+    }
+}
+
+#[derive(Debug, Clone, PartialEq, Eq)]
+pub struct Action {
+    pub level: Level,
+    pub name: Vec<u8>,
+}
+
+/// A step. Steps are ordered by source, then action, then target.
+#[derive(Debug, Clone, Copy, PartialEq, Eq, PartialOrd, Ord)]
+pub struct Step {
+    pub source: u16,
+    pub action: u16,
+    pub target: u16,
+}
+
+impl Step {
+    pub fn new(source: u16, action: u16, target: u16) -> Step {
+        Step {
+            source,
+            action,
+            target,
+        }
+    }
+}
+
+/// A model as plain data. Read builds it only inside all limits.
+#[derive(Debug, Clone, PartialEq, Eq)]
+pub struct Model {
+    pub states: u16,
+    pub start: u16,
+    pub actions: Vec<Action>,
+    pub steps: Vec<Step>,
+}
+
+impl Model {
+    /// The 3,972 numbers of a model that is inside the limits.
+    pub fn to_store(&self) -> Vec<u16> {
+        let mut store = vec![0; STORE];
+        store[0] = self.states;
+        store[1] = self.actions.len() as u16;
+        store[2] = self.steps.len() as u16;
+        store[3] = self.start;
+        for (i, action) in self.actions.iter().enumerate() {
+            let place = action_place(i);
+            store[place] = action.level.number();
+            store[place + 1] = action.name.len() as u16;
+            for (k, &byte) in action.name.iter().enumerate() {
+                store[place + 2 + k] = u16::from(byte);
+            }
+        }
+        for (j, step) in self.steps.iter().enumerate() {
+            let place = step_place(j);
+            store[place] = step.source;
+            store[place + 1] = step.action;
+            store[place + 2] = step.target;
+        }
+        store
+    }
+
+    /// The text that reads to this model.
+    pub fn to_text(&self) -> Vec<u8> {
+        spell(&self.to_store())
+    }
+
+    pub fn level(&self, action: u16) -> Level {
+        self.actions[usize::from(action)].level
+    }
+
+    /// Action and target of each low step, listed by source.
+    pub fn low_steps(&self) -> Vec<Vec<(u16, u16)>> {
+        let mut lists = vec![Vec::new(); usize::from(self.states)];
+        for step in &self.steps {
+            if self.level(step.action) == Level::Low {
+                lists[usize::from(step.source)].push((step.action, step.target));
+            }
+        }
+        lists
+    }
+}
+
+/// The model in a good store, otherwise refusal 22.
+///
+/// The store is written out as it stands and that text is read back. If some
+/// text reads to the store, this text does.
+pub fn good(store: &[u16]) -> Result<Model, Refusal> {
+    let not_good = Refusal::new(22, 0);
+    let numbers = store.get(..STORE).ok_or(not_good)?;
+    let text = spell(numbers);
+    let mut back = vec![0; STORE];
+    read(&text, &mut back).map_err(|_| not_good)?;
+    if back != numbers {
+        return Err(not_good);
+    }
+    parse(&text).map_err(|_| not_good)
+}

@@ -1,0 +1,34 @@
+//! The program itself: standard input to standard output.
+
+mod common;
+
+use std::io::Write;
+use std::process::{Command, Stdio};
+
+use common::{till, EXAMPLE, EXAMPLE_PAGE};
+
+fn printed(text: &[u8]) -> Vec<u8> {
+    let mut child = Command::new(env!("CARGO_BIN_EXE_second"))
+        .stdin(Stdio::piped())
+        .stdout(Stdio::piped())
+        .spawn()
+        .expect("the program starts");
+    let mut input = child.stdin.take().expect("standard input is piped");
+    input.write_all(text).expect("the program takes its input");
+    drop(input);
+    let output = child.wait_with_output().expect("the program ends");
+    assert!(output.status.success());
+    output.stdout
+}
+
+#[test]
+fn pages_and_refusals() {
+    assert_eq!(printed(EXAMPLE), EXAMPLE_PAGE.as_bytes());
+    assert_eq!(printed(b""), b"F,2,1\n");
+    assert_eq!(printed(&EXAMPLE[..EXAMPLE.len() - 1]), b"F,2,9\n");
+    assert_eq!(printed(&[EXAMPLE, b"x"].concat()), b"F,2,10\n");
+    assert_eq!(printed(&[b'\n'; 16_384]), b"F,2,1\n");
+    assert_eq!(printed(&[b'\n'; 16_385]), b"F,1,0\n");
+    assert_eq!(printed(&[b'\n'; 200_000]), b"F,1,0\n");
+    assert_eq!(printed(&till(129, &[])), b"F,3,1\n");
+}

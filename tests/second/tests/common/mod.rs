@@ -1,0 +1,73 @@
+//! Lists to lend, and what the operations must leave in them.
+#![allow(dead_code)]
+
+use second::store::{DISTANCES, PAGE, RUN, STORE, TABLE, WORD, WRITTEN};
+use second::{page, read, Model};
+
+/// All lists besides the store, longer than need be and full of old contents.
+#[derive(Debug, Clone, PartialEq, Eq)]
+pub struct Lists {
+    pub distances: Vec<u16>,
+    pub table: Vec<u8>,
+    pub run: Vec<u16>,
+    pub word: Vec<u16>,
+    pub out: Vec<u8>,
+    pub written: Vec<u8>,
+}
+
+impl Lists {
+    pub fn new() -> Lists {
+        Lists {
+            distances: vec![7_777; DISTANCES + 3],
+            table: vec![77; TABLE + 3],
+            run: vec![7_778; RUN + 3],
+            word: vec![7_779; WORD + 3],
+            out: vec![b'~'; PAGE + 3],
+            written: vec![b'!'; WRITTEN + 3],
+        }
+    }
+
+    pub fn page(&mut self, store: &[u16]) -> Result<usize, second::Refusal> {
+        page(
+            store,
+            &mut self.distances,
+            &mut self.table,
+            &mut self.run,
+            &mut self.word,
+            &mut self.out,
+        )
+    }
+}
+
+/// The store that a text reads to.
+pub fn store_of(text: &[u8]) -> Vec<u16> {
+    let mut store = vec![9_999; STORE];
+    read(text, &mut store).expect("the text is good");
+    store
+}
+
+/// A text with the actions scan (low), print (high) and close (release), and
+/// with these steps: source, action, target.
+pub fn till(states: u16, steps: &[(u16, u16, u16)]) -> Vec<u8> {
+    let mut text = format!("M,{states},3,{},0\n", steps.len());
+    text += "A,L,scan\nA,H,print\nA,D,close\n";
+    for (source, action, target) in steps {
+        text += &format!("S,{source},{action},{target}\n");
+    }
+    (text + "E\n").into_bytes()
+}
+
+pub const SCAN: u16 = 0;
+pub const PRINT: u16 = 1;
+pub const CLOSE: u16 = 2;
+
+/// The text and the page of the worked example.
+pub const EXAMPLE: &[u8] =
+    b"M,4,3,4,0\nA,L,scan\nA,H,print\nA,D,close\nS,0,0,1\nS,0,1,2\nS,1,0,1\nS,2,0,3\nE\n";
+pub const EXAMPLE_PAGE: &str =
+    "V,refuse,1,2\nC,0,0,0\nC,1,1,0\nC,2,1,2\nC,3,2,3\nW,scan\nW,scan\nB,source\nE\n";
+
+/// The model of a good text.
+pub fn model_of(text: &[u8]) -> Model {
+    second::text::parse(text).expect("the text is good")
+}

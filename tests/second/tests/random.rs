@@ -1,0 +1,388 @@
+//! The answers on many random models against their meaning.
+
+mod common;
+
+use std::collections::BTreeSet;
+
+use common::Lists;
+use second::gen::{self, Rng};
+use second::meaning::{self, possible, thin, Deterministic};
+use second::{judge, program, rank, reach, run, word, End, Level, Model, Refusal, Verdict};
+
+/// What Judge and Word tell of a model.
+struct Told {
+    verdict: Verdict,
+    word: Result<(Vec<u16>, End), Refusal>,
+}
+
+fn told(model: &Model) -> Told {
+    let store = model.to_store();
+    let mut lists = Lists::new();
+    let verdict = judge(&store, &mut lists.distances, &mut lists.table).unwrap();
+    let word = word(
+        &store,
+        &mut lists.distances,
+        &mut lists.table,
+        &mut lists.word,
+    )
+    .map(|(length, end)| (lists.word[..length].to_vec(), end));
+    Told { verdict, word }
+}
+
+/// Checks Judge and Word on a deterministic model by exploration.
+fn check_meaning(model: &Model) -> Verdict {
+    let exact = Deterministic::new(model).expect("deterministic");
+    let Told { verdict, word } = told(model);
+    assert_eq!(exact.verdict_holds(verdict), Ok(()), "{model:?}");
+    match (verdict, word) {
+        (Verdict::Refused { step, depth }, Ok((word, end))) => {
+            assert_eq!(exact.word_holds(step, depth, &word, end), Ok(()));
+        }
+        (Verdict::Passed { .. }, Err(refusal)) => assert_eq!(refusal, Refusal::new(24, 0)),
+        (verdict, word) => panic!("{verdict:?} with {word:?}"),
+    }
+    verdict
+}
+
+#[test]
+fn deterministic_models_mean_what_is_told() {
+    let mut rng = Rng::new(201);
+    let (mut passed, mut refused, mut small) = (0, 0, 0);
+    let mut depths = BTreeSet::new();
+    for _ in 0..3_000 {
+        let model = gen::deterministic_model(&mut rng);
+        small += usize::from(model.states <= 12);
+        match check_meaning(&model) {
+            Verdict::Passed { .. } => passed += 1,
+            Verdict::Refused { depth, .. } => {
+                refused += 1;
+                depths.insert(depth);
+            }
+        }
+    }
+    assert!(passed > 800 && refused > 800, "{passed} {refused}");
+    assert!(small > 2_000, "{small}");
+    assert!(depths.len() > 60, "{depths:?}");
+}
+
+#[test]
+fn every_depth_is_told() {
+    let mut rng = Rng::new(202);
+    for depth in 1..=127 {
+        for _ in 0..1 + usize::from(depth % 4 == 0) {
+            let model = gen::deep_model(&mut rng, depth);
+            match check_meaning(&model) {
+                Verdict::Refused { depth: told, .. } => assert_eq!(usize::from(told), depth),
+                verdict => panic!("{verdict:?} at {depth}"),
+            }
+        }
+    }
+}
+
+#[test]
+fn twins_keep_the_depth() {
+    let mut rng = Rng::new(212);
+    let mut doubles = 0;
+    for depth in (1..=126).step_by(5) {
+        let model = gen::deep_model(&mut rng, depth);
+        let model = gen::with_twin(&mut rng, &model);
+        let Told { verdict, word } = told(&model);
+        match verdict {
+            Verdict::Refused { depth: told, .. } => assert_eq!(usize::from(told), depth),
+            verdict => panic!("{verdict:?} at {depth}"),
+        }
+        doubles += usize::from(word.is_err_and(|refusal| refusal.number == 23));
+    }
+    assert!(doubles > 12, "{doubles}");
+}
+
+#[test]
+fn passing_models_pass() {
+    let mut rng = Rng::new(203);
+    for round in 0..600 {
+        let deterministic = round % 2 == 0;
+        let states = if round % 20 == 0 {
+            rng.between(13, 128)
+        } else {
+            rng.between(1, 12)
+        };
+        let model = gen::passing_model(&mut rng, states, deterministic);
+        let verdict = told(&model).verdict;
+        assert!(matches!(verdict, Verdict::Passed { .. }), "{model:?}");
+        if deterministic {
+            check_meaning(&model);
+        }
+    }
+}
+
+#[test]
+fn limits_mean_what_is_told() {
+    let mut rng = Rng::new(204);
+    for (what, model) in gen::limit_models(&mut rng) {
+        if meaning::deterministic(&model) {
+            check_meaning(&model);
+        }
+        let page = program(&model.to_text());
+        assert_eq!(
+            meaning::page_holds(&model.to_text(), &page),
+            Ok(()),
+            "{what}"
+        );
+    }
+}
+
+/// All sequences over some actions, up to a length.
+fn sequences(actions: &[u16], longest: usize) -> Vec<Vec<u16>> {
+    let mut all = vec![Vec::new()];
+    let mut from = 0;
+    for _ in 0..longest {
+        let to = all.len();
+        for index in from..to {
+            for &action in actions {
+                let mut longer = all[index].clone();
+                longer.push(action);
+                all.push(longer);
+            }
+        }
+        from = to;
+    }
+    all
+}
+
+/// The definitions taken at their word on tiny models: every sequence up to a
+/// length is thinned and run, with every low tail up to a length. States that
+/// differ do so within 2 of these 3 low actions; and a pair of states that
+/// differ, if there is one, is met within 6 actions in each model here.
+#[test]
+fn tiny_models_sequence_by_sequence() {
+    let mut rng = Rng::new(205);
+    let (mut seen, mut interfering) = (0, 0);
+    while seen < 1_500 {
+        let states = rng.between(2, 3);
+        let actions = rng.between(2, 3);
+        let steps = rng.between(2, states * actions - 1);
+        let mut model = gen::random_model(&mut rng, states, actions, steps, true);
+        model.actions[0].level = Level::Low;
+        model.actions[1].level = Level::High;
+        let model = gen::shuffle(&mut rng, &model);
+        seen += 1;
+        let numbers: Vec<u16> = (0..actions as u16).collect();
+        let low: Vec<u16> = numbers
+            .iter()
+            .copied()
+            .filter(|&action| model.level(action) == Level::Low)
+            .collect();
+        let tails = sequences(&low, 3);
+        let found = sequences(&numbers, 6).iter().any(|sequence| {
+            let thinned = thin(&model, sequence);
+            possible(&model, model.start, sequence)
+                && (!possible(&model, model.start, &thinned)
+                    || tails.iter().any(|tail| {
+                        let full = [&sequence[..], tail].concat();
+                        let short = [&thinned[..], tail].concat();
+                        assert_eq!(thin(&model, &full), short);
+                        possible(&model, model.start, &full)
+                            != possible(&model, model.start, &short)
+                    }))
+        });
+        let verdict = check_meaning(&model);
+        assert_eq!(
+            found,
+            matches!(verdict, Verdict::Refused { .. }),
+            "{model:?}"
+        );
+        interfering += usize::from(found);
+    }
+    assert!(interfering > 150, "{interfering}");
+}
+
+/// Word, found by trying all low sequences in order.
+#[test]
+fn tiny_words_by_trying_all() {
+    let mut rng = Rng::new(206);
+    let mut words = 0;
+    for _ in 0..3_000 {
+        let states = rng.between(2, 5);
+        let actions = rng.between(2, 4);
+        let steps = rng.below(states * actions + 2);
+        let model = gen::random_model(&mut rng, states, actions, steps, true);
+        let Told { verdict, word } = told(&model);
+        let Verdict::Refused { step, depth } = verdict else {
+            continue;
+        };
+        let low: Vec<u16> = (0..actions as u16)
+            .filter(|&action| model.level(action) == Level::Low)
+            .collect();
+        let step = model.steps[usize::from(step)];
+        let all = sequences(&low, usize::from(depth));
+        let first = all.iter().find_map(|sequence| {
+            let source = possible(&model, step.source, sequence);
+            let target = possible(&model, step.target, sequence);
+            match (source, target) {
+                (true, false) => Some((sequence.clone(), End::Source)),
+                (false, true) => Some((sequence.clone(), End::Target)),
+                _ => None,
+            }
+        });
+        assert_eq!(word.ok(), first);
+        words += 1;
+    }
+    assert!(words > 300, "{words}");
+}
+
+#[test]
+fn lists_hold_on_all_models() {
+    let mut rng = Rng::new(207);
+    let (mut doubles, mut passed) = (0, 0);
+    for _ in 0..1_000 {
+        let model = gen::any_model(&mut rng);
+        let store = model.to_store();
+        let mut lists = Lists::new();
+        reach(&store, &mut lists.distances).unwrap();
+        assert_eq!(meaning::distances_hold(&model, &lists.distances), Ok(()));
+        let greatest = rank(&store, &mut lists.table).unwrap();
+        assert_eq!(meaning::ranks_hold(&model, &lists.table, greatest), Ok(()));
+        assert!(greatest < model.states);
+
+        let reachable = meaning::reachable(&model);
+        for state in (0..model.states).filter(|state| state % 16 < 12) {
+            let answer = run(&store, &mut lists.distances, &mut lists.run, state);
+            if reachable.contains(&state) {
+                let steps = &lists.run[..answer.unwrap()];
+                let holds = meaning::run_holds(&model, &lists.distances, steps, state);
+                assert_eq!(holds, Ok(()));
+            } else {
+                assert_eq!(answer, Err(Refusal::new(26, u64::from(state))));
+            }
+        }
+
+        let Told { verdict, word } = told(&model);
+        if model.states <= 40 {
+            assert_eq!(verdict, meaning::verdict_of(&model));
+        }
+        if let Verdict::Passed { rank } = verdict {
+            assert_eq!(rank, greatest);
+            passed += 1;
+        }
+        let number = word.err().map_or(0, |refusal| refusal.number);
+        if meaning::deterministic(&model) {
+            assert_ne!(number, 23);
+        } else {
+            assert_eq!(number, 23);
+            doubles += 1;
+        }
+    }
+    assert!(doubles > 200 && passed > 200, "{doubles} {passed}");
+}
+
+#[test]
+fn pages_hold() {
+    let mut rng = Rng::new(208);
+    for _ in 0..1_500 {
+        let model = gen::any_model(&mut rng);
+        if model.states <= 60 {
+            let text = model.to_text();
+            let page = program(&text);
+            assert_eq!(meaning::page_holds(&text, &page), Ok(()));
+        }
+    }
+}
+
+/// A page in which any byte is changed, missing or added does not hold.
+#[test]
+fn changed_pages_do_not_hold() {
+    let mut rng = Rng::new(209);
+    let mut tried = 0;
+    while tried < 12 {
+        let model = gen::small_model(&mut rng, tried % 5 != 0);
+        let text = model.to_text();
+        let page = program(&text);
+        if !page.starts_with(b"V,refuse") && tried % 3 == 0 {
+            continue;
+        }
+        tried += 1;
+        for place in 0..page.len() {
+            for byte in b"0123456789,-\nVCRWBNEabstz" {
+                let mut changed = page.clone();
+                changed[place] = *byte;
+                if changed != page {
+                    assert!(meaning::page_holds(&text, &changed).is_err());
+                }
+                let mut longer = page.clone();
+                longer.insert(place, *byte);
+                assert!(meaning::page_holds(&text, &longer).is_err());
+            }
+            let mut shorter = page.clone();
+            shorter.remove(place);
+            assert!(meaning::page_holds(&text, &shorter).is_err());
+        }
+    }
+}
+
+/// The checks of the meaning refuse every other answer.
+#[test]
+fn wrong_answers_do_not_hold() {
+    let mut rng = Rng::new(210);
+    let mut refused = 0;
+    for _ in 0..400 {
+        let model = gen::small_model(&mut rng, true);
+        let exact = Deterministic::new(&model).expect("deterministic");
+        let Told { verdict, word } = told(&model);
+        let passes = matches!(verdict, Verdict::Passed { .. });
+        let pass = Verdict::Passed { rank: 0 };
+        assert_eq!(exact.verdict_holds(pass).is_ok(), passes);
+        for step in 0..=model.steps.len() as u16 {
+            for depth in 0..=model.states {
+                let other = Verdict::Refused { step, depth };
+                assert_eq!(exact.verdict_holds(other).is_ok(), other == verdict);
+            }
+        }
+        let (Verdict::Refused { step, depth }, Ok((word, end))) = (verdict, word) else {
+            continue;
+        };
+        refused += 1;
+        let numbers: Vec<u16> = (0..model.actions.len() as u16).collect();
+        for other in sequences(&numbers, usize::from(depth).min(3)) {
+            for other_end in [End::Source, End::Target] {
+                let holds = exact.word_holds(step, depth, &other, other_end).is_ok();
+                assert_eq!(holds, other == word && other_end == end);
+            }
+        }
+    }
+    assert!(refused > 50, "{refused}");
+}
+
+/// Neither list can have a wrong number in it.
+#[test]
+fn wrong_lists_do_not_hold() {
+    let mut rng = Rng::new(211);
+    for _ in 0..60 {
+        let model = gen::small_model(&mut rng, false);
+        let store = model.to_store();
+        let mut lists = Lists::new();
+        reach(&store, &mut lists.distances).unwrap();
+        let greatest = rank(&store, &mut lists.table).unwrap();
+        for state in 0..128 {
+            let right = lists.distances[state];
+            for wrong in [0, 1, 2, 3, 11, 12, 65_534, 65_535] {
+                lists.distances[state] = wrong;
+                let holds = meaning::distances_hold(&model, &lists.distances).is_ok();
+                assert_eq!(holds, wrong == right);
+            }
+            lists.distances[state] = right;
+        }
+        for p in 0..usize::from(model.states) + 1 {
+            for q in 0..usize::from(model.states) + 1 {
+                let place = 128 * p + q;
+                let right = lists.table[place];
+                for wrong in [0, 1, 2, 3, 12, 255] {
+                    lists.table[place] = wrong;
+                    let holds = meaning::ranks_hold(&model, &lists.table, greatest).is_ok();
+                    assert_eq!(holds, wrong == right);
+                }
+                lists.table[place] = right;
+            }
+        }
+        assert!(meaning::ranks_hold(&model, &lists.table, greatest + 1).is_err());
+    }
+}

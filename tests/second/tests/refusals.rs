@@ -1,0 +1,379 @@
+//! Every refusal: its number, its place, its turn, and what it leaves.
+
+mod common;
+
+use common::{store_of, till, Lists, CLOSE, EXAMPLE, PRINT, SCAN};
+use second::gen::{self, Rng};
+use second::store::{DISTANCES, PAGE, RUN, STORE, TABLE, WORD, WRITTEN};
+use second::{judge, page, program, rank, reach, read, run, word, write, Refusal, Verdict};
+
+/// Reads a text that must be refused, and checks that the store is kept.
+fn refusal(text: &[u8]) -> (u16, u64) {
+    let old = vec![4_321; STORE + 1];
+    let mut store = old.clone();
+    let refusal = read(text, &mut store).expect_err("the text is bad");
+    assert_eq!(store, old);
+    let line = format!("F,{},{}\n", refusal.number, refusal.place);
+    assert_eq!(program(text), line.as_bytes());
+    (refusal.number, refusal.place)
+}
+
+#[test]
+fn corner_cases() {
+    assert_eq!(refusal(b""), (2, 1));
+    assert_eq!(refusal(b"\n"), (2, 1));
+    assert_eq!(refusal(&[b'\n'; 16_384]), (2, 1));
+    assert_eq!(refusal(&[b'\n'; 16_385]), (1, 0));
+    assert_eq!(refusal(&[0; 16_385]), (1, 0));
+    assert_eq!(refusal(b"M"), (2, 1));
+    assert_eq!(refusal(b"M,1,1,0,0"), (2, 1));
+    assert_eq!(refusal(b"M,1,1,0,0\n"), (2, 2));
+    assert_eq!(refusal(b"M,1,1,0,0\nA,L,a"), (2, 2));
+    assert_eq!(refusal(b"M,1,1,0,0\nA,L,a\n"), (2, 3));
+    assert_eq!(refusal(b"M,1,1,0,0\nA,L,a\nE"), (2, 3));
+    assert_eq!(refusal(b"M,1,1,0,0\nA,L,a\nE\n\n"), (2, 4));
+    assert_eq!(refusal(b"M,1,1,0,0\nA,L,a\nE\nx"), (2, 4));
+    assert_eq!(refusal(b"M,1,1,0,0\nA,L,a\nEx\n"), (2, 3));
+    assert_eq!(refusal(b"M,1,1,0,0\r\nA,L,a\r\nE\r\n"), (2, 1));
+
+    for (first, number) in [
+        ("M,99999,3,4,0", 3),
+        ("M,100000,3,4,0", 2),
+        ("M,04,3,4,0", 2),
+        ("M,00,3,4,0", 2),
+        ("M,0,3,4,0", 3),
+        ("M,200,3,4,x", 2),
+        ("M,200,3,4,0", 3),
+        ("M,200,3,4,199", 3),
+        ("M,129,3,4,0", 3),
+        ("M,4,0,4,0", 3),
+        ("M,4,65,4,0", 3),
+        ("M,4,3,1025,0", 3),
+        ("M,4,3,4,4", 3),
+        ("M,4,3,4", 2),
+        ("M,4,3,4,0,0", 2),
+        ("M,4,3,4,", 2),
+        ("M,,3,4,0", 2),
+        ("m,4,3,4,0", 2),
+        ("A,4,3,4,0", 2),
+        (" M,4,3,4,0", 2),
+        ("M,4,3,4,-0", 2),
+        ("M,4,3,4,65536", 3),
+        ("M,65540,3,4,0", 3),
+    ] {
+        let rest = "\nA,L,scan\nA,H,print\nA,D,close\nS,0,0,1\nS,0,1,2\nS,1,0,1\nS,2,0,3\nE\n";
+        let text = first.to_string() + rest;
+        assert_eq!(refusal(text.as_bytes()), (number, 1), "{first}");
+    }
+
+    let twice = till(2, &[(0, SCAN, 1), (0, SCAN, 1)]);
+    assert_eq!(refusal(&twice), (5, 6));
+    let falling = till(2, &[(0, PRINT, 1), (0, SCAN, 1)]);
+    assert_eq!(refusal(&falling), (5, 6));
+    assert_eq!(refusal(&till(2, &[(0, SCAN, 2)])), (3, 5));
+    assert_eq!(refusal(&till(2, &[(2, SCAN, 0)])), (3, 5));
+    assert_eq!(refusal(&till(2, &[(0, 3, 0)])), (3, 5));
+    // 3 before 5 in a line.
+    assert_eq!(refusal(&till(2, &[(1, SCAN, 1), (0, SCAN, 2)])), (3, 6));
+
+    assert_eq!(refusal(b"M,1,2,0,0\nA,L,a\nA,H,a\nE\n"), (4, 3));
+    assert_eq!(refusal(b"M,1,2,0,0\nA,L,a\nA,X,a\nE\n"), (2, 3));
+    assert_eq!(refusal(b"M,1,2,0,0\nA,L,a\nA,H,a"), (2, 3));
+    assert_eq!(refusal(b"M,1,1,0,0\nA,L,\nE\n"), (2, 2));
+    assert_eq!(refusal(b"M,1,1,0,0\nA,L,abcdefghijklm\nE\n"), (2, 2));
+    assert_eq!(refusal(b"M,1,1,0,0\nA,L,A\nE\n"), (2, 2));
+
+    let twelve = b"M,1,1,0,0\nA,L,abcdefghijkl\nE\n";
+    assert_eq!(program(twelve), b"V,pass,0\nC,0,0,0\nE\n");
+    // Bytes next to the ends of the allowed ranges.
+    for byte in [b'/', b':', b'`', b'{', b'@', b'['] {
+        let text = [b"M,1,1,0,0\nA,L,", &[byte][..], b"\nE\n"].concat();
+        assert_eq!(refusal(&text), (2, 2));
+    }
+    for byte in [b'0', b'9', b'a', b'z'] {
+        let text = [b"M,1,1,0,0\nA,L,", &[byte][..], b"\nE\n"].concat();
+        assert_eq!(program(&text), b"V,pass,0\nC,0,0,0\nE\n");
+    }
+}
+
+#[test]
+fn a_short_store_comes_before_a_long_text() {
+    let mut store = vec![1; STORE - 1];
+    for text in [&[b'x'; 20_000][..], b"", EXAMPLE] {
+        assert_eq!(read(text, &mut store), Err(Refusal::new(21, 2)));
+        assert_eq!(store, vec![1; STORE - 1]);
+        assert_eq!(read(text, &mut []), Err(Refusal::new(21, 2)));
+    }
+}
+
+#[test]
+fn faults_in_many_texts() {
+    let mut rng = Rng::new(11);
+    let mut models = vec![
+        gen::chain(4),
+        gen::chain(2),
+        second::text::parse(EXAMPLE).unwrap(),
+        second::text::parse(&till(1, &[])).unwrap(),
+        second::text::parse(b"M,1,1,1,0\nA,H,z\nS,0,0,0\nE\n").unwrap(),
+    ];
+    for _ in 0..40 {
+        models.push(gen::small_model(&mut rng, false));
+    }
+    models.push(gen::limit_models(&mut rng).swap_remove(0).1);
+    let mut numbers = [0; 6];
+    for model in &models {
+        for fault in gen::faults(model) {
+            let mut store = vec![4_321; STORE];
+            let answer = read(&fault.text, &mut store);
+            let shown = String::from_utf8_lossy(&fault.text);
+            assert_eq!(answer, Err(fault.refusal), "{}: {shown}", fault.what);
+            assert!(store.iter().all(|&number| number == 4_321));
+            numbers[usize::from(fault.refusal.number)] += 1;
+        }
+    }
+    assert!(numbers[1..].iter().all(|&count| count > 40), "{numbers:?}");
+}
+
+#[test]
+fn short_lists() {
+    let store = store_of(EXAMPLE);
+    let bad_store = vec![0; STORE];
+    // The least lengths of all lists, in the order of each operation.
+    let names: &[(&str, &[usize])] = &[
+        ("reach", &[STORE, DISTANCES]),
+        ("rank", &[STORE, TABLE]),
+        ("judge", &[STORE, DISTANCES, TABLE]),
+        ("run", &[STORE, DISTANCES, RUN]),
+        ("word", &[STORE, DISTANCES, TABLE, WORD]),
+        ("page", &[STORE, DISTANCES, TABLE, RUN, WORD, PAGE]),
+        ("write", &[STORE, WRITTEN]),
+    ];
+    for &(name, least) in names {
+        for short in 0..1_usize << least.len() {
+            for take in [1, usize::MAX] {
+                let length = |list: usize| {
+                    if short >> list & 1 == 1 {
+                        least[list].saturating_sub(take)
+                    } else {
+                        least[list]
+                    }
+                };
+                let mut words: Vec<Vec<u16>> = (0..least.len())
+                    .map(|list| vec![4_444; length(list)])
+                    .collect();
+                let mut bytes: Vec<Vec<u8>> = (0..least.len())
+                    .map(|list| vec![44; length(list)])
+                    .collect();
+                let before = (words.clone(), bytes.clone());
+                // 21 comes before 22: try with a bad store as well.
+                for store in [&store[..length(0)], &bad_store[..length(0)]] {
+                    let [_, w1, w2, w3, w4, ..] = &mut padded(&mut words)[..] else {
+                        unreachable!()
+                    };
+                    let [_, b1, b2, _, _, b5] = &mut padded(&mut bytes)[..] else {
+                        unreachable!()
+                    };
+                    let answer = match name {
+                        "reach" => reach(store, w1).err(),
+                        "rank" => rank(store, b1).err(),
+                        "judge" => judge(store, w1, b2).err(),
+                        "run" => run(store, w1, w2, 9_999).err(),
+                        "word" => word(store, w1, b2, w3).err(),
+                        "page" => page(store, w1, b2, w3, w4, b5).err(),
+                        _ => write(store, b1).err(),
+                    };
+                    if short > 0 {
+                        let first = u64::from(short.trailing_zeros()) + 1;
+                        assert_eq!(answer, Some(Refusal::new(21, first)), "{name} {short:b}");
+                        assert_eq!((&words, &bytes), (&before.0, &before.1));
+                    } else if store == bad_store {
+                        assert_eq!(answer, Some(Refusal::new(22, 0)), "{name}");
+                    } else if name == "run" {
+                        assert_eq!(answer, Some(Refusal::new(25, 9_999)));
+                    } else {
+                        assert_eq!(answer, None, "{name}");
+                        break;
+                    }
+                }
+            }
+        }
+    }
+}
+
+/// Six lists to borrow from, empty ones at the end if there are fewer.
+fn padded<T>(lists: &mut [Vec<T>]) -> Vec<&mut [T]> {
+    let mut padded: Vec<&mut [T]> = lists.iter_mut().map(|list| &mut list[..]).collect();
+    padded.resize_with(6, Default::default);
+    padded
+}
+
+#[test]
+fn bad_stores_change_nothing() {
+    let mut rng = Rng::new(22);
+    let mut models = vec![gen::chain(5), second::text::parse(&till(1, &[])).unwrap()];
+    for _ in 0..6 {
+        models.push(gen::small_model(&mut rng, true));
+    }
+    let bad = Some(Refusal::new(22, 0));
+    for model in &models {
+        for (what, store) in gen::bad_stores(model) {
+            let old = Lists::new();
+            let mut lists = old.clone();
+            let Lists {
+                distances,
+                table,
+                run: steps,
+                word: letters,
+                written,
+                ..
+            } = &mut lists;
+            assert_eq!(reach(&store, distances).err(), bad, "{what}");
+            assert_eq!(rank(&store, table).err(), bad, "{what}");
+            assert_eq!(judge(&store, distances, table).err(), bad, "{what}");
+            assert_eq!(run(&store, distances, steps, 60_000).err(), bad, "{what}");
+            assert_eq!(word(&store, distances, table, letters).err(), bad, "{what}");
+            assert_eq!(write(&store, written).err(), bad, "{what}");
+            assert_eq!(lists.page(&store).err(), bad, "{what}");
+            assert!(lists == old, "{what}");
+        }
+    }
+}
+
+#[test]
+fn run_refuses_states() {
+    // 2 is unreachable.
+    let store = store_of(&till(3, &[(0, SCAN, 1), (2, SCAN, 0)]));
+    let old = Lists::new();
+    for state in [3, 4, 127, 128, 65_535] {
+        let mut lists = old.clone();
+        let answer = run(&store, &mut lists.distances, &mut lists.run, state);
+        assert_eq!(answer, Err(Refusal::new(25, u64::from(state))));
+        assert_eq!(lists, old);
+    }
+    let mut lists = old.clone();
+    let answer = run(&store, &mut lists.distances, &mut lists.run, 2);
+    assert_eq!(answer, Err(Refusal::new(26, 2)));
+    let mut distances = vec![65_535; DISTANCES];
+    distances[..2].copy_from_slice(&[0, 1]);
+    distances.extend_from_slice(&old.distances[DISTANCES..]);
+    assert_eq!(lists.distances, distances);
+    lists.distances = old.distances.clone();
+    assert_eq!(lists, old);
+}
+
+#[test]
+fn word_refuses_after_judging() {
+    for (text, refusal) in [
+        (till(2, &[(0, SCAN, 0), (0, SCAN, 1)]), Refusal::new(23, 1)),
+        (
+            till(2, &[(0, PRINT, 1), (1, CLOSE, 0), (1, CLOSE, 1)]),
+            Refusal::new(23, 2),
+        ),
+        (till(2, &[(0, SCAN, 1)]), Refusal::new(24, 0)),
+    ] {
+        let store = store_of(&text);
+        let mut judged = Lists::new();
+        judge(&store, &mut judged.distances, &mut judged.table).unwrap();
+        let mut lists = Lists::new();
+        let answer = word(
+            &store,
+            &mut lists.distances,
+            &mut lists.table,
+            &mut lists.word,
+        );
+        assert_eq!(answer, Err(refusal));
+        assert_eq!(lists, judged);
+    }
+}
+
+#[test]
+fn page_fills_only_what_it_prints() {
+    let old = Lists::new();
+
+    // Passed: neither run nor word.
+    let store = store_of(&till(2, &[(0, SCAN, 1)]));
+    let mut lists = old.clone();
+    lists.page(&store).unwrap();
+    assert_eq!(lists.run, old.run);
+    assert_eq!(lists.word, old.word);
+
+    // Refused and not deterministic: the run alone.
+    let store = store_of(&till(
+        3,
+        &[(0, CLOSE, 1), (1, PRINT, 2), (2, SCAN, 1), (2, SCAN, 2)],
+    ));
+    let mut lists = old.clone();
+    let length = lists.page(&store).unwrap();
+    let page = "V,refuse,1,1\nC,0,0,0\nC,1,1,0\nC,2,2,2\nR,0\nN\nE\n";
+    assert_eq!(&lists.out[..length], page.as_bytes());
+    assert_eq!(lists.run[0], 0);
+    assert_eq!(lists.run[1..], old.run[1..]);
+    assert_eq!(lists.word, old.word);
+
+    // Refused and deterministic: both.
+    let store = store_of(&till(3, &[(0, CLOSE, 1), (1, PRINT, 2), (2, SCAN, 1)]));
+    let mut lists = old.clone();
+    let length = lists.page(&store).unwrap();
+    let page = "V,refuse,1,1\nC,0,0,0\nC,1,1,0\nC,2,2,2\nR,0\nW,scan\nB,target\nE\n";
+    assert_eq!(&lists.out[..length], page.as_bytes());
+    assert_eq!((lists.run[0], lists.word[0]), (0, SCAN));
+    assert_eq!(lists.run[1..], old.run[1..]);
+    assert_eq!(lists.word[1..], old.word[1..]);
+}
+
+#[test]
+fn nothing_panics() {
+    let mut rng = Rng::new(33);
+    let mut good = 0;
+    for round in 0..4_000 {
+        let model = gen::any_model(&mut rng);
+        let text = if round % 4 == 0 {
+            gen::scrap_text(&mut rng)
+        } else {
+            gen::mutated_text(&mut rng, &model.to_text())
+        };
+        let page = program(&text);
+        if page[0] == b'V' {
+            good += 1;
+        } else {
+            refusal(&text);
+        }
+    }
+    assert!(good > 100, "{good}");
+
+    for round in 0..1_500 {
+        let store = if round % 3 == 0 {
+            gen::scrap_store(&mut rng)
+        } else {
+            let model = gen::any_model(&mut rng);
+            gen::mutated_store(&mut rng, &model)
+        };
+        let mut lists = Lists::new();
+        let answer = judge(&store, &mut lists.distances, &mut lists.table);
+        let state = rng.below(140) as u16;
+        let went = run(&store, &mut lists.distances, &mut lists.run, state);
+        let told = word(
+            &store,
+            &mut lists.distances,
+            &mut lists.table,
+            &mut lists.word,
+        );
+        let shown = lists.page(&store);
+        match answer {
+            Err(refusal) => {
+                assert_eq!(refusal, Refusal::new(22, 0));
+                assert_eq!(went, Err(refusal));
+                assert_eq!(told, Err(refusal));
+                assert_eq!(shown, Err(refusal));
+            }
+            Ok(Verdict::Passed { .. }) => assert!(told.is_err() && shown.is_ok()),
+            Ok(Verdict::Refused { depth, .. }) => {
+                assert!(shown.is_ok());
+                match told {
+                    Ok((length, _)) => assert_eq!(length, usize::from(depth)),
+                    Err(refusal) => assert_eq!(refusal.number, 23),
+                }
+            }
+        }
+    }
+}

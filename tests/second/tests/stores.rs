@@ -1,0 +1,159 @@
+//! Reading and writing against each other, and which stores are good.
+
+mod common;
+
+use std::collections::BTreeSet;
+
+use common::Lists;
+use second::gen::{self, Rng};
+use second::store::{good, STORE, WRITTEN};
+use second::{read, write, Model, Refusal};
+
+/// The rules of a good store, one after the other.
+fn follows_the_rules(store: &[u16]) -> bool {
+    let (states, actions, steps, start) = (store[0], store[1], store[2], store[3]);
+    if states == 0 || states > 128 || actions == 0 || actions > 64 || steps > 1_024 {
+        return false;
+    }
+    if start >= states {
+        return false;
+    }
+    let mut names = BTreeSet::new();
+    for slot in 0..64 {
+        let entry = &store[4 + 14 * slot..18 + 14 * slot];
+        if slot >= usize::from(actions) {
+            if entry.iter().any(|&number| number != 0) {
+                return false;
+            }
+            continue;
+        }
+        let length = usize::from(entry[1]);
+        if entry[0] > 2 || length == 0 || length > 12 {
+            return false;
+        }
+        let (name, rest) = entry[2..].split_at(length);
+        if !name.iter().all(|n| matches!(n, 48..=57 | 97..=122)) || rest.iter().any(|&n| n != 0) {
+            return false;
+        }
+        if !names.insert(name) {
+            return false;
+        }
+    }
+    let mut before = None;
+    for slot in 0..1_024 {
+        let entry = &store[900 + 3 * slot..903 + 3 * slot];
+        if slot >= usize::from(steps) {
+            if entry.iter().any(|&number| number != 0) {
+                return false;
+            }
+            continue;
+        }
+        if entry[0] >= states || entry[1] >= actions || entry[2] >= states {
+            return false;
+        }
+        if before.is_some_and(|before| before >= entry) {
+            return false;
+        }
+        before = Some(entry);
+    }
+    true
+}
+
+/// Writes a model's store, reads that text, and compares both ways.
+fn round_trip(model: &Model) -> usize {
+    let store = model.to_store();
+    assert!(follows_the_rules(&store));
+    assert_eq!(good(&store).as_ref(), Ok(model));
+
+    let mut lists = Lists::new();
+    let length = write(&store, &mut lists.written).unwrap();
+    let text = lists.written[..length].to_vec();
+    assert_eq!(text, model.to_text());
+    assert!(lists.written[length..].iter().all(|&byte| byte == b'!'));
+
+    let mut back = vec![8; STORE + 1];
+    assert_eq!(read(&text, &mut back), Ok(()));
+    assert_eq!(back[..STORE], store);
+    assert_eq!(back[STORE], 8);
+    length
+}
+
+#[test]
+fn written_texts_read_back() {
+    let mut rng = Rng::new(101);
+    for _ in 0..4_000 {
+        round_trip(&gen::any_model(&mut rng));
+    }
+}
+
+#[test]
+fn limits_read_back() {
+    let mut rng = Rng::new(102);
+    for (what, model) in gen::limit_models(&mut rng) {
+        let length = round_trip(&model);
+        assert_eq!(
+            what.starts_with("longest text"),
+            length == WRITTEN,
+            "{what}"
+        );
+    }
+}
+
+#[test]
+fn bad_stores_break_the_rules() {
+    let mut rng = Rng::new(103);
+    for _ in 0..30 {
+        let model = gen::small_model(&mut rng, false);
+        for (what, store) in gen::bad_stores(&model) {
+            assert!(!follows_the_rules(&store), "{what}");
+            assert_eq!(good(&store), Err(Refusal::new(22, 0)), "{what}");
+        }
+    }
+}
+
+#[test]
+fn good_stores_are_those_that_follow_the_rules() {
+    let mut rng = Rng::new(104);
+    let mut count = [0, 0];
+    for round in 0..12_000 {
+        let store = if round % 10 == 0 {
+            gen::scrap_store(&mut rng)
+        } else {
+            let model = gen::small_model(&mut rng, false);
+            gen::mutated_store(&mut rng, &model)
+        };
+        let is_good = good(&store).is_ok();
+        assert_eq!(is_good, follows_the_rules(&store));
+        count[usize::from(is_good)] += 1;
+    }
+    assert!(count[0] > 1_000 && count[1] > 500, "{count:?}");
+}
+
+#[test]
+fn a_store_is_judged_by_its_first_numbers_alone() {
+    let mut store = gen::chain(3).to_store();
+    store.extend([1, 65_535]);
+    assert!(good(&store).is_ok());
+    for length in [0, 1, 3, 4, 17, 899, 900, STORE - 1] {
+        assert!(good(&store[..length]).is_err());
+    }
+}
+
+#[test]
+fn read_texts_write_back() {
+    let mut rng = Rng::new(105);
+    let mut count = 0;
+    for _ in 0..6_000 {
+        let model = gen::small_model(&mut rng, false);
+        let text = gen::mutated_text(&mut rng, &model.to_text());
+        let mut store = vec![8; STORE];
+        if read(&text, &mut store).is_ok() {
+            let mut lists = Lists::new();
+            let length = write(&store, &mut lists.written).unwrap();
+            assert_eq!(lists.written[..length], text);
+            assert!(follows_the_rules(&store));
+            count += 1;
+        }
+    }
+    assert!(count > 300, "{count}");
+}
