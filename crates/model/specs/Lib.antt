@@ -14,6 +14,8 @@ pub mod Text
 pub mod WellFormed
 pub mod StoredModel
 pub mod Wrote
+pub mod WroteLaws
+pub mod DigitsLaws
 pub mod LineAnswers
 pub mod Promises
 pub mod Examples

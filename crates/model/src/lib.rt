@@ -1,6 +1,7 @@
 // Till models: their texts, and the store that holds one.
 mod line;
 mod number;
+pub mod position;
 pub mod read;
 pub mod write;
 
