@@ -1,4 +1,6 @@
 pub mod Limits
+pub mod All
+pub mod AllLaws
 pub mod Decides
 pub mod Bytes
 pub mod BytesLaws
@@ -15,6 +17,7 @@ pub mod WellFormed
 pub mod StoredModel
 pub mod Wrote
 pub mod WroteLaws
+pub mod Writable
 pub mod DigitsLaws
 pub mod LineAnswers
 pub mod Promises

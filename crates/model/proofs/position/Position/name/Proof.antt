@@ -32,7 +32,7 @@ shared-slice-read-byte c = search needs
 
 cast-byte : tie.Need-cast-byte Inv-loop μ-loop
 cast-byte c =
-    omega (arith, c .before .before .before .before .before .before .pre .1 (c .before .before .loop .i) (search needs))
+    omega (arith, c .before .before .before .before .before .before .pre .1 (c .before .before .before .loop .i) (search needs))
 
 byte-requires : tie.Need-byte-requires Inv-loop μ-loop
 byte-requires c κs = omega arith
