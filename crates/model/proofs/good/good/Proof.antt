@@ -6,7 +6,7 @@ use Rattle.model.proofs.good.good.Lts as lts
 
 -- src/good.rt:12:8
 shared-slice-read-if1 : tie.Need-shared-slice-read-if1
-shared-slice-read-if1 c = search needs
+shared-slice-read-if1 c = ?
 
 -- src/good.rt:13:9
 returns : tie.Need-returns

@@ -8,31 +8,31 @@ use Rattle.model.proofs.position.Position.field.Reads as field-reads
 
 -- src/write.rt:48:13
 byte-requires : tie.Need-byte-requires
-byte-requires c κs = search needs
+byte-requires c κs = ?
 
 -- src/write.rt:49:13
 field-requires : tie.Need-field-requires
-field-requires c κs = search needs
+field-requires c κs = ?
 
 -- src/write.rt:50:13
 field-requires-2 : tie.Need-field-requires-2
-field-requires-2 c κs = search needs
+field-requires-2 c κs = ?
 
 -- src/write.rt:51:13
 field-requires-3 : tie.Need-field-requires-3
-field-requires-3 c κs = search needs
+field-requires-3 c κs = ?
 
 -- src/write.rt:52:13
 field-requires-4 : tie.Need-field-requires-4
-field-requires-4 c κs = search needs
+field-requires-4 c κs = ?
 
 -- src/write.rt:53:9
 byte-requires-2 : tie.Need-byte-requires-2
-byte-requires-2 c κs = search needs
+byte-requires-2 c κs = ?
 
 -- src/write.rt:44:5
 same-length : tie.Need-same-length
-same-length c = search needs
+same-length c = ?
 
 -- src/write.rt:44:5
 returns : tie.Need-returns
