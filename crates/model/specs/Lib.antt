@@ -28,6 +28,8 @@ pub mod StoredModel
 pub mod Wrote
 pub mod WroteLaws
 pub mod Writable
+pub mod StoredModelLaws
+pub mod WritableLaws
 pub mod WritingLaws
 pub mod LineAnswers
 pub mod Promises

@@ -1,42 +1,49 @@
+-- Each field goes on from where the last one ended; the line's length is what its fields ask for. Assumes nothing.
 use borrow.Author.Needs.{needs}
+use native.Mathlib.Omega.{arith}
+use Rattle.model.specs.Text.{headText}
+use Rattle.model.specs.WroteLaws.{wrote-append, wrote-length}
+use Rattle.model.specs.WritingLaws.{headText-length}
 use Rattle.model.proofs.position.Position.head_line.Statement.{statement}
 use Rattle.model.proofs.position.Position.head_line.Tie as tie
-use Rattle.model.proofs.position.Position.head_line.Reads as reads
-use Rattle.model.proofs.position.Position.head_line.Lts as lts
-use Rattle.model.proofs.position.Position.byte.Reads as byte-reads
-use Rattle.model.proofs.position.Position.field.Reads as field-reads
 
--- src/write.rt:48:13
 byte-requires : tie.Need-byte-requires
-byte-requires c κs = ?
+byte-requires c κs = let s = c .before .before in omega (arith, headText-length (s .args .h))
 
--- src/write.rt:49:13
 field-requires : tie.Need-field-requires
-field-requires c κs = ?
+field-requires c κs = let s = c .before .before .before .before .before .before in omega (arith, headText-length (s .args .h))
 
--- src/write.rt:50:13
 field-requires-2 : tie.Need-field-requires-2
-field-requires-2 c κs = ?
+field-requires-2 c κs = let s = c .before .before .before .before .before .before .before .before .before .before in omega (arith, headText-length (s .args .h))
 
--- src/write.rt:51:13
 field-requires-3 : tie.Need-field-requires-3
-field-requires-3 c κs = ?
+field-requires-3 c κs = let s = c .before .before .before .before .before .before .before .before .before .before .before .before .before .before in omega (arith, headText-length (s .args .h))
 
--- src/write.rt:52:13
 field-requires-4 : tie.Need-field-requires-4
-field-requires-4 c κs = ?
+field-requires-4 c κs = let s = c .before .before .before .before .before .before .before .before .before .before .before .before .before .before .before .before .before .before in omega (arith, headText-length (s .args .h))
 
--- src/write.rt:53:9
 byte-requires-2 : tie.Need-byte-requires-2
-byte-requires-2 c κs = ?
+byte-requires-2 c κs = let s = c .before .before .before .before .before .before .before .before .before .before .before .before .before .before .before .before .before .before .before .before .before .before in omega (arith, headText-length (s .args .h))
 
--- src/write.rt:44:5
 same-length : tie.Need-same-length
-same-length c = ?
+same-length c = search needs
 
--- src/write.rt:44:5
 returns : tie.Need-returns
-returns c = ?
+unfolding headText
+returns c =
+    let end = c .before .before in
+    let start = end .before .before .before .before in
+    let steps = start .before .before .before .before in
+    let actions = steps .before .before .before .before in
+    let states = actions .before .before .before .before in
+    let letter = states .before .before .before .before in
+    wrote-append
+    (wrote-append
+    (wrote-append
+    (wrote-append (wrote-append (letter .byte .ensures) (states .field .ensures)) (actions .field2 .ensures))
+    (steps .field3 .ensures))
+    (start .field4 .ensures))
+    (end .byte2 .ensures)
 
 pub head-line-spec : {M : Type 1} → statement M
 head-line-spec =
