@@ -3,7 +3,7 @@
 use mathlib.Core.Logic.{_⊎_, inl, inr}
 use mathlib.Core.List.{List, [], _∷_, _++_, append-nil, append-assoc}
 use mathlib.Core.Path.{_≡_, sym, ap}
-use Prim.Native.Nat.{ℕ, zero, suc, _+_, _≤_, _<_}
+use Prim.Native.Nat.{ℕ, zero, suc, _+_, _-_, _≤_, _<_}
 use native.Mathlib.Omega.{arith}
 use lib.Dec.{T}
 use lib.ListN.{length, getD, take, drop, length-drop}
@@ -14,6 +14,7 @@ use Rattle.model.specs.AllLaws.{all-of-all}
 use Rattle.model.specs.BytesLaws.{digit-within, smallLetter-within}
 use Rattle.model.specs.Limits.{actionLimit, stepLimit, nameLimit, outLength, actionPlace, namePlace}
 use Rattle.model.specs.Lines.{name?}
+use Rattle.model.specs.Model.{ActionLine}
 use Rattle.model.specs.RangesLaws.{headFits?→HeadRanges}
 use Rattle.model.specs.ActionLineLaws.{NameByte, name-bytes, name-length}
 use Rattle.model.specs.StoredModel.{headAt, actionAt, listed, modelAt}
@@ -56,6 +57,13 @@ take-le k n l h m = by-cases (lt-or-le k (length l))
 nameByte-lt : (b : ℕ) → NameByte b → b < 256
 nameByte-lt b (inl e) = let w = digit-within b e in omega arith
 nameByte-lt b (inr e) = let w = smallLetter-within b e in omega arith
+
+-- an action, from its level and the part of the store where its name stands
+pub actionAt-part : (s : List ℕ) (i level place len : ℕ) → level ≡ actionAt s i .level → place ≡ namePlace i
+    → len ≡ getD s (actionPlace i + 1) 0
+    → _≡_ {A = ActionLine} (record { level = level; name = take (place + len - place) (drop place s) }) (actionAt s i)
+actionAt-part s i level place len l p n =
+    let e : place + len - place ≡ len = omega arith in rw (e, l, p, n)
 
 -- the name of action i: its length, and its bytes
 pub record NameBytes (s : List ℕ) (i : ℕ) : Type 0 where

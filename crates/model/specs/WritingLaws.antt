@@ -9,10 +9,10 @@ use native.Mathlib.Numerals.{add-one}
 use lib.ListN.{length, length-append}
 use Rattle.model.specs.declared.Head.{Head}
 use Rattle.model.specs.declared.StepLine.{StepLine}
-use Rattle.model.specs.Model.{ActionLine}
+use Rattle.model.specs.Model.{ActionLine, Model}
 use Rattle.model.specs.Numbers.{digits}
 use Rattle.model.specs.StoredModel.{listed}
-use Rattle.model.specs.Text.{headText, actionText, stepText, actionsText, stepsText}
+use Rattle.model.specs.Text.{headText, actionText, stepText, actionsText, stepsText, textOf}
 
 -- ---- lengths of lines
 
@@ -52,3 +52,43 @@ module _ {A : Type 0} (line : A → List ℕ) (text : List A → List ℕ) (nil 
       let e : n - suc i + suc i ≡ n = omega arith in
       let l = rw (e, text-suc f i, length-append) at (text-le f (suc i) (n - suc i)) in
       l
+
+-- ---- the lines of actions, and of steps
+
+actionsText-cons : (a : ActionLine) (rest : List ActionLine) → actionsText (a ∷ rest) ≡ actionText a ++ actionsText rest
+unfolding actionsText
+actionsText-cons a rest = refl
+
+stepsText-cons : (s : StepLine) (rest : List StepLine) → stepsText (s ∷ rest) ≡ stepText s ++ stepsText rest
+unfolding stepsText
+stepsText-cons s rest = refl
+
+pub actionsText-nil : actionsText [] ≡ []
+unfolding actionsText
+actionsText-nil = refl
+
+pub stepsText-nil : stepsText [] ≡ []
+unfolding stepsText
+stepsText-nil = refl
+
+pub actionsText-next : (f : ℕ → ActionLine) (i : ℕ)
+    → actionsText (listed i f) ++ actionText (f i) ≡ actionsText (listed (i + 1) f)
+actionsText-next f i = rw add-one (sym (text-suc actionText actionsText actionsText-nil actionsText-cons f i))
+
+pub stepsText-next : (f : ℕ → StepLine) (j : ℕ) → stepsText (listed j f) ++ stepText (f j) ≡ stepsText (listed (j + 1) f)
+stepsText-next f j = rw add-one (sym (text-suc stepText stepsText stepsText-nil stepsText-cons f j))
+
+pub actionsText-room : (f : ℕ → ActionLine) (i n : ℕ) → i < n
+    → length (actionsText (listed i f)) + length (actionText (f i)) ≤ length (actionsText (listed n f))
+actionsText-room f i n h = text-room actionText actionsText actionsText-nil actionsText-cons f i n h
+
+pub stepsText-room : (f : ℕ → StepLine) (j n : ℕ) → j < n
+    → length (stepsText (listed j f)) + length (stepText (f j)) ≤ length (stepsText (listed n f))
+stepsText-room f j n h = text-room stepText stepsText stepsText-nil stepsText-cons f j n h
+
+-- ---- the text
+
+pub textOf-length : (m : Model) → length (textOf m)
+    ≡ length (headText (m .head)) + length (actionsText (m .actions)) + length (stepsText (m .steps)) + 2
+unfolding textOf
+textOf-length m = simp length-append

@@ -2,7 +2,8 @@
 ghost use mathlib.Core.Path.{_≡_};
 ghost use mathlib.Core.List.{[], _∷_};
 ghost use Prim.Native.Nat.{ℕ, _+_, _≤_, _<_};
-ghost use lib.ListN.{length, getD};
+ghost use lib.ListN.{length};
+ghost use Rattle.model.specs.All.{All};
 ghost use Rattle.model.specs.Numbers.{digits};
 ghost use Rattle.model.specs.Text.{field};
 ghost use Rattle.model.specs.Wrote.{Wrote};
@@ -65,7 +66,7 @@ impl Position {
     // The bytes of a name, which the store holds as numbers of 16 bits.
     pub fn name(self, out: &mut [u8], name: &[u16]) -> Position
         requires { ⌜ self .at + length (now name) ≤ length (now out) ⌝ }
-        requires { ⌜ ((i : ℕ) → i < length (now name) → getD (now name) i 0 < 256) ⌝ }
+        requires { ⌜ All (λ (b : ℕ). b < 256) (now name) ⌝ }
         ensures { λ r. ⌜ Wrote (now (out .entry)) (self .at) (now (name .entry)) (now (out .exit)) (r .at) ⌝ }
     {
         let mut p = self;

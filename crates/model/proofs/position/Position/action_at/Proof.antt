@@ -1,60 +1,78 @@
+-- The part of the store that is handed on is the action's name, and its numbers are bytes. Assumes nothing.
 use borrow.Author.Needs.{needs}
+use native.Mathlib.Omega.{arith}
+use mathlib.Core.Path.{ap, subst, sym}
+use lib.ListN.{length}
+use denote.Ref.{now}
+use Prim.Native.Nat.{ℕ, _<_}
+use Rattle.model.specs.All.{All}
+use Rattle.model.specs.Model.{ActionLine}
+use Rattle.model.specs.StoredModel.{actionAt}
+use Rattle.model.specs.Text.{actionText}
+use Rattle.model.specs.WritingLaws.{actionText-length}
+use Rattle.model.specs.WritableLaws.{actions-le, name-at, actionAt-part}
 use Rattle.model.proofs.position.Position.action_at.Statement.{statement}
 use Rattle.model.proofs.position.Position.action_at.Tie as tie
-use Rattle.model.proofs.position.Position.action_at.Reads as reads
-use Rattle.model.proofs.position.Position.action_at.Lts as lts
-use Rattle.model.proofs.position.Position.action_line.Reads as action-line-reads
-use Rattle.model.proofs.store.level.Reads as level-reads
-use Rattle.model.proofs.store.name_length.Reads as name-length-reads
-use Rattle.model.proofs.store.name_place.Reads as name-place-reads
 
--- src/write.rt:90:13
 level-requires : tie.Need-level-requires
-level-requires c κs = search needs
+level-requires c κs =
+    let s = c .before .before in
+    (s .pre .0 .long, omega (arith, s .pre .1 .0, actions-le (now (s .args .store)) (s .pre .0)))
 
--- src/write.rt:91:13
 name-place-requires : tie.Need-name-place-requires
-name-place-requires c κs = search needs
+name-place-requires c κs =
+    let s = c .before .before .before in
+    omega (arith, s .pre .1 .0, actions-le (now (s .args .store)) (s .pre .0))
 
--- src/write.rt:92:26
 name-length-requires : tie.Need-name-length-requires
-name-length-requires c κs = search needs
+name-length-requires c κs =
+    let s = c .before .before .before .before in
+    (s .pre .0 .long, omega (arith, s .pre .1 .0, actions-le (now (s .args .store)) (s .pre .0)))
 
--- src/write.rt:92:26
 cast-end : tie.Need-cast-end
 cast-end c = search needs
 
--- src/write.rt:92:19
 add-end : tie.Need-add-end
-add-end c = search needs
+add-end c =
+    let s = c .before .before .before .before .before in
+    omega (arith, s .pre .1 .0, actions-le (now (s .args .store)) (s .pre .0), c .before .name-place .ensures)
 
--- src/write.rt:93:38
 mul-action-line : tie.Need-mul-action-line
-mul-action-line c = search needs
+mul-action-line c =
+    let s = c .before .before .before .before .before .before in
+    omega (arith, s .pre .1 .0, actions-le (now (s .args .store)) (s .pre .0), c .before .before .name-place .ensures)
 
--- src/write.rt:93:38
 sub-action-line : tie.Need-sub-action-line
 sub-action-line c = search needs
 
--- src/write.rt:93:38
 part-action-line-start : tie.Need-part-action-line-start
 part-action-line-start c = search needs
 
--- src/write.rt:93:38
 part-action-line-end : tie.Need-part-action-line-end
-part-action-line-end c = search needs
+part-action-line-end c =
+    let s = c .before .before .before .before .before .before in
+    let l = actions-le (now (s .args .store)) (s .pre .0) in
+    let n = name-at (now (s .args .store)) (s .pre .0) (s .args .a .0) (s .pre .1 .0) in
+    omega (arith, s .pre .0 .long, s .pre .1 .0, c .before .before .name-place .ensures, c .before .name-length .ensures)
 
--- src/write.rt:93:9
 action-line-requires : tie.Need-action-line-requires
-action-line-requires c κs = search needs
+action-line-requires c κs =
+    let s = c .before .before .before .before .before .before .before in
+    let place = c .before .before .before in
+    let e = actionAt-part (now (s .args .store)) (s .args .a .0) _ _ _ (place .before .level .ensures) (place .name-place .ensures) (c .before .before .name-length .ensures) in
+    let n = name-at (now (s .args .store)) (s .pre .0) (s .args .a .0) (s .pre .1 .0) in
+    (omega (arith, s .pre .1 .1, ap (λ (a : ActionLine). length (a .name)) e, actionText-length (actionAt (now (s .args .store)) (s .args .a .0))),
+      subst (λ (a : ActionLine). All (λ (b : ℕ). b < 256) (a .name)) (sym e) (n .bytes))
 
--- src/write.rt:84:5
 same-length : tie.Need-same-length
 same-length c = search needs
 
--- src/write.rt:84:5
 returns : tie.Need-returns
-returns c = ?
+returns c =
+    let s = c .before .before .before .before .before .before .before .before .before .before in
+    let place = c .before .before .before .before .before .before in
+    let e = actionAt-part (now (s .args .store)) (s .args .a .0) _ _ _ (place .before .level .ensures) (place .name-place .ensures) (c .before .before .before .before .before .name-length .ensures) in
+    rw e at (c .before .before .action-line .ensures)
 
 pub action-at-spec : {M : Type 1} → statement M
 action-at-spec =

@@ -1,47 +1,51 @@
+-- Each byte goes on from where the last one ended. Assumes nothing.
 use borrow.Author.Needs.{needs}
+use native.Mathlib.Omega.{arith}
+use Rattle.model.specs.Text.{actionText}
+use Rattle.model.specs.WroteLaws.{wrote-append}
 use Rattle.model.proofs.position.Position.action_line.Statement.{statement}
 use Rattle.model.proofs.position.Position.action_line.Tie as tie
-use Rattle.model.proofs.position.Position.action_line.Reads as reads
-use Rattle.model.proofs.position.Position.action_line.Lts as lts
-use Rattle.model.proofs.position.Position.byte.Reads as byte-reads
-use Rattle.model.proofs.position.Position.name.Reads as name-reads
-use Rattle.model.proofs.write.level_letter.Reads as level-letter-reads
 
--- src/write.rt:74:13
 level-letter-requires : tie.Need-level-letter-requires
 level-letter-requires c κs = search needs
 
--- src/write.rt:75:13
 byte-requires : tie.Need-byte-requires
-byte-requires c κs = search needs
+byte-requires c κs = omega arith
 
--- src/write.rt:76:13
 byte-requires-2 : tie.Need-byte-requires-2
-byte-requires-2 c κs = search needs
+byte-requires-2 c κs = omega arith
 
--- src/write.rt:77:13
 byte-requires-3 : tie.Need-byte-requires-3
-byte-requires-3 c κs = search needs
+byte-requires-3 c κs = omega arith
 
--- src/write.rt:78:13
 byte-requires-4 : tie.Need-byte-requires-4
-byte-requires-4 c κs = search needs
+byte-requires-4 c κs = omega arith
 
--- src/write.rt:79:13
 name-requires : tie.Need-name-requires
-name-requires c κs = search needs
+name-requires c κs =
+    (omega arith, c .before .before .before .before .before .before .before .before .before .before .before .before .before .before .before .before .before .before .before .before .pre .1)
 
--- src/write.rt:80:9
 byte-requires-5 : tie.Need-byte-requires-5
-byte-requires-5 c κs = search needs
+byte-requires-5 c κs = omega arith
 
--- src/write.rt:69:5
 same-length : tie.Need-same-length
 same-length c = search needs
 
--- src/write.rt:69:5
 returns : tie.Need-returns
-returns c = ?
+unfolding actionText
+returns c =
+    let end = c .before .before in
+    let name = end .before .before .before .before in
+    let comma = name .before .before .before .before in
+    let level = comma .before .before .before .before in
+    let before-level = level .before .before .before .before in
+    let letter = before-level .before .before .before .before in
+    let letters = wrote-append (before-level .byte2 .ensures) (rw (letter .before .before .level-letter .ensures) at (level .byte3 .ensures)) in
+    wrote-append
+    (wrote-append
+    (wrote-append (letter .byte .ensures) letters)
+    (wrote-append (comma .byte4 .ensures) (name .name .ensures)))
+    (end .byte5 .ensures)
 
 pub action-line-spec : {M : Type 1} → statement M
 action-line-spec =

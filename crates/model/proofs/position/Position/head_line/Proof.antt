@@ -1,6 +1,7 @@
 -- Each field goes on from where the last one ended; the line's length is what its fields ask for. Assumes nothing.
 use borrow.Author.Needs.{needs}
 use native.Mathlib.Omega.{arith}
+use lib.ListN.{length-append}
 use Rattle.model.specs.Text.{headText}
 use Rattle.model.specs.WroteLaws.{wrote-append, wrote-length}
 use Rattle.model.specs.WritingLaws.{headText-length}
@@ -23,7 +24,20 @@ field-requires-4 : tie.Need-field-requires-4
 field-requires-4 c κs = let s = c .before .before .before .before .before .before .before .before .before .before .before .before .before .before .before .before .before .before in omega (arith, headText-length (s .args .h))
 
 byte-requires-2 : tie.Need-byte-requires-2
-byte-requires-2 c κs = let s = c .before .before .before .before .before .before .before .before .before .before .before .before .before .before .before .before .before .before .before .before .before .before in omega (arith, headText-length (s .args .h))
+byte-requires-2 c κs =
+    let start = c .before .before .before in
+    let steps = start .before .before .before .before in
+    let actions = steps .before .before .before .before in
+    let states = actions .before .before .before .before in
+    let letter = states .before .before .before .before in
+    let s = letter .before .before .before in
+    let w =
+        wrote-append
+        (wrote-append
+        (wrote-append (wrote-append (letter .byte .ensures) (states .field .ensures)) (actions .field2 .ensures))
+        (steps .field3 .ensures))
+        (start .field4 .ensures)
+    in omega (arith, s .pre, headText-length (s .args .h), wrote-length w, simp length-append at (w .place))
 
 same-length : tie.Need-same-length
 same-length c = search needs

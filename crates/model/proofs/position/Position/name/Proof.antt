@@ -1,11 +1,12 @@
 -- Behind the loop stand the first i numbers of the name, and each round writes one more, which is a byte. Assumes nothing.
-use Prim.Native.Nat.{_+_, _-_, _≤_}
+use Prim.Native.Nat.{ℕ, _+_, _-_, _≤_, _<_}
 use mathlib.Core.Path.{_≡_}
 use native.Mathlib.Omega.{arith}
 use borrow.Author.Needs.{needs}
 use lib.ListN.{length, take}
 use lib.Seq.{take-all}
 use denote.Ref.{now}
+use Rattle.model.specs.AllLaws.{getD-all}
 use Rattle.model.specs.Wrote.{Wrote}
 use Rattle.model.specs.WroteLaws.{wrote-nil, wrote-append, take-next}
 use Rattle.model.proofs.position.Position.name.Statement.{statement}
@@ -32,7 +33,9 @@ shared-slice-read-byte c = search needs
 
 cast-byte : tie.Need-cast-byte Inv-loop μ-loop
 cast-byte c =
-    omega (arith, c .before .before .before .before .before .before .pre .1 (c .before .before .before .loop .i) (search needs))
+    let s = c .before .before .before .before .before .before in
+    let i = c .before .before .before .loop .i in
+    omega (arith, getD-all (λ (b : ℕ). b < 256) (now (s .args .name)) i 0 (s .pre .1) (search needs))
 
 byte-requires : tie.Need-byte-requires Inv-loop μ-loop
 byte-requires c κs = omega arith

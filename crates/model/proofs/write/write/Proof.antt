@@ -1,0 +1,59 @@
+-- Each answer keeps the promise by a law of `WriteAnswers`; the tests before it give that law's premises. Assumes nothing.
+use borrow.Author.Needs.{needs}
+use borrow.Author.Tests.{not-true, not-false}
+use mathlib.Core.Bool.{Bool}
+use mathlib.Core.Path.{subst}
+use native.Mathlib.Omega.{arith}
+use denote.Ref.{now}
+use Rattle.model.specs.Decides.{Decides}
+use Rattle.model.specs.Store.{Good}
+use Rattle.model.specs.Writable.{Writable}
+use Rattle.model.specs.WritableLaws.{text-le}
+use Rattle.model.proofs.WriteAnswers.{short-store-promised, short-out-promised, not-good-promised, written-promised}
+use Rattle.model.proofs.write.write.Statement.{statement}
+use Rattle.model.proofs.write.write.Tie as tie
+
+returns : tie.Need-returns
+returns c =
+    let s = c .before .before .before in
+    short-store-promised (now (s .args .store)) (now (s .args .out)) (c .if1 .taken)
+
+returns-2 : tie.Need-returns-2
+returns-2 c =
+    let s = c .before .before .before .before in
+    short-out-promised (now (s .args .store)) (now (s .args .out)) (c .before .if1 .left) (c .if2 .taken)
+
+good-requires : tie.Need-good-requires
+good-requires c κs = c .before .if1 .left
+
+returns-3 : tie.Need-returns-3
+returns-3 c =
+    let s = c .before .before .before .before .before .before in
+    let store = now (s .args .store) in
+    not-good-promised store (now (s .args .out)) (c .before .before .before .if1 .left) (c .before .before .if2 .left)
+    (subst (λ (b : Bool). Decides b (Good store)) (not-true _ (c .if3 .taken)) (c .before .good2 .ensures))
+
+start-requires : tie.Need-start-requires
+start-requires c κs = search needs
+
+model-requires : tie.Need-model-requires
+model-requires c κs = ?
+
+same-length : tie.Need-same-length
+same-length c = search needs
+
+returns-4 : tie.Need-returns-4
+returns-4 c = ?
+
+pub write-spec : {M : Type 1} → statement M
+write-spec =
+    tie.close
+    (tie.spec
+    returns
+    returns-2
+    good-requires
+    returns-3
+    start-requires
+    model-requires
+    same-length
+    returns-4)
