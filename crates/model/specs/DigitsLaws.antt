@@ -92,11 +92,12 @@ unfolding digitsUpTo
 digitsUpTo-digit zero n = tt
 digitsUpTo-digit (suc k) n = go (digitsUpTo-digit k (n / 10)) (ten n)
   where
-    go : All (λ b. kindOf b ≡ digit) (digitsUpTo k (n / 10)) → Ten n → All (λ b. kindOf b ≡ digit) (digitsUpTo (suc k) n)
+    go : All (λ b. kindOf b ≡ digit) (digitsUpTo k (n / 10)) → Ten n
+        → All (λ b. kindOf b ≡ digit) (digitsUpTo (suc k) n)
     go ih (below l) = rw (digitsUpTo-lt k n l) (digit-kind (48 + n) (omega arith) (omega arith), tt)
     go ih (above g) =
-        rw (digitsUpTo-le k n g)
-        (all-append (λ b. kindOf b ≡ digit) (digitsUpTo k (n / 10)) _ ih (digit-kind (48 + n % 10) (omega arith) (omega arith), tt))
+        let last = digit-kind (48 + n % 10) (omega arith) (omega arith) in
+        rw (digitsUpTo-le k n g) (all-append (λ b. kindOf b ≡ digit) (digitsUpTo k (n / 10)) _ ih (last, tt))
 
 pub digitsUpTo-length-le : (k n : ℕ) → length (digitsUpTo k n) ≤ k
 unfolding digitsUpTo

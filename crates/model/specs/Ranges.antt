@@ -1,6 +1,6 @@
 -- The ranges of the numbers of line 1 and of a step's line, as inequalities.
 -- Document 01, "The text".
-use Prim.Native.Nat.{ℕ, _≤_, _<_}
+use Prim.Native.Nat.{_≤_, _<_}
 use Rattle.model.specs.declared.Head.{Head}
 use Rattle.model.specs.declared.StepLine.{StepLine}
 use Rattle.model.specs.Limits.{stateLimit, actionLimit, stepLimit}

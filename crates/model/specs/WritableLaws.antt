@@ -18,31 +18,26 @@ use Rattle.model.specs.Model.{ActionLine}
 use Rattle.model.specs.RangesLaws.{headFits?→HeadRanges}
 use Rattle.model.specs.ActionLineLaws.{NameByte, name-bytes, name-length}
 use Rattle.model.specs.StoredModel.{headAt, actionAt, listed, modelAt}
-use Rattle.model.specs.StoredModelLaws.{good-well-formed, textOf-length-le}
+use Rattle.model.specs.StoredModelLaws.{good-well-formed}
+use Rattle.model.specs.TextLengthLaws.{textOf-length-le}
 use Rattle.model.specs.Text.{textOf}
-use Rattle.model.specs.WellFormed.{Each, ActionFits, WellFormed}
+use Rattle.model.specs.WellFormed.{EachAfter, ActionFits}
+use Rattle.model.specs.EachLaws.{snoc-each}
 use Rattle.model.specs.Writable.{Writable}
 
 -- ---- listed elements, each of which fits behind those before it
 
-module _ {A : Type 0} (P : List A → A → Type 0) where
-  each-append : (before xs ys : List A) → Each P before (xs ++ ys) → Each P before xs × Each P (before ++ xs) ys
-  unfolding Each
-  each-append before [] ys e = (tt, rw append-nil e)
-  each-append before (x ∷ xs) ys e =
-      let rest = each-append (before ++ (x ∷ [])) xs ys (e .1) in ((e .0, rest .0), rw append-snoc at (rest .1))
-
-  each-listed : (f : ℕ → A) (n i : ℕ) → i < n → Each P [] (listed n f) → (before : List A) × P before (f i)
-  unfolding Each listed
-  each-listed f zero i h e = absurd (omega arith)
-  each-listed f (suc n) i h e =
-      let parts = each-append [] (listed n f) (f n ∷ []) e in
-      by-cases (each-listed f n i) (parts .0) (parts .1 .0) (lt-suc-cases h)
-    where
-      by-cases : (i < n → Each P [] (listed n f) → (before : List A) × P before (f i)) → Each P [] (listed n f)
-          → P (listed n f) (f n) → (i ≡ n) ⊎ (i < n) → (before : List A) × P before (f i)
-      by-cases ih first last (inl e) = (listed n f, rw e last)
-      by-cases ih first last (inr l) = ih l first
+each-listed : {A : Type 0} (P : List A → A → Type 0) (f : ℕ → A) (n i : ℕ) → i < n
+    → EachAfter P [] (listed n f) → (before : List A) × P before (f i)
+unfolding listed
+each-listed P f zero i h e = absurd (omega arith)
+each-listed P f (suc n) i h e = by-cases (each-listed P f n i) (snoc-each P [] (listed n f) (f n) e) (lt-suc-cases h)
+  where
+    by-cases : (i < n → EachAfter P [] (listed n f) → (before : List A) × P before (f i))
+        → EachAfter P [] (listed n f) × P (listed n f) (f n)
+        → (i ≡ n) ⊎ (i < n) → (before : List A) × P before (f i)
+    by-cases ih parts (inl q) = (listed n f, rw q (parts .1))
+    by-cases ih parts (inr l) = ih l (parts .0)
 
 -- ---- a name
 

@@ -31,19 +31,38 @@ returns-3 c =
     let s = c .before .before .before .before .before .before in
     let store = now (s .args .store) in
     not-good-promised store (now (s .args .out)) (c .before .before .before .if1 .left) (c .before .before .if2 .left)
-    (subst (λ (b : Bool). Decides b (Good store)) (not-true _ (c .if3 .taken)) (c .before .good2 .ensures))
+    (subst (λ (b : Bool). Decides b (Good store)) (not-true (c .before .good2 .result) (c .if3 .taken)) (c .before .good2 .ensures))
 
 start-requires : tie.Need-start-requires
 start-requires c κs = search needs
 
 model-requires : tie.Need-model-requires
-model-requires c κs = ?
+model-requires c κs =
+    let judged = c .before .before .before in
+    let s = judged .before .before .before .before .before in
+    let store = now (s .args .store) in
+    let long = judged .before .before .if1 .left in
+    let w : Writable store = record {
+      long = long;
+      good = subst (λ (b : Bool). Decides b (Good store)) (not-false (judged .good2 .result) (c .before .before .if3 .left)) (judged .good2 .ensures);
+    } in
+    (w, omega (arith, judged .before .if2 .left, c .before .start .ensures, text-le store w))
 
 same-length : tie.Need-same-length
 same-length c = search needs
 
 returns-4 : tie.Need-returns-4
-returns-4 c = ?
+returns-4 c =
+    let model = c .before .before in
+    let judged = model .before .before .before .before in
+    let s = judged .before .before .before .before .before in
+    let store = now (s .args .store) in
+    let w : Writable store = record {
+      long = judged .before .before .if1 .left;
+      good = subst (λ (b : Bool). Decides b (Good store)) (not-false (judged .good2 .result) (model .before .before .before .if3 .left)) (judged .good2 .ensures);
+    } in
+    written-promised store (now (s .args .out)) _ _ w (judged .before .if2 .left)
+    (rw (model .before .before .start .ensures) at (model .model .ensures))
 
 pub write-spec : {M : Type 1} → statement M
 write-spec =
