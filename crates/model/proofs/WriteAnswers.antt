@@ -1,16 +1,17 @@
 -- Each answer of Write keeps its promise: the lists' lengths decide first, then goodness. Assumes nothing.
-use mathlib.Core.Bool.{cond}
-use mathlib.Core.List.{List, [], _∷_, _++_}
-use mathlib.Core.Option.{none, some}
-use mathlib.Core.Path.{_≡_, refl, ap, sym, _∙_}
+use mathlib.Core.List.{List, [], _∷_}
+use mathlib.Core.Option.{some}
+use mathlib.Core.Path.{_≡_, refl, ap}
 use Prim.Native.Nat.{ℕ, _≤_, _<_}
 use native.Mathlib.Omega.{arith}
-use lib.ListN.{length, drop}
+use lib.ListN.{length}
 use borrow.Author.Tests.{lt-ltb, le-ltb}
 use Rattle.model.specs.declared.write.WriteAnswer.the-variants.{Written, ShortList, NotGood}
-use Rattle.model.specs.Faults.{Told, answers, refuses, firstShort}
+use Rattle.model.specs.Faults.{answers, firstShort}
 use Rattle.model.specs.Limits.{storeLength, outLength}
+use Rattle.model.specs.OnStoreLaws.{onStore-short, onStore-not-good, onStore-good}
 use Rattle.model.specs.Promises.{toldWrite, writeLists, WritePromise}
+use Rattle.model.specs.PromisesLaws.{writeLists-none}
 use Rattle.model.specs.Store.{Good}
 use Rattle.model.specs.StoredModel.{modelAt}
 use Rattle.model.specs.StoredModelLaws.{good-text}
@@ -29,45 +30,26 @@ module _ (store out : List ℕ) where
   unfolding firstShort
   out-short h l = rw (le-ltb (length store) storeLength h, lt-ltb (length out) outLength l)
 
-  none-short : storeLength ≤ length store → outLength ≤ length out → writeLists store out ≡ none
-  unfolding firstShort
-  none-short h l = rw (le-ltb (length store) storeLength h, le-ltb (length out) outLength l)
-
-  -- the list that is short, first of all, is told, and nothing is written
-  short-told : (place : ℕ) → writeLists store out ≡ some place → WritePromise store out (ShortList place) out
+  pub short-store-promised : length store < storeLength → WritePromise store out (toldWrite (ShortList 1)) out
   unfolding toldWrite
-  short-told place e = record {
-    short = λ k h. let same : place ≡ k = cc in (ap (refuses 21) same, refl);
-    not-good = λ h n. let z : _≡_ {A = ℕ} 0 1 = cc in absurd (omega arith);
-    good = λ h g. let z : _≡_ {A = ℕ} 0 1 = cc in absurd (omega arith);
-  }
+  short-store-promised h = onStore-short (store-short h) refl refl
 
-  pub short-store-promised : length store < storeLength → WritePromise store out (ShortList 1) out
-  short-store-promised h = short-told 1 (store-short h)
-
-  pub short-out-promised : storeLength ≤ length store → length out < outLength → WritePromise store out (ShortList 2) out
-  short-out-promised h l = short-told 2 (out-short h l)
-
-  pub not-good-promised : storeLength ≤ length store → outLength ≤ length out → ¬ (Good store) → WritePromise store out NotGood out
+  pub short-out-promised : storeLength ≤ length store → length out < outLength
+      → WritePromise store out (toldWrite (ShortList 2)) out
   unfolding toldWrite
-  not-good-promised h l n =
-      let e = none-short h l in
-      record {
-        short = λ k s. let z : _≡_ {A = ℕ} 0 1 = cc in absurd (omega arith);
-        not-good = λ s m. (refl, refl);
-        good = λ s g. absurd (n g);
-      }
+  short-out-promised h l = onStore-short (out-short h l) refl refl
+
+  pub not-good-promised : storeLength ≤ length store → outLength ≤ length out → ¬ (Good store)
+      → WritePromise store out (toldWrite NotGood) out
+  unfolding toldWrite
+  not-good-promised h l n = onStore-not-good (writeLists-none store out h l) n refl refl
 
   -- whatever text reads to a good store, it is the one that was written
   pub written-promised : (exit : List ℕ) (next : ℕ) → Writable store → outLength ≤ length out
-      → Wrote out 0 (textOf (modelAt store)) exit next → WritePromise store out (Written next) exit
+      → Wrote out 0 (textOf (modelAt store)) exit next → WritePromise store out (toldWrite (Written next)) exit
   unfolding toldWrite
   written-promised exit next w l wrote =
-      let e = none-short (w .long) l in
       let fits = text-le store w in
       let done = wrote-start wrote (omega arith) in
-      record {
-        short = λ k s. let z : _≡_ {A = ℕ} 0 1 = cc in absurd (omega arith);
-        not-good = λ s n. absurd (n (w .good));
-        good = λ s g. rw (good-text store g) (ap (λ (n : ℕ). answers (n ∷ [])) (done .0), done .1);
-      }
+      onStore-good (writeLists-none store out (w .long) l) (w .good)
+      (λ g. rw (good-text store g) (ap (λ (n : ℕ). answers (n ∷ [])) (done .0), done .1))

@@ -46,4 +46,5 @@ pub mod WritingLaws
 pub mod LineAnswers
 pub mod Promises
 pub mod PromisesLaws
+pub mod OnStoreLaws
 pub mod Examples

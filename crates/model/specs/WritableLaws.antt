@@ -30,8 +30,8 @@ use Rattle.model.specs.Writable.{Writable}
 each-listed : {A : Type 0} (P : List A → A → Type 0) (f : ℕ → A) (n i : ℕ) → i < n
     → EachAfter P [] (listed n f) → (before : List A) × P before (f i)
 unfolding listed
-each-listed P f zero i h e = absurd (omega arith)
-each-listed P f (suc n) i h e = by-cases (each-listed P f n i) (snoc-each P [] (listed n f) (f n) e) (lt-suc-cases h)
+each-listed {A} P f zero i h e = absurd (omega arith)
+each-listed {A} P f (suc n) i h e = by-cases (each-listed P f n i) (snoc-each P [] (listed n f) (f n) e) (lt-suc-cases h)
   where
     by-cases : (i < n → EachAfter P [] (listed n f) → (before : List A) × P before (f i))
         → EachAfter P [] (listed n f) × P (listed n f) (f n)

@@ -11,7 +11,7 @@ ghost use Prim.Native.Nat.{ℕ, _+_, _≤_, _<_};
 ghost use lib.ListN.{length, getD};
 ghost use Rattle.model.specs.All.{All};
 ghost use Rattle.model.specs.Limits.{storeLength};
-ghost use Rattle.model.specs.Promises.{WritePromise};
+ghost use Rattle.model.specs.Promises.{toldWrite, WritePromise};
 ghost use Rattle.model.specs.StoredModel.{actionAt, stepAt, modelAt, listed};
 ghost use Rattle.model.specs.Text.{levelByte, headText, actionText, actionsText, stepText, stepsText, textOf};
 ghost use Rattle.model.specs.Writable.{Writable};
@@ -139,7 +139,7 @@ impl Position {
 }
 
 pub fn write(store: &[u16], out: &mut [u8]) -> WriteAnswer
-    ensures { λ r. ⌜ WritePromise (now (store .entry)) (now (out .entry)) r (now (out .exit)) ⌝ }
+    ensures { λ r. ⌜ WritePromise (now (store .entry)) (now (out .entry)) (toldWrite r) (now (out .exit)) ⌝ }
 {
     if store.len() < store::STORE_LENGTH {
         return WriteAnswer::ShortList(1);
