@@ -1,5 +1,8 @@
 pub mod Limits
 pub mod Decides
+pub mod DecidesLaws
+pub mod Between
+pub mod BetweenLaws
 pub mod Bytes
 pub mod BytesLaws
 pub mod Numbers
@@ -12,7 +15,9 @@ pub mod Reading
 pub mod Store
 pub mod Text
 pub mod WellFormed
+pub mod NameByteLaws
 pub mod StoredModel
+pub mod GoodPlaces
 pub mod Wrote
 pub mod LineAnswers
 pub mod Promises
