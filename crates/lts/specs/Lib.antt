@@ -1,0 +1,13 @@
+pub mod Tests
+pub mod TestsLaws
+pub mod Alike
+pub mod AlikeLaws
+pub mod Game
+pub mod GameLaws
+pub mod Classes
+pub mod ClassesLaws
+pub mod RankLaws
+pub mod Run
+pub mod Noninterference
+pub mod Word
+pub mod Decided
