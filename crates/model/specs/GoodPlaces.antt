@@ -33,7 +33,7 @@ nameLengthAt s i = getD s (actionPlace i + 1) 0
 
 -- name length and the twelve places of the name are the same in actions h and i
 abbrev pub SameName : List ℕ → ℕ → ℕ → Type 0
-SameName s h i = Between (SamePlace s (actionPlace h + 1) (actionPlace i + 1)) 0 13
+SameName s h i = Between (SamePlace s (actionPlace h + 1) (actionPlace i + 1)) 0 (nameLimit + 1)
 
 abbrev pub OtherName : List ℕ → ℕ → ℕ → Type 0
 OtherName s i h = ¬ (SameName s h i)

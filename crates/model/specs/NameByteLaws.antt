@@ -3,15 +3,17 @@
 use mathlib.Core.Path.{_≡_}
 use Prim.Native.Nat.{ℕ, _<_}
 use native.Mathlib.Omega.{arith}
-use lib.Dec.{T}
-use borrow.Author.Tests.{lt-leb, eq-eqb, ne-eqb}
+use lib.Dec.{T, eqb}
+use Rattle.lts.specs.TestsLaws.{or-right}
+use borrow.Author.Tests.{le-leb, lt-leb, eq-eqb, ne-eqb}
 use Rattle.model.specs.Bytes.{kindOf, digit, smallLetter}
 use Rattle.model.specs.Lines.{nameByte?}
 
--- "0 other": a number of 256 or more is no byte of a name
-pub large-other : (x : ℕ) → 255 < x → kindOf x ≡ 0
+-- a number of 256 or more is of kind other
+pub kindOf-large : (x : ℕ) → 255 < x → kindOf x ≡ 0
 unfolding kindOf
-large-other x h = rw (lt-leb x 57 (omega arith), lt-leb x 122 (omega arith), lt-leb x 90 (omega arith), ne-eqb x 44 (omega arith), ne-eqb x 10 (omega arith))
+kindOf-large x h =
+    rw (le-leb 48 x (omega arith), lt-leb x 57 (omega arith), le-leb 97 x (omega arith), lt-leb x 122 (omega arith), le-leb 65 x (omega arith), lt-leb x 90 (omega arith), ne-eqb x 44 (omega arith), ne-eqb x 10 (omega arith))
 
 pub nameByte?-kind : (x : ℕ) → T (nameByte? x) → (kindOf x ≡ digit → ⊥) → (kindOf x ≡ smallLetter → ⊥) → ⊥
 unfolding nameByte?
@@ -23,4 +25,4 @@ nameByte?-digit x d = rw (eq-eqb (kindOf x) digit d) tt
 
 pub nameByte?-letter : (x : ℕ) → kindOf x ≡ smallLetter → T (nameByte? x)
 unfolding nameByte?
-nameByte?-letter x d = rw d tt
+nameByte?-letter x d = or-right (eqb (kindOf x) digit) (eqb (kindOf x) smallLetter) (rw (eq-eqb (kindOf x) smallLetter d) tt)

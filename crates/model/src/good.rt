@@ -28,7 +28,7 @@ ghost use Rattle.model.specs.Lines.{headFits?, nameByte?, stepFits?};
 ghost use Rattle.model.specs.Store.{Good};
 ghost use Rattle.model.specs.StoredModel.{headAt};
 ghost use Rattle.model.specs.Between.{Between};
-ghost use Rattle.model.specs.GoodPlaces.{Zero, NameByte, SamePlace, OtherName, ActionPlaces, StepPlaces, GoodPlaces};
+ghost use Rattle.model.specs.GoodPlaces.{Zero, NameByte, SamePlace, SameName, OtherName, ActionPlaces, StepPlaces, GoodPlaces};
 
 // Whether the places from `from` on and below `to` hold 0.
 fn zeros(store: &[u16], from: usize, to: usize) -> bool
@@ -92,15 +92,23 @@ fn name_bytes(store: &[u16], from: usize, to: usize) -> bool
     true
 }
 
+// Whether two actions have one name: the same length, and the same in its twelve places.
+fn same_name(store: &[u16], a: Action, b: Action) -> bool
+    requires { ⌜ (storeLength ≤ length (now store)) × (a .0 < actionLimit) × (b .0 < actionLimit) ⌝ }
+    ensures { λ r. ⌜ Decides r (SameName (now (store .entry)) (a .0) (b .0)) ⌝ }
+{
+    same(store, action_place(a) + 1, action_place(b) + 1, NAME_LIMIT as usize + 1)
+}
+
 // Whether no action before `a` has its name.
 fn used_once(store: &[u16], a: Action) -> bool
     requires { ⌜ (storeLength ≤ length (now store)) × (a .0 < actionLimit) ⌝ }
     ensures { λ r. ⌜ Decides r (Between (OtherName (now (store .entry)) (a .0)) 0 (a .0)) ⌝ }
 {
-    let at = action_place(a) + 1;
+    let n = a.0;
     let mut h = 0;
-    while h < a.0 {
-        if same(store, action_place(Action(h)) + 1, at, 13) {
+    while h < n {
+        if same_name(store, Action(h), a) {
             return false;
         }
         h += 1;
@@ -250,8 +258,5 @@ pub fn good(store: &[u16]) -> bool
     requires { ⌜ storeLength ≤ length (now store) ⌝ }
     ensures { λ r. ⌜ Decides r (Good (now (store .entry))) ⌝ }
 {
-    if places_good(store) {
-        return true;
-    }
-    false
+    places_good(store)
 }

@@ -38,7 +38,10 @@ is-name-byte-requires c κs = search needs
 
 -- src/good.rt:88:13
 returns : tie.Need-returns Inv-loop μ-loop
-returns c = λ b. decides-false _ _ (c .before .is-name-byte .ensures) (not-true _ (c .if1 .taken)) (b .at _ (omega arith) (omega arith))
+returns c = 
+    let f = c .before .is-name-byte in
+    let l = c .before .before .before .before .loop .k in
+    λ b. decides-false (f .result) _ (f .ensures) (not-true (f .result) (c .if1 .taken)) (b .at l (omega arith) (omega arith))
 
 -- src/good.rt:90:9
 add-k : tie.Need-add-k Inv-loop μ-loop
@@ -50,7 +53,7 @@ loop-less c = search needs
 
 -- src/good.rt:86:5
 loop-again : tie.Need-loop-again Inv-loop μ-loop
-loop-again c = (omega arith, between-snoc _ (c .before .before .before .before .loop .inv .1) (decides-true _ _ (c .before .is-name-byte .ensures) (not-false _ (c .if1 .left))))
+loop-again c = (omega arith, between-snoc _ (c .before .before .before .before .loop .inv .1) (decides-true (c .before .is-name-byte .result) _ (c .before .is-name-byte .ensures) (not-false (c .before .is-name-byte .result) (c .if1 .left))))
 
 -- src/good.rt:81:1
 returns-2 : tie.Need-returns-2 Inv-loop μ-loop
