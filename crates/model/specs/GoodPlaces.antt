@@ -15,16 +15,16 @@ use Rattle.model.specs.StoredModel.{headAt, stepAt}
 -- ---- places
 
 -- place k holds 0
-abbrev pub Zero : List ℕ → ℕ → Type 0
-Zero s k = getD s k 0 ≡ 0
+abbrev pub ZeroAt : List ℕ → ℕ → Type 0
+ZeroAt s k = getD s k 0 ≡ 0
 
 -- place k holds a digit or a small letter
-abbrev pub NameByte : List ℕ → ℕ → Type 0
-NameByte s k = T (nameByte? (getD s k 0))
+abbrev pub NameByteAt : List ℕ → ℕ → Type 0
+NameByteAt s k = T (nameByte? (getD s k 0))
 
 -- the places p + k and q + k hold one number
-abbrev pub SamePlace : List ℕ → ℕ → ℕ → ℕ → Type 0
-SamePlace s p q k = getD s (p + k) 0 ≡ getD s (q + k) 0
+abbrev pub SameAt : List ℕ → ℕ → ℕ → ℕ → Type 0
+SameAt s p q k = getD s (p + k) 0 ≡ getD s (q + k) 0
 
 -- ---- actions
 
@@ -33,25 +33,25 @@ nameLengthAt s i = getD s (actionPlace i + 1) 0
 
 -- name length and the twelve places of the name are the same in actions h and i
 abbrev pub SameName : List ℕ → ℕ → ℕ → Type 0
-SameName s h i = Between (SamePlace s (actionPlace h + 1) (actionPlace i + 1)) 0 (nameLimit + 1)
+SameName s h i = Between (SameAt s (actionPlace h + 1) (actionPlace i + 1)) 0 (nameLimit + 1)
 
 abbrev pub OtherName : List ℕ → ℕ → ℕ → Type 0
 OtherName s i h = ¬ (SameName s h i)
 
-pub record ActionPlaces (s : List ℕ) (i : ℕ) : Type 0 where
+pub record GoodAction (s : List ℕ) (i : ℕ) : Type 0 where
   -- "level (0 L, 1 D, 2 H)"
   pub level : getD s (actionPlace i) 0 ≤ high
   -- "A name is 1 to 12 bytes of a to z and 0 to 9, used once."
   pub some : 1 ≤ nameLengthAt s i
   pub fits : nameLengthAt s i ≤ nameLimit
-  pub bytes : Between (NameByte s) (namePlace i) (namePlace i + nameLengthAt s i)
+  pub bytes : Between (NameByteAt s) (namePlace i) (namePlace i + nameLengthAt s i)
   pub once : Between (OtherName s i) 0 i
   -- "Unused places are 0."
-  pub unused : Between (Zero s) (namePlace i + nameLengthAt s i) (namePlace i + nameLimit)
+  pub unused : Between (ZeroAt s) (namePlace i + nameLengthAt s i) (namePlace i + nameLimit)
 
 -- ---- steps
 
-pub record StepPlaces (h : Head) (s : List ℕ) (j : ℕ) : Type 0 where
+pub record GoodStep (h : Head) (s : List ℕ) (j : ℕ) : Type 0 where
   pub in-range : T (stepFits? h (stepAt s j))
   -- "strictly rising by source, then action, then target"
   pub rising : 0 < j → T (above? (stepAt s (j - 1)) (stepAt s j))
@@ -61,8 +61,8 @@ pub record StepPlaces (h : Head) (s : List ℕ) (j : ℕ) : Type 0 where
 pub record GoodPlaces (s : List ℕ) : Type 0 where
   -- "States 1 to 128, actions 1 to 64, steps 0 to 1,024, start below states."
   pub head : T (headFits? (headAt s))
-  pub actions : Between (ActionPlaces s) 0 (headAt s .actions)
-  pub steps : Between (StepPlaces (headAt s) s) 0 (headAt s .steps)
+  pub actions : Between (GoodAction s) 0 (headAt s .actions)
+  pub steps : Between (GoodStep (headAt s) s) 0 (headAt s .steps)
   -- "Unused places are 0."
-  pub unused-actions : Between (Zero s) (actionPlace (headAt s .actions)) (stepPlace 0)
-  pub unused-steps : Between (Zero s) (stepPlace (headAt s .steps)) storeLength
+  pub unused-actions : Between (ZeroAt s) (actionPlace (headAt s .actions)) (stepPlace 0)
+  pub unused-steps : Between (ZeroAt s) (stepPlace (headAt s .steps)) storeLength

@@ -6,7 +6,7 @@ use borrow.Author.Tests.{not-true, not-false}
 use Rattle.model.specs.Between.{Between}
 use Rattle.model.specs.BetweenLaws.{between-nil, between-snoc, between-le}
 use Rattle.model.specs.DecidesLaws.{decides-true, decides-false}
-use Rattle.model.specs.GoodPlaces.{ActionPlaces}
+use Rattle.model.specs.GoodPlaces.{GoodAction}
 use borrow.Author.Needs.{needs}
 use Rattle.model.proofs.good.actions_good.Statement.{statement}
 use Rattle.model.proofs.good.actions_good.Tie as tie
@@ -15,7 +15,7 @@ use Rattle.model.proofs.good.actions_good.Lts as lts
 use Rattle.model.proofs.good.action_good.Reads as action-good-reads
 
 abbrev Inv-loop : tie.InvT-loop
-Inv-loop store n i₀ i = Between (ActionPlaces store) 0 i
+Inv-loop store n i₀ i = Between (GoodAction store) 0 i
 
 abbrev μ-loop : tie.MeasureT-loop
 μ-loop store n i₀ i = n - i

@@ -6,7 +6,7 @@ use Rattle.model.specs.Between.{Between}
 use borrow.Author.Tests.{not-true, not-false}
 use Rattle.model.specs.DecidesLaws.{decides-true, decides-false}
 use Rattle.model.specs.BetweenLaws.{between-nil, between-snoc, between-le}
-use Rattle.model.specs.GoodPlaces.{NameByte}
+use Rattle.model.specs.GoodPlaces.{NameByteAt}
 use borrow.Author.Needs.{needs}
 use Rattle.model.proofs.good.name_bytes.Statement.{statement}
 use Rattle.model.proofs.good.name_bytes.Tie as tie
@@ -15,7 +15,7 @@ use Rattle.model.proofs.good.name_bytes.Lts as lts
 use Rattle.model.proofs.good.is_name_byte.Reads as is-name-byte-reads
 
 abbrev Inv-loop : tie.InvT-loop
-Inv-loop store from to k₀ k = (from ≤ k) × Between (NameByte store) from k
+Inv-loop store from to k₀ k = (from ≤ k) × Between (NameByteAt store) from k
 
 abbrev μ-loop : tie.MeasureT-loop
 μ-loop store from to k₀ k = to - k

@@ -4,7 +4,7 @@ use Prim.Native.Nat.{_≤_, _-_}
 use native.Mathlib.Omega.{arith}
 use Rattle.model.specs.Between.{Between}
 use Rattle.model.specs.BetweenLaws.{between-nil, between-snoc, between-le}
-use Rattle.model.specs.GoodPlaces.{SamePlace}
+use Rattle.model.specs.GoodPlaces.{SameAt}
 use borrow.Author.Needs.{needs}
 use Rattle.model.proofs.good.same.Statement.{statement}
 use Rattle.model.proofs.good.same.Tie as tie
@@ -12,7 +12,7 @@ use Rattle.model.proofs.good.same.Reads as reads
 use Rattle.model.proofs.good.same.Lts as lts
 
 abbrev Inv-loop : tie.InvT-loop
-Inv-loop store p q n k₀ k = (0 ≤ k) × Between (SamePlace store p q) 0 k
+Inv-loop store p q n k₀ k = (0 ≤ k) × Between (SameAt store p q) 0 k
 
 abbrev μ-loop : tie.MeasureT-loop
 μ-loop store p q n k₀ k = n - k

@@ -6,7 +6,7 @@ use borrow.Author.Tests.{not-true, not-false}
 use Rattle.model.specs.Between.{Between}
 use Rattle.model.specs.BetweenLaws.{between-nil, between-snoc, between-le}
 use Rattle.model.specs.DecidesLaws.{decides-true, decides-false}
-use Rattle.model.specs.GoodPlaces.{StepPlaces}
+use Rattle.model.specs.GoodPlaces.{GoodStep}
 use borrow.Author.Needs.{needs}
 use Rattle.model.proofs.good.steps_good.Statement.{statement}
 use Rattle.model.proofs.good.steps_good.Tie as tie
@@ -15,7 +15,7 @@ use Rattle.model.proofs.good.steps_good.Lts as lts
 use Rattle.model.proofs.good.step_good.Reads as step-good-reads
 
 abbrev Inv-loop : tie.InvT-loop
-Inv-loop store h n j₀ j = (n ≡ h .steps) × Between (StepPlaces h store) 0 j
+Inv-loop store h n j₀ j = (n ≡ h .steps) × Between (GoodStep h store) 0 j
 
 abbrev μ-loop : tie.MeasureT-loop
 μ-loop store h n j₀ j = n - j

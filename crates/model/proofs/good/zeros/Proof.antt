@@ -4,7 +4,7 @@ use Prim.Native.Nat.{_≤_, _-_}
 use native.Mathlib.Omega.{arith}
 use Rattle.model.specs.Between.{Between}
 use Rattle.model.specs.BetweenLaws.{between-nil, between-snoc, between-le}
-use Rattle.model.specs.GoodPlaces.{Zero}
+use Rattle.model.specs.GoodPlaces.{ZeroAt}
 use borrow.Author.Needs.{needs}
 use Rattle.model.proofs.good.zeros.Statement.{statement}
 use Rattle.model.proofs.good.zeros.Tie as tie
@@ -12,7 +12,7 @@ use Rattle.model.proofs.good.zeros.Reads as reads
 use Rattle.model.proofs.good.zeros.Lts as lts
 
 abbrev Inv-loop : tie.InvT-loop
-Inv-loop store from to k₀ k = (from ≤ k) × Between (Zero store) from k
+Inv-loop store from to k₀ k = (from ≤ k) × Between (ZeroAt store) from k
 
 abbrev μ-loop : tie.MeasureT-loop
 μ-loop store from to k₀ k = to - k
