@@ -1,5 +1,8 @@
 pub mod Limits
 pub mod Decides
+pub mod DecidesLaws
+pub mod Between
+pub mod BetweenLaws
 pub mod Bytes
 pub mod BytesLaws
 pub mod Numbers
@@ -20,6 +23,7 @@ pub mod LineText
 pub mod SameLaws
 pub mod JoinedFieldsLaws
 pub mod WellFormed
+pub mod NameByteLaws
 pub mod EachLaws
 pub mod BlocksLaws
 pub mod Ranges
@@ -38,6 +42,7 @@ pub mod Above
 pub mod AboveLaws
 pub mod System
 pub mod StoredModel
+pub mod GoodPlaces
 pub mod Wrote
 pub mod WroteLaws
 pub mod Writable
