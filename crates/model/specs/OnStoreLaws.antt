@@ -1,4 +1,4 @@
--- An operation on a store keeps its promise in each of its ways: a list is short, the store is not good, the work is done.
+-- An operation on a store keeps its promise in each of its ways: a list is short, the store is not good, all is done.
 -- Document 01, "Refused because of the state". Assumes nothing.
 use mathlib.Core.List.{List}
 use mathlib.Core.Option.{Option, none, some}

@@ -1,19 +1,17 @@
 -- A store that holds a model has counts within their limits, names of 1 to 12 bytes, and a text that fits.
 -- Document 01, "The text" and "The model store". Assumes nothing.
 use mathlib.Core.Logic.{_⊎_, inl, inr}
-use mathlib.Core.List.{List, [], _∷_, _++_, append-nil, append-assoc}
-use mathlib.Core.Path.{_≡_, sym, ap}
+use mathlib.Core.List.{List, []}
+use mathlib.Core.Path.{_≡_, ap}
 use Prim.Native.Nat.{ℕ, zero, suc, _+_, _-_, _≤_, _<_}
 use native.Mathlib.Omega.{arith}
-use lib.Dec.{T}
 use lib.ListN.{length, getD, take, drop, length-drop}
-use lib.Seq.{append-snoc, length-take-le, take-all}
+use lib.Seq.{length-take-le, take-all}
 use Rattle.lts.specs.TestsLaws.{lt-suc-cases, lt-or-le}
 use Rattle.model.specs.All.{All}
 use Rattle.model.specs.AllLaws.{all-of-all}
 use Rattle.model.specs.BytesLaws.{digit-within, smallLetter-within}
 use Rattle.model.specs.Limits.{actionLimit, stepLimit, nameLimit, outLength, actionPlace, namePlace}
-use Rattle.model.specs.Lines.{name?}
 use Rattle.model.specs.Model.{ActionLine}
 use Rattle.model.specs.RangesLaws.{headFits?→HeadRanges}
 use Rattle.model.specs.ActionLineLaws.{NameByte, name-bytes, name-length}
@@ -31,7 +29,8 @@ each-listed : {A : Type 0} (P : List A → A → Type 0) (f : ℕ → A) (n i : 
     → EachAfter P [] (listed n f) → (before : List A) × P before (f i)
 unfolding listed
 each-listed {A} P f zero i h e = absurd (omega arith)
-each-listed {A} P f (suc n) i h e = by-cases (each-listed P f n i) (snoc-each P [] (listed n f) (f n) e) (lt-suc-cases h)
+each-listed {A} P f (suc n) i h e =
+    by-cases (each-listed P f n i) (snoc-each P [] (listed n f) (f n) e) (lt-suc-cases h)
   where
     by-cases : (i < n → EachAfter P [] (listed n f) → (before : List A) × P before (f i))
         → EachAfter P [] (listed n f) × P (listed n f) (f n)
@@ -77,13 +76,15 @@ module _ (s : List ℕ) (w : Writable s) where
   pub name-at : (i : ℕ) → i < getD s 1 0 → NameBytes s i
   unfolding modelAt
   name-at i h =
-      let fits = each-listed ActionFits (actionAt s) (getD s 1 0) i h (good-well-formed s (w .good) .actions) .1 .name in
+      let each = good-well-formed s (w .good) .actions in
+      let fits = each-listed ActionFits (actionAt s) (getD s 1 0) i h each .1 .name in
       let a = actions-le in
       let l = name-length (actionAt s i .name) fits in
       let d = length-drop (namePlace i) s in
       record {
         short = take-le (getD s (actionPlace i + 1) 0) nameLimit (drop (namePlace i) s) (omega (arith, w .long)) (l .1);
-        bytes = all-of-all NameByte (λ b. b < 256) nameByte-lt (actionAt s i .name) (name-bytes (actionAt s i .name) fits);
+        bytes =
+            all-of-all NameByte (λ b. b < 256) nameByte-lt (actionAt s i .name) (name-bytes (actionAt s i .name) fits);
       }
 
   pub text-le : length (textOf (modelAt s)) ≤ outLength

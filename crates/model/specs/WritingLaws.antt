@@ -1,6 +1,6 @@
 -- The lengths of lines, and the texts of listed lines: one more, and room for one more.
 -- Document 01, "The text". Assumes nothing.
-use mathlib.Core.Path.{_≡_, refl, sym, ap, _∙_}
+use mathlib.Core.Path.{_≡_, refl, sym, _∙_}
 use mathlib.Core.List.{List, [], _∷_, _++_, append-assoc, append-nil}
 use Prim.Native.Nat.{ℕ, zero, suc, _+_, _-_, _≤_, _<_}
 use native.Mathlib.Omega.{arith}
@@ -17,7 +17,11 @@ use Rattle.model.specs.Text.{headText, actionText, stepText, actionsText
 -- ---- lengths of lines
 
 pub headText-length : (h : Head) → length (headText h)
-    ≡ length (digits (h .states)) + length (digits (h .actions)) + length (digits (h .steps)) + length (digits (h .start .0)) + 6
+    ≡ length (digits (h .states))
+    + length (digits (h .actions))
+    + length (digits (h .steps))
+    + length (digits (h .start .0))
+    + 6
 unfolding headText
 headText-length h = simp length-append (omega arith)
 
@@ -47,7 +51,8 @@ module _ {A : Type 0} (line : A → List ℕ) (text : List A → List ℕ) (nil 
   text-le f i (suc k) = rw (suc-add, text-suc, length-append) (omega (arith, text-le f i k))
 
   -- there is room for line i in room for n lines
-  text-room : (f : ℕ → A) (i n : ℕ) → i < n → length (text (listed i f)) + length (line (f i)) ≤ length (text (listed n f))
+  text-room : (f : ℕ → A) (i n : ℕ) → i < n
+      → length (text (listed i f)) + length (line (f i)) ≤ length (text (listed n f))
   text-room f i n h =
       let e : n - suc i + suc i ≡ n = omega arith in
       let l = rw (e, text-suc f i, length-append) at (text-le f (suc i) (n - suc i)) in
@@ -75,7 +80,8 @@ pub actionsText-next : (f : ℕ → ActionLine) (i : ℕ)
     → actionsText (listed i f) ++ actionText (f i) ≡ actionsText (listed (i + 1) f)
 actionsText-next f i = rw add-one (sym (text-suc actionText actionsText actionsText-nil actionsText-cons f i))
 
-pub stepsText-next : (f : ℕ → StepLine) (j : ℕ) → stepsText (listed j f) ++ stepText (f j) ≡ stepsText (listed (j + 1) f)
+pub stepsText-next : (f : ℕ → StepLine) (j : ℕ)
+    → stepsText (listed j f) ++ stepText (f j) ≡ stepsText (listed (j + 1) f)
 stepsText-next f j = rw add-one (sym (text-suc stepText stepsText stepsText-nil stepsText-cons f j))
 
 pub actionsText-room : (f : ℕ → ActionLine) (i n : ℕ) → i < n

@@ -1,8 +1,8 @@
--- Writers one after the other write their texts one after the other, and a writing from place 0 puts its bytes in front.
+-- Writers one after another write their texts one after another; a writing from place 0 puts its bytes in front.
 -- Document 01, "The page": "Writing a line goes on from where the last one ended." Assumes nothing.
 use mathlib.Core.Path.{_≡_, refl, sym, ap, _∙_}
 use mathlib.Core.List.{List, [], _∷_, _++_}
-use Prim.Native.Nat.{ℕ, zero, suc, _+_, _≤_, _<_}
+use Prim.Native.Nat.{ℕ, suc, _+_, _≤_, _<_}
 use native.Mathlib.Omega.{arith}
 use native.Mathlib.Nat.{add-zero, zero-add, add-suc, suc-add}
 use native.Mathlib.Numerals.{add-one}
@@ -19,7 +19,8 @@ pub wrote-nil : {l : List ℕ} {i : ℕ} → Wrote l i [] l i
 wrote-nil {l} {i} = record { list = refl; place = omega arith }
 
 -- one writer goes on from where another ended
-pub wrote-append : {l m n : List ℕ} {i j k : ℕ} {a b : List ℕ} → Wrote l i a m j → Wrote m j b n k → Wrote l i (a ++ b) n k
+pub wrote-append : {l m n : List ℕ} {i j k : ℕ} {a b : List ℕ} → Wrote l i a m j → Wrote m j b n k
+    → Wrote l i (a ++ b) n k
 wrote-append {l} {m} {n} {i} {j} {k} {a} {b} p q = record {
   list =
       q .list

@@ -69,7 +69,8 @@ impl Position {
     fn action_line(self, out: &mut [u8], level: u16, name: &[u16]) -> Position
         requires { ⌜ self .at + length (now name) + 5 ≤ length (now out) ⌝ }
         requires { ⌜ All (λ (b : ℕ). b < 256) (now name) ⌝ }
-        ensures { λ r. ⌜ Wrote (now (out .entry)) (self .at) (actionText (record { level = level; name = now (name .entry) })) (now (out .exit)) (r .at) ⌝ }
+        ensures { λ r. ⌜ Wrote (now (out .entry)) (self .at)
+            (actionText (record { level = level; name = now (name .entry) })) (now (out .exit)) (r .at) ⌝ }
     {
         let letter = level_letter(level);
         let p = self.byte(out, b'A');
@@ -85,7 +86,8 @@ impl Position {
         requires { ⌜ Writable (now store) ⌝ }
         requires { ⌜ a .0 < getD (now store) 1 0 ⌝ }
         requires { ⌜ self .at + length (actionText (actionAt (now store) (a .0))) ≤ length (now out) ⌝ }
-        ensures { λ r. ⌜ Wrote (now (out .entry)) (self .at) (actionText (actionAt (now (store .entry)) (a .0))) (now (out .exit)) (r .at) ⌝ }
+        ensures { λ r. ⌜ Wrote (now (out .entry)) (self .at) (actionText (actionAt (now (store .entry)) (a .0)))
+            (now (out .exit)) (r .at) ⌝ }
     {
         let level = store::level(store, a);
         let from = store::name_place(a);
@@ -97,7 +99,8 @@ impl Position {
     fn action_lines(self, out: &mut [u8], store: &[u16]) -> Position
         requires { ⌜ Writable (now store) ⌝ }
         requires { ⌜ self .at + length (actionsText (modelAt (now store) .actions)) ≤ length (now out) ⌝ }
-        ensures { λ r. ⌜ Wrote (now (out .entry)) (self .at) (actionsText (modelAt (now (store .entry)) .actions)) (now (out .exit)) (r .at) ⌝ }
+        ensures { λ r. ⌜ Wrote (now (out .entry)) (self .at) (actionsText (modelAt (now (store .entry)) .actions))
+            (now (out .exit)) (r .at) ⌝ }
     {
         let n = store::actions(store);
         let mut p = self;
@@ -113,7 +116,8 @@ impl Position {
     fn step_lines(self, out: &mut [u8], store: &[u16]) -> Position
         requires { ⌜ Writable (now store) ⌝ }
         requires { ⌜ self .at + length (stepsText (modelAt (now store) .steps)) ≤ length (now out) ⌝ }
-        ensures { λ r. ⌜ Wrote (now (out .entry)) (self .at) (stepsText (modelAt (now (store .entry)) .steps)) (now (out .exit)) (r .at) ⌝ }
+        ensures { λ r. ⌜ Wrote (now (out .entry)) (self .at) (stepsText (modelAt (now (store .entry)) .steps))
+            (now (out .exit)) (r .at) ⌝ }
     {
         let n = store::steps(store);
         let mut p = self;
@@ -129,7 +133,8 @@ impl Position {
     fn model(self, out: &mut [u8], store: &[u16]) -> Position
         requires { ⌜ Writable (now store) ⌝ }
         requires { ⌜ self .at + length (textOf (modelAt (now store))) ≤ length (now out) ⌝ }
-        ensures { λ r. ⌜ Wrote (now (out .entry)) (self .at) (textOf (modelAt (now (store .entry)))) (now (out .exit)) (r .at) ⌝ }
+        ensures { λ r. ⌜ Wrote (now (out .entry)) (self .at) (textOf (modelAt (now (store .entry))))
+            (now (out .exit)) (r .at) ⌝ }
     {
         let p = self.head_line(out, store::head(store));
         let q = p.action_lines(out, store);

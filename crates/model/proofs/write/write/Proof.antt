@@ -1,15 +1,14 @@
--- Each answer keeps the promise by a law of `WriteAnswers`; the tests before it give that law's premises. Assumes nothing.
+-- Each answer keeps the promise by a law of `WriteAnswers`, whose premises are the tests before it. Assumes nothing.
 use borrow.Author.Needs.{needs}
 use borrow.Author.Tests.{not-true, not-false}
-use mathlib.Core.Bool.{Bool}
-use mathlib.Core.Path.{subst}
 use native.Mathlib.Omega.{arith}
 use denote.Ref.{now}
-use Rattle.model.specs.Decides.{Decides}
+use Rattle.model.specs.DecidesLaws.{decides-true, decides-false}
 use Rattle.model.specs.Store.{Good}
 use Rattle.model.specs.Writable.{Writable}
 use Rattle.model.specs.WritableLaws.{text-le}
-use Rattle.model.proofs.WriteAnswers.{short-store-promised, short-out-promised, not-good-promised, written-promised}
+use Rattle.model.proofs.WriteAnswers.{short-store-promised, short-out-promised}
+use Rattle.model.proofs.WriteAnswers.{not-good-promised, written-promised}
 use Rattle.model.proofs.write.write.Statement.{statement}
 use Rattle.model.proofs.write.write.Tie as tie
 
@@ -28,23 +27,26 @@ good-requires c κs = c .before .if1 .left
 
 returns-3 : tie.Need-returns-3
 returns-3 c =
-    let s = c .before .before .before .before .before .before in
+    let judged = c .before in
+    let s = judged .before .before .before .before .before in
     let store = now (s .args .store) in
-    not-good-promised store (now (s .args .out)) (c .before .before .before .if1 .left) (c .before .before .if2 .left)
-    (subst (λ (b : Bool). Decides b (Good store)) (not-true (c .before .good2 .result) (c .if3 .taken)) (c .before .good2 .ensures))
+    let r = judged .good2 .result in
+    not-good-promised store (now (s .args .out)) (judged .before .before .if1 .left) (judged .before .if2 .left)
+    (decides-false r (Good store) (judged .good2 .ensures) (not-true r (c .if3 .taken)))
 
 start-requires : tie.Need-start-requires
 start-requires c κs = search needs
 
 model-requires : tie.Need-model-requires
 model-requires c κs =
-    let judged = c .before .before .before in
+    let tested = c .before .before in
+    let judged = tested .before in
     let s = judged .before .before .before .before .before in
     let store = now (s .args .store) in
-    let long = judged .before .before .if1 .left in
+    let r = judged .good2 .result in
     let w : Writable store = record {
-      long = long;
-      good = subst (λ (b : Bool). Decides b (Good store)) (not-false (judged .good2 .result) (c .before .before .if3 .left)) (judged .good2 .ensures);
+      long = judged .before .before .if1 .left;
+      good = decides-true r (Good store) (judged .good2 .ensures) (not-false r (tested .if3 .left));
     } in
     (w, omega (arith, judged .before .if2 .left, c .before .start .ensures, text-le store w))
 
@@ -54,15 +56,15 @@ same-length c = search needs
 returns-4 : tie.Need-returns-4
 returns-4 c =
     let model = c .before .before in
-    let judged = model .before .before .before .before in
+    let tested = model .before .before .before in
+    let judged = tested .before in
     let s = judged .before .before .before .before .before in
     let store = now (s .args .store) in
-    let w : Writable store = record {
-      long = judged .before .before .if1 .left;
-      good = subst (λ (b : Bool). Decides b (Good store)) (not-false (judged .good2 .result) (model .before .before .before .if3 .left)) (judged .good2 .ensures);
-    } in
-    written-promised store (now (s .args .out)) _ _ w (judged .before .if2 .left)
-    (rw (model .before .before .start .ensures) at (model .model .ensures))
+    let r = judged .good2 .result in
+    let good = decides-true r (Good store) (judged .good2 .ensures) (not-false r (tested .if3 .left)) in
+    let text = rw (model .before .before .start .ensures) at (model .model .ensures) in
+    written-promised store (now (s .args .out)) _ _ (record { long = judged .before .before .if1 .left; good = good })
+    (judged .before .if2 .left) text
 
 pub write-spec : {M : Type 1} → statement M
 write-spec =

@@ -13,9 +13,9 @@ use Rattle.model.specs.WroteLaws.{wrote-append}
 use Rattle.model.specs.Numbers.{digitsUpTo, digits}
 use Rattle.model.specs.DigitsLaws.{digitsUpTo-lt, digitsUpTo-le, digits-digitsUpTo}
 use Rattle.model.proofs.position.Position.number.Reads as number
-use Rattle.model.proofs.position.Position.number.Kinds as number-kinds
-use Rattle.model.proofs.position.Position.+number.Lts-number as number-lts
-use Rattle.model.proofs.position.Position.byte.Reads as byte-reads
+use Rattle.model.proofs.position.Position.number.Kinds as kinds
+use Rattle.model.proofs.position.Position.+number.Lts-number as lts
+use Rattle.model.proofs.position.Position.byte.Reads as byte
 use Rattle.model.proofs.position.Position.+number.{statement}
 use Rattle.model.proofs.position.Position.+number.Tie.{close}
 
@@ -27,65 +27,81 @@ digits-lt n h = digitsUpTo-lt 4 n h
 
 digits-le : (n : ℕ) → 10 ≤ n → n < 100000 → digits n ≡ digits (n / 10) ++ ((48 + n % 10) ∷ [])
 digits-le n h b =
-    let all : digits n ≡ digitsUpTo 4 (n / 10) ++ ((48 + n % 10) ∷ []) = digits-digitsUpTo 0 5 n b (lit< tt) refl ∙ digitsUpTo-le 4 n h in
-    all ∙ rw (digits-digitsUpTo 1 4 (n / 10) (omega arith) (lit< tt) refl)
+    digits-digitsUpTo 0 5 n b (lit< tt) refl
+    ∙ digitsUpTo-le 4 n h
+    ∙ rw (digits-digitsUpTo 1 4 (n / 10) (omega arith) (lit< tt) refl)
+
+digits-le-length : (n : ℕ) → 10 ≤ n → n < 100000 → length (digits n) ≡ length (digits (n / 10)) + 1
+digits-le-length n h b = ap length (digits-le n h b) ∙ length-append (digits (n / 10)) ((48 + n % 10) ∷ [])
 
 -- ---- the function
 
-abbrev μ-number : Measures 1 number-kinds.ps ℕ
+abbrev μ-number : Measures 1 kinds.ps ℕ
 μ-number κs a = a .1 .1 .0
 
-abbrev number-at : ℕ → In 1 number-kinds.ps
-number-at t = and 1 number-kinds.ps (is 1 number-kinds.ps μ-number t) number.Pre
+-- what holds where a call of measure t begins, and what a call from there has to show
+abbrev reached : ℕ → In 1 kinds.ps
+reached t = and 1 kinds.ps (is 1 kinds.ps μ-number t) number.Pre
 
-abbrev number-below : ℕ → In 1 number-kinds.ps
-number-below t = and 1 number-kinds.ps (falls 1 number-kinds.ps _<_ μ-number t) number.Pre
+abbrev below : ℕ → In 1 kinds.ps
+below t = and 1 kinds.ps (falls 1 kinds.ps _<_ μ-number t) number.Pre
 
-number-cast-byte : (t : ℕ) → number-lts.Need-cast-byte (byte-reads.Asked, byte-reads.Learnt, number-below t, number.Post) (number-at t) number.Post
-number-cast-byte t c = search needs
+module _ (t : ℕ) where
+  cast-byte : lts.Need-cast-byte (byte.Asked, byte.Learnt, below t, number.Post) (reached t) number.Post
+  cast-byte c = search needs
 
-number-add-byte : (t : ℕ) → number-lts.Need-add-byte (byte-reads.Asked, byte-reads.Learnt, number-below t, number.Post) (number-at t) number.Post
-number-add-byte t c = search needs
+  add-byte : lts.Need-add-byte (byte.Asked, byte.Learnt, below t, number.Post) (reached t) number.Post
+  add-byte c = search needs
 
-number-byte-requires : (t : ℕ) → number-lts.Need-byte-requires (byte-reads.Asked, byte-reads.Learnt, number-below t, number.Post) (number-at t) number.Post
-number-byte-requires t c κs = omega (arith, ap length (digits-lt (c .before .before .before .args .n) (search needs)))
+  byte-requires : lts.Need-byte-requires (byte.Asked, byte.Learnt, below t, number.Post) (reached t) number.Post
+  byte-requires c κs = omega (arith, ap length (digits-lt (c .before .before .before .args .n) (search needs)))
 
-number-same-length : (t : ℕ) → number-lts.Need-same-length (byte-reads.Asked, byte-reads.Learnt, number-below t, number.Post) (number-at t) number.Post
-number-same-length t c = search needs
+  same-length : lts.Need-same-length (byte.Asked, byte.Learnt, below t, number.Post) (reached t) number.Post
+  same-length c = search needs
 
-number-returns : (t : ℕ) → number-lts.Need-returns (byte-reads.Asked, byte-reads.Learnt, number-below t, number.Post) (number-at t) number.Post
-number-returns t c = rw (digits-lt (c .before .before .before .before .before .before .args .n) (search needs)) (c .before .before .byte .ensures)
+  returns : lts.Need-returns (byte.Asked, byte.Learnt, below t, number.Post) (reached t) number.Post
+  returns c =
+      let byte = c .before .before in
+      rw (digits-lt (byte .before .before .before .before .args .n) (search needs)) (byte .byte .ensures)
 
-number-number-requires : (t : ℕ) → number-lts.Need-number-requires (byte-reads.Asked, byte-reads.Learnt, number-below t, number.Post) (number-at t) number.Post
-number-number-requires t c κs = (omega arith, omega (arith, simp length-append at (ap length (digits-le (c .before .before .before .args .n) (search needs) (omega arith)))))
+  number-requires : lts.Need-number-requires (byte.Asked, byte.Learnt, below t, number.Post) (reached t) number.Post
+  number-requires c κs =
+      let l = digits-le-length (c .before .before .before .args .n) (search needs) (omega arith) in
+      (omega arith, omega arith)
 
-number-cast-byte-2 : (t : ℕ) → number-lts.Need-cast-byte-2 (byte-reads.Asked, byte-reads.Learnt, number-below t, number.Post) (number-at t) number.Post
-number-cast-byte-2 t c = search needs
+  cast-byte-2 : lts.Need-cast-byte-2 (byte.Asked, byte.Learnt, below t, number.Post) (reached t) number.Post
+  cast-byte-2 c = search needs
 
-number-add-byte-2 : (t : ℕ) → number-lts.Need-add-byte-2 (byte-reads.Asked, byte-reads.Learnt, number-below t, number.Post) (number-at t) number.Post
-number-add-byte-2 t c = search needs
+  add-byte-2 : lts.Need-add-byte-2 (byte.Asked, byte.Learnt, below t, number.Post) (reached t) number.Post
+  add-byte-2 c = search needs
 
-number-byte-requires-2 : (t : ℕ) → number-lts.Need-byte-requires-2 (byte-reads.Asked, byte-reads.Learnt, number-below t, number.Post) (number-at t) number.Post
-number-byte-requires-2 t c κs = omega (arith, simp length-append at (ap length (digits-le (c .before .before .before .before .before .before .before .args .n) (search needs) (omega arith))))
+  byte-requires-2 : lts.Need-byte-requires-2 (byte.Asked, byte.Learnt, below t, number.Post) (reached t) number.Post
+  byte-requires-2 c κs =
+      let first = c .before .before .before in
+      omega (arith, digits-le-length (first .before .before .before .before .args .n) (search needs) (omega arith))
 
-number-same-length-2 : (t : ℕ) → number-lts.Need-same-length-2 (byte-reads.Asked, byte-reads.Learnt, number-below t, number.Post) (number-at t) number.Post
-number-same-length-2 t c = search needs
+  same-length-2 : lts.Need-same-length-2 (byte.Asked, byte.Learnt, below t, number.Post) (reached t) number.Post
+  same-length-2 c = search needs
 
-number-returns-2 : (t : ℕ) → number-lts.Need-returns-2 (byte-reads.Asked, byte-reads.Learnt, number-below t, number.Post) (number-at t) number.Post
-number-returns-2 t c = rw (digits-le (c .before .before .before .before .before .before .before .before .before .before .args .n) (search needs) (omega arith)) (wrote-append (c .before .before .before .before .before .before .number .ensures) (c .before .before .byte2 .ensures))
+  returns-2 : lts.Need-returns-2 (byte.Asked, byte.Learnt, below t, number.Post) (reached t) number.Post
+  returns-2 c =
+      let last = c .before .before in
+      let first = last .before .before .before .before in
+      rw (digits-le (first .before .before .before .before .args .n) (search needs) (omega arith))
+      (wrote-append (first .number .ensures) (last .byte2 .ensures))
 
 pub +number-spec : {M : Type 1} → statement M
-+number-spec = close μ-number λ t. number-lts.spec (byte-reads.Asked, byte-reads.Learnt, number-below t, number.Post)
-    (number-at t)
++number-spec = close μ-number λ t. lts.spec (byte.Asked, byte.Learnt, below t, number.Post)
+    (reached t)
     number.Post
-    (number-cast-byte t)
-    (number-add-byte t)
-    (number-byte-requires t)
-    (number-same-length t)
-    (number-returns t)
-    (number-number-requires t)
-    (number-cast-byte-2 t)
-    (number-add-byte-2 t)
-    (number-byte-requires-2 t)
-    (number-same-length-2 t)
-    (number-returns-2 t)
+    (cast-byte t)
+    (add-byte t)
+    (byte-requires t)
+    (same-length t)
+    (returns t)
+    (number-requires t)
+    (cast-byte-2 t)
+    (add-byte-2 t)
+    (byte-requires-2 t)
+    (same-length-2 t)
+    (returns-2 t)

@@ -8,7 +8,6 @@ use Prim.Native.Nat.{ℕ, _<_}
 use Rattle.model.specs.All.{All}
 use Rattle.model.specs.Model.{ActionLine}
 use Rattle.model.specs.StoredModel.{actionAt}
-use Rattle.model.specs.Text.{actionText}
 use Rattle.model.specs.WritingLaws.{actionText-length}
 use Rattle.model.specs.WritableLaws.{actions-le, name-at, actionAt-part}
 use Rattle.model.proofs.position.Position.action_at.Statement.{statement}
@@ -53,16 +52,22 @@ part-action-line-end c =
     let s = c .before .before .before .before .before .before in
     let l = actions-le (now (s .args .store)) (s .pre .0) in
     let n = name-at (now (s .args .store)) (s .pre .0) (s .args .a .0) (s .pre .1 .0) in
-    omega (arith, s .pre .0 .long, s .pre .1 .0, c .before .before .name-place .ensures, c .before .name-length .ensures)
+    let place = c .before .before in
+    omega (arith, s .pre .0 .long, s .pre .1 .0, place .name-place .ensures, c .before .name-length .ensures)
 
 action-line-requires : tie.Need-action-line-requires
 action-line-requires c κs =
     let s = c .before .before .before .before .before .before .before in
     let place = c .before .before .before in
-    let e = actionAt-part (now (s .args .store)) (s .args .a .0) _ _ _ (place .before .level .ensures) (place .name-place .ensures) (c .before .before .name-length .ensures) in
-    let n = name-at (now (s .args .store)) (s .pre .0) (s .args .a .0) (s .pre .1 .0) in
-    (omega (arith, s .pre .1 .1, ap (λ (a : ActionLine). length (a .name)) e, actionText-length (actionAt (now (s .args .store)) (s .args .a .0))),
-      subst (λ (a : ActionLine). All (λ (b : ℕ). b < 256) (a .name)) (sym e) (n .bytes))
+    let e =
+    actionAt-part (now (s .args .store)) (s .args .a .0) _ _ _ (place .before .level .ensures)
+    (place .name-place .ensures) (c .before .before .name-length .ensures)
+    in
+    let l = ap (λ (a : ActionLine). length (a .name)) e in
+    let n = name-at (now (s .args .store)) (s .pre .0) (s .args .a .0) (s .pre .1 .0) in (
+      omega (arith, s .pre .1 .1, actionText-length (actionAt (now (s .args .store)) (s .args .a .0))),
+      subst (λ (a : ActionLine). All (λ (b : ℕ). b < 256) (a .name)) (sym e) (n .bytes),
+    )
 
 same-length : tie.Need-same-length
 same-length c = search needs
@@ -71,7 +76,10 @@ returns : tie.Need-returns
 returns c =
     let s = c .before .before .before .before .before .before .before .before .before .before in
     let place = c .before .before .before .before .before .before in
-    let e = actionAt-part (now (s .args .store)) (s .args .a .0) _ _ _ (place .before .level .ensures) (place .name-place .ensures) (c .before .before .before .before .before .name-length .ensures) in
+    let e =
+    actionAt-part (now (s .args .store)) (s .args .a .0) _ _ _ (place .before .level .ensures)
+    (place .name-place .ensures) (c .before .before .before .before .before .name-length .ensures)
+    in
     rw e at (c .before .before .action-line .ensures)
 
 pub action-at-spec : {M : Type 1} → statement M

@@ -23,7 +23,9 @@ byte-requires-4 c κs = omega arith
 
 name-requires : tie.Need-name-requires
 name-requires c κs =
-    (omega arith, c .before .before .before .before .before .before .before .before .before .before .before .before .before .before .before .before .before .before .before .before .pre .1)
+    let level = c .before .before .before .before .before .before .before in
+    let letter = level .before .before .before .before .before .before .before .before in
+    (omega arith, letter .before .before .before .before .before .pre .1)
 
 byte-requires-5 : tie.Need-byte-requires-5
 byte-requires-5 c κs = omega arith
@@ -40,10 +42,10 @@ returns c =
     let level = comma .before .before .before .before in
     let before-level = level .before .before .before .before in
     let letter = before-level .before .before .before .before in
-    let letters = wrote-append (before-level .byte2 .ensures) (rw (letter .before .before .level-letter .ensures) at (level .byte3 .ensures)) in
+    let byte = rw (letter .before .before .level-letter .ensures) at (level .byte3 .ensures) in
     wrote-append
     (wrote-append
-    (wrote-append (letter .byte .ensures) letters)
+    (wrote-append (letter .byte .ensures) (wrote-append (before-level .byte2 .ensures) byte))
     (wrote-append (comma .byte4 .ensures) (name .name .ensures)))
     (end .byte5 .ensures)
 

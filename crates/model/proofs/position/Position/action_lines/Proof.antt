@@ -33,8 +33,9 @@ action-at-requires c κs =
     let loop = c .before .before in
     let s = loop .before .before .before .before in
     let i = loop .loop .i in
-    let h : i < getD (now (s .args .store)) 1 0 = omega (arith, loop .before .actions .ensures, c .before .loop-test .taken) in
-    (s .pre .0, (h, omega (arith, s .pre .1, actionsText-room (actionAt (now (s .args .store))) i (getD (now (s .args .store)) 1 0) h)))
+    let store = now (s .args .store) in
+    let h : i < getD store 1 0 = omega (arith, loop .before .actions .ensures, c .before .loop-test .taken) in
+    (s .pre .0, (h, omega (arith, s .pre .1, actionsText-room (actionAt store) i (getD store 1 0) h)))
 
 add-i : tie.Need-add-i Inv-loop μ-loop
 add-i c = search needs
@@ -45,8 +46,8 @@ loop-less c = search needs
 loop-again : tie.Need-loop-again Inv-loop μ-loop
 loop-again c =
     let loop = c .before .before .before .before .before in
-    let s = loop .before .before .before .before in
-    (search needs, search needs, rw (← actionsText-next) (wrote-append (loop .loop .inv .2) (c .before .before .action-at .ensures)))
+    let line = c .before .before .action-at .ensures in
+    (search needs, search needs, rw (← actionsText-next) (wrote-append (loop .loop .inv .2) line))
 
 same-length : tie.Need-same-length Inv-loop μ-loop
 same-length c = search needs

@@ -14,7 +14,9 @@ same-length : tie.Need-same-length
 same-length c = search needs
 
 returns : tie.Need-returns
-returns c = wrote-append (c .before .before .before .before .before .before .byte .ensures) (c .before .before .number .ensures)
+returns c =
+    let number = c .before .before in
+    wrote-append (number .before .before .before .before .byte .ensures) (number .number .ensures)
 
 pub field-spec : {M : Type 1} → statement M
 field-spec = tie.close (tie.spec byte-requires number-requires same-length returns)

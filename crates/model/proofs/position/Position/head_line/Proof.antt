@@ -9,19 +9,29 @@ use Rattle.model.proofs.position.Position.head_line.Statement.{statemen
 use Rattle.model.proofs.position.Position.head_line.Tie as tie
 
 byte-requires : tie.Need-byte-requires
-byte-requires c κs = let s = c .before .before in omega (arith, headText-length (s .args .h))
+byte-requires c κs = omega (arith, headText-length (c .before .before .args .h))
 
 field-requires : tie.Need-field-requires
-field-requires c κs = let s = c .before .before .before .before .before .before in omega (arith, headText-length (s .args .h))
+field-requires c κs =
+    let s = c .before .before .before .before .before .before in
+    omega (arith, headText-length (s .args .h))
 
 field-requires-2 : tie.Need-field-requires-2
-field-requires-2 c κs = let s = c .before .before .before .before .before .before .before .before .before .before in omega (arith, headText-length (s .args .h))
+field-requires-2 c κs =
+    let s = c .before .before .before .before .before .before .before .before .before .before in
+    omega (arith, headText-length (s .args .h))
 
 field-requires-3 : tie.Need-field-requires-3
-field-requires-3 c κs = let s = c .before .before .before .before .before .before .before .before .before .before .before .before .before .before in omega (arith, headText-length (s .args .h))
+field-requires-3 c κs =
+    let s = c .before .before .before .before .before .before .before .before .before .before .before
+        .before .before .before in
+    omega (arith, headText-length (s .args .h))
 
 field-requires-4 : tie.Need-field-requires-4
-field-requires-4 c κs = let s = c .before .before .before .before .before .before .before .before .before .before .before .before .before .before .before .before .before .before in omega (arith, headText-length (s .args .h))
+field-requires-4 c κs =
+    let s = c .before .before .before .before .before .before .before .before .before .before .before
+    .before .before .before .before .before .before .before in
+    omega (arith, headText-length (s .args .h))
 
 byte-requires-2 : tie.Need-byte-requires-2
 byte-requires-2 c κs =
@@ -32,11 +42,11 @@ byte-requires-2 c κs =
     let letter = states .before .before .before .before in
     let s = letter .before .before .before in
     let w =
-        wrote-append
-        (wrote-append
-        (wrote-append (wrote-append (letter .byte .ensures) (states .field .ensures)) (actions .field2 .ensures))
-        (steps .field3 .ensures))
-        (start .field4 .ensures)
+    wrote-append
+    (wrote-append
+    (wrote-append (wrote-append (letter .byte .ensures) (states .field .ensures)) (actions .field2 .ensures))
+    (steps .field3 .ensures))
+    (start .field4 .ensures)
     in omega (arith, s .pre, headText-length (s .args .h), wrote-length w, simp length-append at (w .place))
 
 same-length : tie.Need-same-length

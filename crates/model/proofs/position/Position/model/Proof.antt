@@ -49,7 +49,8 @@ text-requires c κs =
     let s = head .before .before .before .before .before in
     let line = rw (head .before .head .ensures) at (head .head-line .ensures) in
     let w = wrote-append (wrote-append line (actions .action-lines .ensures)) (steps .step-lines .ensures) in
-    omega (arith, s .pre .1, textOf-length (modelAt (now (s .args .store))), wrote-length w, simp length-append at (w .place))
+    let l = textOf-length (modelAt (now (s .args .store))) in
+    omega (arith, s .pre .1, wrote-length w, simp length-append at (w .place))
 
 same-length : tie.Need-same-length
 same-length c = search needs

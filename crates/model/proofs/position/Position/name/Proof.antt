@@ -1,4 +1,4 @@
--- Behind the loop stand the first i numbers of the name, and each round writes one more, which is a byte. Assumes nothing.
+-- Behind the loop stand the first i bytes of the name, and each round writes one more. Assumes nothing.
 use Prim.Native.Nat.{ℕ, _+_, _-_, _≤_, _<_}
 use mathlib.Core.Path.{_≡_}
 use native.Mathlib.Omega.{arith}
@@ -53,7 +53,8 @@ loop-again c =
       search needs,
       search needs,
       omega arith,
-      rw (← take-next (now (s .args .name)) (h .loop .i) (search needs)) (wrote-append (h .loop .inv .3) (c .before .before .byte .ensures)),
+      rw (← take-next (now (s .args .name)) (h .loop .i) (search needs))
+          (wrote-append (h .loop .inv .3) (c .before .before .byte .ensures)),
     )
 
 same-length : tie.Need-same-length Inv-loop μ-loop
@@ -61,7 +62,9 @@ same-length c = search needs
 
 returns : tie.Need-returns Inv-loop μ-loop
 returns c =
-    rw (take-all (c .before .loop .i) (now (c .before .before .before .before .args .name)) (search needs)) at (c .before .loop .inv .3)
+    let loop = c .before in
+    let s = loop .before .before .before in
+    rw (take-all (loop .loop .i) (now (s .args .name)) (search needs)) at (loop .loop .inv .3)
 
 pub name-spec : {M : Type 1} → statement M
 name-spec =

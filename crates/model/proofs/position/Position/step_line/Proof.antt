@@ -2,7 +2,7 @@
 use borrow.Author.Needs.{needs}
 use native.Mathlib.Omega.{arith}
 use Rattle.model.specs.Text.{stepText}
-use Rattle.model.specs.WroteLaws.{wrote-append, wrote-length}
+use Rattle.model.specs.WroteLaws.{wrote-append}
 use Rattle.model.specs.WritingLaws.{stepText-length}
 use Rattle.model.proofs.position.Position.step_line.Statement.{statement}
 use Rattle.model.proofs.position.Position.step_line.Tie as tie
@@ -11,7 +11,9 @@ byte-requires : tie.Need-byte-requires
 byte-requires c κs = omega (arith, stepText-length (c .before .before .args .s))
 
 field-requires : tie.Need-field-requires
-field-requires c κs = let s = c .before .before .before .before .before .before in omega (arith, stepText-length (s .args .s))
+field-requires c κs =
+    let s = c .before .before .before .before .before .before in
+    omega (arith, stepText-length (s .args .s))
 
 field-requires-2 : tie.Need-field-requires-2
 field-requires-2 c κs =
@@ -20,12 +22,14 @@ field-requires-2 c κs =
 
 field-requires-3 : tie.Need-field-requires-3
 field-requires-3 c κs =
-    let s = c .before .before .before .before .before .before .before .before .before .before .before .before .before .before in
+    let s = c .before .before .before .before .before .before .before .before .before .before .before
+        .before .before .before in
     omega (arith, stepText-length (s .args .s))
 
 byte-requires-2 : tie.Need-byte-requires-2
 byte-requires-2 c κs =
-    let s = c .before .before .before .before .before .before .before .before .before .before .before .before .before .before .before .before .before .before in
+    let s = c .before .before .before .before .before .before .before .before .before .before .before
+    .before .before .before .before .before .before .before in
     omega (arith, stepText-length (s .args .s))
 
 same-length : tie.Need-same-length

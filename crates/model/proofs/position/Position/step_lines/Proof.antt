@@ -32,7 +32,8 @@ step-line-requires : tie.Need-step-line-requires Inv-loop μ-loop
 step-line-requires c κs =
     let loop = c .before .before in
     let s = loop .before .before .before .before in
-    (s .pre .0 .long, omega (arith, loop .before .steps .ensures, c .before .loop-test .taken, steps-le (now (s .args .store)) (s .pre .0)))
+    let l = steps-le (now (s .args .store)) (s .pre .0) in
+    (s .pre .0 .long, omega (arith, loop .before .steps .ensures, c .before .loop-test .taken))
 
 step-line-requires-2 : tie.Need-step-line-requires-2 Inv-loop μ-loop
 unfolding modelAt
@@ -40,8 +41,9 @@ step-line-requires-2 c κs =
     let loop = c .before .before .before in
     let s = loop .before .before .before .before in
     let i = loop .loop .i in
-    let h : i < getD (now (s .args .store)) 2 0 = omega (arith, loop .before .steps .ensures, c .before .before .loop-test .taken) in
-    let room = stepsText-room (stepAt (now (s .args .store))) i (getD (now (s .args .store)) 2 0) h in
+    let store = now (s .args .store) in
+    let h : i < getD store 2 0 = omega (arith, loop .before .steps .ensures, c .before .before .loop-test .taken) in
+    let room = stepsText-room (stepAt store) i (getD store 2 0) h in
     rw (c .step-line .ensures) (omega (arith, s .pre .1))
 
 add-i : tie.Need-add-i Inv-loop μ-loop

@@ -43,7 +43,8 @@ loop-again c =
       search needs,
       search needs,
       omega arith,
-      rw (← take-next (now (s .args .text)) (h .loop .i) (search needs)) (wrote-append (h .loop .inv .3) (c .before .before .byte .ensures)),
+      rw (← take-next (now (s .args .text)) (h .loop .i) (search needs))
+          (wrote-append (h .loop .inv .3) (c .before .before .byte .ensures)),
     )
 
 same-length : tie.Need-same-length Inv-loop μ-loop
@@ -51,7 +52,9 @@ same-length c = search needs
 
 returns : tie.Need-returns Inv-loop μ-loop
 returns c =
-    rw (take-all (c .before .loop .i) (now (c .before .before .before .before .args .text)) (search needs)) at (c .before .loop .inv .3)
+    let loop = c .before in
+    let s = loop .before .before .before in
+    rw (take-all (loop .loop .i) (now (s .args .text)) (search needs)) at (loop .loop .inv .3)
 
 pub text-spec : {M : Type 1} → statement M
 text-spec =
