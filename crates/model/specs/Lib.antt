@@ -42,6 +42,9 @@ pub mod Above
 pub mod AboveLaws
 pub mod StoredModel
 pub mod GoodPlaces
+pub mod PlacesLaws
+pub mod ListedLaws
+pub mod GoodLaws
 pub mod Wrote
 pub mod LineAnswers
 pub mod Promises
