@@ -1,10 +1,9 @@
 -- The order of steps, as inequalities, and a model with a step taken out.
 -- Document 01, "The text": "strictly rising by source, then action, then target".
-use mathlib.Core.List.{List, _++_}
+use mathlib.Core.List.{_++_}
 use mathlib.Core.Path.{_≡_}
 use Prim.Native.Nat.{ℕ, suc, _-_, _≤_, _<_}
 use lib.ListN.{take, drop}
-use Rattle.model.specs.declared.Head.{Head}
 use Rattle.model.specs.declared.StepLine.{StepLine}
 use Rattle.model.specs.Model.{Model}
 

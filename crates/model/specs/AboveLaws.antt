@@ -4,7 +4,7 @@ use mathlib.Core.Bool.{Bool, _&&_, _||_}
 use mathlib.Core.List.{List, [], _∷_, _++_, append-nil}
 use mathlib.Core.Logic.{_⊎_, inl, inr}
 use mathlib.Core.Path.{_≡_, refl, sym, subst, _∙_}
-use Prim.Native.Nat.{ℕ, suc, _+_, _-_, _≤_, _<_}
+use Prim.Native.Nat.{ℕ, suc, _+_, _≤_, _<_}
 use native.Mathlib.Omega.{arith}
 use lib.Dec.{T, ltb, eqb, ltb→lt, lt→ltb, eqb→eq, eqb-refl}
 use lib.ListN.{length, getD, take, drop, length-append, length-take, length-drop}
@@ -17,7 +17,7 @@ use Rattle.model.specs.Lines.{headFits?, stepFits?}
 use Rattle.model.specs.Above.{Above, withoutStep}
 use Rattle.model.specs.Ranges.{HeadRanges}
 use Rattle.model.specs.RangesLaws.{headFits?→HeadRanges, HeadRanges→headFits?}
-use Rattle.model.specs.WellFormed.{Each, StepFits, WellFormed}
+use Rattle.model.specs.WellFormed.{EachAfter, StepFits, WellFormed}
 use Rattle.model.specs.EachLaws.{each-append, append-each, cons-each, each-of-each, each-without}
 
 -- ---- the order
@@ -73,11 +73,13 @@ module _ (s t : StepLine) where
           let a = h .action e in
           let f : s .action .0 ≡ t .action .0 = omega arith in
           or-right action< (action= && target<)
-          (and-intro action= target< (eq (s .action .0) (t .action .0) f) (lt→ltb (s .target .0) (t .target .0) (h .target e f)))
+          (and-intro action= target<
+          (eq (s .action .0) (t .action .0) f) (lt→ltb (s .target .0) (t .target .0) (h .target e f)))
 
       by-source : (s .source .0 < t .source .0) ⊎ (t .source .0 ≤ s .source .0)
           → T (source< || (source= && (action< || (action= && target<))))
-      by-source (inl l) = or-left source< (source= && (action< || (action= && target<))) (lt→ltb (s .source .0) (t .source .0) l)
+      by-source (inl l) =
+          or-left source< (source= && (action< || (action= && target<))) (lt→ltb (s .source .0) (t .source .0) l)
       by-source (inr l) =
           let a = h .source in
           let e : s .source .0 ≡ t .source .0 = omega arith in
@@ -105,7 +107,8 @@ above-trans s t u a b =
 
 -- ---- the last of the steps before
 
-pub aboveLast?-trans : (before : List StepLine) (s t : StepLine) → T (aboveLast? before s) → T (above? s t) → T (aboveLast? before t)
+pub aboveLast?-trans : (before : List StepLine) (s t : StepLine) → T (aboveLast? before s) → T (above? s t)
+    → T (aboveLast? before t)
 unfolding aboveLast?
 aboveLast?-trans [] s t h k = tt
 aboveLast?-trans (r ∷ []) s t h k = Above→above? r t (above-trans r s t (above?→Above r s h) (above?→Above s t k))
@@ -122,7 +125,8 @@ aboveLast?-append (r ∷ q ∷ before) s rest t = aboveLast?-append (q ∷ befor
 -- ---- a step taken out
 
 -- what rises above steps rises above them without the step s, which rose itself
-aboveLast?-without : (before : List StepLine) (s : StepLine) (rest : List StepLine) (t : StepLine) → T (aboveLast? before s)
+aboveLast?-without : (before : List StepLine) (s : StepLine) (rest : List StepLine) (t : StepLine)
+    → T (aboveLast? before s)
     → T (aboveLast? (before ++ (s ∷ rest)) t) → T (aboveLast? (before ++ rest) t)
 unfolding aboveLast?
 aboveLast?-without before s [] t h k =
@@ -131,15 +135,16 @@ aboveLast?-without before s (r ∷ rest) t h k =
     subst T (aboveLast?-append before s (r ∷ rest) t ∙ sym (aboveLast?-append before r rest t)) k
 
 pub steps-without : (h : Head) (before : List StepLine) (s : StepLine) (after : List StepLine)
-    → Each (StepFits h) [] (before ++ (s ∷ after)) → Each (StepFits h) [] (before ++ after)
+    → EachAfter (StepFits h) [] (before ++ (s ∷ after)) → EachAfter (StepFits h) [] (before ++ after)
 steps-without h before s after e =
     let a = append-each (StepFits h) [] before (s ∷ after) e in
     let c = cons-each (StepFits h) before s after (a .1) in
-    let w =
-        each-without (StepFits h) before s (c .0)
-        (λ ws t f. record { in-range = f .in-range; rising = aboveLast?-without before s ws t (c .0 .rising) (f .rising) })
-        [] after (c .1) in
+    let w = each-without (StepFits h) before s (without (c .0 .rising)) [] after (c .1) in
     each-append (StepFits h) [] before after (a .0) (rw append-nil at w)
+  where
+    without : T (aboveLast? before s) → (ws : List StepLine) (t : StepLine) → StepFits h (before ++ (s ∷ ws)) t
+        → StepFits h (before ++ ws) t
+    without r ws t f = record { in-range = f .in-range; rising = aboveLast?-without before s ws t r (f .rising) }
 
 pub withoutStep-wellFormed : (m : Model) (j : ℕ) → WellFormed m → j < m .head .steps → WellFormed (withoutStep m j)
 unfolding stepFits?
@@ -149,7 +154,7 @@ withoutStep-wellFormed m j w l =
     let c = w .step-count in
     let d : StepLine = record { source = record { 0 = 0 }; action = record { 0 = 0 }; target = record { 0 = 0 } } in
     let k : j < length (m .steps) = omega arith in
-    let e = subst (Each (StepFits (m .head)) []) (split-at (m .steps) j d k) (w .steps) in
+    let e = subst (EachAfter (StepFits (m .head)) []) (split-at (m .steps) j d k) (w .steps) in
     record {
       head = HeadRanges→headFits? h (record {
         states-pos = r .states-pos;
@@ -162,7 +167,8 @@ withoutStep-wellFormed m j w l =
       action-count = w .action-count;
       step-count = simp (length-append, length-take, length-drop) (omega arith);
       actions = w .actions;
-      steps = each-of-each (StepFits (m .head)) (StepFits h) (λ b s f. record { in-range = f .in-range; rising = f .rising }) []
-          (take j (m .steps) ++ drop (suc j) (m .steps))
+      steps =
+          each-of-each (StepFits (m .head)) (StepFits h)
+          (λ b s f. record { in-range = f .in-range; rising = f .rising }) [] (withoutStep m j .steps)
           (steps-without (m .head) (take j (m .steps)) (getD (m .steps) j d) (drop (suc j) (m .steps)) e);
     }

@@ -3,28 +3,28 @@
 use mathlib.Core.Bool.{Bool, true, false, cond, not}
 use mathlib.Core.List.{List, [], _∷_}
 use mathlib.Core.Logic.{_⊎_, inl, inr}
-use mathlib.Core.Path.{_≡_, refl, sym, ap, _∙_, subst}
-use Prim.Native.Nat.{ℕ, zero, suc, _≤_, _<_}
+use mathlib.Core.Path.{_≡_, refl, ap, _∙_, subst}
+use Prim.Native.Nat.{ℕ, zero, suc, _≤_}
 use native.Mathlib.Omega.{arith}
 use lib.Dec.{T, eqb, eqb→eq}
 use lib.ListN.{length, getD}
 use borrow.Author.Tests.{eqb-false}
-use Rattle.lts.specs.TestsLaws.{and-left, and-right, or-cases, T→true, not-T→false}
+use Rattle.lts.specs.TestsLaws.{and-left, and-right, or-cases, not-T→false}
 use Rattle.model.specs.declared.Fault.the-variants.{Shape, Repeated}
-use Rattle.model.specs.Bytes.{kindOf, within?, digit, smallLetter, capital, comma}
+use Rattle.model.specs.Bytes.{kindOf, between?, digit, smallLetter, capital, comma}
 use Rattle.model.specs.Limits.{nameLimit}
-use Rattle.model.specs.RangesLaws.{within?→le}
+use Rattle.model.specs.RangesLaws.{between?→le}
 use Rattle.model.specs.Split.{same?}
-use Rattle.model.specs.SameLaws.{same?→eq, same?-refl}
+use Rattle.model.specs.SameLaws.{same?→eq}
 use Rattle.model.specs.All.{All}
 use Rattle.model.specs.AllLaws.{all-of-all}
-use Rattle.model.specs.Join.{Without}
 use Rattle.model.specs.Model.{low, release, high, ActionLine}
-use Rattle.model.specs.Lines.{Line, good, bad, checked, fieldsOf, levelOf, allOf, nameByte?, name?, nameFrom, used?, actionFields, actionFrom, actionOf}
+use Rattle.model.specs.Lines.{Line, good, bad, fieldsOf, levelOf, allOf, nameByte?, name?, nameFrom, used?}
+use Rattle.model.specs.Lines.{actionFields, actionFrom, actionOf}
 use Rattle.model.specs.Text.{levelByte}
 use Rattle.model.specs.WellFormed.{ActionFits}
 use Rattle.model.specs.LineText.{lineOf, lineOfAction}
-use Rattle.model.specs.FieldsLaws.{checked-good, good-checked, fieldsOf-line, line-of-fieldsOf}
+use Rattle.model.specs.JoinedFieldsLaws.{checked-good, good-checked, fieldsOf-line, line-of-fieldsOf}
 
 -- ---- levels
 
@@ -58,7 +58,11 @@ NameByte b = (kindOf b ≡ digit) ⊎ (kindOf b ≡ smallLetter)
 allOf-name : (f : List ℕ) → T (allOf nameByte? f) → All NameByte f
 unfolding allOf nameByte?
 allOf-name [] t = tt
-allOf-name (b ∷ bs) t = (by-test (or-cases (eqb (kindOf b) digit) (eqb (kindOf b) smallLetter) (and-left (nameByte? b) (allOf nameByte? bs) t)), allOf-name bs (and-right (nameByte? b) (allOf nameByte? bs) t))
+allOf-name (b ∷ bs) t =
+    let first = and-left (nameByte? b) (allOf nameByte? bs) t in (
+      by-test (or-cases (eqb (kindOf b) digit) (eqb (kindOf b) smallLetter) first),
+      allOf-name bs (and-right (nameByte? b) (allOf nameByte? bs) t),
+    )
   where
     by-test : T (eqb (kindOf b) digit) ⊎ T (eqb (kindOf b) smallLetter) → NameByte b
     by-test (inl u) = inl (eqb→eq (kindOf b) digit u)
@@ -66,11 +70,11 @@ allOf-name (b ∷ bs) t = (by-test (or-cases (eqb (kindOf b) digit) (eqb (kindOf
 
 pub name-bytes : (f : List ℕ) → T (name? f) → All NameByte f
 unfolding name?
-name-bytes f t = allOf-name f (and-right (within? 1 nameLimit (length f)) (allOf nameByte? f) t)
+name-bytes f t = allOf-name f (and-right (between? 1 nameLimit (length f)) (allOf nameByte? f) t)
 
 pub name-length : (f : List ℕ) → T (name? f) → (1 ≤ length f) × (length f ≤ nameLimit)
 unfolding name?
-name-length f t = within?→le 1 nameLimit (length f) (and-left (within? 1 nameLimit (length f)) (allOf nameByte? f) t)
+name-length f t = between?→le 1 nameLimit (length f) (and-left (between? 1 nameLimit (length f)) (allOf nameByte? f) t)
 
 nameByte-without : (b : ℕ) → NameByte b → kindOf b ≡ comma → ⊥
 nameByte-without b (inl e) h = omega arith
@@ -119,8 +123,10 @@ module _ (before : List ActionLine) where
   pub actionOf-line : (a : ActionLine) → ActionFits before a → actionOf before (lineOfAction a) ≡ good a
   unfolding actionOf actionFrom actionFields nameFrom kindOf
   actionOf-line a f =
-      let level : kindOf (levelByte (a .level)) ≡ comma → ⊥ = λ z. let c = levelByte-capital (a .level) in omega arith in
-      let name = all-of-all NameByte (λ b. kindOf b ≡ comma → ⊥) nameByte-without (a .name) (name-bytes (a .name) (f .name)) in
+      let c = levelByte-capital (a .level) in
+      let level : kindOf (levelByte (a .level)) ≡ comma → ⊥ = λ z. omega arith in
+      let bytes = name-bytes (a .name) (f .name) in
+      let name = all-of-all NameByte (λ b. kindOf b ≡ comma → ⊥) nameByte-without (a .name) bytes in
       let fs : List (List ℕ) = (levelByte (a .level) ∷ []) ∷ a .name ∷ [] in
       let e = fieldsOf-line 65 fs (λ z. eqb-false 3 4 refl z) ((level, tt), (name, tt)) in
       let n = checked-good Shape (name? (a .name)) a (f .name) in

@@ -1,10 +1,10 @@
 -- Lists made of blocks of one width, with zeros behind them: their lengths, and the block at a place.
 -- Document 01, "The model store". Assumes nothing.
 use mathlib.Core.List.{List, [], _∷_, _++_, append-assoc}
-use mathlib.Core.Path.{_≡_, refl, sym, ap, _∙_}
+use mathlib.Core.Path.{_≡_, sym, ap, _∙_}
 use Prim.Native.Nat.{ℕ, zero, suc, _+_, _-_, _*_, _≤_, _<_}
 use native.Mathlib.Omega.{arith}
-use native.Mathlib.Nat.{mul-suc, mul-zero, add-comm}
+use native.Mathlib.Nat.{mul-suc, mul-zero}
 use lib.ListN.{length, getD, drop, replicate, length-append, length-replicate}
 use lib.Seq.{drop-append-add}
 use Rattle.model.specs.All.{All}
@@ -37,8 +37,13 @@ module _ {A : Type 0} (block : A → List ℕ) (blocks : List A → List ℕ) (w
       let m = mul-suc width (length xs) in
       ap length (cons x xs) ∙ simp length-append (omega arith)
 
+  pub blocks-all : (P : ℕ → Type 0) (xs : List A) → All (λ x. All P (block x)) xs → All P (blocks xs)
+  blocks-all P [] a = rw nil tt
+  blocks-all P (x ∷ xs) a = rw (cons x xs) (all-append P (block x) (blocks xs) (a .0) (blocks-all P xs (a .1)))
+
   -- the block of element i stands from place width * i on
-  pub blocks-drop : (xs : List A) (i : ℕ) (d : A) (rest : List ℕ) → All (λ x. length (block x) ≡ width) xs → i < length xs
+  pub blocks-drop : (xs : List A) (i : ℕ) (d : A) (rest : List ℕ) → All (λ x. length (block x) ≡ width) xs
+      → i < length xs
       → (more : List ℕ) × (drop (width * i) (blocks xs ++ rest) ≡ block (getD xs i d) ++ more)
   blocks-drop [] i d rest a h = absurd (omega arith)
   blocks-drop (x ∷ xs) zero d rest a h =
@@ -48,4 +53,5 @@ module _ {A : Type 0} (block : A → List ℕ) (blocks : List A → List ℕ) (w
       let w = a .0 in
       let m = mul-suc width i in
       let k : width * suc i ≡ length (block x) + width * i = omega arith in
-      (e .0, rw (k, cons x xs, append-assoc (block x) (blocks xs) rest, drop-append-add (block x) (blocks xs ++ rest) (width * i)) (e .1))
+      let past = drop-append-add (block x) (blocks xs ++ rest) (width * i) in
+      (e .0, rw (k, cons x xs, append-assoc (block x) (blocks xs) rest, past) (e .1))

@@ -23,14 +23,14 @@ abbrev pub lineEnd : ℕ
 lineEnd = 5
 
 -- least ≤ x ≤ most
-abbrev pub within? : ℕ → ℕ → ℕ → Bool
-within? least most x = leb least x && leb x most
+abbrev pub between? : ℕ → ℕ → ℕ → Bool
+between? least most x = leb least x && leb x most
 
 -- the kind of a byte, by its ranges: 0 to 9, a to z, A to Z, the comma (44) and byte 10
 unfoldable pub kindOf : ℕ → ℕ
 kindOf b =
-    cond (within? 48 57 b) digit
-    (cond (within? 97 122 b) smallLetter
-    (cond (within? 65 90 b) capital
+    cond (between? 48 57 b) digit
+    (cond (between? 97 122 b) smallLetter
+    (cond (between? 65 90 b) capital
     (cond (eqb b 44) comma
     (cond (eqb b 10) lineEnd other))))

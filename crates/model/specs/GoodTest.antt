@@ -1,6 +1,6 @@
 -- Tests that compute: whether a model is well-formed, and whether a store is good.
 -- Document 01, "The text" and "The model store".
-use mathlib.Core.Bool.{Bool, true, false, not, _&&_}
+use mathlib.Core.Bool.{Bool, true, not, _&&_}
 use mathlib.Core.List.{List, [], _∷_, _++_}
 use Prim.Native.Nat.{ℕ}
 use lib.Dec.{leb, eqb}
@@ -14,10 +14,10 @@ use Rattle.model.specs.Lines.{headFits?, name?, used?, stepFits?}
 use Rattle.model.specs.Store.{storeOf}
 use Rattle.model.specs.StoredModel.{headAt, modelAt}
 
--- The test of `Each`. What a test leaves for later stands in a `let`, so that it is computed only if the test passes.
-unfoldable pub each? : {A : Type 0} → (List A → A → Bool) → List A → List A → Bool
-each? test before [] = true
-each? test before (x ∷ xs) = let rest = each? test (before ++ (x ∷ [])) xs in test before x && rest
+-- The test of `EachAfter`. What a test leaves for later stands in a `let`: it is computed only if the test passes.
+unfoldable pub eachAfter? : {A : Type 0} → (List A → A → Bool) → List A → List A → Bool
+eachAfter? test before [] = true
+eachAfter? test before (x ∷ xs) = let rest = eachAfter? test (before ++ (x ∷ [])) xs in test before x && rest
 
 unfoldable pub actionFits? : List ActionLine → ActionLine → Bool
 actionFits? before a = leb (a .level) high && name? (a .name) && not (used? (a .name) before)
@@ -30,8 +30,8 @@ wellFormed? m =
     headFits? (m .head)
     && eqb (length (m .actions)) (m .head .actions)
     && eqb (length (m .steps)) (m .head .steps)
-    && each? actionFits? [] (m .actions)
-    && each? (stepRises? (m .head)) [] (m .steps)
+    && eachAfter? actionFits? [] (m .actions)
+    && eachAfter? (stepRises? (m .head)) [] (m .steps)
 
 -- the store shows a well-formed model, and is the store of that model
 unfoldable pub holds? : List ℕ → Bool

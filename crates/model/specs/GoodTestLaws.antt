@@ -1,10 +1,10 @@
 -- The tests of well-formed models and of good stores decide them.
 -- Document 01, "The text" and "The model store". Assumes nothing.
-use mathlib.Core.Bool.{Bool, true, false, not, _&&_}
+use mathlib.Core.Bool.{Bool, not, _&&_}
 use mathlib.Core.List.{List, [], _∷_, _++_}
 use mathlib.Core.Logic.{_⊎_, inl, inr}
-use mathlib.Core.Path.{_≡_, refl, sym, ap, subst}
-use Prim.Native.Nat.{ℕ, _≤_}
+use mathlib.Core.Path.{_≡_, subst}
+use Prim.Native.Nat.{ℕ}
 use lib.Dec.{T, T-not, leb, eqb, leb→le, le→leb, eqb→eq, eqb-refl}
 use lib.ListN.{length, take}
 use Rattle.lts.specs.TestsLaws.{T-cases, and-left, and-right, and-intro}
@@ -16,47 +16,56 @@ use Rattle.model.specs.SameLaws.{same?→eq, eq→same?}
 use Rattle.model.specs.Model.{high, ActionLine, Model, aboveLast?}
 use Rattle.model.specs.Lines.{headFits?, name?, used?, stepFits?}
 use Rattle.model.specs.Store.{storeOf, Good}
-use Rattle.model.specs.WellFormed.{Each, ActionFits, StepFits, WellFormed}
+use Rattle.model.specs.WellFormed.{EachAfter, ActionFits, StepFits, WellFormed}
 use Rattle.model.specs.StoredModel.{headAt, modelAt, Holds}
 use Rattle.model.specs.StoredModelLaws.{Good→Holds, Holds→Good}
-use Rattle.model.specs.GoodTest.{each?, actionFits?, stepRises?, wellFormed?, holds?, good?}
+use Rattle.model.specs.GoodTest.{eachAfter?, actionFits?, stepRises?, wellFormed?, holds?, good?}
 
 -- ---- each
 
 module _ {A : Type 0} (test : List A → A → Bool) (P : List A → A → Type 0) where
-  pub each?→Each : ((before : List A) (x : A) → T (test before x) → P before x) → (before xs : List A)
-      → T (each? test before xs) → Each P before xs
-  unfolding each? Each
-  each?→Each f before [] t = tt
-  each?→Each f before (x ∷ xs) t =
-      let rest = each? test (before ++ (x ∷ [])) xs in
-      (f before x (and-left (test before x) rest t), each?→Each f (before ++ (x ∷ [])) xs (and-right (test before x) rest t))
+  pub eachAfter?→EachAfter : ((before : List A) (x : A) → T (test before x) → P before x) → (before xs : List A)
+      → T (eachAfter? test before xs) → EachAfter P before xs
+  unfolding eachAfter? EachAfter
+  eachAfter?→EachAfter f before [] t = tt
+  eachAfter?→EachAfter f before (x ∷ xs) t =
+      let rest = eachAfter? test (before ++ (x ∷ [])) xs in (
+        f before x (and-left (test before x) rest t),
+        eachAfter?→EachAfter f (before ++ (x ∷ [])) xs (and-right (test before x) rest t),
+      )
 
-  pub Each→each? : ((before : List A) (x : A) → P before x → T (test before x)) → (before xs : List A)
-      → Each P before xs → T (each? test before xs)
-  unfolding each? Each
-  Each→each? f before [] e = tt
-  Each→each? f before (x ∷ xs) e =
-      and-intro (test before x) (each? test (before ++ (x ∷ [])) xs)
-      (f before x (e .0)) (Each→each? f (before ++ (x ∷ [])) xs (e .1))
+  pub EachAfter→eachAfter? : ((before : List A) (x : A) → P before x → T (test before x)) → (before xs : List A)
+      → EachAfter P before xs → T (eachAfter? test before xs)
+  unfolding eachAfter? EachAfter
+  EachAfter→eachAfter? f before [] e = tt
+  EachAfter→eachAfter? f before (x ∷ xs) e =
+      and-intro (test before x) (eachAfter? test (before ++ (x ∷ [])) xs)
+      (f before x (e .0)) (EachAfter→eachAfter? f (before ++ (x ∷ [])) xs (e .1))
 
 -- ---- actions and steps
 
-pub actionFits?→ActionFits : (before : List ActionLine) (a : ActionLine) → T (actionFits? before a) → ActionFits before a
+pub actionFits?→ActionFits : (before : List ActionLine) (a : ActionLine) → T (actionFits? before a)
+    → ActionFits before a
 unfolding actionFits?
 actionFits?→ActionFits before a t =
     let l = leb (a .level) high in
     let n = name? (a .name) in
     let f = not (used? (a .name) before) in
     let both = and-left (l && n) f t in
-    record { level = leb→le (a .level) high (and-left l n both); name = and-right l n both; fresh = and-right (l && n) f t }
+    record {
+      level = leb→le (a .level) high (and-left l n both);
+      name = and-right l n both;
+      fresh = and-right (l && n) f t;
+    }
 
-pub ActionFits→actionFits? : (before : List ActionLine) (a : ActionLine) → ActionFits before a → T (actionFits? before a)
+pub ActionFits→actionFits? : (before : List ActionLine) (a : ActionLine) → ActionFits before a
+    → T (actionFits? before a)
 unfolding actionFits?
 ActionFits→actionFits? before a f =
     let l = leb (a .level) high in
     let n = name? (a .name) in
-    and-intro (l && n) (not (used? (a .name) before)) (and-intro l n (le→leb (a .level) high (f .level)) (f .name)) (f .fresh)
+    and-intro (l && n) (not (used? (a .name) before))
+    (and-intro l n (le→leb (a .level) high (f .level)) (f .name)) (f .fresh)
 
 module _ (h : Head) (before : List StepLine) (s : StepLine) where
   pub stepRises?→StepFits : T (stepRises? h before s) → StepFits h before s
@@ -73,6 +82,9 @@ module _ (h : Head) (before : List StepLine) (s : StepLine) where
 
 -- ---- models
 
+eq→eqb : (x y : ℕ) → x ≡ y → T (eqb x y)
+eq→eqb x y e = subst (λ (z : ℕ). T (eqb x z)) e (eqb-refl x)
+
 module _ (m : Model) where
   abbrev head? : Bool
   head? = headFits? (m .head)
@@ -84,10 +96,10 @@ module _ (m : Model) where
   stepCount? = eqb (length (m .steps)) (m .head .steps)
 
   abbrev actions? : Bool
-  actions? = each? actionFits? [] (m .actions)
+  actions? = eachAfter? actionFits? [] (m .actions)
 
   abbrev steps? : Bool
-  steps? = each? (stepRises? (m .head)) [] (m .steps)
+  steps? = eachAfter? (stepRises? (m .head)) [] (m .steps)
 
   pub wellFormed?→WellFormed : T (wellFormed? m) → WellFormed m
   unfolding wellFormed?
@@ -100,20 +112,23 @@ module _ (m : Model) where
         action-count = eqb→eq (length (m .actions)) (m .head .actions) (and-right head? actionCount? two);
         step-count = eqb→eq (length (m .steps)) (m .head .steps) (and-right (head? && actionCount?) stepCount? three);
         actions =
-            each?→Each actionFits? ActionFits actionFits?→ActionFits [] (m .actions)
+            eachAfter?→EachAfter actionFits? ActionFits actionFits?→ActionFits [] (m .actions)
             (and-right (head? && actionCount? && stepCount?) actions? four);
         steps =
-            each?→Each (stepRises? (m .head)) (StepFits (m .head)) (stepRises?→StepFits (m .head)) [] (m .steps)
+            eachAfter?→EachAfter (stepRises? (m .head)) (StepFits (m .head)) (stepRises?→StepFits (m .head)) []
+            (m .steps)
             (and-right (head? && actionCount? && stepCount? && actions?) steps? t);
       }
 
   pub WellFormed→wellFormed? : WellFormed m → T (wellFormed? m)
   unfolding wellFormed?
   WellFormed→wellFormed? w =
-      let ac : T actionCount? = subst (λ (n : ℕ). T (eqb (length (m .actions)) n)) (w .action-count) (eqb-refl (length (m .actions))) in
-      let sc : T stepCount? = subst (λ (n : ℕ). T (eqb (length (m .steps)) n)) (w .step-count) (eqb-refl (length (m .steps))) in
-      let a = Each→each? actionFits? ActionFits ActionFits→actionFits? [] (m .actions) (w .actions) in
-      let s = Each→each? (stepRises? (m .head)) (StepFits (m .head)) (StepFits→stepRises? (m .head)) [] (m .steps) (w .steps) in
+      let ac = eq→eqb (length (m .actions)) (m .head .actions) (w .action-count) in
+      let sc = eq→eqb (length (m .steps)) (m .head .steps) (w .step-count) in
+      let a = EachAfter→eachAfter? actionFits? ActionFits ActionFits→actionFits? [] (m .actions) (w .actions) in
+      let s =
+      EachAfter→eachAfter? (stepRises? (m .head)) (StepFits (m .head)) (StepFits→stepRises? (m .head)) [] (m .steps)
+      (w .steps) in
       and-intro (head? && actionCount? && stepCount? && actions?) steps?
       (and-intro (head? && actionCount? && stepCount?) actions?
       (and-intro (head? && actionCount?) stepCount?

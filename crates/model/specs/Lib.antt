@@ -19,14 +19,14 @@ pub mod Lines
 pub mod Reading
 pub mod Store
 pub mod Text
+pub mod Ranges
 pub mod LineText
 pub mod SameLaws
-pub mod FieldsLaws
+pub mod JoinedFieldsLaws
 pub mod WellFormed
 pub mod NameByteLaws
 pub mod EachLaws
 pub mod BlocksLaws
-pub mod Ranges
 pub mod RangesLaws
 pub mod LineTextLaws
 pub mod ActionLineLaws
@@ -40,6 +40,8 @@ pub mod GoodTest
 pub mod GoodTestLaws
 pub mod Above
 pub mod AboveLaws
+pub mod System
+pub mod WellFormedLaws
 pub mod StoredModel
 pub mod GoodPlaces
 pub mod PlacesLaws
@@ -50,3 +52,4 @@ pub mod LineAnswers
 pub mod Promises
 pub mod PromisesLaws
 pub mod Examples
+pub mod GoodTestExamples

@@ -2,7 +2,7 @@
 -- Document 01, "The text". Assumes nothing.
 use mathlib.Core.List.{List, [], _∷_, map}
 use mathlib.Core.Path.{_≡_, refl, sym, ap, _∙_, subst}
-use Prim.Native.Nat.{ℕ, _≤_, _<_}
+use Prim.Native.Nat.{ℕ}
 use native.Mathlib.Omega.{arith}
 use lib.Dec.{T}
 use lib.ListN.{length}
@@ -13,13 +13,14 @@ use Rattle.model.specs.declared.StepLine.{StepLine}
 use Rattle.model.specs.Bytes.{kindOf}
 use Rattle.model.specs.Numbers.{digits}
 use Rattle.model.specs.Model.{aboveLast?}
-use Rattle.model.specs.Lines.{Line, good, bad, checked, numbersLine, headFits?, headNumbers, headFrom, headOf, stepFits?, stepNumbers, rising, stepFrom, stepOf}
+use Rattle.model.specs.Lines.{Line, good, bad, checked, numbersLine, headFits?, headNumbers, headFrom, headOf}
+use Rattle.model.specs.Lines.{stepFits?, stepNumbers, rising, stepFrom, stepOf}
 use Rattle.model.specs.Store.{headPlaces}
-use Rattle.model.specs.Ranges.{HeadRanges}
+use Rattle.model.specs.Ranges.{HeadRanges, Small}
 use Rattle.model.specs.RangesLaws.{headFits?→HeadRanges, stepFits?→StepRanges}
 use Rattle.model.specs.WellFormed.{StepFits}
 use Rattle.model.specs.LineText.{lineOf, lineOfHead, stepPlaces, lineOfStep}
-use Rattle.model.specs.FieldsLaws.{checked-good, good-checked, Small, numbersLine-line, line-of-numbersLine}
+use Rattle.model.specs.JoinedFieldsLaws.{checked-good, good-checked, numbersLine-line, line-of-numbersLine}
 
 -- ---- `M,states,actions,steps,start`
 
@@ -75,7 +76,8 @@ module _ (h : Head) (before : List StepLine) where
       rw (e, stepFrom, checked-good Range (stepFits? h s) s (f .in-range), rising)
       (checked-good Order (aboveLast? before s) s (f .rising))
 
-  pub line-of-stepOf : (line : List ℕ) (s : StepLine) → stepOf h before line ≡ good s → (line ≡ lineOfStep s) × StepFits h before s
+  pub line-of-stepOf : (line : List ℕ) (s : StepLine) → stepOf h before line ≡ good s
+      → (line ≡ lineOfStep s) × StepFits h before s
   unfolding stepOf stepFrom rising
   line-of-stepOf line s q = by-numbers (numbersLine 83 3 line) refl q
     where
@@ -84,11 +86,13 @@ module _ (h : Head) (before : List StepLine) where
       by-range ns (good t) e g =
           let c = good-checked Range (stepFits? h (stepNumbers ns)) (stepNumbers ns) t e in
           let d = good-checked Order (aboveLast? before t) t s g in
-          let k = c .1 ∙ d .1 in
-          (k, record {
-            in-range = subst (λ (x : StepLine). T (stepFits? h x)) k (c .0);
-            rising = subst (λ (x : StepLine). T (aboveLast? before x)) (d .1) (d .0);
-          })
+          let k = c .1 ∙ d .1 in (
+            k,
+            record {
+              in-range = subst (λ (x : StepLine). T (stepFits? h x)) k (c .0);
+              rising = subst (λ (x : StepLine). T (aboveLast? before x)) (d .1) (d .0);
+            },
+          )
       by-range ns (bad fault) e g = let z : _≡_ {A = ℕ} 0 1 = cc in absurd (omega arith)
 
       by-numbers : (l : Line (List ℕ)) → numbersLine 83 3 line ≡ l → stepFrom h before l ≡ good s

@@ -12,7 +12,7 @@ use Rattle.model.specs.declared.Head.{Head}
 use Rattle.model.specs.declared.StepLine.{StepLine}
 use Rattle.model.specs.declared.number.Number.{Number}
 use Rattle.model.specs.declared.number.Number.the-variants.{Value, Bad}
-use Rattle.model.specs.Bytes.{digit, smallLetter, comma, within?, kindOf}
+use Rattle.model.specs.Bytes.{digit, smallLetter, comma, between?, kindOf}
 use Rattle.model.specs.Numbers.{numberOf}
 use Rattle.model.specs.Split.{split, same?}
 use Rattle.model.specs.Limits.{stateLimit, actionLimit, stepLimit, nameLimit}
@@ -61,8 +61,8 @@ numbersLine letter n line = numbersFrom (fieldsOf letter n line)
 -- "States 1 to 128, actions 1 to 64, steps 0 to 1,024, start below states."
 unfoldable pub headFits? : Head → Bool
 headFits? h =
-    within? 1 stateLimit (h .states)
-    && within? 1 actionLimit (h .actions)
+    between? 1 stateLimit (h .states)
+    && between? 1 actionLimit (h .actions)
     && leb (h .steps) stepLimit
     && ltb (h .start .0) (h .states)
 
@@ -100,7 +100,7 @@ nameByte? b = eqb (kindOf b) digit || eqb (kindOf b) smallLetter
 
 -- "A name is 1 to 12 bytes of a to z and 0 to 9"
 unfoldable pub name? : List ℕ → Bool
-name? f = within? 1 nameLimit (length f) && allOf nameByte? f
+name? f = between? 1 nameLimit (length f) && allOf nameByte? f
 
 unfoldable pub nameFrom : Line ℕ → List ℕ → Line ActionLine
 nameFrom (good level) f = checked Shape (name? f) (record { level = level; name = f })

@@ -3,36 +3,25 @@
 use mathlib.Core.Bool.{Bool, true, false, cond}
 use mathlib.Core.List.{List, [], _∷_, _++_, map, append-assoc, append-nil}
 use mathlib.Core.Path.{_≡_, refl, sym, ap, _∙_, subst}
-use Prim.Native.Nat.{ℕ, zero, suc, _+_, _≤_, _<_}
+use Prim.Native.Nat.{ℕ, zero, suc, _+_, _<_}
 use native.Mathlib.Omega.{arith}
-use lib.Dec.{T, ltb}
+use lib.Dec.{T}
 use lib.ListN.{length, length-append}
-use borrow.Author.Tests.{le-ltb}
-use Rattle.lts.specs.TestsLaws.{T→true}
-use Rattle.model.specs.declared.Fault.{Fault}
 use Rattle.model.specs.declared.Fault.the-variants.{Shape}
 use Rattle.model.specs.declared.Head.{Head}
 use Rattle.model.specs.declared.StepLine.{StepLine}
-use Rattle.model.specs.Bytes.{kindOf, lineEnd}
-use Rattle.model.specs.BytesLaws.{lineEnd-only}
-use Rattle.model.specs.Limits.{textLimit, outLength}
-use Rattle.model.specs.Split.{split, same?}
+use Rattle.model.specs.Split.{same?}
 use Rattle.model.specs.SameLaws.{same?→eq}
-use Rattle.model.specs.All.{All}
-use Rattle.model.specs.AllLaws.{all-of-all}
-use Rattle.model.specs.Join.{join, Without}
-use Rattle.model.specs.JoinLaws.{all-join, split-join, join-split}
 use Rattle.model.specs.Model.{ActionLine, Model}
-use Rattle.model.specs.Lines.{Line, good, bad, headOf, actionOf, stepOf}
-use Rattle.model.specs.Reading.{Reading, done, tooLong, faulty, onLine, orFault, readNothing, readEnd, readSteps, readActions, headModel, readModel, readText}
-use Rattle.model.specs.Text.{textOf}
-use Rattle.model.specs.WellFormed.{Each, ActionFits, StepFits, WellFormed}
+use Rattle.model.specs.Lines.{Line, good, bad, headFits?, headOf, actionOf, stepOf}
+use Rattle.model.specs.Reading.{Reading, done, faulty, onLine, orFault, readNothing, readEnd, readSteps}
+use Rattle.model.specs.Reading.{readActions, headModel, readModel}
+use Rattle.model.specs.WellFormed.{EachAfter, ActionFits, StepFits, WellFormed}
+use Rattle.model.specs.Ranges.{HeadRanges}
 use Rattle.model.specs.RangesLaws.{headFits?→HeadRanges}
 use Rattle.model.specs.LineText.{lineOfHead, lineOfAction, lineOfStep, partsOf}
 use Rattle.model.specs.LineTextLaws.{headOf-line, line-of-headOf, stepOf-line, line-of-stepOf}
 use Rattle.model.specs.ActionLineLaws.{actionOf-line, line-of-actionOf}
-use Rattle.model.specs.TextLaws.{textOf-parts, LineByte, partsOf-lineBytes}
-use Rattle.model.specs.TextLengthLaws.{textOf-length-le}
 
 -- ---- a line, if it is there and good
 
@@ -42,7 +31,8 @@ unfolding onLine
 onLine-cons k line [] read h = absurd (omega arith)
 onLine-cons k line (part ∷ parts) read h = refl
 
-onLine-done : (k : ℕ) (parts : List (List ℕ)) (read : List ℕ → List (List ℕ) → Reading) (m : Model) → onLine k parts read ≡ done m
+onLine-done : (k : ℕ) (parts : List (List ℕ)) (read : List ℕ → List (List ℕ) → Reading) (m : Model)
+    → onLine k parts read ≡ done m
     → (line : List ℕ) × (rest : List (List ℕ)) × (parts ≡ line ∷ rest) × (0 < length rest) × (read line rest ≡ done m)
 unfolding onLine
 onLine-done k [] read m h = let z : _≡_ {A = ℕ} 0 1 = cc in absurd (omega arith)
@@ -57,44 +47,61 @@ orFault-done k (bad fault) read m h = let z : _≡_ {A = ℕ} 0 1 = cc in absurd
 
 -- ---- lines of one kind, one after the other
 
+-- what n lines state that stand at the front of `parts`, and what holds of it and of the parts after them
+record Stated {A : Type 0} (line : A → List ℕ) (Fits : List A → A → Type 0) (n : ℕ) (before : List A)
+    (parts : List (List ℕ)) (After : List A → List (List ℕ) → Type 0) : Type 0 where
+  stated : List A
+  rest : List (List ℕ)
+  count : length stated ≡ n
+  lines : parts ≡ map line stated ++ rest
+  fit : EachAfter Fits before stated
+  after : After stated rest
+
 -- `read n k before parts` reads n lines of the kind, of which the first is line k, after what is in `before`
 module _ {A : Type 0} (line : A → List ℕ) (Fits : List A → A → Type 0) (of : List A → List ℕ → Line A)
     (read : ℕ → ℕ → List A → List (List ℕ) → Reading)
     (read-suc : (n k : ℕ) (before : List A) (parts : List (List ℕ)) → read (suc n) k before parts
     ≡ onLine k parts (λ l rest. orFault k (of before l) (λ x. read n (suc k) (before ++ (x ∷ [])) rest))) where
   lines-read : ((before : List A) (x : A) → Fits before x → of before (line x) ≡ good x)
-      → (xs : List A) (k : ℕ) (before : List A) (parts : List (List ℕ)) → 0 < length parts → Each Fits before xs
+      → (xs : List A) (k : ℕ) (before : List A) (parts : List (List ℕ)) → 0 < length parts → EachAfter Fits before xs
       → read (length xs) k before (map line xs ++ parts) ≡ read 0 (k + length xs) (before ++ xs) parts
-  unfolding Each orFault
+  unfolding EachAfter orFault
   lines-read reads [] k before parts l e = let z : k + 0 ≡ k = omega arith in rw (append-nil, z)
   lines-read reads (x ∷ xs) k before parts l e =
       let n : 0 < length (map line xs ++ parts) = simp length-append (omega arith) in
       let z : suc k + length xs ≡ k + suc (length xs) = omega arith in
+      let i = lines-read reads xs (suc k) (before ++ (x ∷ [])) parts l (e .1) in
       read-suc (length xs) k before (line x ∷ (map line xs ++ parts))
       ∙ onLine-cons k (line x) (map line xs ++ parts) _ n
-      ∙ rw (reads before x (e .0), orFault, lines-read reads xs (suc k) (before ++ (x ∷ [])) parts l (e .1), z, append-assoc)
+      ∙ rw (reads before x (e .0), orFault, i, z, append-assoc)
 
   regroup : (k n : ℕ) (before : List A) (x : A) (xs : List A) (rest : List (List ℕ)) (m : Model)
-      → read 0 (suc k + n) (before ++ (x ∷ []) ++ xs) rest ≡ done m → read 0 (k + suc n) (before ++ (x ∷ xs)) rest ≡ done m
+      → read 0 (suc k + n) (before ++ (x ∷ []) ++ xs) rest ≡ done m
+      → read 0 (k + suc n) (before ++ (x ∷ xs)) rest ≡ done m
   regroup k n before x xs rest m h =
       let z : suc k + n ≡ k + suc n = omega arith in
       rw (append-assoc, z) at h
 
   lines-of-done : ((before : List A) (l : List ℕ) (x : A) → of before l ≡ good x → (l ≡ line x) × Fits before x)
       → (n k : ℕ) (before : List A) (parts : List (List ℕ)) (m : Model) → read n k before parts ≡ done m
-      → (xs : List A) × (rest : List (List ℕ)) × (length xs ≡ n) × (parts ≡ map line xs ++ rest) × Each Fits before xs
-      × (read 0 (k + n) (before ++ xs) rest ≡ done m)
-  unfolding Each
+      → Stated line Fits n before parts (λ xs rest. read 0 (k + n) (before ++ xs) rest ≡ done m)
+  unfolding EachAfter
   lines-of-done states zero k before parts m h =
       let z : k + 0 ≡ k = omega arith in
-      ([], parts, refl, refl, tt, rw (append-nil, z) h)
+      record { stated = []; rest = parts; count = refl; lines = refl; fit = tt; after = rw (append-nil, z) h }
   lines-of-done states (suc n) k before parts m h =
       let o = onLine-done k parts _ m (sym (read-suc n k before parts) ∙ h) in
       let f = orFault-done k (of before (o .0)) _ m (o .4) in
       let s = states before (o .0) (f .0) (f .1) in
       let i = lines-of-done states n (suc k) (before ++ (f .0 ∷ [])) (o .1) m (f .2) in
-      let p : parts ≡ line (f .0) ∷ (map line (i .0) ++ i .1) = cc in
-      (f .0 ∷ i .0, i .1, ap suc (i .2), p, (s .1, i .4), regroup k n before (f .0) (i .0) (i .1) m (i .5))
+      record {
+        stated = f .0 ∷ i .stated;
+        rest = i .rest;
+        count = ap suc (i .count);
+        lines = cc;
+        fit = (s .1, i .fit);
+        after = regroup k n before (f .0) (i .stated) (i .rest) m (i .after);
+      }
 
 -- ---- the end
 
@@ -128,57 +135,95 @@ readEnd-done k m n parts h =
 
 -- ---- the parts of a text
 
-abbrev stepsRead : Head → List ActionLine → ℕ → ℕ → List StepLine → List (List ℕ) → Reading
-stepsRead h actions n k before parts = readSteps n k (record { head = h; actions = actions; steps = before }) parts
+abbrev last : List (List ℕ)
+last = (69 ∷ []) ∷ [] ∷ []
+
+abbrev model : Head → List ActionLine → List StepLine → Model
+model h actions steps = record { head = h; actions = actions; steps = steps }
+
+module _ (h : Head) (actions : List ActionLine) where
+  abbrev stepsRead : ℕ → ℕ → List StepLine → List (List ℕ) → Reading
+  stepsRead n k before parts = readSteps n k (model h actions before) parts
+
+  readSteps-lines : (k : ℕ) (steps : List StepLine) → HeadRanges h → EachAfter (StepFits h) [] steps
+      → readSteps (length steps) k (model h actions []) (map lineOfStep steps ++ last) ≡ done (model h actions steps)
+  unfolding readSteps
+  readSteps-lines k steps r e =
+      lines-read lineOfStep (StepFits h) (stepOf h) stepsRead (λ n j b p. refl)
+      (λ b s. stepOf-line h b s r) steps k [] last (omega arith) e
+      ∙ readEnd-last (k + length steps) (model h actions steps)
+
+  readSteps-done : (n k : ℕ) (parts : List (List ℕ)) (m : Model) → readSteps n k (model h actions []) parts ≡ done m
+      → Stated lineOfStep (StepFits h) n [] parts (λ steps rest. (rest ≡ last) × (model h actions steps ≡ m))
+  unfolding readSteps
+  readSteps-done n k parts m q =
+      ended (lines-of-done lineOfStep (StepFits h) (stepOf h) stepsRead (λ n j b p. refl) (line-of-stepOf h)
+      n k [] parts m q)
+    where
+      ended : Stated lineOfStep (StepFits h) n [] parts
+          (λ steps rest. readSteps 0 (k + n) (model h actions steps) rest ≡ done m)
+          → Stated lineOfStep (StepFits h) n [] parts (λ steps rest. (rest ≡ last) × (model h actions steps ≡ m))
+      ended s =
+          record {
+            stated = s .stated;
+            rest = s .rest;
+            count = s .count;
+            lines = s .lines;
+            fit = s .fit;
+            after = readEnd-done (k + n) (model h actions (s .stated)) m (s .rest) (s .after);
+          }
 
 abbrev actionsRead : Head → ℕ → ℕ → List ActionLine → List (List ℕ) → Reading
-actionsRead h n k before parts = readActions n k (record { head = h; actions = before; steps = [] }) parts
+actionsRead h n k before parts = readActions n k (model h before []) parts
 
 pub readModel-parts : (m : Model) → WellFormed m → readModel (partsOf m) ≡ done m
-unfolding readModel readActions readSteps orFault
+unfolding readModel readActions orFault
 readModel-parts m w =
     let h = m .head in
-    let r = headFits?→HeadRanges h (w .head) in
-    let last : List (List ℕ) = (69 ∷ []) ∷ [] ∷ [] in
     let from-steps : List (List ℕ) = map lineOfStep (m .steps) ++ last in
     let k : 0 < length from-steps = simp length-append (omega arith) in
     let l : 0 < length (map lineOfAction (m .actions) ++ from-steps) = simp length-append (omega arith) in
-    let actions =
-        lines-read lineOfAction ActionFits actionOf (actionsRead h) (λ n j b p. refl)
-        actionOf-line (m .actions) 2 [] from-steps k (w .actions) in
-    let steps =
-        lines-read lineOfStep (StepFits h) (stepOf h) (stepsRead h (m .actions)) (λ n j b p. refl)
-        (λ b s. stepOf-line h b s r) (m .steps) (2 + length (m .actions)) [] last (omega arith) (w .steps) in
     onLine-cons 1 (lineOfHead h) (map lineOfAction (m .actions) ++ from-steps) _ l
     ∙ rw (headOf-line h (w .head), orFault)
     (ap (λ (n : ℕ). actionsRead h n 2 [] (map lineOfAction (m .actions) ++ from-steps)) (sym (w .action-count))
-    ∙ actions
-    ∙ ap (λ (n : ℕ). stepsRead h (m .actions) n (2 + length (m .actions)) [] from-steps) (sym (w .step-count))
-    ∙ steps
-    ∙ readEnd-last (2 + length (m .actions) + length (m .steps)) m)
+    ∙ lines-read lineOfAction ActionFits actionOf (actionsRead h) (λ n j b p. refl) actionOf-line
+    (m .actions) 2 [] from-steps k (w .actions)
+    ∙ ap (λ (n : ℕ). readSteps n (2 + length (m .actions)) (model h (m .actions) []) from-steps) (sym (w .step-count))
+    ∙ readSteps-lines h (m .actions) (2 + length (m .actions)) (m .steps) (headFits?→HeadRanges h (w .head)) (w .steps))
 
--- the model of a head, actions and steps that were read
-stated : (parts : List (List ℕ)) (h : Head) (actions : List ActionLine) (steps : List StepLine)
-    (line : List ℕ) (from-actions from-steps : List (List ℕ)) → parts ≡ line ∷ from-actions → line ≡ lineOfHead h
-    → from-actions ≡ map lineOfAction actions ++ from-steps → from-steps ≡ map lineOfStep steps ++ ((69 ∷ []) ∷ [] ∷ [])
-    → parts ≡ partsOf (record { head = h; actions = actions; steps = steps })
-stated parts h actions steps line from-actions from-steps p l a s = rw (p, l, a, s)
+joined : (parts : List (List ℕ)) (h : Head) (actions : List ActionLine) (steps : List StepLine)
+    (line : List ℕ) (from-actions from-steps end : List (List ℕ)) → parts ≡ line ∷ from-actions → line ≡ lineOfHead h
+    → from-actions ≡ map lineOfAction actions ++ from-steps → from-steps ≡ map lineOfStep steps ++ end → end ≡ last
+    → parts ≡ partsOf (model h actions steps)
+joined parts h actions steps line from-actions from-steps end p l a s e = rw (p, l, a, s, e)
 
 pub partsOf-of-readModel : (parts : List (List ℕ)) (m : Model) → readModel parts ≡ done m
     → WellFormed m × (parts ≡ partsOf m)
-unfolding readModel readActions readSteps
-partsOf-of-readModel parts m q =
-    let o = onLine-done 1 parts _ m q in
-    let f = orFault-done 1 (headOf (o .0)) _ m (o .4) in
-    let h = f .0 in
-    let l = line-of-headOf (o .0) h (f .1) in
-    let a =
-        lines-of-done lineOfAction ActionFits actionOf (actionsRead h) (λ n j b p. refl)
-        line-of-actionOf (h .actions) 2 [] (o .1) m (f .2) in
-    let s =
-        lines-of-done lineOfStep (StepFits h) (stepOf h) (stepsRead h (a .0)) (λ n j b p. refl)
-        (line-of-stepOf h) (h .steps) (2 + h .actions) [] (a .1) m (a .5) in
-    let e = readEnd-done (2 + h .actions + h .steps) (record { head = h; actions = a .0; steps = s .0 }) m (s .1) (s .5) in
-    subst (λ (n : Model). WellFormed n × (parts ≡ partsOf n)) (e .1)
-    (record { head = l .1; action-count = a .2; step-count = s .2; actions = a .4; steps = s .4 },
-      stated parts h (a .0) (s .0) (o .0) (o .1) (a .1) (o .2) (l .0) (a .3) (s .3 ∙ ap (λ (x : List (List ℕ)). map lineOfStep (s .0) ++ x) (e .0)))
+unfolding readModel readActions
+partsOf-of-readModel parts m q = first (onLine-done 1 parts _ m q)
+  where
+    whole : (line : List ℕ) (rest : List (List ℕ)) (h : Head) → parts ≡ line ∷ rest
+        → (line ≡ lineOfHead h) × T (headFits? h)
+        → Stated lineOfAction ActionFits (h .actions) [] rest
+        (λ actions after. readSteps (h .steps) (2 + h .actions) (model h actions []) after ≡ done m)
+        → WellFormed m × (parts ≡ partsOf m)
+    whole line rest h p l a =
+        let s = readSteps-done h (a .stated) (h .steps) (2 + h .actions) (a .rest) m (a .after) in
+        subst (λ (n : Model). WellFormed n × (parts ≡ partsOf n)) (s .after .1) (
+          record { head = l .1; action-count = a .count; step-count = s .count; actions = a .fit; steps = s .fit },
+          joined parts h (a .stated) (s .stated) line rest (a .rest) (s .rest) p (l .0) (a .lines) (s .lines)
+              (s .after .0),
+        )
+
+    second : (line : List ℕ) (rest : List (List ℕ)) → parts ≡ line ∷ rest
+        → (h : Head) × (headOf line ≡ good h) × (readActions (h .actions) 2 (model h [] []) rest ≡ done m)
+        → WellFormed m × (parts ≡ partsOf m)
+    second line rest p f =
+        whole line rest (f .0) p (line-of-headOf line (f .0) (f .1))
+        (lines-of-done lineOfAction ActionFits actionOf (actionsRead (f .0)) (λ n j b p. refl) line-of-actionOf
+        (f .0 .actions) 2 [] rest m (f .2))
+
+    first : (line : List ℕ) × (rest : List (List ℕ)) × (parts ≡ line ∷ rest) × (0 < length rest)
+        × (orFault 1 (headOf line) (λ h. readActions (h .actions) 2 (headModel h) rest) ≡ done m)
+        → WellFormed m × (parts ≡ partsOf m)
+    first o = second (o .0) (o .1) (o .2) (orFault-done 1 (headOf (o .0)) _ m (o .4))

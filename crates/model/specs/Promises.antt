@@ -16,6 +16,15 @@ use Rattle.model.specs.Model.{Model}
 use Rattle.model.specs.Reading.{Reading, done, tooLong, faulty, readText}
 use Rattle.model.specs.Store.{storeOf, Good}
 
+-- ---- every operation on a store
+
+-- "Tested in rising order": a list that is too short, then a store that is not good, "All unchanged"; else what the
+-- operation does on a good store
+pub record OnStore (lists : Option ℕ) (store : List ℕ) (told : Told) (Unchanged : Type 0) (Done : Good store → Type 0) : Type 0 where
+  pub short : (k : ℕ) → lists ≡ some k → (told ≡ refuses 21 k) × Unchanged
+  pub not-good : lists ≡ none → ¬ (Good store) → (told ≡ refuses 22 0) × Unchanged
+  pub good : lists ≡ none → (g : Good store) → Done g
+
 -- ---- Read: text (no least length), store
 
 -- "Read [..] answer[s] only that [it] succeeded"; else the document's number and place
@@ -40,9 +49,9 @@ readingStore (faulty fault line) store = store
 abbrev pub readLists : List ℕ → List ℕ → Option ℕ
 readLists text store = firstShort 1 (length text ∷ length store ∷ []) (0 ∷ storeLength ∷ [])
 
-pub record ReadPromise (text store : List ℕ) (r : ReadAnswer) (exit : List ℕ) : Type 0 where
-  pub short : (k : ℕ) → readLists text store ≡ some k → (toldRead r ≡ refuses 21 k) × (exit ≡ store)
-  pub told : readLists text store ≡ none → toldRead r ≡ toldReading (readText text)
+pub record ReadPromise (text store : List ℕ) (told : Told) (exit : List ℕ) : Type 0 where
+  pub short : (k : ℕ) → readLists text store ≡ some k → (told ≡ refuses 21 k) × (exit ≡ store)
+  pub answer : readLists text store ≡ none → told ≡ toldReading (readText text)
   pub filled : readLists text store ≡ none → exit ≡ readingStore (readText text) store
 
 -- ---- Write: store, out
@@ -56,9 +65,8 @@ toldWrite write-answer.NotGood = refuses 22 0
 abbrev pub writeLists : List ℕ → List ℕ → Option ℕ
 writeLists store out = firstShort 1 (length store ∷ length out ∷ []) (storeLength ∷ outLength ∷ [])
 
-pub record WritePromise (store out : List ℕ) (r : WriteAnswer) (exit : List ℕ) : Type 0 where
-  pub short : (k : ℕ) → writeLists store out ≡ some k → (toldWrite r ≡ refuses 21 k) × (exit ≡ out)
-  pub not-good : writeLists store out ≡ none → ¬ (Good store) → (toldWrite r ≡ refuses 22 0) × (exit ≡ out)
-  -- "The text that reads to the store": whichever text reads to it
-  pub good : writeLists store out ≡ none → (g : Good store)
-      → (toldWrite r ≡ answers (length (g .text) ∷ [])) × (exit ≡ g .text ++ drop (length (g .text)) out)
+-- "The text that reads to the store": whichever text reads to it
+abbrev pub WritePromise : List ℕ → List ℕ → Told → List ℕ → Type 0
+WritePromise store out told exit =
+    OnStore (writeLists store out) store told (exit ≡ out)
+    (λ g. (told ≡ answers (length (g .text) ∷ [])) × (exit ≡ g .text ++ drop (length (g .text)) out))

@@ -1,29 +1,29 @@
 -- The tests of ranges decide them.
 -- Document 01, "The text". Assumes nothing.
 use mathlib.Core.Bool.{Bool, _&&_}
-use Prim.Native.Nat.{ℕ, _≤_, _<_}
+use Prim.Native.Nat.{ℕ, _≤_}
 use lib.Dec.{T, leb, ltb, leb→le, le→leb, ltb→lt, lt→ltb}
 use Rattle.lts.specs.TestsLaws.{and-left, and-right, and-intro}
 use Rattle.model.specs.declared.Head.{Head}
 use Rattle.model.specs.declared.StepLine.{StepLine}
-use Rattle.model.specs.Bytes.{within?}
+use Rattle.model.specs.Bytes.{between?}
 use Rattle.model.specs.Limits.{stateLimit, actionLimit, stepLimit}
 use Rattle.model.specs.Lines.{headFits?, stepFits?}
 use Rattle.model.specs.Ranges.{HeadRanges, StepRanges}
 
-pub within?→le : (least most x : ℕ) → T (within? least most x) → (least ≤ x) × (x ≤ most)
-within?→le least most x t =
+pub between?→le : (least most x : ℕ) → T (between? least most x) → (least ≤ x) × (x ≤ most)
+between?→le least most x t =
     (leb→le least x (and-left (leb least x) (leb x most) t), leb→le x most (and-right (leb least x) (leb x most) t))
 
-pub le→within? : (least most x : ℕ) → least ≤ x → x ≤ most → T (within? least most x)
-le→within? least most x h l = and-intro (leb least x) (leb x most) (le→leb least x h) (le→leb x most l)
+pub le→between? : (least most x : ℕ) → least ≤ x → x ≤ most → T (between? least most x)
+le→between? least most x h l = and-intro (leb least x) (leb x most) (le→leb least x h) (le→leb x most l)
 
 module _ (h : Head) where
   abbrev states? : Bool
-  states? = within? 1 stateLimit (h .states)
+  states? = between? 1 stateLimit (h .states)
 
   abbrev actions? : Bool
-  actions? = within? 1 actionLimit (h .actions)
+  actions? = between? 1 actionLimit (h .actions)
 
   abbrev steps? : Bool
   steps? = leb (h .steps) stepLimit
@@ -36,8 +36,8 @@ module _ (h : Head) where
   headFits?→HeadRanges t =
       let most = and-left (states? && actions? && steps?) start? t in
       let both = and-left (states? && actions?) steps? most in
-      let states = within?→le 1 stateLimit (h .states) (and-left states? actions? both) in
-      let actions = within?→le 1 actionLimit (h .actions) (and-right states? actions? both) in
+      let states = between?→le 1 stateLimit (h .states) (and-left states? actions? both) in
+      let actions = between?→le 1 actionLimit (h .actions) (and-right states? actions? both) in
       record {
         states-pos = states .0;
         states = states .1;
@@ -53,8 +53,8 @@ module _ (h : Head) where
       and-intro (states? && actions? && steps?) start?
       (and-intro (states? && actions?) steps?
       (and-intro states? actions?
-      (le→within? 1 stateLimit (h .states) (r .states-pos) (r .states))
-      (le→within? 1 actionLimit (h .actions) (r .actions-pos) (r .actions)))
+      (le→between? 1 stateLimit (h .states) (r .states-pos) (r .states))
+      (le→between? 1 actionLimit (h .actions) (r .actions-pos) (r .actions)))
       (le→leb (h .steps) stepLimit (r .steps)))
       (lt→ltb (h .start .0) (h .states) (r .start))
 

@@ -1,40 +1,28 @@
 -- Exactly the texts of well-formed models are read, each to its model.
 -- Document 01, "The text". Assumes nothing.
 use mathlib.Core.Bool.{Bool, true, false, cond}
-use mathlib.Core.List.{List, [], _∷_, _++_, map, append-assoc, append-nil}
+use mathlib.Core.List.{List}
 use mathlib.Core.Path.{_≡_, refl, sym, ap, _∙_, subst}
 use mathlib.Core.Logic.{_↔_}
-use Prim.Native.Nat.{ℕ, zero, suc, _+_, _≤_, _<_}
+use Prim.Native.Nat.{ℕ, _≤_, _<_}
 use native.Mathlib.Omega.{arith}
-use lib.Dec.{T, ltb, lit<}
-use lib.ListN.{length, length-append}
+use lib.Dec.{ltb, lit<}
+use lib.ListN.{length}
 use borrow.Author.Tests.{le-ltb}
-use Rattle.lts.specs.TestsLaws.{T→true}
-use Rattle.model.specs.declared.Fault.{Fault}
-use Rattle.model.specs.declared.Fault.the-variants.{Shape}
-use Rattle.model.specs.declared.Head.{Head}
-use Rattle.model.specs.declared.StepLine.{StepLine}
 use Rattle.model.specs.Bytes.{kindOf, lineEnd}
 use Rattle.model.specs.BytesLaws.{lineEnd-only}
 use Rattle.model.specs.Limits.{textLimit, outLength}
-use Rattle.model.specs.Split.{split, same?}
-use Rattle.model.specs.SameLaws.{same?→eq}
+use Rattle.model.specs.Split.{split}
 use Rattle.model.specs.All.{All}
-use Rattle.model.specs.AllLaws.{all-of-all}
-use Rattle.model.specs.Join.{join, Without}
+use Rattle.model.specs.Join.{join}
 use Rattle.model.specs.JoinLaws.{all-join, split-join, join-split}
-use Rattle.model.specs.Model.{ActionLine, Model}
-use Rattle.model.specs.Lines.{Line, good, bad, headOf, actionOf, stepOf}
-use Rattle.model.specs.Reading.{Reading, done, tooLong, faulty, onLine, orFault, readNothing, readEnd, readSteps, readActions, headModel, readModel, readText}
+use Rattle.model.specs.Model.{Model}
+use Rattle.model.specs.Reading.{done, tooLong, readModel, readText}
 use Rattle.model.specs.Text.{textOf}
-use Rattle.model.specs.WellFormed.{Each, ActionFits, StepFits, WellFormed}
-use Rattle.model.specs.RangesLaws.{headFits?→HeadRanges}
-use Rattle.model.specs.LineText.{lineOfHead, lineOfAction, lineOfStep, partsOf}
-use Rattle.model.specs.LineTextLaws.{headOf-line, line-of-headOf, stepOf-line, line-of-stepOf}
-use Rattle.model.specs.ActionLineLaws.{actionOf-line, line-of-actionOf}
-use Rattle.model.specs.TextLaws.{textOf-parts, LineByte, partsOf-lineBytes}
+use Rattle.model.specs.WellFormed.{WellFormed}
+use Rattle.model.specs.LineText.{partsOf}
+use Rattle.model.specs.TextLaws.{textOf-parts, partsOf-all}
 use Rattle.model.specs.TextLengthLaws.{textOf-length-le}
-
 use Rattle.model.specs.PartsLaws.{readModel-parts, partsOf-of-readModel}
 
 -- ---- a text and its model
@@ -42,7 +30,7 @@ use Rattle.model.specs.PartsLaws.{readModel-parts, partsOf-of-readModel}
 split-textOf : (m : Model) → WellFormed m → split lineEnd (textOf m) ≡ partsOf m
 unfolding kindOf
 split-textOf m w =
-    let bytes = all-of-all (All LineByte) (Without lineEnd) (λ l. all-of-all LineByte (λ b. kindOf b ≡ lineEnd → ⊥) (λ b p. p .1) l) (partsOf m) (partsOf-lineBytes m w) in
+    let bytes = partsOf-all m w (λ b. kindOf b ≡ lineEnd → ⊥) (λ b p. p .1) in
     ap (split lineEnd) (textOf-parts m) ∙ split-join lineEnd 10 refl (partsOf m) (omega arith) bytes
 
 -- what is written reads back
@@ -87,7 +75,7 @@ readText-length-le t m q =
 
 pub textOf-bytes : (m : Model) → WellFormed m → All (λ b. b < 256) (textOf m)
 textOf-bytes m w =
-    let bytes = all-of-all (All LineByte) (All (λ b. b < 256)) (λ l. all-of-all LineByte (λ b. b < 256) (λ b p. p .0) l) (partsOf m) (partsOf-lineBytes m w) in
+    let bytes = partsOf-all m w (λ b. b < 256) (λ b p. p .0) in
     subst (All (λ b. b < 256)) (sym (textOf-parts m)) (all-join (λ b. b < 256) 10 (lit< tt) (partsOf m) bytes)
 
 -- a text that reads is a list of bytes

@@ -1,23 +1,23 @@
 -- A store that holds a well-formed model shows it: each accessor gives its part, so the model is the only one.
 -- Document 01, "The model store". Assumes nothing.
-use mathlib.Core.List.{List, [], _∷_, _++_, append-assoc, append-nil}
+use mathlib.Core.List.{List, [], _++_}
 use mathlib.Core.Logic.{_↔_}
 use mathlib.Core.Path.{_≡_, refl, sym, ap, _∙_, subst}
-use Prim.Native.Nat.{ℕ, zero, suc, _+_, _-_, _≤_, _<_}
+use Prim.Native.Nat.{ℕ, zero, suc, _+_, _≤_, _<_}
 use native.Mathlib.Omega.{arith}
 use native.Mathlib.Nat.{add-zero}
-use lib.ListN.{length, getD, take, drop, replicate, take-append-drop, length-append}
+use lib.ListN.{length, getD, take, drop, take-append-drop, length-append}
 use lib.Seq.{take-suc, take-length, take-at, getD-drop, drop-drop}
 use Rattle.model.specs.declared.Head.{Head}
 use Rattle.model.specs.declared.StepLine.{StepLine}
 use Rattle.model.specs.Limits.{nameLimit, storeLength, actionPlace, namePlace, stepPlace}
 use Rattle.model.specs.Model.{ActionLine, Model}
-use Rattle.model.specs.Reading.{done, readText}
 use Rattle.model.specs.ReadingLaws.{readText-textOf, textOf-of-readText}
 use Rattle.model.specs.Text.{textOf}
-use Rattle.model.specs.Store.{padded, actionNumbers, headPlaces, storeOf, Good}
+use Rattle.model.specs.Store.{actionNumbers, headPlaces, storeOf, Good}
 use Rattle.model.specs.StoreLaws.{storeOf-length, storeOf-action, storeOf-step}
 use Rattle.model.specs.StoredModel.{headAt, actionAt, stepAt, listed, modelAt, Holds}
+use Rattle.model.specs.System.{source, action, target, level}
 use Rattle.model.specs.WellFormed.{WellFormed}
 use Rattle.model.specs.BlocksLaws.{padded-append}
 use Rattle.model.specs.LineText.{stepPlaces}
@@ -54,25 +54,31 @@ action-at : (s : List ℕ) (i : ℕ) (a : ActionLine) (more : List ℕ) → drop
     → actionAt s i ≡ a
 unfolding actionNumbers
 action-at s i a more e =
-    let level : getD s (actionPlace i) 0 ≡ a .level = first-of-drop s (actionNumbers a ++ more) (actionPlace i) e in
-    let n : getD s (actionPlace i + 1) 0 ≡ length (a .name) = getD-of-drop s (actionNumbers a ++ more) (actionPlace i) 1 e in
-    let d : drop (namePlace i) s ≡ padded nameLimit (a .name) ++ more =
-        sym (drop-drop 2 (actionPlace i) s) ∙ ap (drop 2) e in
-    let t : take (length (a .name)) (padded nameLimit (a .name) ++ more) ≡ a .name =
-        rw padded-append (take-at (a .name) _ (length (a .name)) refl) in
-    rw (level, n, d, t)
+    let all : List ℕ = actionNumbers a ++ more in
+    let level : getD s (actionPlace i) 0 ≡ a .level = first-of-drop s all (actionPlace i) e in
+    let n : getD s (actionPlace i + 1) 0 ≡ length (a .name) = getD-of-drop s all (actionPlace i) 1 e in
+    let d : drop (namePlace i) s ≡ drop 2 all = sym (drop-drop 2 (actionPlace i) s) ∙ ap (drop 2) e in
+    rw (level, n, d, padded-append nameLimit (a .name) more, take-at (a .name) _ (length (a .name)) refl)
 
 step-at : (s : List ℕ) (j : ℕ) (t : StepLine) (more : List ℕ) → drop (stepPlace j) s ≡ stepPlaces t ++ more
     → stepAt s j ≡ t
 step-at s j t more e =
-    let source : getD s (stepPlace j) 0 ≡ t .source .0 = first-of-drop s (stepPlaces t ++ more) (stepPlace j) e in
-    let action : getD s (stepPlace j + 1) 0 ≡ t .action .0 = getD-of-drop s (stepPlaces t ++ more) (stepPlace j) 1 e in
-    let target : getD s (stepPlace j + 2) 0 ≡ t .target .0 = getD-of-drop s (stepPlaces t ++ more) (stepPlace j) 2 e in
+    let all : List ℕ = stepPlaces t ++ more in
+    let source : getD s (stepPlace j) 0 ≡ t .source .0 = first-of-drop s all (stepPlace j) e in
+    let action : getD s (stepPlace j + 1) 0 ≡ t .action .0 = getD-of-drop s all (stepPlace j) 1 e in
+    let target : getD s (stepPlace j + 2) 0 ≡ t .target .0 = getD-of-drop s all (stepPlace j) 2 e in
     rw (source, action, target)
 
 model-of-parts : (h : Head) (actions : List ActionLine) (steps : List StepLine) (m : Model) → h ≡ m .head
     → actions ≡ m .actions → steps ≡ m .steps → record { head = h; actions = actions; steps = steps } ≡ m
 model-of-parts h actions steps m p q r = rw (p, q, r)
+
+-- what stands past the end of a list
+abbrev noAction : ActionLine
+noAction = record { level = 0; name = [] }
+
+abbrev noStep : StepLine
+noStep = record { source = record { 0 = 0 }; action = record { 0 = 0 }; target = record { 0 = 0 } }
 
 module _ (s : List ℕ) (m : Model) (h : Holds s m) where
   pub holds-store : s ≡ storeOf m ++ drop storeLength s
@@ -96,25 +102,59 @@ module _ (s : List ℕ) (m : Model) (h : Holds s m) where
   pub modelAt-holds : modelAt s ≡ m
   unfolding modelAt
   modelAt-holds =
-      let action : ActionLine = record { level = 0; name = [] } in
-      let step : StepLine = record { source = record { 0 = 0 }; action = record { 0 = 0 }; target = record { 0 = 0 } } in
       let e = headAt-holds in
       let a : getD s 1 0 ≡ length (m .actions) = ap (λ (x : Head). x .actions) e ∙ sym (h .well-formed .action-count) in
       let t : getD s 2 0 ≡ length (m .steps) = ap (λ (x : Head). x .steps) e ∙ sym (h .well-formed .step-count) in
       model-of-parts (headAt s) (listed (getD s 1 0) (actionAt s)) (listed (getD s 2 0) (stepAt s)) m e
-      (listed-all (m .actions) action (actionAt s) (getD s 1 0) a (λ i. actionAt-holds i action))
-      (listed-all (m .steps) step (stepAt s) (getD s 2 0) t (λ j. stepAt-holds j step))
+      (listed-all (m .actions) noAction (actionAt s) (getD s 1 0) a (λ i. actionAt-holds i noAction))
+      (listed-all (m .steps) noStep (stepAt s) (getD s 2 0) t (λ j. stepAt-holds j noStep))
+
+  -- ---- place by place
+
+  pub states-holds : getD s 0 0 ≡ m .head .states
+  states-holds = ap (λ (x : Head). x .states) headAt-holds
+
+  pub actions-holds : getD s 1 0 ≡ m .head .actions
+  actions-holds = ap (λ (x : Head). x .actions) headAt-holds
+
+  pub steps-holds : getD s 2 0 ≡ m .head .steps
+  steps-holds = ap (λ (x : Head). x .steps) headAt-holds
+
+  pub start-holds : getD s 3 0 ≡ m .head .start .0
+  start-holds = ap (λ (x : Head). x .start .0) headAt-holds
+
+  pub level-holds : (a : ℕ) → a < length (m .actions) → getD s (actionPlace a) 0 ≡ level m a
+  level-holds a l = ap (λ (x : ActionLine). x .level) (actionAt-holds a _ l)
+
+  pub source-holds : (j : ℕ) → j < length (m .steps) → getD s (stepPlace j) 0 ≡ source m j
+  source-holds j l = ap (λ (x : StepLine). x .source .0) (stepAt-holds j _ l)
+
+  pub action-holds : (j : ℕ) → j < length (m .steps) → getD s (stepPlace j + 1) 0 ≡ action m j
+  action-holds j l = ap (λ (x : StepLine). x .action .0) (stepAt-holds j _ l)
+
+  pub target-holds : (j : ℕ) → j < length (m .steps) → getD s (stepPlace j + 2) 0 ≡ target m j
+  target-holds j l = ap (λ (x : StepLine). x .target .0) (stepAt-holds j _ l)
 
 -- ---- good stores
+
+-- the store of a well-formed model holds it, whatever follows
+pub holds-storeOf : (m : Model) (rest : List ℕ) → WellFormed m → Holds (storeOf m ++ rest) m
+holds-storeOf m rest w =
+    record { well-formed = w; stored = sym (take-at (storeOf m) rest storeLength (storeOf-length m w)) }
+
+pub modelAt-storeOf : (m : Model) (rest : List ℕ) → WellFormed m → modelAt (storeOf m ++ rest) ≡ m
+modelAt-storeOf m rest w = modelAt-holds (storeOf m ++ rest) m (holds-storeOf m rest w)
 
 -- a store holds one model only
 pub holds-unique : (s : List ℕ) (m n : Model) → Holds s m → Holds s n → m ≡ n
 holds-unique s m n h k = sym (modelAt-holds s m h) ∙ modelAt-holds s n k
 
--- the store of a well-formed model is good, whatever follows it
 pub good-of-holds : (s : List ℕ) (m : Model) → Holds s m → Good s
 good-of-holds s m h =
     record { text = textOf m; model = m; reads = readText-textOf m (h .well-formed); stored = h .stored }
+
+pub storeOf-good : (m : Model) (rest : List ℕ) → WellFormed m → Good (storeOf m ++ rest)
+storeOf-good m rest w = good-of-holds (storeOf m ++ rest) m (holds-storeOf m rest w)
 
 pub holds-of-good : (s : List ℕ) (g : Good s) → Holds s (g .model)
 holds-of-good s g = record { well-formed = textOf-of-readText (g .text) (g .model) (g .reads) .0; stored = g .stored }
@@ -140,5 +180,5 @@ good-text s g = textOf-of-readText (g .text) (g .model) (g .reads) .1 ∙ ap tex
 pub good-text-unique : (s : List ℕ) (g k : Good s) → g .text ≡ k .text
 good-text-unique s g k = good-text s g ∙ sym (good-text s k)
 
-pub wellFormed-of-good : (s : List ℕ) → Good s → WellFormed (modelAt s)
-wellFormed-of-good s g = Good→Holds s g .well-formed
+pub good-well-formed : (s : List ℕ) → Good s → WellFormed (modelAt s)
+good-well-formed s g = Good→Holds s g .well-formed

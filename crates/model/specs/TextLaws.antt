@@ -1,29 +1,30 @@
 -- The text of a model is its lines joined by line ends, and no line holds a line end or a number above a byte.
 -- Document 01, "The text". Assumes nothing.
 use mathlib.Core.List.{List, [], _∷_, _++_, map, append-assoc}
-use mathlib.Core.Logic.{_⊎_, inl, inr}
-use mathlib.Core.Path.{_≡_, refl, sym, ap, _∙_}
-use Prim.Native.Nat.{ℕ, zero, suc, _+_, _≤_, _<_}
+use mathlib.Core.Logic.{inl, inr}
+use mathlib.Core.Path.{_≡_, refl, sym, _∙_}
+use Prim.Native.Nat.{ℕ, _+_, _<_}
 use native.Mathlib.Omega.{arith}
 use lib.Dec.{T, lit<}
 use lib.ListN.{length, length-append}
 use borrow.Author.Tests.{eqb-false}
 use Rattle.model.specs.declared.Head.{Head}
 use Rattle.model.specs.declared.StepLine.{StepLine}
-use Rattle.model.specs.Bytes.{kindOf, digit, lineEnd, capital}
+use Rattle.model.specs.Bytes.{kindOf, digit, capital}
 use Rattle.model.specs.BytesLaws.{digit-within, smallLetter-within, capital-within}
 use Rattle.model.specs.Numbers.{digits}
 use Rattle.model.specs.DigitsLaws.{digits-digit}
 use Rattle.model.specs.All.{All}
-use Rattle.model.specs.AllLaws.{all-append, all-of-all}
+use Rattle.model.specs.AllLaws.{all-intro, all-append, all-map, all-of-all}
 use Rattle.model.specs.Join.{join}
-use Rattle.model.specs.JoinLaws.{join-one, join-cons, all-join}
+use Rattle.model.specs.JoinLaws.{join-cons, all-join}
 use Rattle.model.specs.Model.{ActionLine, Model}
 use Rattle.model.specs.Lines.{name?}
 use Rattle.model.specs.Text.{headText, levelByte, actionText, stepText, actionsText, stepsText, textOf}
 use Rattle.model.specs.Store.{headPlaces}
-use Rattle.model.specs.WellFormed.{Each, ActionFits, WellFormed}
-use Rattle.model.specs.LineText.{lineOf, lineOfHead, lineOfAction, stepPlaces, lineOfStep, partsOf}
+use Rattle.model.specs.WellFormed.{ActionFits, WellFormed}
+use Rattle.model.specs.EachLaws.{all-of-each}
+use Rattle.model.specs.LineText.{LineByte, lineOf, lineOfHead, lineOfAction, stepPlaces, lineOfStep, partsOf}
 use Rattle.model.specs.ActionLineLaws.{NameByte, name-bytes, levelByte-capital}
 
 -- ---- a line's text is the line and its end
@@ -53,11 +54,13 @@ join-lines line text nil cons (x ∷ xs) parts h =
     join-cons 10 (line x) (map line xs ++ parts) l
     ∙ rw (join-lines line text nil cons xs parts h, cons) (simp append-assoc)
 
-actionsText-cons : (a : ActionLine) (rest : List ActionLine) → actionsText (a ∷ rest) ≡ lineOfAction a ++ (10 ∷ []) ++ actionsText rest
+actionsText-cons : (a : ActionLine) (rest : List ActionLine)
+    → actionsText (a ∷ rest) ≡ lineOfAction a ++ (10 ∷ []) ++ actionsText rest
 unfolding actionsText
 actionsText-cons a rest = rw (actionText-line a)
 
-stepsText-cons : (s : StepLine) (rest : List StepLine) → stepsText (s ∷ rest) ≡ lineOfStep s ++ (10 ∷ []) ++ stepsText rest
+stepsText-cons : (s : StepLine) (rest : List StepLine)
+    → stepsText (s ∷ rest) ≡ lineOfStep s ++ (10 ∷ []) ++ stepsText rest
 unfolding stepsText
 stepsText-cons s rest = rw (stepText-line s)
 
@@ -84,10 +87,6 @@ textOf-parts m =
 
 -- ---- the bytes of lines
 
--- a byte that may stand in a line
-abbrev pub LineByte : ℕ → Type 0
-LineByte b = (b < 256) × (kindOf b ≡ lineEnd → ⊥)
-
 digit-lineByte : (b : ℕ) → kindOf b ≡ digit → LineByte b
 digit-lineByte b e = let w = digit-within b e in (omega arith, λ z. omega arith)
 
@@ -95,46 +94,66 @@ nameByte-lineByte : (b : ℕ) → NameByte b → LineByte b
 nameByte-lineByte b (inl e) = digit-lineByte b e
 nameByte-lineByte b (inr e) = let w = smallLetter-within b e in (omega arith, λ z. omega arith)
 
-digits-lineBytes : (ns : List ℕ) → All (All LineByte) (map digits ns)
-digits-lineBytes [] = tt
-digits-lineBytes (n ∷ ns) =
-    (all-of-all (λ b. kindOf b ≡ digit) LineByte digit-lineByte (digits n) (digits-digit n), digits-lineBytes ns)
+capital-lineByte : (b : ℕ) → kindOf b ≡ capital → LineByte b
+capital-lineByte b e = let w = capital-within b e in (omega arith, λ z. omega arith)
 
-lineOf-lineBytes : (letter : ℕ) (fs : List (List ℕ)) → LineByte letter → All (All LineByte) fs → All LineByte (lineOf letter fs)
+comma-lineByte : LineByte 44
 unfolding kindOf
-lineOf-lineBytes letter fs b h = all-join LineByte 44 (lit< tt, λ z. eqb-false 4 5 refl z) ((letter ∷ []) ∷ fs) ((b, tt), h)
+comma-lineByte = (lit< tt, λ z. eqb-false 4 5 refl z)
+
+digits-lineBytes : (ns : List ℕ) → All (All LineByte) (map digits ns)
+digits-lineBytes ns =
+    all-map (All LineByte) digits ns (all-intro (λ n. All LineByte (digits n)) one ns)
+  where
+    one : (n : ℕ) → All LineByte (digits n)
+    one n = all-of-all (λ b. kindOf b ≡ digit) LineByte digit-lineByte (digits n) (digits-digit n)
+
+-- a capital and fields
+lineOf-lineBytes : (letter : ℕ) (fs : List (List ℕ)) → kindOf letter ≡ capital → All (All LineByte) fs
+    → All LineByte (lineOf letter fs)
+lineOf-lineBytes letter fs e h =
+    all-join LineByte 44 comma-lineByte ((letter ∷ []) ∷ fs) ((capital-lineByte letter e, tt), h)
 
 pub lineOfHead-lineBytes : (h : Head) → All LineByte (lineOfHead h)
 unfolding kindOf
-lineOfHead-lineBytes h = lineOf-lineBytes 77 (map digits (headPlaces h)) (lit< tt, λ z. eqb-false 3 5 refl z) (digits-lineBytes (headPlaces h))
+lineOfHead-lineBytes h = lineOf-lineBytes 77 (map digits (headPlaces h)) refl (digits-lineBytes (headPlaces h))
 
 pub lineOfStep-lineBytes : (s : StepLine) → All LineByte (lineOfStep s)
 unfolding kindOf
-lineOfStep-lineBytes s = lineOf-lineBytes 83 (map digits (stepPlaces s)) (lit< tt, λ z. eqb-false 3 5 refl z) (digits-lineBytes (stepPlaces s))
-
-capital-lineByte : (b : ℕ) → kindOf b ≡ capital → LineByte b
-capital-lineByte b e = let w = capital-within b e in (omega arith, λ z. omega arith)
+lineOfStep-lineBytes s = lineOf-lineBytes 83 (map digits (stepPlaces s)) refl (digits-lineBytes (stepPlaces s))
 
 pub lineOfAction-lineBytes : (a : ActionLine) → T (name? (a .name)) → All LineByte (lineOfAction a)
 unfolding kindOf
 lineOfAction-lineBytes a t =
-    let name = all-of-all NameByte LineByte nameByte-lineByte (a .name) (name-bytes (a .name) t) in
     let level = capital-lineByte (levelByte (a .level)) (levelByte-capital (a .level)) in
-    lineOf-lineBytes 65 ((levelByte (a .level) ∷ []) ∷ a .name ∷ []) (lit< tt, λ z. eqb-false 3 5 refl z) ((level, tt), (name, tt))
+    let name = all-of-all NameByte LineByte nameByte-lineByte (a .name) (name-bytes (a .name) t) in
+    lineOf-lineBytes 65 ((levelByte (a .level) ∷ []) ∷ a .name ∷ []) refl ((level, tt), (name, tt))
 
-steps-lineBytes : (ss : List StepLine) → All (All LineByte) (map lineOfStep ss)
-steps-lineBytes [] = tt
-steps-lineBytes (s ∷ ss) = (lineOfStep-lineBytes s, steps-lineBytes ss)
+module _ (m : Model) (w : WellFormed m) where
+  last-lineBytes : All (All LineByte) ((69 ∷ []) ∷ [] ∷ [])
+  unfolding kindOf
+  last-lineBytes = ((capital-lineByte 69 refl, tt), (tt, tt))
 
-actions-lineBytes : (before rest : List ActionLine) → Each ActionFits before rest → All (All LineByte) (map lineOfAction rest)
-unfolding Each
-actions-lineBytes before [] e = tt
-actions-lineBytes before (a ∷ rest) e = (lineOfAction-lineBytes a (e .0 .name), actions-lineBytes (before ++ (a ∷ [])) rest (e .1))
+  steps-lineBytes : All (All LineByte) (map lineOfStep (m .steps))
+  steps-lineBytes =
+      all-map (All LineByte) lineOfStep (m .steps)
+      (all-intro (λ s. All LineByte (lineOfStep s)) lineOfStep-lineBytes (m .steps))
 
-pub partsOf-lineBytes : (m : Model) → WellFormed m → All (All LineByte) (partsOf m)
-unfolding kindOf
-partsOf-lineBytes m w =
-    let last : List (List ℕ) = (69 ∷ []) ∷ [] ∷ [] in
-    let from-steps = all-append (All LineByte) (map lineOfStep (m .steps)) last (steps-lineBytes (m .steps)) (((lit< tt, λ z. eqb-false 3 5 refl z), tt), (tt, tt)) in
-    (lineOfHead-lineBytes (m .head),
-      all-append (All LineByte) (map lineOfAction (m .actions)) (map lineOfStep (m .steps) ++ last) (actions-lineBytes [] (m .actions) (w .actions)) from-steps)
+  actions-lineBytes : All (All LineByte) (map lineOfAction (m .actions))
+  actions-lineBytes =
+      all-map (All LineByte) lineOfAction (m .actions)
+      (all-of-each ActionFits (λ a. All LineByte (lineOfAction a)) (λ b a f. lineOfAction-lineBytes a (f .name)) []
+      (m .actions) (w .actions))
+
+  pub partsOf-lineBytes : All (All LineByte) (partsOf m)
+  partsOf-lineBytes =
+      let last : List (List ℕ) = (69 ∷ []) ∷ [] ∷ [] in
+      let steps : List (List ℕ) = map lineOfStep (m .steps) in
+      let from-steps = all-append (All LineByte) steps last steps-lineBytes last-lineBytes in (
+        lineOfHead-lineBytes (m .head),
+        all-append (All LineByte) (map lineOfAction (m .actions)) (steps ++ last) actions-lineBytes from-steps,
+      )
+
+  -- what holds of each byte of a line holds of each byte of each part
+  pub partsOf-all : (P : ℕ → Type 0) → ((b : ℕ) → LineByte b → P b) → All (All P) (partsOf m)
+  partsOf-all P f = all-of-all (All LineByte) (All P) (all-of-all LineByte P f) (partsOf m) partsOf-lineBytes

@@ -1,22 +1,20 @@
 -- The lengths of a model's lines, and of its text: at most the 14,420 bytes that Write's list has.
 -- Document 01, "The operations, in the order of the work", 8. Assumes nothing.
 use mathlib.Core.List.{List, [], _∷_, _++_}
-use mathlib.Core.Path.{_≡_, refl}
-use Prim.Native.Nat.{ℕ, suc, _+_, _*_, _^_, _≤_, _<_}
+use Prim.Native.Nat.{_+_, _*_, _≤_}
 use native.Mathlib.Omega.{arith}
 use lib.Dec.{T}
 use lib.ListN.{length, length-append}
 use Rattle.model.specs.declared.Head.{Head}
 use Rattle.model.specs.declared.StepLine.{StepLine}
 use Rattle.model.specs.Limits.{outLength}
-use Rattle.model.specs.Numbers.{digits}
 use Rattle.model.specs.DigitsLaws.{digits-length-le}
 use Rattle.model.specs.Model.{ActionLine, Model}
 use Rattle.model.specs.Lines.{name?}
 use Rattle.model.specs.Text.{headText, actionText, stepText, actionsText, stepsText, textOf}
 use Rattle.model.specs.Ranges.{HeadRanges, StepRanges}
 use Rattle.model.specs.RangesLaws.{headFits?→HeadRanges, stepFits?→StepRanges}
-use Rattle.model.specs.WellFormed.{Each, ActionFits, StepFits, WellFormed}
+use Rattle.model.specs.WellFormed.{EachAfter, ActionFits, StepFits, WellFormed}
 use Rattle.model.specs.ActionLineLaws.{name-length}
 
 -- `M,128,64,1024,127` and its end
@@ -43,18 +41,18 @@ stepText-length-le h s r u =
     let c = digits-length-le 3 (s .target .0) (omega arith) (omega arith) (omega arith) in
     simp length-append (omega arith)
 
-pub actionsText-length-le : (before rest : List ActionLine) → Each ActionFits before rest
+pub actionsText-length-le : (before rest : List ActionLine) → EachAfter ActionFits before rest
     → length (actionsText rest) ≤ 17 * length rest
-unfolding Each actionsText
+unfolding EachAfter actionsText
 actionsText-length-le before [] e = omega arith
 actionsText-length-le before (a ∷ rest) e =
     let l = actionText-length-le a (e .0 .name) in
     let i = actionsText-length-le (before ++ (a ∷ [])) rest (e .1) in
     simp length-append (omega arith)
 
-pub stepsText-length-le : (h : Head) (before rest : List StepLine) → HeadRanges h → Each (StepFits h) before rest
+pub stepsText-length-le : (h : Head) (before rest : List StepLine) → HeadRanges h → EachAfter (StepFits h) before rest
     → length (stepsText rest) ≤ 13 * length rest
-unfolding Each stepsText
+unfolding EachAfter stepsText
 stepsText-length-le h before [] r e = omega arith
 stepsText-length-le h before (s ∷ rest) r e =
     let l = stepText-length-le h s r (stepFits?→StepRanges h s (e .0 .in-range)) in

@@ -12,9 +12,9 @@ use Rattle.model.specs.Model.{high, ActionLine, Model, aboveLast?}
 use Rattle.model.specs.Lines.{headFits?, name?, used?, stepFits?}
 
 -- P holds of each element and the list of those before it, which begins with `before`
-unfoldable pub Each : {A : Type 0} → (List A → A → Type 0) → List A → List A → Type 0
-Each P before [] = Unit {0}
-Each P before (x ∷ xs) = P before x × Each P (before ++ (x ∷ [])) xs
+unfoldable pub EachAfter : {A : Type 0} → (List A → A → Type 0) → List A → List A → Type 0
+EachAfter P before [] = Unit {0}
+EachAfter P before (x ∷ xs) = P before x × EachAfter P (before ++ (x ∷ [])) xs
 
 -- "Level is L, D or H. A name is 1 to 12 bytes of a to z and 0 to 9, used once."
 pub record ActionFits (before : List ActionLine) (a : ActionLine) : Type 0 where
@@ -31,5 +31,5 @@ pub record WellFormed (m : Model) : Type 0 where
   pub head : T (headFits? (m .head))
   pub action-count : length (m .actions) ≡ m .head .actions
   pub step-count : length (m .steps) ≡ m .head .steps
-  pub actions : Each ActionFits [] (m .actions)
-  pub steps : Each (StepFits (m .head)) [] (m .steps)
+  pub actions : EachAfter ActionFits [] (m .actions)
+  pub steps : EachAfter (StepFits (m .head)) [] (m .steps)

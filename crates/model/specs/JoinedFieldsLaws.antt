@@ -3,7 +3,7 @@
 use mathlib.Core.Bool.{Bool, true, false, _&&_}
 use mathlib.Core.List.{List, [], _∷_, map}
 use mathlib.Core.Path.{_≡_, refl, sym, ap, _∙_, subst}
-use Prim.Native.Nat.{ℕ, zero, suc, _<_}
+use Prim.Native.Nat.{ℕ}
 use native.Mathlib.Omega.{arith}
 use lib.Dec.{T, eqb, eqb→eq, eqb-refl}
 use lib.ListN.{length, length-map}
@@ -17,14 +17,16 @@ use Rattle.model.specs.Bytes.{kindOf, digit, comma}
 use Rattle.model.specs.BytesLaws.{comma-only}
 use Rattle.model.specs.Numbers.{numberOf, digits}
 use Rattle.model.specs.DigitsLaws.{digits-digit, numberOf-digits, digits-of-numberOf}
-use Rattle.model.specs.Split.{split, same?}
+use Rattle.model.specs.Split.{same?}
 use Rattle.model.specs.SplitLaws.{split-first}
 use Rattle.model.specs.SameLaws.{same?→eq, same?-refl}
 use Rattle.model.specs.All.{All}
-use Rattle.model.specs.AllLaws.{all-of-all, all-map}
+use Rattle.model.specs.AllLaws.{all-of-all}
 use Rattle.model.specs.Join.{join, Without}
 use Rattle.model.specs.JoinLaws.{split-join, join-split}
-use Rattle.model.specs.Lines.{Line, good, bad, checked, fieldsFrom, fieldsOf, consNumber, numbersOf, numbersFrom, numbersLine}
+use Rattle.model.specs.Lines.{Line, good, bad, checked, fieldsFrom, fieldsOf, consNumber, numbersOf, numbersFrom}
+use Rattle.model.specs.Lines.{numbersLine}
+use Rattle.model.specs.Ranges.{Small}
 use Rattle.model.specs.LineText.{lineOf}
 
 -- ---- what passes a test
@@ -42,14 +44,17 @@ good-checked fault false a b h = let z : _≡_ {A = ℕ} 0 1 = cc in absurd (ome
 -- ---- fields
 
 module _ (letter : ℕ) (fs : List (List ℕ)) where
-  pub fieldsOf-line : (kindOf letter ≡ comma → ⊥) → All (Without comma) fs → fieldsOf letter (length fs) (lineOf letter fs) ≡ good fs
+  pub fieldsOf-line : (kindOf letter ≡ comma → ⊥) → All (Without comma) fs
+      → fieldsOf letter (length fs) (lineOf letter fs) ≡ good fs
   unfolding fieldsOf fieldsFrom kindOf
   fieldsOf-line h a =
       let e = split-join comma 44 refl ((letter ∷ []) ∷ fs) (omega arith) ((h, tt), a) in
-      let t = and-intro (same? (letter ∷ []) (letter ∷ [])) (eqb (length fs) (length fs)) (same?-refl (letter ∷ [])) (eqb-refl (length fs)) in
+      let s = same?-refl (letter ∷ []) in
+      let t = and-intro (same? (letter ∷ []) (letter ∷ [])) (eqb (length fs) (length fs)) s (eqb-refl (length fs)) in
       rw e (checked-good Shape _ fs t)
 
-  pub line-of-fieldsOf : (n : ℕ) (line : List ℕ) → fieldsOf letter n line ≡ good fs → (line ≡ lineOf letter fs) × (length fs ≡ n)
+  pub line-of-fieldsOf : (n : ℕ) (line : List ℕ) → fieldsOf letter n line ≡ good fs
+      → (line ≡ lineOf letter fs) × (length fs ≡ n)
   unfolding fieldsOf fieldsFrom
   line-of-fieldsOf n line h =
       let w = split-first comma line in
@@ -62,10 +67,6 @@ module _ (letter : ℕ) (fs : List (List ℕ)) where
       (sym (join-split comma 44 comma-only line) ∙ ap (join 44) (w .2 ∙ rw (e, c .1)), rw (c .1) at l)
 
 -- ---- numbers
-
--- numbers of at most five digits
-abbrev pub Small : List ℕ → Type 0
-Small ns = All (λ n. n < 100000) ns
 
 pub numbersOf-digits : (ns : List ℕ) → Small ns → numbersOf (map digits ns) ≡ good ns
 unfolding numbersOf consNumber
@@ -92,12 +93,14 @@ digits-of-numbersOf (f ∷ fs) ns h =
 -- digits hold nothing but digits
 pub digits-without : (kind : ℕ) → (digit ≡ kind → ⊥) → (ns : List ℕ) → All (Without kind) (map digits ns)
 digits-without kind h [] = tt
-digits-without kind h (n ∷ ns) =
-    (all-of-all (λ b. kindOf b ≡ digit) (λ b. kindOf b ≡ kind → ⊥) (λ b e f. h (sym e ∙ f)) (digits n) (digits-digit n),
-      digits-without kind h ns)
+digits-without kind h (n ∷ ns) = (
+  all-of-all (λ b. kindOf b ≡ digit) (λ b. kindOf b ≡ kind → ⊥) (λ b e f. h (sym e ∙ f)) (digits n) (digits-digit n),
+  digits-without kind h ns,
+)
 
 module _ (letter : ℕ) (ns : List ℕ) where
-  pub numbersLine-line : (kindOf letter ≡ comma → ⊥) → Small ns → numbersLine letter (length ns) (lineOf letter (map digits ns)) ≡ good ns
+  pub numbersLine-line : (kindOf letter ≡ comma → ⊥) → Small ns
+      → numbersLine letter (length ns) (lineOf letter (map digits ns)) ≡ good ns
   unfolding numbersLine numbersFrom
   numbersLine-line h s =
       let w = digits-without comma (λ z. eqb-false digit comma refl z) ns in

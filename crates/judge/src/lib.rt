@@ -1,0 +1,5 @@
+// Reachable states, ranks, the verdict and runs of till models.
+pub mod judge;
+pub mod rank;
+pub mod reach;
+pub mod run;

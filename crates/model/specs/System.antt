@@ -1,0 +1,53 @@
+-- A model as a transition system: its steps, its start and the levels of its actions.
+-- Document 01, "The meaning".
+use mathlib.Core.List.{[]}
+use mathlib.Core.Path.{_≡_}
+use Prim.Native.Nat.{ℕ, _<_}
+use lib.Dec.{eqb}
+use lib.ListN.{length, getD}
+use Rattle.lts.specs.Alike.{Moves}
+use Rattle.lts.specs.Noninterference.{Levels, LowMove}
+use Rattle.model.specs.declared.StepLine.{StepLine}
+use Rattle.model.specs.Model.{low, release, high, ActionLine, Model}
+
+-- What step j states. Past the last step it says nothing of the model: `Steps` counts the steps alone.
+abbrev pub step : Model → ℕ → StepLine
+step m j =
+    getD (m .steps) j (record { source = record { 0 = 0 }; action = record { 0 = 0 }; target = record { 0 = 0 } })
+
+abbrev pub source : Model → ℕ → ℕ
+source m j = step m j .source .0
+
+abbrev pub action : Model → ℕ → ℕ
+action m j = step m j .action .0
+
+abbrev pub target : Model → ℕ → ℕ
+target m j = step m j .target .0
+
+-- Some step of the model leads from p with the action a to q.
+pub record Steps (m : Model) (p a q : ℕ) : Type 0 where
+  pub number : ℕ
+  pub number-lt : number < length (m .steps)
+  pub source-is : source m number ≡ p
+  pub action-is : action m number ≡ a
+  pub target-is : target m number ≡ q
+
+-- The start that line 1 names.
+abbrev pub Start : Model → ℕ → Type 0
+Start m p = p ≡ m .head .start .0
+
+-- The level of action a; 3, which is none, past the last action.
+abbrev pub level : Model → ℕ → ℕ
+level m a = (getD (m .actions) a (record { level = 3; name = [] })) .level
+
+-- "An action is low (L), release (D) or high (H)."
+abbrev pub levels : Model → Levels
+levels m = record {
+  low? = λ a. eqb (level m a) low;
+  release? = λ a. eqb (level m a) release;
+  high? = λ a. eqb (level m a) high;
+}
+
+-- The moves that are played: "Release and high steps are never played."
+abbrev pub LowStep : Model → Moves
+LowStep m = LowMove (levels m) (Steps m)
