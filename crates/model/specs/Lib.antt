@@ -5,10 +5,13 @@ pub mod Between
 pub mod BetweenLaws
 pub mod Bytes
 pub mod BytesLaws
+pub mod TableLaws
 pub mod Numbers
 pub mod All
 pub mod AllLaws
 pub mod DigitsLaws
+pub mod ListLaws
+pub mod NumbersLaws
 pub mod Split
 pub mod SplitLaws
 pub mod Join
@@ -49,6 +52,11 @@ pub mod ListedLaws
 pub mod GoodLaws
 pub mod Wrote
 pub mod LineAnswers
+pub mod PartAnswers
+pub mod FieldsLaws
+pub mod LinesLaws
+pub mod ActionLaws
+pub mod RowLaws
 pub mod Promises
 pub mod PromisesLaws
 pub mod Examples
