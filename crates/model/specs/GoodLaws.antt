@@ -12,22 +12,23 @@ use Rattle.lts.specs.TestsLaws.{lt-or-le, and-left, and-right, and-intro}
 use Rattle.model.specs.declared.Head.{Head}
 use Rattle.model.specs.declared.StepLine.{StepLine}
 use Rattle.model.specs.Limits.{actionLimit, stepLimit, nameLimit, storeLength, actionPlace, namePlace, stepPlace}
-use Rattle.model.specs.Bytes.{within?}
+use Rattle.model.specs.Bytes.{between?}
 use Rattle.model.specs.Model.{ActionLine, Model, above?, aboveLast?}
 use Rattle.model.specs.Lines.{allOf, nameByte?, name?, used?}
 use Rattle.model.specs.Store.{padded, actionNumbers, actionsNumbers, stepsNumbers, headPlaces, storeOf, Good}
 use Rattle.model.specs.LineText.{stepPlaces}
-use Rattle.model.specs.WellFormed.{Each, ActionFits, StepFits, WellFormed}
+use Rattle.model.specs.WellFormed.{EachAfter, ActionFits, StepFits, WellFormed}
 use Rattle.model.specs.StoredModel.{headAt, actionAt, stepAt, listed, modelAt, Holds}
 use Rattle.model.specs.Ranges.{HeadRanges}
-use Rattle.model.specs.RangesLaws.{le→within?, headFits?→HeadRanges}
+use Rattle.model.specs.RangesLaws.{le→between?, headFits?→HeadRanges}
 use Rattle.model.specs.ActionLineLaws.{name-length}
 use Rattle.model.specs.StoreLaws.{actionsNumbers-length, stepsNumbers-length, actions-padded-length, storeOf-action}
 use Rattle.model.specs.StoredModelLaws.{listed-length, holds-store, actionAt-holds, Good→Holds, Holds→Good}
-use Rattle.model.specs.Between.{Between}
+use Rattle.model.specs.EachFrom.{EachFrom}
 use Rattle.model.specs.GoodPlaces.{ZeroAt, NameByteAt, SameAt, SameName, OtherName, nameLengthAt, GoodAction, GoodStep, GoodPlaces}
 use Rattle.model.specs.PlacesLaws.{part-length, part-cons, part-same, padded-part, padded-zero, getD→allOf, allOf→getD}
-use Rattle.model.specs.ListedLaws.{listed-each, each-listed, used?-listed, listed-used?, aboveLast?-snoc, blocks-listed}
+use Rattle.model.specs.ListedLaws.{listed-each, each-listed, used?-listed, listed-used?, blocks-listed}
+use Rattle.model.specs.AboveLaws.{aboveLast?-append}
 
 module _ (s : List ℕ) (fits : storeLength ≤ length s) where
   -- ---- names
@@ -93,8 +94,8 @@ module _ (s : List ℕ) (fits : storeLength ≤ length s) where
         let l : length name ≡ nameLengthAt s i = part-length s (namePlace i) (nameLengthAt s i) (omega arith) in
         record {
           level = a .level;
-          name = and-intro (within? 1 nameLimit (length name)) (allOf nameByte? name)
-            (le→within? 1 nameLimit (length name) (omega (arith, a .some)) (omega arith))
+          name = and-intro (between? 1 nameLimit (length name)) (allOf nameByte? name)
+            (le→between? 1 nameLimit (length name) (omega (arith, a .some)) (omega arith))
             (getD→allOf nameByte? name (λ k m.
             rw (name-at i k (omega arith)) (a .bytes .at (namePlace i + k) (omega arith) (omega arith))));
           fresh = not-T (used? name (listed i (actionAt s))) (λ t.
@@ -112,7 +113,7 @@ module _ (s : List ℕ) (fits : storeLength ≤ length s) where
         let e : suc j - 1 ≡ j = omega arith in
         record {
           in-range = t .in-range;
-          rising = rw (aboveLast?-snoc (listed j (stepAt s)) (stepAt s j) (stepAt s (suc j))) (rw e at (t .rising (omega arith)));
+          rising = rw (aboveLast?-append (listed j (stepAt s)) (stepAt s j) [] (stepAt s (suc j))) (rw e at (t .rising (omega arith)));
         }
 
     GoodPlaces→WellFormed : WellFormed (modelAt s)
@@ -229,7 +230,7 @@ module _ (s : List ℕ) (fits : storeLength ≤ length s) where
           fits = omega arith;
           bytes = record { at = λ k u v.
             let e : k ≡ namePlace i + (k - namePlace i) = omega arith in
-            let all = and-right (within? 1 nameLimit (length name)) (allOf nameByte? name) (a .name) in
+            let all = and-right (between? 1 nameLimit (length name)) (allOf nameByte? name) (a .name) in
             let b = allOf→getD nameByte? name all (k - namePlace i) (omega arith) in
             rw e (subst (λ (x : ℕ). T (nameByte? x)) (name-at i (k - namePlace i) (omega arith)) b) };
           once = record { at = λ g u v same.
@@ -241,7 +242,7 @@ module _ (s : List ℕ) (fits : storeLength ≤ length s) where
         }
 
     Holds→GoodStep : (j : ℕ) → j < getD s 2 0 → GoodStep (headAt s) s j
-    unfolding modelAt listed
+    unfolding modelAt listed aboveLast?
     Holds→GoodStep j h =
         let f = each-listed (StepFits (headAt s)) (stepAt s) (getD s 2 0) (holds .well-formed .steps) j h in
         record { in-range = f .in-range; rising = λ p. rising j p (f .rising) }
@@ -250,7 +251,7 @@ module _ (s : List ℕ) (fits : storeLength ≤ length s) where
         rising zero p t = absurd (omega arith)
         rising (suc k) p t =
             let e : suc k - 1 ≡ k = omega arith in
-            rw e (subst T (aboveLast?-snoc (listed k (stepAt s)) (stepAt s k) (stepAt s (suc k))) t)
+            rw e (subst T (aboveLast?-append (listed k (stepAt s)) (stepAt s k) [] (stepAt s (suc k))) t)
 
     -- the store by its parts, each with what follows it
     by-parts : s ≡ headPlaces (headAt s)

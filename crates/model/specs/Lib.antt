@@ -1,8 +1,8 @@
 pub mod Limits
 pub mod Decides
 pub mod DecidesLaws
-pub mod Between
-pub mod BetweenLaws
+pub mod EachFrom
+pub mod EachFromLaws
 pub mod Bytes
 pub mod BytesLaws
 pub mod TableLaws

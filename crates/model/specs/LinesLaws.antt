@@ -11,8 +11,8 @@ use Rattle.model.specs.declared.Fault.{Fault}
 use Rattle.model.specs.declared.Fault.the-variants.{Range, Order}
 use Rattle.model.specs.declared.Head.{Head}
 use Rattle.model.specs.declared.StepLine.{StepLine}
-use Rattle.model.specs.Bytes.{within?}
-use Rattle.model.specs.BytesLaws.{and-true, within?-true}
+use Rattle.model.specs.Bytes.{between?}
+use Rattle.model.specs.BytesLaws.{and-true, between?-true}
 use Rattle.model.specs.Limits.{stateLimit, actionLimit, stepLimit}
 use Rattle.model.specs.Model.{above?, aboveLast?}
 use Rattle.model.specs.Lines.{good, bad, checked, numbersLine, headFits?, headNumbers, headFrom, headOf}
@@ -21,8 +21,8 @@ use Rattle.model.specs.LineAnswers.{Last}
 
 -- ---- line 1
 
-pub headFits-tests : (h : Head) {s a n l : Bool} → within? 1 stateLimit (h .states) ≡ s
-    → within? 1 actionLimit (h .actions) ≡ a
+pub headFits-tests : (h : Head) {s a n l : Bool} → between? 1 stateLimit (h .states) ≡ s
+    → between? 1 actionLimit (h .actions) ≡ a
     → leb (h .steps) stepLimit ≡ n → ltb (h .start .0) (h .states) ≡ l → headFits? h ≡ s && a && n && l
 unfolding headFits?
 headFits-tests h e f g k = rw (← e, ← f, ← g, ← k)
@@ -39,15 +39,15 @@ pub record HeadRange (h : Head) : Type 0 where
 pub headFits?→HeadRange : (h : Head) → headFits? h ≡ true → HeadRange h
 unfolding headFits?
 headFits?→HeadRange h e =
-    let s = within? 1 stateLimit (h .states) in
-    let a = within? 1 actionLimit (h .actions) in
+    let s = between? 1 stateLimit (h .states) in
+    let a = between? 1 actionLimit (h .actions) in
     let n = leb (h .steps) stepLimit in
     let l = ltb (h .start .0) (h .states) in
     let three = and-true (s && a && n) l e in
     let two = and-true (s && a) n (three .0) in
     let one = and-true s a (two .0) in
-    let states = within?-true 1 stateLimit (h .states) (one .0) in
-    let actions = within?-true 1 actionLimit (h .actions) (one .1) in
+    let states = between?-true 1 stateLimit (h .states) (one .0) in
+    let actions = between?-true 1 actionLimit (h .actions) (one .1) in
     record {
       states-pos = states .0;
       states-le = states .1;

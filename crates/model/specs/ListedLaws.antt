@@ -1,5 +1,5 @@
--- Lists given by their elements: what holds of each element, which names they use, which step is the last, and the blocks
--- of numbers that they are stored as.
+-- Lists given by their elements: what holds of each element, which names they use, and the blocks of
+-- numbers that they are stored as.
 -- Assumes nothing.
 use mathlib.Core.Bool.{Bool, true, false, not, _||_}
 use mathlib.Core.List.{List, [], _∷_, _++_, append-assoc, append-nil}
@@ -17,20 +17,20 @@ use Rattle.model.specs.Split.{same?}
 use Rattle.model.specs.SameLaws.{same?→eq, eq→same?}
 use Rattle.model.specs.Model.{ActionLine, above?, aboveLast?}
 use Rattle.model.specs.Lines.{used?}
-use Rattle.model.specs.WellFormed.{Each}
+use Rattle.model.specs.WellFormed.{EachAfter}
 use Rattle.model.specs.EachLaws.{each-nil, each-snoc, snoc-each}
 use Rattle.model.specs.StoredModel.{listed}
 
 -- ---- each element and those before it
 
 module _ {A : Type 0} (P : List A → A → Type 0) (f : ℕ → A) where
-  pub listed-each : (n : ℕ) → ((i : ℕ) → i < n → P (listed i f) (f i)) → Each P [] (listed n f)
+  pub listed-each : (n : ℕ) → ((i : ℕ) → i < n → P (listed i f) (f i)) → EachAfter P [] (listed n f)
   unfolding listed
   listed-each zero h = each-nil P []
   listed-each (suc n) h =
       each-snoc P [] (listed n f) (f n) (listed-each n (λ i l. h i (omega arith))) (h n (omega arith))
 
-  pub each-listed : (n : ℕ) → Each P [] (listed n f) → (i : ℕ) → i < n → P (listed i f) (f i)
+  pub each-listed : (n : ℕ) → EachAfter P [] (listed n f) → (i : ℕ) → i < n → P (listed i f) (f i)
   unfolding listed
   each-listed zero e i h = absurd (omega arith)
   each-listed (suc n) e i h =
@@ -77,14 +77,6 @@ module _ (name : List ℕ) (f : ℕ → ActionLine) where
         (eq→same? (f n .name) name (subst (λ (k : ℕ). f k .name ≡ name) z e)))
       (λ l. or-left (used? name (listed n f)) (same? (f n .name) name) (listed-used? n i l e))
       (lt-suc-cases h))
-
--- ---- the last step
-
-pub aboveLast?-snoc : (xs : List StepLine) (x t : StepLine) → aboveLast? (xs ++ (x ∷ [])) t ≡ above? x t
-unfolding aboveLast?
-aboveLast?-snoc [] x t = refl
-aboveLast?-snoc (y ∷ []) x t = refl
-aboveLast?-snoc (y ∷ z ∷ ys) x t = aboveLast?-snoc (z ∷ ys) x t
 
 -- ---- blocks of numbers
 

@@ -12,7 +12,7 @@ use lib.Seq.{length-take-le, drop-cons, drop-drop, take-add, getD-take, getD-dro
 use Rattle.lts.specs.TestsLaws.{and-left, and-right, and-intro}
 use Rattle.model.specs.Lines.{allOf}
 use Rattle.model.specs.Store.{padded}
-use Rattle.model.specs.Between.{Between}
+use Rattle.model.specs.EachFrom.{EachFrom}
 use Rattle.model.specs.GoodPlaces.{ZeroAt, SameAt}
 use Rattle.model.specs.BlocksLaws.{padded-append}
 
@@ -28,7 +28,7 @@ module _ (s : List ℕ) (p n : ℕ) (fits : p + n ≤ length s) where
   part-length = let d = length-drop p s in length-take-le n (drop p s) (omega arith)
 
   -- zeros, as a list and by their places
-  pub zeros-replicate : Between (ZeroAt s) p (p + n) → take n (drop p s) ≡ replicate n 0
+  pub zeros-replicate : EachFrom (ZeroAt s) p (p + n) → take n (drop p s) ≡ replicate n 0
   zeros-replicate z =
       ext-getD 0 (take n (drop p s)) (replicate n 0) (part-length ∙ sym (length-replicate n 0)) at
     where
@@ -54,12 +54,12 @@ module _ (s : List ℕ) (p n : ℕ) (fits : p + n ≤ length s) where
 -- ---- zeros behind a part
 
 -- the k places from p on with zeros behind them are the n places from p on, if zeros stand there
-pub padded-part : (s : List ℕ) (p k n : ℕ) → k ≤ n → p + n ≤ length s → Between (ZeroAt s) (p + k) (p + n)
+pub padded-part : (s : List ℕ) (p k n : ℕ) → k ≤ n → p + n ≤ length s → EachFrom (ZeroAt s) (p + k) (p + n)
     → padded n (take k (drop p s)) ≡ take n (drop p s)
 unfolding padded
 padded-part s p k n h l z =
     let m : n ≡ k + (n - k) = omega arith in
-    let w : Between (ZeroAt s) (p + k) (p + k + (n - k)) = record { at = λ i f g. z .at i f (omega arith) } in
+    let w : EachFrom (ZeroAt s) (p + k) (p + k + (n - k)) = record { at = λ i f g. z .at i f (omega arith) } in
     let t : take n (drop p s) ≡ take k (drop p s) ++ take (n - k) (drop (p + k) s) =
         ap (λ (x : ℕ). take x (drop p s)) m ∙ take-add k (n - k) (drop p s) ∙ rw drop-drop in
     rw (part-length s p k (omega arith), t, zeros-replicate s (p + k) (n - k) (omega arith) w)

@@ -12,7 +12,7 @@ ghost use mathlib.Core.Path.{_≡_};
 ghost use Prim.Native.Nat.{_+_, _≤_, _<_};
 ghost use lib.ListN.{length, drop};
 ghost use Rattle.model.specs.declared.StepLine.{StepLine};
-ghost use Rattle.model.specs.Bytes.{capital, comma, kindOf, within?};
+ghost use Rattle.model.specs.Bytes.{capital, comma, kindOf, between?};
 ghost use Rattle.model.specs.Split.{split, indexOf};
 ghost use Rattle.model.specs.Model.{above?};
 ghost use Rattle.model.specs.Lines.{fieldsOf, numbersOf, numbersLine, headFits?, headOf, name?, actionFields};
@@ -129,7 +129,7 @@ fn row(line: &[u8], letter: u8, out: &mut [u32]) -> RowRead
 }
 
 fn within(least: u32, most: u32, x: u32) -> bool
-    ensures { λ r. ⌜ r ≡ within? least most x ⌝ }
+    ensures { λ r. ⌜ r ≡ between? least most x ⌝ }
 {
     if x < least {
         return false;

@@ -1,4 +1,4 @@
--- `within` makes the two comparisons of `within?`.
+-- `within` makes the two comparisons of `between?`.
 use borrow.Author.Tests.{le-leb, lt-leb}
 use Rattle.model.proofs.line.within.Statement.{statement}
 use Rattle.model.proofs.line.within.Tie as tie
