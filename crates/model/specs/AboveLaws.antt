@@ -139,7 +139,7 @@ pub steps-without : (h : Head) (before : List StepLine) (s : StepLine) (after : 
 steps-without h before s after e =
     let a = append-each (StepFits h) [] before (s ∷ after) e in
     let c = cons-each (StepFits h) before s after (a .1) in
-    let w = each-without (StepFits h) before s (c .0) (without (c .0 .rising)) [] after (c .1) in
+    let w = each-without (StepFits h) before s (without (c .0 .rising)) [] after (c .1) in
     each-append (StepFits h) [] before after (a .0) (rw append-nil at w)
   where
     without : T (aboveLast? before s) → (ws : List StepLine) (t : StepLine) → StepFits h (before ++ (s ∷ ws)) t

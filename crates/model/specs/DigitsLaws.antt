@@ -2,13 +2,15 @@
 -- Document 01, "The text": "Numbers have 1 to 5 digits and no leading zero, except `0` itself." Assumes nothing.
 use mathlib.Core.Bool.{Bool, true, false, cond, not, _&&_}
 use mathlib.Core.List.{List, [], _∷_, _++_, append-assoc, append-nil}
+use mathlib.Core.Logic.{_⊎_, inl, inr}
 use mathlib.Core.Path.{_≡_, refl, sym, ap, _∙_}
 use Prim.Native.Nat.{ℕ, zero, suc, _+_, _-_, _*_, _/_, _%_, _^_, _≤_, _<_}
 use native.Mathlib.Omega.{arith}
 use native.Mathlib.Nat.{pow-suc, pow-le-pow-right, lt-of-lt-of-le}
-use lib.Dec.{leb, ltb, eqb, lit<}
+use lib.Dec.{leb, eqb, lit<}
 use lib.ListN.{length, getD, length-append, List·getD-append}
-use borrow.Author.Tests.{ltb-true, ltb-false, leb-true, eqb-true, eqb-false, lt-ltb, le-ltb, le-leb, eq-eqb, ne-eqb}
+use borrow.Author.Tests.{leb-true, eqb-true, eqb-false, lt-ltb, le-ltb, le-leb, eq-eqb, ne-eqb}
+use Rattle.lts.specs.TestsLaws.{lt-or-le}
 use Rattle.model.specs.declared.number.Number.the-variants.{Value, Bad}
 use Rattle.model.specs.Bytes.{digit, kindOf}
 use Rattle.model.specs.BytesLaws.{digit-within, digit-kind}
@@ -19,16 +21,8 @@ use Rattle.model.specs.AllLaws.{all-append}
 -- ---- digits, one by one
 
 -- below ten, or not
-data Ten (n : ℕ) : Type 0 where
-  below : n < 10 → Ten n
-  above : 10 ≤ n → Ten n
-
-ten : (n : ℕ) → Ten n
-ten n = by-test (ltb n 10) refl
-  where
-    by-test : (t : Bool) → ltb n 10 ≡ t → Ten n
-    by-test true e = below (ltb-true n 10 e)
-    by-test false e = above (ltb-false n 10 e)
+abbrev Ten : ℕ → Type 0
+Ten n = (n < 10) ⊎ (10 ≤ n)
 
 pub digitsUpTo-lt : (k n : ℕ) → n < 10 → digitsUpTo (suc k) n ≡ (48 + n) ∷ []
 unfolding digitsUpTo
@@ -77,12 +71,12 @@ before-last (suc k) n g h = let e = pow-suc 10 (suc k) in (omega arith, omega ar
 
 digitsUpTo-value : (k n : ℕ) → n < 10 ^ k → 0 < k → digitsValue 0 (digitsUpTo k n) ≡ Value n
 digitsUpTo-value zero n h p = absurd (omega arith)
-digitsUpTo-value (suc k) n h p = go (digitsUpTo-value k) (ten n)
+digitsUpTo-value (suc k) n h p = go (digitsUpTo-value k) (lt-or-le n 10)
   where
     go : ((m : ℕ) → m < 10 ^ k → 0 < k → digitsValue 0 (digitsUpTo k m) ≡ Value m) → Ten n
         → digitsValue 0 (digitsUpTo (suc k) n) ≡ Value n
-    go ih (below l) = rw (digitsUpTo-lt k n l, value-one 0 n l) (ap Value (omega arith))
-    go ih (above g) =
+    go ih (inl l) = rw (digitsUpTo-lt k n l, value-one 0 n l) (ap Value (omega arith))
+    go ih (inr g) =
         let b = before-last k n g h in
         let i = value-append (digitsUpTo k (n / 10)) ((48 + n % 10) ∷ []) 0 (n / 10) (ih (n / 10) (b .0) (b .1)) in
         rw (digitsUpTo-le k n g, i, value-one (n / 10) (n % 10) (omega arith)) (ap Value (omega arith))
@@ -90,23 +84,23 @@ digitsUpTo-value (suc k) n h p = go (digitsUpTo-value k) (ten n)
 pub digitsUpTo-digit : (k n : ℕ) → All (λ b. kindOf b ≡ digit) (digitsUpTo k n)
 unfolding digitsUpTo
 digitsUpTo-digit zero n = tt
-digitsUpTo-digit (suc k) n = go (digitsUpTo-digit k (n / 10)) (ten n)
+digitsUpTo-digit (suc k) n = go (digitsUpTo-digit k (n / 10)) (lt-or-le n 10)
   where
     go : All (λ b. kindOf b ≡ digit) (digitsUpTo k (n / 10)) → Ten n
         → All (λ b. kindOf b ≡ digit) (digitsUpTo (suc k) n)
-    go ih (below l) = rw (digitsUpTo-lt k n l) (digit-kind (48 + n) (omega arith) (omega arith), tt)
-    go ih (above g) =
+    go ih (inl l) = rw (digitsUpTo-lt k n l) (digit-kind (48 + n) (omega arith) (omega arith), tt)
+    go ih (inr g) =
         let last = digit-kind (48 + n % 10) (omega arith) (omega arith) in
         rw (digitsUpTo-le k n g) (all-append (λ b. kindOf b ≡ digit) (digitsUpTo k (n / 10)) _ ih (last, tt))
 
 pub digitsUpTo-length-le : (k n : ℕ) → length (digitsUpTo k n) ≤ k
 unfolding digitsUpTo
 digitsUpTo-length-le zero n = omega arith
-digitsUpTo-length-le (suc k) n = go (digitsUpTo-length-le k (n / 10)) (ten n)
+digitsUpTo-length-le (suc k) n = go (digitsUpTo-length-le k (n / 10)) (lt-or-le n 10)
   where
     go : length (digitsUpTo k (n / 10)) ≤ k → Ten n → length (digitsUpTo (suc k) n) ≤ suc k
-    go ih (below l) = rw (digitsUpTo-lt k n l) (omega arith)
-    go ih (above g) = rw (digitsUpTo-le k n g) (simp length-append (omega arith))
+    go ih (inl l) = rw (digitsUpTo-lt k n l) (omega arith)
+    go ih (inr g) = rw (digitsUpTo-le k n g) (simp length-append (omega arith))
 
 -- a number above 0 has digits, and the first is not 0
 record Led (l : List ℕ) : Type 0 where
@@ -115,11 +109,11 @@ record Led (l : List ℕ) : Type 0 where
 
 digitsUpTo-led : (k n : ℕ) → n < 10 ^ k → 0 < k → 0 < n → Led (digitsUpTo k n)
 digitsUpTo-led zero n h p q = absurd (omega arith)
-digitsUpTo-led (suc k) n h p q = go (digitsUpTo-led k) (ten n)
+digitsUpTo-led (suc k) n h p q = go (digitsUpTo-led k) (lt-or-le n 10)
   where
     go : ((m : ℕ) → m < 10 ^ k → 0 < k → 0 < m → Led (digitsUpTo k m)) → Ten n → Led (digitsUpTo (suc k) n)
-    go ih (below l) = rw (digitsUpTo-lt k n l) (record { some = omega arith; first = λ z. omega arith })
-    go ih (above g) =
+    go ih (inl l) = rw (digitsUpTo-lt k n l) (record { some = omega arith; first = λ z. omega arith })
+    go ih (inr g) =
         let b = before-last k n g h in
         let i = ih (n / 10) (b .0) (b .1) (b .2) in
         let e = length-append (digitsUpTo k (n / 10)) ((48 + n % 10) ∷ []) in
@@ -129,15 +123,16 @@ digitsUpTo-led (suc k) n h p q = go (digitsUpTo-led k) (ten n)
 -- room for more digits than there are changes nothing
 digitsUpTo-suc : (k n : ℕ) → n < 10 ^ k → 0 < k → digitsUpTo (suc k) n ≡ digitsUpTo k n
 digitsUpTo-suc zero n h p = absurd (omega arith)
-digitsUpTo-suc (suc k) n h p = go (digitsUpTo-suc k) (ten n)
+digitsUpTo-suc (suc k) n h p = go (digitsUpTo-suc k) (lt-or-le n 10)
   where
     go : ((m : ℕ) → m < 10 ^ k → 0 < k → digitsUpTo (suc k) m ≡ digitsUpTo k m) → Ten n
         → digitsUpTo (suc (suc k)) n ≡ digitsUpTo (suc k) n
-    go ih (below l) = digitsUpTo-lt (suc k) n l ∙ sym (digitsUpTo-lt k n l)
-    go ih (above g) =
+    go ih (inl l) = digitsUpTo-lt (suc k) n l ∙ sym (digitsUpTo-lt k n l)
+    go ih (inr g) =
         let b = before-last k n g h in
         rw (digitsUpTo-le (suc k) n g, digitsUpTo-le k n g, ih (n / 10) (b .0) (b .1))
 
+-- the five places that `digits` allows are enough, and no more than k are used
 pub digits-digitsUpTo : (j k n : ℕ) → n < 10 ^ k → 0 < k → j + k ≡ 5 → digits n ≡ digitsUpTo k n
 unfolding digits
 digits-digitsUpTo zero k n h p e = let q : k ≡ 5 = omega arith in rw q
@@ -172,11 +167,11 @@ numberOf-several (b ∷ c ∷ bs) h l z =
 -- what is written reads back
 pub numberOf-digits : (n : ℕ) → n < 100000 → numberOf (digits n) ≡ Value n
 unfolding digits
-numberOf-digits n h = go (ten n)
+numberOf-digits n h = go (lt-or-le n 10)
   where
     go : Ten n → numberOf (digitsUpTo 5 n) ≡ Value n
-    go (below l) = numberOf-one (digitsUpTo 5 n) (rw (digitsUpTo-lt 4 n l)) ∙ digitsUpTo-value 5 n h (lit< tt)
-    go (above g) =
+    go (inl l) = numberOf-one (digitsUpTo 5 n) (rw (digitsUpTo-lt 4 n l)) ∙ digitsUpTo-value 5 n h (lit< tt)
+    go (inr g) =
         let b = before-last 4 n g h in
         let d = digitsUpTo-led 4 (n / 10) (b .0) (b .1) (b .2) in
         let e = length-append (digitsUpTo 4 (n / 10)) ((48 + n % 10) ∷ []) in
@@ -192,7 +187,7 @@ digitsUpTo-cons k v d p h =
     let b : (v * 10 + d) % 10 ≡ d = omega arith in
     rw (digitsUpTo-le k (v * 10 + d) (omega arith), a, b)
 
--- digits that follow those of v, up to the value n: they are the last digits of n, and bound it
+-- digits that follow those of v, up to the value n, are the last digits of n
 digitsUpTo-of-value : (ds : List ℕ) (v k n : ℕ) → 0 < v → digitsValue v ds ≡ Value n
     → digitsUpTo (k + length ds) n ≡ digitsUpTo k v ++ ds
 digitsUpTo-of-value [] v k n p h =
@@ -219,7 +214,7 @@ value-lt (d ∷ ds) v k n p h =
     let e = pow-suc 10 k in
     rw z (value-lt ds (v * 10 + (d - 48)) (suc k) n (omega arith) (sym (value-cons v d ds q) ∙ h))
 
--- a digit, and digits after it that it does not lead with 0
+-- a digit, and digits after it unless it is 0
 digits-of-value : (b : ℕ) (ds : List ℕ) (n : ℕ) → length ds ≤ 4 → (0 < length ds → b ≡ 48 → ⊥)
     → digitsValue 0 (b ∷ ds) ≡ Value n → (b ∷ ds ≡ digits n) × (n < 100000)
 digits-of-value b [] n l z h =

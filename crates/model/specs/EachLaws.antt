@@ -7,6 +7,7 @@ use lib.ListN.{length, getD, take}
 use Rattle.model.specs.All.{All}
 use Rattle.model.specs.WellFormed.{EachAfter}
 
+-- `each-X` makes it of the parts of X, `X-each` takes it apart.
 module _ {A : Type 0} (P : List A → A → Type 0) where
   pub each-nil : (before : List A) → EachAfter P before []
   unfolding EachAfter
@@ -76,20 +77,19 @@ module _ {A : Type 0} (P : List A → A → Type 0) where
   all-of-each Q f before (x ∷ xs) e = (f before x (e .0), all-of-each Q f (before ++ (x ∷ [])) xs (e .1))
 
   pub each-of-each : (Q : List A → A → Type 0) → ((before : List A) (x : A) → P before x → Q before x)
-      → (before xs : List A)
-      → EachAfter P before xs → EachAfter Q before xs
+      → (before xs : List A) → EachAfter P before xs → EachAfter Q before xs
   unfolding EachAfter
   each-of-each Q f before [] e = tt
   each-of-each Q f before (x ∷ xs) e = (f before x (e .0), each-of-each Q f (before ++ (x ∷ [])) xs (e .1))
 
   -- ---- an element taken out
 
-  -- what is left after y still fits, if P bears that y is missing from the list before an element
-  pub each-without : (before : List A) (y : A) → P before y
+  -- what follows y still has P without y before it, if P of an element bears that y is not among those before it
+  pub each-without : (before : List A) (y : A)
       → ((ws : List A) (z : A) → P (before ++ (y ∷ ws)) z → P (before ++ ws) z)
       → (ws ys : List A) → EachAfter P (before ++ (y ∷ ws)) ys → EachAfter P (before ++ ws) ys
   unfolding EachAfter
-  each-without before y p f ws [] e = tt
-  each-without before y p f ws (z ∷ ys) e =
-      let i = each-without before y p f (ws ++ (z ∷ [])) ys (rw (append-assoc before (y ∷ ws) (z ∷ [])) at (e .1)) in
+  each-without before y f ws [] e = tt
+  each-without before y f ws (z ∷ ys) e =
+      let i = each-without before y f (ws ++ (z ∷ [])) ys (rw (append-assoc before (y ∷ ws) (z ∷ [])) at (e .1)) in
       (f ws z (e .0), rw (append-assoc before ws (z ∷ [])) i)

@@ -9,7 +9,7 @@ use Rattle.model.specs.declared.Head.{Head}
 use Rattle.model.specs.Limits.{nameLimit, storeLength, actionPlace, namePlace, stepPlace}
 use Rattle.model.specs.Model.{high, above?}
 use Rattle.model.specs.Lines.{headFits?, nameByte?, stepFits?}
-use Rattle.model.specs.Between.{Between}
+use Rattle.model.specs.EachFrom.{EachFrom}
 use Rattle.model.specs.StoredModel.{headAt, stepAt}
 
 -- ---- places
@@ -33,7 +33,7 @@ nameLengthAt s i = getD s (actionPlace i + 1) 0
 
 -- name length and the twelve places of the name are the same in actions h and i
 abbrev pub SameName : List ℕ → ℕ → ℕ → Type 0
-SameName s h i = Between (SameAt s (actionPlace h + 1) (actionPlace i + 1)) 0 (nameLimit + 1)
+SameName s h i = EachFrom (SameAt s (actionPlace h + 1) (actionPlace i + 1)) 0 (nameLimit + 1)
 
 abbrev pub OtherName : List ℕ → ℕ → ℕ → Type 0
 OtherName s i h = ¬ (SameName s h i)
@@ -44,10 +44,10 @@ pub record GoodAction (s : List ℕ) (i : ℕ) : Type 0 where
   -- "A name is 1 to 12 bytes of a to z and 0 to 9, used once."
   pub some : 1 ≤ nameLengthAt s i
   pub fits : nameLengthAt s i ≤ nameLimit
-  pub bytes : Between (NameByteAt s) (namePlace i) (namePlace i + nameLengthAt s i)
-  pub once : Between (OtherName s i) 0 i
+  pub bytes : EachFrom (NameByteAt s) (namePlace i) (namePlace i + nameLengthAt s i)
+  pub once : EachFrom (OtherName s i) 0 i
   -- "Unused places are 0."
-  pub unused : Between (ZeroAt s) (namePlace i + nameLengthAt s i) (namePlace i + nameLimit)
+  pub unused : EachFrom (ZeroAt s) (namePlace i + nameLengthAt s i) (namePlace i + nameLimit)
 
 -- ---- steps
 
@@ -61,8 +61,8 @@ pub record GoodStep (h : Head) (s : List ℕ) (j : ℕ) : Type 0 where
 pub record GoodPlaces (s : List ℕ) : Type 0 where
   -- "States 1 to 128, actions 1 to 64, steps 0 to 1,024, start below states."
   pub head : T (headFits? (headAt s))
-  pub actions : Between (GoodAction s) 0 (headAt s .actions)
-  pub steps : Between (GoodStep (headAt s) s) 0 (headAt s .steps)
+  pub actions : EachFrom (GoodAction s) 0 (headAt s .actions)
+  pub steps : EachFrom (GoodStep (headAt s) s) 0 (headAt s .steps)
   -- "Unused places are 0."
-  pub unused-actions : Between (ZeroAt s) (actionPlace (headAt s .actions)) (stepPlace 0)
-  pub unused-steps : Between (ZeroAt s) (stepPlace (headAt s .steps)) storeLength
+  pub unused-actions : EachFrom (ZeroAt s) (actionPlace (headAt s .actions)) (stepPlace 0)
+  pub unused-steps : EachFrom (ZeroAt s) (stepPlace (headAt s .steps)) storeLength

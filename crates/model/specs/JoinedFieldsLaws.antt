@@ -3,7 +3,7 @@
 use mathlib.Core.Bool.{Bool, true, false, _&&_}
 use mathlib.Core.List.{List, [], _∷_, map}
 use mathlib.Core.Path.{_≡_, refl, sym, ap, _∙_, subst}
-use Prim.Native.Nat.{ℕ, _<_}
+use Prim.Native.Nat.{ℕ}
 use native.Mathlib.Omega.{arith}
 use lib.Dec.{T, eqb, eqb→eq, eqb-refl}
 use lib.ListN.{length, length-map}
@@ -26,6 +26,7 @@ use Rattle.model.specs.Join.{join, Without}
 use Rattle.model.specs.JoinLaws.{split-join, join-split}
 use Rattle.model.specs.Lines.{Line, good, bad, checked, fieldsFrom, fieldsOf, consNumber, numbersOf, numbersFrom}
 use Rattle.model.specs.Lines.{numbersLine}
+use Rattle.model.specs.Ranges.{Small}
 use Rattle.model.specs.LineText.{lineOf}
 
 -- ---- what passes a test
@@ -66,10 +67,6 @@ module _ (letter : ℕ) (fs : List (List ℕ)) where
       (sym (join-split comma 44 comma-only line) ∙ ap (join 44) (w .2 ∙ rw (e, c .1)), rw (c .1) at l)
 
 -- ---- numbers
-
--- numbers of at most five digits
-abbrev pub Small : List ℕ → Type 0
-Small ns = All (λ n. n < 100000) ns
 
 pub numbersOf-digits : (ns : List ℕ) → Small ns → numbersOf (map digits ns) ≡ good ns
 unfolding numbersOf consNumber

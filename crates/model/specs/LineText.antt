@@ -1,9 +1,11 @@
 -- The lines of a model's text without their ends, as fields joined by commas.
 -- Document 01, "The text".
 use mathlib.Core.List.{List, [], _∷_, _++_, map}
-use Prim.Native.Nat.{ℕ}
+use mathlib.Core.Path.{_≡_}
+use Prim.Native.Nat.{ℕ, _<_}
 use Rattle.model.specs.declared.Head.{Head}
 use Rattle.model.specs.declared.StepLine.{StepLine}
+use Rattle.model.specs.Bytes.{kindOf, lineEnd}
 use Rattle.model.specs.Numbers.{digits}
 use Rattle.model.specs.Join.{join}
 use Rattle.model.specs.Model.{ActionLine, Model}
@@ -31,3 +33,7 @@ abbrev pub partsOf : Model → List (List ℕ)
 partsOf m =
     lineOfHead (m .head)
     ∷ (map lineOfAction (m .actions) ++ (map lineOfStep (m .steps) ++ ((69 ∷ []) ∷ [] ∷ [])))
+
+-- a byte that may stand in a line
+abbrev pub LineByte : ℕ → Type 0
+LineByte b = (b < 256) × (kindOf b ≡ lineEnd → ⊥)

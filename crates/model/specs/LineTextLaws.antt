@@ -16,11 +16,11 @@ use Rattle.model.specs.Model.{aboveLast?}
 use Rattle.model.specs.Lines.{Line, good, bad, checked, numbersLine, headFits?, headNumbers, headFrom, headOf}
 use Rattle.model.specs.Lines.{stepFits?, stepNumbers, rising, stepFrom, stepOf}
 use Rattle.model.specs.Store.{headPlaces}
-use Rattle.model.specs.Ranges.{HeadRanges}
+use Rattle.model.specs.Ranges.{HeadRanges, Small}
 use Rattle.model.specs.RangesLaws.{headFits?→HeadRanges, stepFits?→StepRanges}
 use Rattle.model.specs.WellFormed.{StepFits}
 use Rattle.model.specs.LineText.{lineOf, lineOfHead, stepPlaces, lineOfStep}
-use Rattle.model.specs.JoinedFieldsLaws.{checked-good, good-checked, Small, numbersLine-line, line-of-numbersLine}
+use Rattle.model.specs.JoinedFieldsLaws.{checked-good, good-checked, numbersLine-line, line-of-numbersLine}
 
 -- ---- `M,states,actions,steps,start`
 

@@ -47,6 +47,16 @@ orFault-done k (bad fault) read m h = let z : _≡_ {A = ℕ} 0 1 = cc in absurd
 
 -- ---- lines of one kind, one after the other
 
+-- what n lines state that stand at the front of `parts`, and what holds of it and of the parts after them
+record Stated {A : Type 0} (line : A → List ℕ) (Fits : List A → A → Type 0) (n : ℕ) (before : List A)
+    (parts : List (List ℕ)) (After : List A → List (List ℕ) → Type 0) : Type 0 where
+  stated : List A
+  rest : List (List ℕ)
+  count : length stated ≡ n
+  lines : parts ≡ map line stated ++ rest
+  fit : EachAfter Fits before stated
+  after : After stated rest
+
 -- `read n k before parts` reads n lines of the kind, of which the first is line k, after what is in `before`
 module _ {A : Type 0} (line : A → List ℕ) (Fits : List A → A → Type 0) (of : List A → List ℕ → Line A)
     (read : ℕ → ℕ → List A → List (List ℕ) → Reading)
@@ -74,20 +84,24 @@ module _ {A : Type 0} (line : A → List ℕ) (Fits : List A → A → Type 0) (
 
   lines-of-done : ((before : List A) (l : List ℕ) (x : A) → of before l ≡ good x → (l ≡ line x) × Fits before x)
       → (n k : ℕ) (before : List A) (parts : List (List ℕ)) (m : Model) → read n k before parts ≡ done m
-      → (xs : List A) × (rest : List (List ℕ)) × (length xs ≡ n) × (parts ≡ map line xs ++ rest)
-      × EachAfter Fits before xs
-      × (read 0 (k + n) (before ++ xs) rest ≡ done m)
+      → Stated line Fits n before parts (λ xs rest. read 0 (k + n) (before ++ xs) rest ≡ done m)
   unfolding EachAfter
   lines-of-done states zero k before parts m h =
       let z : k + 0 ≡ k = omega arith in
-      ([], parts, refl, refl, tt, rw (append-nil, z) h)
+      record { stated = []; rest = parts; count = refl; lines = refl; fit = tt; after = rw (append-nil, z) h }
   lines-of-done states (suc n) k before parts m h =
       let o = onLine-done k parts _ m (sym (read-suc n k before parts) ∙ h) in
       let f = orFault-done k (of before (o .0)) _ m (o .4) in
       let s = states before (o .0) (f .0) (f .1) in
       let i = lines-of-done states n (suc k) (before ++ (f .0 ∷ [])) (o .1) m (f .2) in
-      let p : parts ≡ line (f .0) ∷ (map line (i .0) ++ i .1) = cc in
-      (f .0 ∷ i .0, i .1, ap suc (i .2), p, (s .1, i .4), regroup k n before (f .0) (i .0) (i .1) m (i .5))
+      record {
+        stated = f .0 ∷ i .stated;
+        rest = i .rest;
+        count = ap suc (i .count);
+        lines = cc;
+        fit = (s .1, i .fit);
+        after = regroup k n before (f .0) (i .stated) (i .rest) m (i .after);
+      }
 
 -- ---- the end
 
@@ -140,21 +154,24 @@ module _ (h : Head) (actions : List ActionLine) where
       ∙ readEnd-last (k + length steps) (model h actions steps)
 
   readSteps-done : (n k : ℕ) (parts : List (List ℕ)) (m : Model) → readSteps n k (model h actions []) parts ≡ done m
-      → (steps : List StepLine) × (length steps ≡ n) × EachAfter (StepFits h) [] steps
-      × (parts ≡ map lineOfStep steps ++ last) × (model h actions steps ≡ m)
+      → Stated lineOfStep (StepFits h) n [] parts (λ steps rest. (rest ≡ last) × (model h actions steps ≡ m))
   unfolding readSteps
   readSteps-done n k parts m q =
       ended (lines-of-done lineOfStep (StepFits h) (stepOf h) stepsRead (λ n j b p. refl) (line-of-stepOf h)
       n k [] parts m q)
     where
-      ended : (steps : List StepLine) × (rest : List (List ℕ)) × (length steps ≡ n)
-          × (parts ≡ map lineOfStep steps ++ rest) × EachAfter (StepFits h) [] steps
-          × (readSteps 0 (k + n) (model h actions steps) rest ≡ done m)
-          → (steps : List StepLine) × (length steps ≡ n) × EachAfter (StepFits h) [] steps
-          × (parts ≡ map lineOfStep steps ++ last) × (model h actions steps ≡ m)
+      ended : Stated lineOfStep (StepFits h) n [] parts
+          (λ steps rest. readSteps 0 (k + n) (model h actions steps) rest ≡ done m)
+          → Stated lineOfStep (StepFits h) n [] parts (λ steps rest. (rest ≡ last) × (model h actions steps ≡ m))
       ended s =
-          let e = readEnd-done (k + n) (model h actions (s .0)) m (s .1) (s .5) in
-          (s .0, s .2, s .4, s .3 ∙ ap (λ (x : List (List ℕ)). map lineOfStep (s .0) ++ x) (e .0), e .1)
+          record {
+            stated = s .stated;
+            rest = s .rest;
+            count = s .count;
+            lines = s .lines;
+            fit = s .fit;
+            after = readEnd-done (k + n) (model h actions (s .stated)) m (s .rest) (s .after);
+          }
 
 abbrev actionsRead : Head → ℕ → ℕ → List ActionLine → List (List ℕ) → Reading
 actionsRead h n k before parts = readActions n k (model h before []) parts
@@ -175,10 +192,10 @@ readModel-parts m w =
     ∙ readSteps-lines h (m .actions) (2 + length (m .actions)) (m .steps) (headFits?→HeadRanges h (w .head)) (w .steps))
 
 joined : (parts : List (List ℕ)) (h : Head) (actions : List ActionLine) (steps : List StepLine)
-    (line : List ℕ) (from-actions from-steps : List (List ℕ)) → parts ≡ line ∷ from-actions → line ≡ lineOfHead h
-    → from-actions ≡ map lineOfAction actions ++ from-steps → from-steps ≡ map lineOfStep steps ++ last
+    (line : List ℕ) (from-actions from-steps end : List (List ℕ)) → parts ≡ line ∷ from-actions → line ≡ lineOfHead h
+    → from-actions ≡ map lineOfAction actions ++ from-steps → from-steps ≡ map lineOfStep steps ++ end → end ≡ last
     → parts ≡ partsOf (model h actions steps)
-joined parts h actions steps line from-actions from-steps p l a s = rw (p, l, a, s)
+joined parts h actions steps line from-actions from-steps end p l a s e = rw (p, l, a, s, e)
 
 pub partsOf-of-readModel : (parts : List (List ℕ)) (m : Model) → readModel parts ≡ done m
     → WellFormed m × (parts ≡ partsOf m)
@@ -187,15 +204,15 @@ partsOf-of-readModel parts m q = first (onLine-done 1 parts _ m q)
   where
     whole : (line : List ℕ) (rest : List (List ℕ)) (h : Head) → parts ≡ line ∷ rest
         → (line ≡ lineOfHead h) × T (headFits? h)
-        → (actions : List ActionLine) × (after : List (List ℕ)) × (length actions ≡ h .actions)
-        × (rest ≡ map lineOfAction actions ++ after) × EachAfter ActionFits [] actions
-        × (readSteps (h .steps) (2 + h .actions) (model h actions []) after ≡ done m)
+        → Stated lineOfAction ActionFits (h .actions) [] rest
+        (λ actions after. readSteps (h .steps) (2 + h .actions) (model h actions []) after ≡ done m)
         → WellFormed m × (parts ≡ partsOf m)
     whole line rest h p l a =
-        let s = readSteps-done h (a .0) (h .steps) (2 + h .actions) (a .1) m (a .5) in
-        subst (λ (n : Model). WellFormed n × (parts ≡ partsOf n)) (s .4) (
-          record { head = l .1; action-count = a .2; step-count = s .1; actions = a .4; steps = s .2 },
-          joined parts h (a .0) (s .0) line rest (a .1) p (l .0) (a .3) (s .3),
+        let s = readSteps-done h (a .stated) (h .steps) (2 + h .actions) (a .rest) m (a .after) in
+        subst (λ (n : Model). WellFormed n × (parts ≡ partsOf n)) (s .after .1) (
+          record { head = l .1; action-count = a .count; step-count = s .count; actions = a .fit; steps = s .fit },
+          joined parts h (a .stated) (s .stated) line rest (a .rest) (s .rest) p (l .0) (a .lines) (s .lines)
+              (s .after .0),
         )
 
     second : (line : List ℕ) (rest : List (List ℕ)) → parts ≡ line ∷ rest

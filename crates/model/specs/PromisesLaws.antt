@@ -16,6 +16,7 @@ use Rattle.model.specs.Reading.{Reading, done, tooLong, faulty, readText
 use Rattle.model.specs.ReadingLaws.{textOf-of-readText}
 use Rattle.model.specs.Store.{storeOf, Good}
 use Rattle.model.specs.StoreLaws.{storeOf-length}
+use Rattle.model.specs.StoredModelLaws.{holds-storeOf}
 use Rattle.model.specs.GoodTestLaws.{good-cases}
 use Rattle.model.specs.Promises.{OnStore, toldReading, readingStore, readLists, ReadPromise, writeLists}
 use Rattle.model.specs.Promises.{WritePromise}
@@ -107,9 +108,9 @@ module _ (text store exit : List ℕ) (long : storeLength ≤ length store)
   pub read-good : (g : Good exit) × (g .text ≡ text)
   read-good =
       let d = read-done in
-      let w = textOf-of-readText text (d .0) (d .1) .0 in
-      let s = take-at (storeOf (d .0)) (drop storeLength store) storeLength (storeOf-length (d .0) w) in
-      (record { text = text; model = d .0; reads = d .1; stored = sym (ap (take storeLength) (d .2) ∙ s) }, refl)
+      let h = holds-storeOf (d .0) (drop storeLength store) (textOf-of-readText text (d .0) (d .1) .0) in
+      let s = h .stored ∙ ap (take storeLength) (sym (d .2)) in
+      (record { text = text; model = d .0; reads = d .1; stored = s }, refl)
 
   -- ---- Write undoes Read, and Read undoes Write
 

@@ -14,8 +14,7 @@ use Rattle.model.specs.BytesLaws.{lineEnd-only}
 use Rattle.model.specs.Limits.{textLimit, outLength}
 use Rattle.model.specs.Split.{split}
 use Rattle.model.specs.All.{All}
-use Rattle.model.specs.AllLaws.{all-of-all}
-use Rattle.model.specs.Join.{join, Without}
+use Rattle.model.specs.Join.{join}
 use Rattle.model.specs.JoinLaws.{all-join, split-join, join-split}
 use Rattle.model.specs.Model.{Model}
 use Rattle.model.specs.Reading.{done, tooLong, readModel, readText}

@@ -1,6 +1,6 @@
 -- The store of a well-formed model: its length, its numbers, and where each action and step of the model stands.
 -- Document 01, "The model store". Assumes nothing.
-use mathlib.Core.List.{List, [], _∷_, _++_, append-assoc}
+use mathlib.Core.List.{List, [], _++_, append-assoc}
 use mathlib.Core.Logic.{inl, inr}
 use mathlib.Core.Path.{_≡_, refl, ap, _∙_}
 use Prim.Native.Nat.{ℕ, _+_, _-_, _*_, _<_}
@@ -20,7 +20,7 @@ use Rattle.model.specs.WellFormed.{EachAfter, ActionFits, StepFits, Well
 use Rattle.model.specs.EachLaws.{all-of-each}
 use Rattle.model.specs.BlocksLaws.{padded-append, padded-length, padded-all, blocks-length, blocks-all}
 use Rattle.model.specs.BlocksLaws.{blocks-drop}
-use Rattle.model.specs.Ranges.{HeadRanges}
+use Rattle.model.specs.Ranges.{HeadRanges, Storable}
 use Rattle.model.specs.RangesLaws.{headFits?→HeadRanges, stepFits?→StepRanges}
 use Rattle.model.specs.LineText.{stepPlaces}
 use Rattle.model.specs.ActionLineLaws.{NameByte, name-bytes, name-length}
@@ -72,57 +72,55 @@ module _ (m : Model) (w : WellFormed m) where
 
 -- ---- numbers of 16 bits
 
--- a number of 16 bits
-abbrev pub Word : ℕ → Type 0
-Word n = n < 65536
+nameByte-storable : (b : ℕ) → NameByte b → Storable b
+nameByte-storable b (inl e) = let r = digit-within b e in omega arith
+nameByte-storable b (inr e) = let r = smallLetter-within b e in omega arith
 
-nameByte-word : (b : ℕ) → NameByte b → Word b
-nameByte-word b (inl e) = let r = digit-within b e in omega arith
-nameByte-word b (inr e) = let r = smallLetter-within b e in omega arith
-
-actionNumbers-words : (before : List ActionLine) (a : ActionLine) → ActionFits before a → All Word (actionNumbers a)
+actionNumbers-storable : (before : List ActionLine) (a : ActionLine) → ActionFits before a
+    → All Storable (actionNumbers a)
 unfolding actionNumbers
-actionNumbers-words before a f =
+actionNumbers-storable before a f =
     let l = f .level in
     let n = name-length (a .name) (f .name) in
-    let b = all-of-all NameByte Word nameByte-word (a .name) (name-bytes (a .name) (f .name)) in
-    (omega arith, (omega arith, padded-all Word (lit< tt) nameLimit (a .name) b))
+    let b = all-of-all NameByte Storable nameByte-storable (a .name) (name-bytes (a .name) (f .name)) in
+    (omega arith, (omega arith, padded-all Storable (lit< tt) nameLimit (a .name) b))
 
 module _ (m : Model) (w : WellFormed m) where
-  head-words : All Word (headPlaces (m .head))
+  head-storable : All Storable (headPlaces (m .head))
   unfolding headPlaces
-  head-words =
+  head-storable =
       let r = headFits?→HeadRanges (m .head) (w .head) in
       (omega arith, (omega arith, (omega arith, (omega arith, tt))))
 
-  actions-words : All Word (padded (14 * actionLimit) (actionsNumbers (m .actions)))
+  actions-storable : All Storable (padded (14 * actionLimit) (actionsNumbers (m .actions)))
   unfolding actionsNumbers
-  actions-words =
-      let words = actionNumbers-words in
-      let each = all-of-each ActionFits (λ a. All Word (actionNumbers a)) words [] (m .actions) (w .actions) in
-      padded-all Word (lit< tt) (14 * actionLimit) (actionsNumbers (m .actions))
-      (blocks-all actionNumbers actionsNumbers 14 refl (λ a rest. refl) Word (m .actions) each)
+  actions-storable =
+      let storable = actionNumbers-storable in
+      let each = all-of-each ActionFits (λ a. All Storable (actionNumbers a)) storable [] (m .actions) (w .actions) in
+      padded-all Storable (lit< tt) (14 * actionLimit) (actionsNumbers (m .actions))
+      (blocks-all actionNumbers actionsNumbers 14 refl (λ a rest. refl) Storable (m .actions) each)
 
-  step-words : (before : List StepLine) (s : StepLine) → StepFits (m .head) before s → All Word (stepPlaces s)
-  step-words before s f =
+  step-storable : (before : List StepLine) (s : StepLine) → StepFits (m .head) before s → All Storable (stepPlaces s)
+  step-storable before s f =
       let r = headFits?→HeadRanges (m .head) (w .head) in
       let u = stepFits?→StepRanges (m .head) s (f .in-range) in
       (omega arith, (omega arith, (omega arith, tt)))
 
-  steps-words : All Word (padded (3 * stepLimit) (stepsNumbers (m .steps)))
+  steps-storable : All Storable (padded (3 * stepLimit) (stepsNumbers (m .steps)))
   unfolding stepsNumbers
-  steps-words =
-      let each = all-of-each (StepFits (m .head)) (λ s. All Word (stepPlaces s)) step-words [] (m .steps) (w .steps) in
-      padded-all Word (lit< tt) (3 * stepLimit) (stepsNumbers (m .steps))
-      (blocks-all stepPlaces stepsNumbers 3 refl (λ s rest. refl) Word (m .steps) each)
+  steps-storable =
+      let fits = StepFits (m .head) in
+      let each = all-of-each fits (λ s. All Storable (stepPlaces s)) step-storable [] (m .steps) (w .steps) in
+      padded-all Storable (lit< tt) (3 * stepLimit) (stepsNumbers (m .steps))
+      (blocks-all stepPlaces stepsNumbers 3 refl (λ s rest. refl) Storable (m .steps) each)
 
-  pub storeOf-words : All Word (storeOf m)
+  pub storeOf-storable : All Storable (storeOf m)
   unfolding storeOf
-  storeOf-words =
+  storeOf-storable =
       let actions-part : List ℕ = padded (14 * actionLimit) (actionsNumbers (m .actions)) in
       let steps-part : List ℕ = padded (3 * stepLimit) (stepsNumbers (m .steps)) in
-      let front = all-append Word (headPlaces (m .head)) actions-part head-words actions-words in
-      all-append Word (headPlaces (m .head) ++ actions-part) steps-part front steps-words
+      let front = all-append Storable (headPlaces (m .head)) actions-part head-storable actions-storable in
+      all-append Storable (headPlaces (m .head) ++ actions-part) steps-part front steps-storable
 
 -- ---- where each action and each step stands, whatever follows the store
 

@@ -14,9 +14,10 @@ use Rattle.model.specs.Limits.{nameLimit, storeLength, actionPlace, name
 use Rattle.model.specs.Model.{ActionLine, Model}
 use Rattle.model.specs.ReadingLaws.{readText-textOf, textOf-of-readText}
 use Rattle.model.specs.Text.{textOf}
-use Rattle.model.specs.Store.{padded, actionNumbers, headPlaces, storeOf, Good}
-use Rattle.model.specs.StoreLaws.{storeOf-action, storeOf-step}
+use Rattle.model.specs.Store.{actionNumbers, headPlaces, storeOf, Good}
+use Rattle.model.specs.StoreLaws.{storeOf-length, storeOf-action, storeOf-step}
 use Rattle.model.specs.StoredModel.{headAt, actionAt, stepAt, listed, modelAt, Holds}
+use Rattle.model.specs.System.{source, action, target, level}
 use Rattle.model.specs.WellFormed.{WellFormed}
 use Rattle.model.specs.BlocksLaws.{padded-append}
 use Rattle.model.specs.LineText.{stepPlaces}
@@ -108,16 +109,52 @@ module _ (s : List ℕ) (m : Model) (h : Holds s m) where
       (listed-all (m .actions) noAction (actionAt s) (getD s 1 0) a (λ i. actionAt-holds i noAction))
       (listed-all (m .steps) noStep (stepAt s) (getD s 2 0) t (λ j. stepAt-holds j noStep))
 
+  -- ---- place by place
+
+  pub states-holds : getD s 0 0 ≡ m .head .states
+  states-holds = ap (λ (x : Head). x .states) headAt-holds
+
+  pub actions-holds : getD s 1 0 ≡ m .head .actions
+  actions-holds = ap (λ (x : Head). x .actions) headAt-holds
+
+  pub steps-holds : getD s 2 0 ≡ m .head .steps
+  steps-holds = ap (λ (x : Head). x .steps) headAt-holds
+
+  pub start-holds : getD s 3 0 ≡ m .head .start .0
+  start-holds = ap (λ (x : Head). x .start .0) headAt-holds
+
+  pub level-holds : (a : ℕ) → a < length (m .actions) → getD s (actionPlace a) 0 ≡ level m a
+  level-holds a l = ap (λ (x : ActionLine). x .level) (actionAt-holds a _ l)
+
+  pub source-holds : (j : ℕ) → j < length (m .steps) → getD s (stepPlace j) 0 ≡ source m j
+  source-holds j l = ap (λ (x : StepLine). x .source .0) (stepAt-holds j _ l)
+
+  pub action-holds : (j : ℕ) → j < length (m .steps) → getD s (stepPlace j + 1) 0 ≡ action m j
+  action-holds j l = ap (λ (x : StepLine). x .action .0) (stepAt-holds j _ l)
+
+  pub target-holds : (j : ℕ) → j < length (m .steps) → getD s (stepPlace j + 2) 0 ≡ target m j
+  target-holds j l = ap (λ (x : StepLine). x .target .0) (stepAt-holds j _ l)
+
 -- ---- good stores
+
+-- the store of a well-formed model holds it, whatever follows
+pub holds-storeOf : (m : Model) (rest : List ℕ) → WellFormed m → Holds (storeOf m ++ rest) m
+holds-storeOf m rest w =
+    record { well-formed = w; stored = sym (take-at (storeOf m) rest storeLength (storeOf-length m w)) }
+
+pub modelAt-storeOf : (m : Model) (rest : List ℕ) → WellFormed m → modelAt (storeOf m ++ rest) ≡ m
+modelAt-storeOf m rest w = modelAt-holds (storeOf m ++ rest) m (holds-storeOf m rest w)
 
 -- a store holds one model only
 pub holds-unique : (s : List ℕ) (m n : Model) → Holds s m → Holds s n → m ≡ n
 holds-unique s m n h k = sym (modelAt-holds s m h) ∙ modelAt-holds s n k
 
--- the store of a well-formed model is good, whatever follows it
 pub good-of-holds : (s : List ℕ) (m : Model) → Holds s m → Good s
 good-of-holds s m h =
     record { text = textOf m; model = m; reads = readText-textOf m (h .well-formed); stored = h .stored }
+
+pub storeOf-good : (m : Model) (rest : List ℕ) → WellFormed m → Good (storeOf m ++ rest)
+storeOf-good m rest w = good-of-holds (storeOf m ++ rest) m (holds-storeOf m rest w)
 
 pub holds-of-good : (s : List ℕ) (g : Good s) → Holds s (g .model)
 holds-of-good s g = record { well-formed = textOf-of-readText (g .text) (g .model) (g .reads) .0; stored = g .stored }

@@ -10,7 +10,7 @@ use lib.ListN.{length, length-append}
 use borrow.Author.Tests.{eqb-false}
 use Rattle.model.specs.declared.Head.{Head}
 use Rattle.model.specs.declared.StepLine.{StepLine}
-use Rattle.model.specs.Bytes.{kindOf, digit, lineEnd, capital}
+use Rattle.model.specs.Bytes.{kindOf, digit, capital}
 use Rattle.model.specs.BytesLaws.{digit-within, smallLetter-within, capital-within}
 use Rattle.model.specs.Numbers.{digits}
 use Rattle.model.specs.DigitsLaws.{digits-digit}
@@ -24,7 +24,7 @@ use Rattle.model.specs.Text.{headText, levelByte, actionText, stepText, 
 use Rattle.model.specs.Store.{headPlaces}
 use Rattle.model.specs.WellFormed.{ActionFits, WellFormed}
 use Rattle.model.specs.EachLaws.{all-of-each}
-use Rattle.model.specs.LineText.{lineOf, lineOfHead, lineOfAction, stepPlaces, lineOfStep, partsOf}
+use Rattle.model.specs.LineText.{LineByte, lineOf, lineOfHead, lineOfAction, stepPlaces, lineOfStep, partsOf}
 use Rattle.model.specs.ActionLineLaws.{NameByte, name-bytes, levelByte-capital}
 
 -- ---- a line's text is the line and its end
@@ -86,10 +86,6 @@ textOf-parts m =
     (sym (regroup (lineOfHead (m .head)) (actionsText (m .actions)) (stepsText (m .steps)) (69 ∷ 10 ∷ []))))
 
 -- ---- the bytes of lines
-
--- a byte that may stand in a line
-abbrev pub LineByte : ℕ → Type 0
-LineByte b = (b < 256) × (kindOf b ≡ lineEnd → ⊥)
 
 digit-lineByte : (b : ℕ) → kindOf b ≡ digit → LineByte b
 digit-lineByte b e = let w = digit-within b e in (omega arith, λ z. omega arith)

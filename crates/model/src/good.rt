@@ -27,13 +27,13 @@ ghost use Rattle.model.specs.Decides.{Decides};
 ghost use Rattle.model.specs.Lines.{headFits?, nameByte?, stepFits?};
 ghost use Rattle.model.specs.Store.{Good};
 ghost use Rattle.model.specs.StoredModel.{headAt};
-ghost use Rattle.model.specs.Between.{Between};
+ghost use Rattle.model.specs.EachFrom.{EachFrom};
 ghost use Rattle.model.specs.GoodPlaces.{ZeroAt, NameByteAt, SameAt, SameName, OtherName, GoodAction, GoodStep, GoodPlaces};
 
 // Whether the places from `from` on and below `to` hold 0.
 fn zeros(store: &[u16], from: usize, to: usize) -> bool
     requires { ⌜ to ≤ length (now store) ⌝ }
-    ensures { λ r. ⌜ Decides r (Between (ZeroAt (now (store .entry))) from to) ⌝ }
+    ensures { λ r. ⌜ Decides r (EachFrom (ZeroAt (now (store .entry))) from to) ⌝ }
 {
     let mut k = from;
     while k < to {
@@ -48,7 +48,7 @@ fn zeros(store: &[u16], from: usize, to: usize) -> bool
 // Whether the n places from p on hold what the n places from q on hold.
 fn same(store: &[u16], p: usize, q: usize, n: usize) -> bool
     requires { ⌜ (p + n ≤ length (now store)) × (q + n ≤ length (now store)) ⌝ }
-    ensures { λ r. ⌜ Decides r (Between (SameAt (now (store .entry)) p q) 0 n) ⌝ }
+    ensures { λ r. ⌜ Decides r (EachFrom (SameAt (now (store .entry)) p q) 0 n) ⌝ }
 {
     let mut k = 0;
     while k < n {
@@ -80,7 +80,7 @@ fn is_name_byte(x: u16) -> bool
 // Whether the places from `from` on and below `to` hold digits and small letters.
 fn name_bytes(store: &[u16], from: usize, to: usize) -> bool
     requires { ⌜ to ≤ length (now store) ⌝ }
-    ensures { λ r. ⌜ Decides r (Between (NameByteAt (now (store .entry))) from to) ⌝ }
+    ensures { λ r. ⌜ Decides r (EachFrom (NameByteAt (now (store .entry))) from to) ⌝ }
 {
     let mut k = from;
     while k < to {
@@ -103,7 +103,7 @@ fn same_name(store: &[u16], a: Action, b: Action) -> bool
 // Whether no action before `a` has its name.
 fn used_once(store: &[u16], a: Action) -> bool
     requires { ⌜ (storeLength ≤ length (now store)) × (a .0 < actionLimit) ⌝ }
-    ensures { λ r. ⌜ Decides r (Between (OtherName (now (store .entry)) (a .0)) 0 (a .0)) ⌝ }
+    ensures { λ r. ⌜ Decides r (EachFrom (OtherName (now (store .entry)) (a .0)) 0 (a .0)) ⌝ }
 {
     let n = a.0;
     let mut h = 0;
@@ -145,7 +145,7 @@ fn action_good(store: &[u16], a: Action) -> bool
 // Whether the places of the first n actions are good.
 fn actions_good(store: &[u16], n: u16) -> bool
     requires { ⌜ (storeLength ≤ length (now store)) × (n ≤ actionLimit) ⌝ }
-    ensures { λ r. ⌜ Decides r (Between (GoodAction (now (store .entry))) 0 n) ⌝ }
+    ensures { λ r. ⌜ Decides r (EachFrom (GoodAction (now (store .entry))) 0 n) ⌝ }
 {
     let mut i = 0;
     while i < n {
@@ -194,7 +194,7 @@ fn step_good(store: &[u16], h: Head, j: Step) -> bool
 // Whether the places of the first h.steps steps are good.
 fn steps_good(store: &[u16], h: Head) -> bool
     requires { ⌜ (storeLength ≤ length (now store)) × (h .steps ≤ stepLimit) ⌝ }
-    ensures { λ r. ⌜ Decides r (Between (GoodStep h (now (store .entry))) 0 (h .steps)) ⌝ }
+    ensures { λ r. ⌜ Decides r (EachFrom (GoodStep h (now (store .entry))) 0 (h .steps)) ⌝ }
 {
     let n = h.steps;
     let mut j = 0;

@@ -3,8 +3,8 @@ use mathlib.Core.Path.{_≡_}
 use Prim.Native.Nat.{_≤_, _-_}
 use native.Mathlib.Omega.{arith}
 use borrow.Author.Tests.{not-true, not-false}
-use Rattle.model.specs.Between.{Between}
-use Rattle.model.specs.BetweenLaws.{between-nil, between-snoc, between-le}
+use Rattle.model.specs.EachFrom.{EachFrom}
+use Rattle.model.specs.EachFromLaws.{each-from-nil, each-from-snoc, each-from-le}
 use Rattle.model.specs.DecidesLaws.{decides-true, decides-false}
 use Rattle.model.specs.GoodPlaces.{GoodAction}
 use borrow.Author.Needs.{needs}
@@ -15,14 +15,14 @@ use Rattle.model.proofs.good.actions_good.Lts as lts
 use Rattle.model.proofs.good.action_good.Reads as action-good-reads
 
 abbrev Inv-loop : tie.InvT-loop
-Inv-loop store n i₀ i = Between (GoodAction store) 0 i
+Inv-loop store n i₀ i = EachFrom (GoodAction store) 0 i
 
 abbrev μ-loop : tie.MeasureT-loop
 μ-loop store n i₀ i = n - i
 
 -- src/good.rt:151:5
 loop-holds : tie.Need-loop-holds Inv-loop μ-loop
-loop-holds c = between-nil _
+loop-holds c = each-from-nil _
 
 -- src/good.rt:152:13
 action-good-requires : tie.Need-action-good-requires Inv-loop μ-loop
@@ -48,11 +48,11 @@ loop-again : tie.Need-loop-again Inv-loop μ-loop
 loop-again c = 
     let f = c .before .action-good in
     let b = c .before .before .before .loop .inv in
-    between-snoc _ b (decides-true (f .result) _ (f .ensures) (not-false (f .result) (c .if1 .left)))
+    each-from-snoc _ b (decides-true (f .result) _ (f .ensures) (not-false (f .result) (c .if1 .left)))
 
 -- src/good.rt:146:1
 returns-2 : tie.Need-returns-2 Inv-loop μ-loop
-returns-2 c = between-le _ (omega arith) (c .before .loop .inv)
+returns-2 c = each-from-le _ (omega arith) (c .before .loop .inv)
 
 pub actions-good-spec : {M : Type 1} → statement M
 actions-good-spec =

@@ -2,10 +2,10 @@
 use mathlib.Core.Path.{_≡_}
 use Prim.Native.Nat.{_≤_, _-_}
 use native.Mathlib.Omega.{arith}
-use Rattle.model.specs.Between.{Between}
+use Rattle.model.specs.EachFrom.{EachFrom}
 use borrow.Author.Tests.{not-true, not-false}
 use Rattle.model.specs.DecidesLaws.{decides-true, decides-false}
-use Rattle.model.specs.BetweenLaws.{between-nil, between-snoc, between-le}
+use Rattle.model.specs.EachFromLaws.{each-from-nil, each-from-snoc, each-from-le}
 use Rattle.model.specs.GoodPlaces.{NameByteAt}
 use borrow.Author.Needs.{needs}
 use Rattle.model.proofs.good.name_bytes.Statement.{statement}
@@ -15,14 +15,14 @@ use Rattle.model.proofs.good.name_bytes.Lts as lts
 use Rattle.model.proofs.good.is_name_byte.Reads as is-name-byte-reads
 
 abbrev Inv-loop : tie.InvT-loop
-Inv-loop store from to k₀ k = (from ≤ k) × Between (NameByteAt store) from k
+Inv-loop store from to k₀ k = (from ≤ k) × EachFrom (NameByteAt store) from k
 
 abbrev μ-loop : tie.MeasureT-loop
 μ-loop store from to k₀ k = to - k
 
 -- src/good.rt:86:5
 loop-holds : tie.Need-loop-holds Inv-loop μ-loop
-loop-holds c = (search needs, between-nil _)
+loop-holds c = (search needs, each-from-nil _)
 
 -- src/good.rt:87:26
 mul-is-name-byte : tie.Need-mul-is-name-byte Inv-loop μ-loop
@@ -53,11 +53,11 @@ loop-less c = search needs
 
 -- src/good.rt:86:5
 loop-again : tie.Need-loop-again Inv-loop μ-loop
-loop-again c = (omega arith, between-snoc _ (c .before .before .before .before .loop .inv .1) (decides-true (c .before .is-name-byte .result) _ (c .before .is-name-byte .ensures) (not-false (c .before .is-name-byte .result) (c .if1 .left))))
+loop-again c = (omega arith, each-from-snoc _ (c .before .before .before .before .loop .inv .1) (decides-true (c .before .is-name-byte .result) _ (c .before .is-name-byte .ensures) (not-false (c .before .is-name-byte .result) (c .if1 .left))))
 
 -- src/good.rt:81:1
 returns-2 : tie.Need-returns-2 Inv-loop μ-loop
-returns-2 c = between-le _ (omega arith) (c .before .loop .inv .1)
+returns-2 c = each-from-le _ (omega arith) (c .before .loop .inv .1)
 
 pub name-bytes-spec : {M : Type 1} → statement M
 name-bytes-spec =

@@ -5,7 +5,7 @@ use lib.Dec.{T}
 use borrow.Author.Tests.{not-true, not-false}
 use Rattle.model.specs.declared.Head.{Head}
 use Rattle.model.specs.Lines.{headFits?}
-use Rattle.model.specs.Between.{Between}
+use Rattle.model.specs.EachFrom.{EachFrom}
 use Rattle.model.specs.GoodPlaces.{GoodStep}
 use Rattle.model.specs.RangesLaws.{headFits?→HeadRanges}
 use Rattle.model.specs.DecidesLaws.{decides-true, decides-false, decides-iff}

@@ -4,7 +4,7 @@ use mathlib.Core.List.{List}
 use mathlib.Core.Path.{_≡_, subst}
 use Prim.Native.Nat.{ℕ, _+_}
 use Rattle.model.specs.Decides.{Decides}
-use Rattle.model.specs.Between.{Between}
+use Rattle.model.specs.EachFrom.{EachFrom}
 use Rattle.model.specs.GoodPlaces.{SameAt}
 use borrow.Author.Needs.{needs}
 use Rattle.model.proofs.good.same_name.Statement.{statement}
@@ -15,11 +15,11 @@ use Rattle.model.proofs.good.same.Reads as same-reads
 use Rattle.model.proofs.store.action_place.Reads as action-place-reads
 
 same-at : (s : List ℕ) {p q a b : ℕ} (r : Bool) (n : ℕ) → p ≡ a → q ≡ b
-    → Decides r (Between (SameAt s (p + 1) (q + 1)) 0 n)
-    → Decides r (Between (SameAt s (a + 1) (b + 1)) 0 n)
+    → Decides r (EachFrom (SameAt s (p + 1) (q + 1)) 0 n)
+    → Decides r (EachFrom (SameAt s (a + 1) (b + 1)) 0 n)
 same-at s {p} {q} {a} {b} r n e f d =
-    subst (λ (x : ℕ). Decides r (Between (SameAt s (a + 1) (x + 1)) 0 n)) f
-    (subst (λ (x : ℕ). Decides r (Between (SameAt s (x + 1) (q + 1)) 0 n)) e d)
+    subst (λ (x : ℕ). Decides r (EachFrom (SameAt s (a + 1) (x + 1)) 0 n)) f
+    (subst (λ (x : ℕ). Decides r (EachFrom (SameAt s (x + 1) (q + 1)) 0 n)) e d)
 
 -- src/good.rt:100:17
 action-place-requires : tie.Need-action-place-requires

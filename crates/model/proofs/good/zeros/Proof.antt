@@ -2,8 +2,8 @@
 use mathlib.Core.Path.{_≡_}
 use Prim.Native.Nat.{_≤_, _-_}
 use native.Mathlib.Omega.{arith}
-use Rattle.model.specs.Between.{Between}
-use Rattle.model.specs.BetweenLaws.{between-nil, between-snoc, between-le}
+use Rattle.model.specs.EachFrom.{EachFrom}
+use Rattle.model.specs.EachFromLaws.{each-from-nil, each-from-snoc, each-from-le}
 use Rattle.model.specs.GoodPlaces.{ZeroAt}
 use borrow.Author.Needs.{needs}
 use Rattle.model.proofs.good.zeros.Statement.{statement}
@@ -12,14 +12,14 @@ use Rattle.model.proofs.good.zeros.Reads as reads
 use Rattle.model.proofs.good.zeros.Lts as lts
 
 abbrev Inv-loop : tie.InvT-loop
-Inv-loop store from to k₀ k = (from ≤ k) × Between (ZeroAt store) from k
+Inv-loop store from to k₀ k = (from ≤ k) × EachFrom (ZeroAt store) from k
 
 abbrev μ-loop : tie.MeasureT-loop
 μ-loop store from to k₀ k = to - k
 
 -- src/good.rt:39:5
 loop-holds : tie.Need-loop-holds Inv-loop μ-loop
-loop-holds c = (search needs, between-nil _)
+loop-holds c = (search needs, each-from-nil _)
 
 -- src/good.rt:40:12
 mul-if1 : tie.Need-mul-if1 Inv-loop μ-loop
@@ -43,11 +43,11 @@ loop-less c = search needs
 
 -- src/good.rt:39:5
 loop-again : tie.Need-loop-again Inv-loop μ-loop
-loop-again c = (omega arith, between-snoc _ (c .before .before .before .loop .inv .1) (c .if1 .left))
+loop-again c = (omega arith, each-from-snoc _ (c .before .before .before .loop .inv .1) (c .if1 .left))
 
 -- src/good.rt:34:1
 returns-2 : tie.Need-returns-2 Inv-loop μ-loop
-returns-2 c = between-le _ (omega arith) (c .before .loop .inv .1)
+returns-2 c = each-from-le _ (omega arith) (c .before .loop .inv .1)
 
 pub zeros-spec : {M : Type 1} → statement M
 zeros-spec =
