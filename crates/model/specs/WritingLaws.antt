@@ -46,6 +46,7 @@ module _ {A : Type 0} (line : A → List ℕ) (text : List A → List ℕ) (nil 
   unfolding listed
   text-suc f n = text-append (listed n f) (f n ∷ []) ∙ rw (cons (f n) [], nil, append-nil)
 
+  -- more lines are no shorter
   text-le : (f : ℕ → A) (i k : ℕ) → length (text (listed i f)) ≤ length (text (listed (k + i) f))
   text-le f i zero = rw zero-add (omega arith)
   text-le f i (suc k) = rw (suc-add, text-suc, length-append) (omega (arith, text-le f i k))
@@ -55,8 +56,7 @@ module _ {A : Type 0} (line : A → List ℕ) (text : List A → List ℕ) (nil 
       → length (text (listed i f)) + length (line (f i)) ≤ length (text (listed n f))
   text-room f i n h =
       let e : n - suc i + suc i ≡ n = omega arith in
-      let l = rw (e, text-suc f i, length-append) at (text-le f (suc i) (n - suc i)) in
-      l
+      rw (e, text-suc f i, length-append) at (text-le f (suc i) (n - suc i))
 
 -- ---- the lines of actions, and of steps
 

@@ -10,9 +10,8 @@ ghost use mathlib.Core.Path.{_≡_};
 ghost use Prim.Native.Nat.{ℕ, _+_, _≤_, _<_};
 ghost use lib.ListN.{length, getD};
 ghost use Rattle.model.specs.All.{All};
-ghost use Rattle.model.specs.Limits.{storeLength};
 ghost use Rattle.model.specs.Promises.{toldWrite, WritePromise};
-ghost use Rattle.model.specs.StoredModel.{actionAt, stepAt, modelAt, listed};
+ghost use Rattle.model.specs.StoredModel.{actionAt, modelAt};
 ghost use Rattle.model.specs.Text.{levelByte, headText, actionText, actionsText, stepText, stepsText, textOf};
 ghost use Rattle.model.specs.Writable.{Writable};
 ghost use Rattle.model.specs.Wrote.{Wrote};
@@ -39,6 +38,7 @@ fn level_letter(level: u16) -> u8
     b'H'
 }
 
+// Each line asks for room for just its own bytes, and each loop for room for all of its lines.
 impl Position {
     // `M,states,actions,steps,start` and the line end.
     fn head_line(self, out: &mut [u8], h: Head) -> Position
@@ -143,6 +143,7 @@ impl Position {
     }
 }
 
+// Puts the text that reads to the store at the front of `out`.
 pub fn write(store: &[u16], out: &mut [u8]) -> WriteAnswer
     ensures { λ r. ⌜ WritePromise (now (store .entry)) (now (out .entry)) (toldWrite r) (now (out .exit)) ⌝ }
 {

@@ -24,7 +24,7 @@ field-requires-2 c κs =
 field-requires-3 : tie.Need-field-requires-3
 field-requires-3 c κs =
     let s = c .before .before .before .before .before .before .before .before .before .before .before
-        .before .before .before in
+    .before .before .before in
     omega (arith, headText-length (s .args .h))
 
 field-requires-4 : tie.Need-field-requires-4

@@ -23,7 +23,7 @@ field-requires-2 c κs =
 field-requires-3 : tie.Need-field-requires-3
 field-requires-3 c κs =
     let s = c .before .before .before .before .before .before .before .before .before .before .before
-        .before .before .before in
+    .before .before .before in
     omega (arith, stepText-length (s .args .s))
 
 byte-requires-2 : tie.Need-byte-requires-2
