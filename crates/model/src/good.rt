@@ -17,7 +17,6 @@ use crate::store::name_length;
 use crate::store::name_place;
 use crate::store::step_line;
 use crate::store::step_place;
-
 ghost use mathlib.Core.Path.{_≡_};
 ghost use Prim.Native.Nat.{_+_, _≤_, _<_};
 ghost use lib.Dec.{T};
@@ -97,7 +96,12 @@ fn same_name(store: &[u16], a: Action, b: Action) -> bool
     requires { ⌜ (storeLength ≤ length (now store)) × (a .0 < actionLimit) × (b .0 < actionLimit) ⌝ }
     ensures { λ r. ⌜ Decides r (SameName (now (store .entry)) (a .0) (b .0)) ⌝ }
 {
-    same(store, action_place(a) + 1, action_place(b) + 1, NAME_LIMIT as usize + 1)
+    same(
+        store,
+        action_place(a) + 1,
+        action_place(b) + 1,
+        NAME_LIMIT as usize + 1,
+    )
 }
 
 // Whether no action before `a` has its name.
