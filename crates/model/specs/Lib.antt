@@ -27,7 +27,6 @@ pub mod LineText
 pub mod SameLaws
 pub mod JoinedFieldsLaws
 pub mod WellFormed
-pub mod NameByteLaws
 pub mod EachLaws
 pub mod BlocksLaws
 pub mod RangesLaws
@@ -49,6 +48,9 @@ pub mod StoredModel
 pub mod GoodPlaces
 pub mod PlacesLaws
 pub mod ListedLaws
+pub mod NamePlacesLaws
+pub mod GoodPlacesLaws
+pub mod HoldsLaws
 pub mod GoodLaws
 pub mod Wrote
 pub mod WroteLaws

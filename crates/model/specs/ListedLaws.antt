@@ -1,21 +1,20 @@
 -- Lists given by their elements: what holds of each element, which names they use, and the blocks of
 -- numbers that they are stored as.
 -- Assumes nothing.
-use mathlib.Core.Bool.{Bool, true, false, not, _||_}
+use mathlib.Core.Bool.{Bool, true, false, _||_}
 use mathlib.Core.List.{List, [], _∷_, _++_, append-assoc, append-nil}
-use mathlib.Core.Logic.{_⊎_, inl, inr, ⊎-elim}
+use mathlib.Core.Logic.{_⊎_, ⊎-elim}
 use mathlib.Core.Path.{_≡_, refl, sym, ap, _∙_, subst}
-use Prim.Native.Nat.{ℕ, zero, suc, _+_, _*_, _≤_, _<_}
+use Prim.Native.Nat.{ℕ, zero, suc, _+_, _*_, _<_}
 use native.Mathlib.Nat.{mul-suc, mul-zero}
 use native.Mathlib.Omega.{arith}
-use lib.Dec.{T, not-T, T-not}
-use lib.ListN.{length, getD, take, drop}
+use lib.Dec.{T}
+use lib.ListN.{take, drop}
 use lib.Seq.{take-add, drop-drop}
 use Rattle.lts.specs.TestsLaws.{lt-suc-cases, or-left, or-right, or-cases}
-use Rattle.model.specs.declared.StepLine.{StepLine}
 use Rattle.model.specs.Split.{same?}
 use Rattle.model.specs.SameLaws.{same?→eq, eq→same?}
-use Rattle.model.specs.Model.{ActionLine, above?, aboveLast?}
+use Rattle.model.specs.Model.{ActionLine}
 use Rattle.model.specs.Lines.{used?}
 use Rattle.model.specs.WellFormed.{EachAfter}
 use Rattle.model.specs.EachLaws.{each-nil, each-snoc, snoc-each}
@@ -35,7 +34,10 @@ module _ {A : Type 0} (P : List A → A → Type 0) (f : ℕ → A) where
   each-listed zero e i h = absurd (omega arith)
   each-listed (suc n) e i h =
       let u = snoc-each P [] (listed n f) (f n) e in
-      ⊎-elim (λ z. subst (λ (k : ℕ). P (listed k f) (f k)) (sym z) (u .1)) (λ l. each-listed n (u .0) i l) (lt-suc-cases h)
+      ⊎-elim
+      (λ z. subst (λ (k : ℕ). P (listed k f) (f k)) (sym z) (u .1))
+      (λ l. each-listed n (u .0) i l)
+      (lt-suc-cases h)
 
 -- ---- names
 
@@ -74,7 +76,7 @@ module _ (name : List ℕ) (f : ℕ → ActionLine) where
       rw (used?-snoc name (listed n f) (f n))
       (⊎-elim
       (λ z. or-right (used? name (listed n f)) (same? (f n .name) name)
-        (eq→same? (f n .name) name (subst (λ (k : ℕ). f k .name ≡ name) z e)))
+      (eq→same? (f n .name) name (subst (λ (k : ℕ). f k .name ≡ name) z e)))
       (λ l. or-left (used? name (listed n f)) (same? (f n .name) name) (listed-used? n i l e))
       (lt-suc-cases h))
 
@@ -98,5 +100,5 @@ module _ {A : Type 0} (block : A → List ℕ) (blocks : List A → List ℕ) (w
       let m = mul-suc width n in
       let k : width * suc n ≡ width * n + width = omega arith in
       let t : take (width * suc n) (drop p s) ≡ take (width * n) (drop p s) ++ take width (drop (p + width * n) s) =
-          ap (λ (x : ℕ). take x (drop p s)) k ∙ take-add (width * n) width (drop p s) ∙ rw drop-drop in
+      ap (λ (x : ℕ). take x (drop p s)) k ∙ take-add (width * n) width (drop p s) ∙ rw drop-drop in
       rw (blocks-snoc (listed n f) (f n), blocks-listed s p f n (λ i l. h i (omega arith)), h n (omega arith), t)

@@ -1,13 +1,13 @@
 -- Parts of a list by their places: place by place, where two are the same, and where zeros stand behind them.
 -- Assumes nothing.
-use mathlib.Core.Bool.{Bool, true, false, _&&_}
-use mathlib.Core.List.{List, [], _∷_, _++_, append-assoc}
-use mathlib.Core.Path.{_≡_, refl, sym, ap, _∙_}
+use mathlib.Core.Bool.{Bool}
+use mathlib.Core.List.{List, [], _∷_, _++_}
+use mathlib.Core.Path.{_≡_, sym, ap, _∙_}
 use Prim.Native.Nat.{ℕ, zero, suc, _+_, _-_, _≤_, _<_}
 use native.Mathlib.Omega.{arith}
 use native.Mathlib.Numerals.{add-one}
 use lib.Dec.{T}
-use lib.ListN.{length, getD, take, drop, replicate, length-append, length-drop, length-replicate, getD-replicate, List·getD-append}
+use lib.ListN.{length, getD, take, drop, replicate, length-drop, length-replicate, getD-replicate, List·getD-append}
 use lib.Seq.{length-take-le, drop-cons, drop-drop, take-add, getD-take, getD-drop, getD-append-add, ext-getD}
 use Rattle.lts.specs.TestsLaws.{and-left, and-right, and-intro}
 use Rattle.model.specs.Lines.{allOf}
@@ -39,7 +39,8 @@ module _ (s : List ℕ) (p n : ℕ) (fits : p + n ≤ length s) where
           rw (getD-take n (drop p s) i 0 l, getD-drop, e, getD-replicate {A = ℕ} n i 0 0 l)
 
   -- two parts with the same numbers are the same
-  pub part-same : (q : ℕ) → q + n ≤ length s → ((i : ℕ) → i < n → SameAt s p q i) → take n (drop p s) ≡ take n (drop q s)
+  pub part-same : (q : ℕ) → q + n ≤ length s → ((i : ℕ) → i < n → SameAt s p q i)
+      → take n (drop p s) ≡ take n (drop q s)
   part-same q g same =
       ext-getD 0 (take n (drop p s)) (take n (drop q s)) (part-length ∙ sym other-length) at
     where
@@ -61,7 +62,7 @@ padded-part s p k n h l z =
     let m : n ≡ k + (n - k) = omega arith in
     let w : EachFrom (ZeroAt s) (p + k) (p + k + (n - k)) = record { at = λ i f g. z .at i f (omega arith) } in
     let t : take n (drop p s) ≡ take k (drop p s) ++ take (n - k) (drop (p + k) s) =
-        ap (λ (x : ℕ). take x (drop p s)) m ∙ take-add k (n - k) (drop p s) ∙ rw drop-drop in
+    ap (λ (x : ℕ). take x (drop p s)) m ∙ take-add k (n - k) (drop p s) ∙ rw drop-drop in
     rw (part-length s p k (omega arith), t, zeros-replicate s (p + k) (n - k) (omega arith) w)
 
 -- behind a list, up to n places, stand zeros

@@ -1,18 +1,13 @@
 -- The loop has passed only good actions; one that is not refutes the range.
-use mathlib.Core.Path.{_≡_}
-use Prim.Native.Nat.{_≤_, _-_}
+use Prim.Native.Nat.{_-_}
 use native.Mathlib.Omega.{arith}
-use borrow.Author.Tests.{not-true, not-false}
 use Rattle.model.specs.EachFrom.{EachFrom}
 use Rattle.model.specs.EachFromLaws.{each-from-nil, each-from-snoc, each-from-le}
-use Rattle.model.specs.DecidesLaws.{decides-true, decides-false}
+use Rattle.model.specs.DecidesLaws.{decides-passed, decides-refused}
 use Rattle.model.specs.GoodPlaces.{GoodAction}
 use borrow.Author.Needs.{needs}
 use Rattle.model.proofs.good.actions_good.Statement.{statement}
 use Rattle.model.proofs.good.actions_good.Tie as tie
-use Rattle.model.proofs.good.actions_good.Reads as reads
-use Rattle.model.proofs.good.actions_good.Lts as lts
-use Rattle.model.proofs.good.action_good.Reads as action-good-reads
 
 abbrev Inv-loop : tie.InvT-loop
 Inv-loop store n i₀ i = EachFrom (GoodAction store) 0 i
@@ -20,37 +15,30 @@ Inv-loop store n i₀ i = EachFrom (GoodAction store) 0 i
 abbrev μ-loop : tie.MeasureT-loop
 μ-loop store n i₀ i = n - i
 
--- src/good.rt:151:5
 loop-holds : tie.Need-loop-holds Inv-loop μ-loop
 loop-holds c = each-from-nil _
 
--- src/good.rt:152:13
 action-good-requires : tie.Need-action-good-requires Inv-loop μ-loop
 action-good-requires c κs = search needs
 
--- src/good.rt:153:13
 returns : tie.Need-returns Inv-loop μ-loop
-returns c = 
+returns c =
     let f = c .before .action-good in
     let i = c .before .before .before .loop .i in
-    λ b. decides-false (f .result) _ (f .ensures) (not-true (f .result) (c .if1 .taken)) (b .at i (omega arith) (omega arith))
+    λ b. decides-refused (f .result) _ (f .ensures) (c .if1 .taken) (b .at i (omega arith) (omega arith))
 
--- src/good.rt:155:9
 add-i : tie.Need-add-i Inv-loop μ-loop
 add-i c = search needs
 
--- src/good.rt:151:5
 loop-less : tie.Need-loop-less Inv-loop μ-loop
 loop-less c = search needs
 
--- src/good.rt:151:5
 loop-again : tie.Need-loop-again Inv-loop μ-loop
-loop-again c = 
+loop-again c =
     let f = c .before .action-good in
     let b = c .before .before .before .loop .inv in
-    each-from-snoc _ b (decides-true (f .result) _ (f .ensures) (not-false (f .result) (c .if1 .left)))
+    each-from-snoc _ b (decides-passed (f .result) _ (f .ensures) (c .if1 .left))
 
--- src/good.rt:146:1
 returns-2 : tie.Need-returns-2 Inv-loop μ-loop
 returns-2 c = each-from-le _ (omega arith) (c .before .loop .inv)
 

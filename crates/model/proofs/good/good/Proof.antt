@@ -4,15 +4,10 @@ use Rattle.model.specs.GoodLaws.{GoodPlaces→Good, Good→GoodPlaces}
 use borrow.Author.Needs.{needs}
 use Rattle.model.proofs.good.good.Statement.{statement}
 use Rattle.model.proofs.good.good.Tie as tie
-use Rattle.model.proofs.good.good.Reads as reads
-use Rattle.model.proofs.good.good.Lts as lts
-use Rattle.model.proofs.good.places_good.Reads as places-good-reads
 
--- src/good.rt:261:5
 places-good-requires : tie.Need-places-good-requires
 places-good-requires c κs = search needs
 
--- src/good.rt:257:1
 returns : tie.Need-returns
 returns c =
     let s = c .before .before .args .store .now in

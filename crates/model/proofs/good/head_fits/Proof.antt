@@ -3,36 +3,27 @@ use native.Mathlib.Omega.{arith}
 use Rattle.model.specs.RangesLaws.{headFits?→HeadRanges, HeadRanges→headFits?}
 use Rattle.model.proofs.good.head_fits.Statement.{statement}
 use Rattle.model.proofs.good.head_fits.Tie as tie
-use Rattle.model.proofs.good.head_fits.Reads as reads
-use Rattle.model.proofs.good.head_fits.Lts as lts
 
--- src/good.rt:206:9
 returns : tie.Need-returns
 returns c = λ t. let r = headFits?→HeadRanges _ t in omega arith
 
--- src/good.rt:209:9
 returns-2 : tie.Need-returns-2
 returns-2 c = λ t. let r = headFits?→HeadRanges _ t in omega arith
 
--- src/good.rt:212:9
 returns-3 : tie.Need-returns-3
 returns-3 c = λ t. let r = headFits?→HeadRanges _ t in omega arith
 
--- src/good.rt:215:9
 returns-4 : tie.Need-returns-4
 returns-4 c = λ t. let r = headFits?→HeadRanges _ t in omega arith
 
--- src/good.rt:218:9
 returns-5 : tie.Need-returns-5
 returns-5 c = λ t. let r = headFits?→HeadRanges _ t in omega arith
 
--- src/good.rt:221:9
 returns-6 : tie.Need-returns-6
 returns-6 c = λ t. let r = headFits?→HeadRanges _ t in omega arith
 
--- src/good.rt:202:1
 returns-7 : tie.Need-returns-7
-returns-7 c = 
+returns-7 c =
     HeadRanges→headFits? _
     (record {
       states-pos = omega arith;

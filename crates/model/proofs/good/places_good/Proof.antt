@@ -1,112 +1,97 @@
 -- Each test decides one of the conditions on a store's places; its head is the one that was read.
-use mathlib.Core.Path.{_≡_, sym, ap, subst}
+use mathlib.Core.Path.{ap}
 use native.Mathlib.Omega.{arith}
-use lib.Dec.{T}
-use borrow.Author.Tests.{not-true, not-false}
 use Rattle.model.specs.declared.Head.{Head}
 use Rattle.model.specs.Lines.{headFits?}
-use Rattle.model.specs.EachFrom.{EachFrom}
-use Rattle.model.specs.GoodPlaces.{GoodStep}
 use Rattle.model.specs.RangesLaws.{headFits?→HeadRanges}
-use Rattle.model.specs.DecidesLaws.{decides-true, decides-false, decides-iff}
+use Rattle.model.specs.DecidesLaws.{decides-passed, decides-refused, decides-iff}
 use borrow.Author.Needs.{needs}
 use Rattle.model.proofs.good.places_good.Statement.{statement}
 use Rattle.model.proofs.good.places_good.Tie as tie
-use Rattle.model.proofs.good.places_good.Reads as reads
-use Rattle.model.proofs.good.places_good.Lts as lts
-use Rattle.model.proofs.good.actions_good.Reads as actions-good-reads
-use Rattle.model.proofs.good.head_fits.Reads as head-fits-reads
-use Rattle.model.proofs.good.steps_good.Reads as steps-good-reads
-use Rattle.model.proofs.good.zeros.Reads as zeros-reads
-use Rattle.model.proofs.store.action_place.Reads as action-place-reads
-use Rattle.model.proofs.store.head.Reads as head-reads
-use Rattle.model.proofs.store.step_place.Reads as step-place-reads
 
--- src/good.rt:240:9
 head-requires : tie.Need-head-requires
 head-requires c κs = search needs
 
--- src/good.rt:241:9
 head-fits-requires : tie.Need-head-fits-requires
 head-fits-requires c κs = search needs
 
--- src/good.rt:242:9
 returns : tie.Need-returns
-returns c = 
+returns c =
     let f = c .before .head-fits in
     let e = c .before .before .head .ensures in
-    λ p. decides-false (f .result) _ (f .ensures) (not-true (f .result) (c .if1 .taken)) (rw e (p .head))
+    λ p. decides-refused (f .result) _ (f .ensures) (c .if1 .taken) (rw e (p .head))
 
--- src/good.rt:244:9
 actions-good-requires : tie.Need-actions-good-requires
-actions-good-requires c κs = 
-    let r = headFits?→HeadRanges _ (decides-true (c .before .head-fits .result) _ (c .before .head-fits .ensures) (not-false (c .before .head-fits .result) (c .if1 .left))) in
+actions-good-requires c κs =
+    let f = c .before .head-fits in
+    let r = headFits?→HeadRanges _ (decides-passed (f .result) _ (f .ensures) (c .if1 .left)) in
     (omega arith, omega arith)
 
--- src/good.rt:245:9
 returns-2 : tie.Need-returns-2
-returns-2 c = 
+returns-2 c =
     let f = c .before .actions-good in
     let n = ap (λ (x : Head). x .actions) (c .before .before .before .before .head .ensures) in
-    λ p. decides-false (f .result) _ (f .ensures) (not-true (f .result) (c .if2 .taken)) (rw n (p .actions))
+    λ p. decides-refused (f .result) _ (f .ensures) (c .if2 .taken) (rw n (p .actions))
 
--- src/good.rt:247:9
 steps-good-requires : tie.Need-steps-good-requires
-steps-good-requires c κs = 
-    let r = headFits?→HeadRanges _ (decides-true (c .before .before .before .head-fits .result) _ (c .before .before .before .head-fits .ensures) (not-false (c .before .before .before .head-fits .result) (c .before .before .if1 .left))) in
+steps-good-requires c κs =
+    let passed = c .before .before in
+    let f = passed .before .head-fits in
+    let r = headFits?→HeadRanges _ (decides-passed (f .result) _ (f .ensures) (passed .if1 .left)) in
     (omega arith, omega arith)
 
--- src/good.rt:248:9
 returns-3 : tie.Need-returns-3
-returns-3 c = 
+returns-3 c =
     let f = c .before .steps-good in
     let e = c .before .before .before .before .before .before .head .ensures in
-    λ p. decides-false (f .result) _ (f .ensures) (not-true (f .result) (c .if3 .taken)) (rw e (p .steps))
+    λ p. decides-refused (f .result) _ (f .ensures) (c .if3 .taken) (rw e (p .steps))
 
--- src/good.rt:250:22
 action-place-requires : tie.Need-action-place-requires
 action-place-requires c κs = search needs
 
--- src/good.rt:250:55
 step-place-requires : tie.Need-step-place-requires
 step-place-requires c κs = search needs
 
--- src/good.rt:250:9
 zeros-requires : tie.Need-zeros-requires
 zeros-requires c κs = search needs
 
--- src/good.rt:251:9
 returns-4 : tie.Need-returns-4
-returns-4 c = 
+returns-4 c =
     let f = c .before .zeros in
-    let n = ap (λ (x : Head). x .actions) (c .before .before .before .before .before .before .before .before .before .before .head .ensures) in
+    let e = c .before .before .before .before .before .before .before .before .before .before .head .ensures in
+    let n = ap (λ (x : Head). x .actions) e in
     let a = c .before .before .before .action-place .ensures in
     let s = c .before .before .step-place .ensures in
     λ p.
-    decides-false (f .result) _ (f .ensures) (not-true (f .result) (c .if4 .taken))
+    decides-refused (f .result) _ (f .ensures) (c .if4 .taken)
     (record { at = λ k h l. p .unused-actions .at k (omega arith) (omega arith) })
 
--- src/good.rt:253:18
 step-place-requires-2 : tie.Need-step-place-requires-2
 step-place-requires-2 c κs = search needs
 
--- src/good.rt:253:5
 zeros-requires-2 : tie.Need-zeros-requires-2
 zeros-requires-2 c κs = search needs
 
--- src/good.rt:236:1
 returns-5 : tie.Need-returns-5
-returns-5 c = 
-    let e = c .before .before .before .before .before .before .before .before .before .before .before .before .head .ensures in
+returns-5 c =
+    let unused-passed = c .before .before in
+    let steps-passed = unused-passed .before .before .before .before in
+    let actions-passed = steps-passed .before .before in
+    let head-passed = actions-passed .before .before in
+    let e = head-passed .before .before .head .ensures in
     let n = ap (λ (x : Head). x .actions) e in
     let m = ap (λ (x : Head). x .steps) e in
-    let a = c .before .before .before .before .before .action-place .ensures in
-    let s = c .before .before .before .before .step-place .ensures in
+    let a = unused-passed .before .before .before .action-place .ensures in
+    let s = unused-passed .before .before .step-place .ensures in
     let t = c .before .step-place2 .ensures in
-    let head = decides-true (c .before .before .before .before .before .before .before .before .before .before .before .head-fits .result) _ (c .before .before .before .before .before .before .before .before .before .before .before .head-fits .ensures) (not-false (c .before .before .before .before .before .before .before .before .before .before .before .head-fits .result) (c .before .before .before .before .before .before .before .before .before .before .if1 .left)) in
-    let actions = decides-true (c .before .before .before .before .before .before .before .before .before .actions-good .result) _ (c .before .before .before .before .before .before .before .before .before .actions-good .ensures) (not-false (c .before .before .before .before .before .before .before .before .before .actions-good .result) (c .before .before .before .before .before .before .before .before .if2 .left)) in
-    let steps = decides-true (c .before .before .before .before .before .before .before .steps-good .result) _ (c .before .before .before .before .before .before .before .steps-good .ensures) (not-false (c .before .before .before .before .before .before .before .steps-good .result) (c .before .before .before .before .before .before .if3 .left)) in
-    let unused = decides-true (c .before .before .before .zeros .result) _ (c .before .before .before .zeros .ensures) (not-false (c .before .before .before .zeros .result) (c .before .before .if4 .left)) in
+    let hd = head-passed .before .head-fits in
+    let ac = actions-passed .before .actions-good in
+    let st = steps-passed .before .steps-good in
+    let un = unused-passed .before .zeros in
+    let head = decides-passed (hd .result) _ (hd .ensures) (head-passed .if1 .left) in
+    let actions = decides-passed (ac .result) _ (ac .ensures) (actions-passed .if2 .left) in
+    let steps = decides-passed (st .result) _ (st .ensures) (steps-passed .if3 .left) in
+    let unused = decides-passed (un .result) _ (un .ensures) (unused-passed .if4 .left) in
     decides-iff (c .zeros2 .result)
     (λ z. record {
       head = rw e at head;

@@ -9,10 +9,6 @@ use Rattle.model.specs.GoodPlaces.{SameAt}
 use borrow.Author.Needs.{needs}
 use Rattle.model.proofs.good.same_name.Statement.{statement}
 use Rattle.model.proofs.good.same_name.Tie as tie
-use Rattle.model.proofs.good.same_name.Reads as reads
-use Rattle.model.proofs.good.same_name.Lts as lts
-use Rattle.model.proofs.good.same.Reads as same-reads
-use Rattle.model.proofs.store.action_place.Reads as action-place-reads
 
 same-at : (s : List ℕ) {p q a b : ℕ} (r : Bool) (n : ℕ) → p ≡ a → q ≡ b
     → Decides r (EachFrom (SameAt s (p + 1) (q + 1)) 0 n)
@@ -21,37 +17,33 @@ same-at s {p} {q} {a} {b} r n e f d =
     subst (λ (x : ℕ). Decides r (EachFrom (SameAt s (a + 1) (x + 1)) 0 n)) f
     (subst (λ (x : ℕ). Decides r (EachFrom (SameAt s (x + 1) (q + 1)) 0 n)) e d)
 
--- src/good.rt:100:17
 action-place-requires : tie.Need-action-place-requires
 action-place-requires c κs = search needs
 
--- src/good.rt:100:17
 add-same : tie.Need-add-same
 add-same c = search needs
 
--- src/good.rt:100:38
 action-place-requires-2 : tie.Need-action-place-requires-2
 action-place-requires-2 c κs = search needs
 
--- src/good.rt:100:38
 add-same-2 : tie.Need-add-same-2
 add-same-2 c = search needs
 
--- src/good.rt:100:59
 cast-same : tie.Need-cast-same
 cast-same c = search needs
 
--- src/good.rt:100:59
 add-same-3 : tie.Need-add-same-3
 add-same-3 c = search needs
 
--- src/good.rt:100:5
 same-requires : tie.Need-same-requires
 same-requires c κs = search needs
 
--- src/good.rt:96:1
 returns : tie.Need-returns
-returns c = same-at (c .before .before .before .before .args .store .now) (c .same .result) 13 (c .before .before .action-place .ensures) (c .before .action-place2 .ensures) (c .same .ensures)
+returns c =
+    let s = c .before .before .before .before .args .store .now in
+    let p = c .before .before .action-place .ensures in
+    let q = c .before .action-place2 .ensures in
+    same-at s (c .same .result) 13 p q (c .same .ensures)
 
 pub same-name-spec : {M : Type 1} → statement M
 same-name-spec =

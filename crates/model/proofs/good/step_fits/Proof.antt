@@ -3,22 +3,16 @@ use native.Mathlib.Omega.{arith}
 use Rattle.model.specs.RangesLaws.{stepFits?→StepRanges, StepRanges→stepFits?}
 use Rattle.model.proofs.good.step_fits.Statement.{statement}
 use Rattle.model.proofs.good.step_fits.Tie as tie
-use Rattle.model.proofs.good.step_fits.Reads as reads
-use Rattle.model.proofs.good.step_fits.Lts as lts
 
--- src/good.rt:157:9
 returns : tie.Need-returns
 returns c = λ t. let r = stepFits?→StepRanges _ _ t in omega arith
 
--- src/good.rt:160:9
 returns-2 : tie.Need-returns-2
 returns-2 c = λ t. let r = stepFits?→StepRanges _ _ t in omega arith
 
--- src/good.rt:163:9
 returns-3 : tie.Need-returns-3
 returns-3 c = λ t. let r = stepFits?→StepRanges _ _ t in omega arith
 
--- src/good.rt:153:1
 returns-4 : tie.Need-returns-4
 returns-4 c = StepRanges→stepFits? _ _ (record { source = omega arith; action = omega arith; target = omega arith })
 

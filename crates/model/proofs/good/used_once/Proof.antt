@@ -1,8 +1,7 @@
 -- The loop has passed only actions of other names; one of the same name refutes the range.
 use mathlib.Core.Path.{_≡_}
-use Prim.Native.Nat.{_≤_, _-_}
+use Prim.Native.Nat.{_-_}
 use native.Mathlib.Omega.{arith}
-use borrow.Author.Tests.{not-true, not-false}
 use Rattle.model.specs.EachFrom.{EachFrom}
 use Rattle.model.specs.EachFromLaws.{each-from-nil, each-from-snoc, each-from-le}
 use Rattle.model.specs.DecidesLaws.{decides-true, decides-false}
@@ -10,9 +9,6 @@ use Rattle.model.specs.GoodPlaces.{OtherName}
 use borrow.Author.Needs.{needs}
 use Rattle.model.proofs.good.used_once.Statement.{statement}
 use Rattle.model.proofs.good.used_once.Tie as tie
-use Rattle.model.proofs.good.used_once.Reads as reads
-use Rattle.model.proofs.good.used_once.Lts as lts
-use Rattle.model.proofs.good.same_name.Reads as same-name-reads
 
 abbrev Inv-loop : tie.InvT-loop
 Inv-loop store a n h₀ h = (n ≡ a .0) × EachFrom (OtherName store (a .0)) 0 h
@@ -20,37 +16,30 @@ Inv-loop store a n h₀ h = (n ≡ a .0) × EachFrom (OtherName store (a .0)) 0 
 abbrev μ-loop : tie.MeasureT-loop
 μ-loop store a n h₀ h = n - h
 
--- src/good.rt:110:5
 loop-holds : tie.Need-loop-holds Inv-loop μ-loop
 loop-holds c = (search needs, each-from-nil _)
 
--- src/good.rt:111:12
 same-name-requires : tie.Need-same-name-requires Inv-loop μ-loop
 same-name-requires c κs = search needs
 
--- src/good.rt:112:13
 returns : tie.Need-returns Inv-loop μ-loop
-returns c = 
+returns c =
     let f = c .before .same-name in
     let h = c .before .before .before .loop .h in
     λ b. b .at h (omega arith) (omega arith) (decides-true (f .result) _ (f .ensures) (c .if1 .taken))
 
--- src/good.rt:114:9
 add-h : tie.Need-add-h Inv-loop μ-loop
 add-h c = search needs
 
--- src/good.rt:110:5
 loop-less : tie.Need-loop-less Inv-loop μ-loop
 loop-less c = search needs
 
--- src/good.rt:110:5
 loop-again : tie.Need-loop-again Inv-loop μ-loop
-loop-again c = 
+loop-again c =
     let f = c .before .same-name in
     let i = c .before .before .before .loop .inv in
     (i .0, each-from-snoc _ (i .1) (decides-false (f .result) _ (f .ensures) (c .if1 .left)))
 
--- src/good.rt:104:1
 returns-2 : tie.Need-returns-2 Inv-loop μ-loop
 returns-2 c = each-from-le _ (omega arith) (c .before .loop .inv .1)
 

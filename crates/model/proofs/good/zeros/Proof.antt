@@ -1,5 +1,4 @@
 -- The loop has passed only places that hold 0; one that does not refutes the range.
-use mathlib.Core.Path.{_≡_}
 use Prim.Native.Nat.{_≤_, _-_}
 use native.Mathlib.Omega.{arith}
 use Rattle.model.specs.EachFrom.{EachFrom}
@@ -8,8 +7,6 @@ use Rattle.model.specs.GoodPlaces.{ZeroAt}
 use borrow.Author.Needs.{needs}
 use Rattle.model.proofs.good.zeros.Statement.{statement}
 use Rattle.model.proofs.good.zeros.Tie as tie
-use Rattle.model.proofs.good.zeros.Reads as reads
-use Rattle.model.proofs.good.zeros.Lts as lts
 
 abbrev Inv-loop : tie.InvT-loop
 Inv-loop store from to k₀ k = (from ≤ k) × EachFrom (ZeroAt store) from k
@@ -17,35 +14,27 @@ Inv-loop store from to k₀ k = (from ≤ k) × EachFrom (ZeroAt store) from k
 abbrev μ-loop : tie.MeasureT-loop
 μ-loop store from to k₀ k = to - k
 
--- src/good.rt:39:5
 loop-holds : tie.Need-loop-holds Inv-loop μ-loop
 loop-holds c = (search needs, each-from-nil _)
 
--- src/good.rt:40:12
 mul-if1 : tie.Need-mul-if1 Inv-loop μ-loop
 mul-if1 c = search needs
 
--- src/good.rt:40:12
 shared-slice-read-if1 : tie.Need-shared-slice-read-if1 Inv-loop μ-loop
 shared-slice-read-if1 c = search needs
 
--- src/good.rt:41:13
 returns : tie.Need-returns Inv-loop μ-loop
 returns c = λ b. c .if1 .taken (b .at _ (omega arith) (omega arith))
 
--- src/good.rt:43:9
 add-k : tie.Need-add-k Inv-loop μ-loop
 add-k c = search needs
 
--- src/good.rt:39:5
 loop-less : tie.Need-loop-less Inv-loop μ-loop
 loop-less c = search needs
 
--- src/good.rt:39:5
 loop-again : tie.Need-loop-again Inv-loop μ-loop
 loop-again c = (omega arith, each-from-snoc _ (c .before .before .before .loop .inv .1) (c .if1 .left))
 
--- src/good.rt:34:1
 returns-2 : tie.Need-returns-2 Inv-loop μ-loop
 returns-2 c = each-from-le _ (omega arith) (c .before .loop .inv .1)
 
