@@ -1,5 +1,8 @@
 pub mod Limits
 pub mod Decides
+pub mod DecidesLaws
+pub mod EachFrom
+pub mod EachFromLaws
 pub mod Bytes
 pub mod BytesLaws
 pub mod TableLaws
@@ -42,7 +45,18 @@ pub mod AboveLaws
 pub mod System
 pub mod WellFormedLaws
 pub mod StoredModel
+pub mod GoodPlaces
+pub mod PlacesLaws
+pub mod ListedLaws
+pub mod NamePlacesLaws
+pub mod GoodPlacesLaws
+pub mod HoldsLaws
+pub mod GoodLaws
 pub mod Wrote
+pub mod WroteLaws
+pub mod Writable
+pub mod WritableLaws
+pub mod WritingLaws
 pub mod LineAnswers
 pub mod PartAnswers
 pub mod FieldsLaws
@@ -51,6 +65,7 @@ pub mod ActionLaws
 pub mod RowLaws
 pub mod Promises
 pub mod PromisesLaws
+pub mod OnStoreLaws
 pub mod Examples
 pub mod GoodTestExamples
 pub mod CornerCases

@@ -1,8 +1,11 @@
 // Till models: their texts, and the store that holds one.
 mod bytes;
+pub mod good;
 mod line;
 mod number;
+pub mod position;
 pub mod read;
+pub mod store;
 pub mod write;
 
 // A state number never stands where an action number or a step number is meant.

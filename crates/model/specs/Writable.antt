@@ -1,0 +1,10 @@
+-- What the writers of the lines ask of a store. Only the contracts of inner functions cite it.
+use Prim.Native.Nat.{ℕ, _≤_}
+use mathlib.Core.List.{List}
+use lib.ListN.{length}
+use Rattle.model.specs.Limits.{storeLength}
+use Rattle.model.specs.Store.{Good}
+
+pub record Writable (store : List ℕ) : Type 0 where
+  pub long : storeLength ≤ length store
+  pub good : Good store
