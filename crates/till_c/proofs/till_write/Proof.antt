@@ -1,0 +1,80 @@
+-- Each answer of Write is told by the same number, place and values.
+use mathlib.Core.List.{List}
+use mathlib.Core.Path.{_≡_, refl, sym, ap, subst, _∙_}
+use Prim.Native.Nat.{ℕ}
+use borrow.Author.Needs.{needs}
+use borrow.Author.Tests.{eqb-false}
+use Rattle.model.specs.Faults.{Told}
+use Rattle.model.specs.Promises.{toldWrite, WritePromise}
+use Rattle.till_c.proofs.till_write.Statement.{statement}
+use Rattle.till_c.proofs.till_write.Tie as tie
+
+-- what tells the same keeps the same promise
+promised : {store out exit : List ℕ} {t u : Told} → t ≡ u → WritePromise store out t exit → WritePromise store out u exit
+promised {store} {out} {exit} e p = subst (λ (x : Told). WritePromise store out x exit) e p
+
+write-requires : tie.Need-write-requires
+write-requires c κs = search needs
+
+enum-known-answer : tie.Need-enum-known-answer
+enum-known-answer c = search needs
+
+value-requires : tie.Need-value-requires
+value-requires c κs = search needs
+
+enum-known-answer-2 : tie.Need-enum-known-answer-2
+enum-known-answer-2 c = search needs
+
+refusal-requires : tie.Need-refusal-requires
+refusal-requires c κs = λ e. eqb-false 21 0 refl e
+
+enum-told : tie.Need-enum-told
+enum-told c = search needs
+
+refusal-requires-2 : tie.Need-refusal-requires-2
+refusal-requires-2 c κs = λ e. eqb-false 22 0 refl e
+
+same-length : tie.Need-same-length
+same-length c = search needs
+
+returns : tie.Need-returns
+unfolding toldWrite
+returns c =
+    let w = c .before .before .before .before .before .before .write in
+    promised (ap toldWrite (c .before .before .answer .given .1) ∙ sym (c .value .ensures)) (w .ensures)
+
+same-length-2 : tie.Need-same-length-2
+same-length-2 c = search needs
+
+returns-2 : tie.Need-returns-2
+unfolding toldWrite
+returns-2 c =
+    let w = c .before .before .before .before .before .before .write in
+    promised (ap toldWrite (c .before .before .answer2 .given .1) ∙ sym (c .refusal .ensures)) (w .ensures)
+
+same-length-3 : tie.Need-same-length-3
+same-length-3 c = search needs
+
+returns-3 : tie.Need-returns-3
+unfolding toldWrite
+returns-3 c =
+    let w = c .before .before .before .before .before .write in
+    promised (ap toldWrite (c .before .enum-told .given .1) ∙ sym (c .refusal2 .ensures)) (w .ensures)
+
+pub till-write-spec : {M : Type 1} → statement M
+till-write-spec =
+    tie.close
+    (tie.spec
+    write-requires
+    enum-known-answer
+    value-requires
+    enum-known-answer-2
+    refusal-requires
+    enum-told
+    refusal-requires-2
+    same-length
+    returns
+    same-length-2
+    returns-2
+    same-length-3
+    returns-3)
