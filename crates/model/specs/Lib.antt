@@ -16,4 +16,5 @@ pub mod StoredModel
 pub mod Wrote
 pub mod LineAnswers
 pub mod Promises
+pub mod ReadSoFar
 pub mod Examples

@@ -1,7 +1,11 @@
 // Till models: their texts, and the store that holds one.
+mod actions;
+mod body;
 mod line;
 mod number;
 pub mod read;
+mod reader;
+mod steps;
 pub mod write;
 
 // A state number never stands where an action number or a step number is meant.
