@@ -17,4 +17,9 @@ pub mod Wrote
 pub mod LineAnswers
 pub mod Promises
 pub mod ReadSoFar
+pub mod FillLaws
+pub mod ReadLaws
+pub mod ReadStepsLaws
+pub mod ReadAnswerLaws
+pub mod NameLaws
 pub mod Examples
