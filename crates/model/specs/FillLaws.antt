@@ -4,8 +4,9 @@ use mathlib.Core.List.{List, [], _∷_, _++_, append-assoc, append-nil}
 use mathlib.Core.Path.{_≡_, refl, sym, ap, _∙_}
 use Prim.Native.Nat.{ℕ, zero, suc, _+_, _-_, _*_, _≤_, _<_}
 use native.Mathlib.Omega.{arith}
-use lib.ListN.{length, replicate, length-append, length-replicate, replicate-append-replicate}
-use lib.Seq.{sets, set-at, append-snoc}
+use native.Mathlib.Numerals.{add-one}
+use lib.ListN.{length, take, drop, getD, set, replicate, length-append, length-replicate, replicate-append-replicate}
+use lib.Seq.{sets, set-at, append-snoc, take-suc, drop-cons, length-take-le}
 use Rattle.model.specs.declared.Head.{Head}
 use Rattle.model.specs.declared.StepLine.{StepLine}
 use Rattle.model.specs.Limits.{actionLimit, stepLimit, nameLimit, storeLength, actionPlace, stepPlace}
@@ -50,6 +51,15 @@ padded-append n p q vs i e h =
     ap (λ (x : List ℕ). sets x i vs) (simp (append-assoc, append-nil))
     ∙ sets-zeros (p ++ q) vs [] (n - length q) i e f
     ∙ rw k (simp (append-assoc, append-nil))
+
+-- a list copied over the front of another, one number further
+pub copy-suc : (from to : List ℕ) (i : ℕ) → i < length from → i < length to
+    → set (take i from ++ drop i to) i (getD from i 0) ≡ take (i + 1) from ++ drop (i + 1) to
+copy-suc from to i h l =
+    let k : i ≤ length from = omega arith in
+    let n = length-take-le i from k in
+    rw (add-one, take-suc from i 0 h, drop-cons to i 0 l, set-at (take i from) (getD to i 0) (drop (suc i) to) (getD from i 0) i n)
+    (sym (append-snoc (take i from) (getD from i 0) (drop (suc i) to)))
 
 -- ---- the first line
 

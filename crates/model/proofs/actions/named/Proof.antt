@@ -1,82 +1,80 @@
+-- Each byte passed is the name's, and the stored length is the name's. `NameLaws` says what that makes of the stored name.
 use borrow.Author.Needs.{needs}
+use borrow.Author.Count.{below-more}
+use native.Mathlib.Omega.{arith}
+use Prim.Native.Nat.{ℕ, _+_, _-_, _≤_, _<_}
+use mathlib.Core.Path.{_≡_, _∙_}
+use lib.ListN.{length, getD}
+use Rattle.model.specs.NameLaws.{named-length, named-differ, named-same}
 use Rattle.model.proofs.actions.named.Statement.{statement}
 use Rattle.model.proofs.actions.named.Tie as tie
 use Rattle.model.proofs.actions.named.Reads as reads
 use Rattle.model.proofs.actions.named.Lts as lts
 
+
 abbrev Inv-loop : tie.InvT-loop
-Inv-loop store at name i₀ i = ?
+Inv-loop store at name i₀ i =
+    (i ≤ length name) × (getD store (at + 1) 0 ≡ length name)
+    × ((k : ℕ) → k < i → getD store (at + 2 + k) 0 ≡ getD name k 0)
 
 abbrev μ-loop : tie.MeasureT-loop
-μ-loop store at name i₀ i = ?
+μ-loop store at name i₀ i = length name - i
 
--- src/actions.rt:24:14
 add-if1 : tie.Need-add-if1 Inv-loop μ-loop
 add-if1 c = search needs
 
--- src/actions.rt:24:8
 mul-if1 : tie.Need-mul-if1 Inv-loop μ-loop
 mul-if1 c = search needs
 
--- src/actions.rt:24:8
 shared-slice-read-if1 : tie.Need-shared-slice-read-if1 Inv-loop μ-loop
 shared-slice-read-if1 c = search needs
 
--- src/actions.rt:24:8
 cast-if1 : tie.Need-cast-if1 Inv-loop μ-loop
-cast-if1 c = search needs
+cast-if1 c = omega (arith, c .shared-slice-known .given (c .before .args .at + 1))
 
--- src/actions.rt:25:9
 returns : tie.Need-returns Inv-loop μ-loop
-returns c = ?
+returns c a s = named-length _ _ a s _ (c .if1 .taken)
 
--- src/actions.rt:28:5
 loop-holds : tie.Need-loop-holds Inv-loop μ-loop
-loop-holds c = search needs
+loop-holds c = (search needs, c .if1 .left, λ k h. absurd (omega arith))
 
--- src/actions.rt:29:18
 add-if2 : tie.Need-add-if2 Inv-loop μ-loop
 add-if2 c = search needs
 
--- src/actions.rt:29:18
 add-if2-2 : tie.Need-add-if2-2 Inv-loop μ-loop
 add-if2-2 c = search needs
 
--- src/actions.rt:29:12
 mul-if2 : tie.Need-mul-if2 Inv-loop μ-loop
 mul-if2 c = search needs
 
--- src/actions.rt:29:12
 shared-slice-read-if2 : tie.Need-shared-slice-read-if2 Inv-loop μ-loop
 shared-slice-read-if2 c = search needs
 
--- src/actions.rt:29:33
 shared-slice-read-if2-2 : tie.Need-shared-slice-read-if2-2 Inv-loop μ-loop
 shared-slice-read-if2-2 c = search needs
 
--- src/actions.rt:29:33
 cast-if2 : tie.Need-cast-if2 Inv-loop μ-loop
-cast-if2 c = search needs
+cast-if2 c = omega (arith, c .shared-slice-known3 .given (c .before .before .before .loop .i))
 
--- src/actions.rt:30:13
 returns-2 : tie.Need-returns-2 Inv-loop μ-loop
-returns-2 c = ?
+returns-2 c a s =
+    let l = c .before .before .before .before in named-differ _ _ a s _ (l .loop .inv .1) (l .loop .i) (omega arith) (c .if2 .taken)
 
--- src/actions.rt:32:9
 add-i : tie.Need-add-i Inv-loop μ-loop
 add-i c = search needs
 
--- src/actions.rt:28:5
 loop-less : tie.Need-loop-less Inv-loop μ-loop
 loop-less c = search needs
 
--- src/actions.rt:28:5
 loop-again : tie.Need-loop-again Inv-loop μ-loop
-loop-again c = ?
+loop-again c =
+    let l = c .before .before .before .before in
+    (search needs, l .loop .inv .1, below-more _ _ (l .loop .inv .2) (c .if2 .left))
 
--- src/actions.rt:20:1
 returns-3 : tie.Need-returns-3 Inv-loop μ-loop
-returns-3 c = ?
+returns-3 c a s =
+    let l = c .before in
+    named-same _ _ a s _ (l .loop .inv .1) (λ k h. l .loop .inv .2 k (omega (arith, h)))
 
 pub named-spec : {M : Type 1} → statement M
 named-spec =

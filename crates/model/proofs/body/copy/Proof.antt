@@ -1,54 +1,63 @@
+-- After i numbers the list has the other's first i in front of what it had from place i on.
 use borrow.Author.Needs.{needs}
+use native.Mathlib.Omega.{arith}
+use Prim.Native.Nat.{_-_, _≤_, _<_}
+use mathlib.Core.List.{_++_}
+use mathlib.Core.Path.{_≡_, refl, _∙_}
+use lib.ListN.{length, take, drop, length-set}
+use lib.Seq.{take-length}
+use Rattle.model.specs.FillLaws.{copy-suc}
+use native.Mathlib.Numerals.{add-one}
 use Rattle.model.proofs.body.copy.Statement.{statement}
 use Rattle.model.proofs.body.copy.Tie as tie
 use Rattle.model.proofs.body.copy.Reads as reads
 use Rattle.model.proofs.body.copy.Lts as lts
 
+
 abbrev Inv-loop : tie.InvT-loop
-Inv-loop from to₀ i₀ to i = ?
+Inv-loop from to₀ i₀ to i = (i ≤ length from) × (length to ≡ length to₀) × (to ≡ take i from ++ drop i to₀)
 
 abbrev μ-loop : tie.MeasureT-loop
-μ-loop from to₀ i₀ to i = ?
+μ-loop from to₀ i₀ to i = length from - i
 
--- src/body.rt:114:5
 loop-holds : tie.Need-loop-holds Inv-loop μ-loop
 loop-holds c = search needs
 
--- src/body.rt:115:17
 mul-to : tie.Need-mul-to Inv-loop μ-loop
 mul-to c = search needs
 
--- src/body.rt:115:17
 shared-slice-read-to : tie.Need-shared-slice-read-to Inv-loop μ-loop
 shared-slice-read-to c = search needs
 
--- src/body.rt:115:9
 mul-to-2 : tie.Need-mul-to-2 Inv-loop μ-loop
 mul-to-2 c = search needs
 
--- src/body.rt:115:9
 slice-write-to : tie.Need-slice-write-to Inv-loop μ-loop
 slice-write-to c = search needs
 
--- src/body.rt:116:9
 add-i : tie.Need-add-i Inv-loop μ-loop
 add-i c = search needs
 
--- src/body.rt:114:5
 loop-less : tie.Need-loop-less Inv-loop μ-loop
 loop-less c = search needs
 
--- src/body.rt:114:5
 loop-again : tie.Need-loop-again Inv-loop μ-loop
-loop-again c = ?
+loop-again c =
+    let l = c .before .before in
+    let a = l .before .args in
+    let h : l .loop .i < length (a .from .now) = omega arith in
+    let d : l .loop .i < length (a .to .now) = omega arith in
+    (omega arith, simp length-set (l .loop .inv .1), rw (l .loop .inv .2) (copy-suc (a .from .now) (a .to .now) (l .loop .i) h d))
 
--- src/body.rt:109:1
 same-length : tie.Need-same-length Inv-loop μ-loop
 same-length c = search needs
 
--- src/body.rt:109:1
 returns : tie.Need-returns Inv-loop μ-loop
-returns c = ?
+returns c =
+    let l = c .before in
+    let a = l .before .args in
+    let e : l .loop .i ≡ length (a .from .now) = omega arith in
+    l .loop .inv .2 ∙ rw (e, take-length (a .from .now))
 
 pub copy-spec : {M : Type 1} → statement M
 copy-spec =

@@ -1,4 +1,11 @@
+-- By where the search ends: past the text, at its end, or at a line end.
 use borrow.Author.Needs.{needs}
+use native.Mathlib.Omega.{arith}
+use mathlib.Core.Path.{sym, _∙_}
+use Rattle.model.specs.Bytes.{lineEnd}
+use Rattle.model.specs.SplitLaws.{found-le}
+use Rattle.model.specs.LineAnswers.{headRead}
+use Rattle.model.specs.ReadAnswerLaws.{firstLine-past, firstLine-absent, firstLine-line}
 use Rattle.model.proofs.body.first_line.Statement.{statement}
 use Rattle.model.proofs.body.first_line.Tie as tie
 use Rattle.model.proofs.body.first_line.Reads as reads
@@ -6,37 +13,35 @@ use Rattle.model.proofs.body.first_line.Lts as lts
 use Rattle.model.proofs.line.find.Reads as find-reads
 use Rattle.model.proofs.line.head_line.Reads as head-line-reads
 
--- src/body.rt:34:9
-returns : tie.Need-returns
-returns c = ?
 
--- src/body.rt:36:9
+returns : tie.Need-returns
+unfolding headRead
+returns c = firstLine-past _ _ (c .if1 .taken)
+
 find-requires : tie.Need-find-requires
 find-requires c κs = search needs
 
--- src/body.rt:38:9
 returns-2 : tie.Need-returns-2
-returns-2 c = ?
+unfolding headRead
+returns-2 c = let f = c .before in firstLine-absent _ _ _ (f .before .if1 .left) (f .find .ensures) (omega arith)
 
--- src/body.rt:40:15
 sub-head-line : tie.Need-sub-head-line
 sub-head-line c = search needs
 
--- src/body.rt:40:15
 part-head-line-start : tie.Need-part-head-line-start
 part-head-line-start c = search needs
 
--- src/body.rt:40:15
 part-head-line-end : tie.Need-part-head-line-end
-part-head-line-end c = search needs
+part-head-line-end c = let f = c .before in omega (arith, found-le lineEnd _ _ _ (f .before .if1 .left) (f .find .ensures))
 
--- src/body.rt:40:5
 head-line-requires : tie.Need-head-line-requires
 head-line-requires c κs = search needs
 
--- src/body.rt:30:1
 returns-3 : tie.Need-returns-3
-returns-3 c = ?
+returns-3 c =
+    let f = c .before .before .before in
+    let n = found-le lineEnd _ _ _ (f .before .if1 .left) (f .find .ensures) in
+    sym (c .head-line .ensures) ∙ firstLine-line _ _ _ (f .before .if1 .left) (f .find .ensures) (omega arith)
 
 pub first-line-spec : {M : Type 1} → statement M
 first-line-spec =
