@@ -7,18 +7,18 @@ use Prim.Native.Nat.{ℕ, zero, suc, _+_, _-_, _*_, _≤_, _<_}
 use native.Mathlib.Omega.{arith}
 use native.Mathlib.Numerals.{add-one}
 use lib.Dec.{eqb}
-use lib.ListN.{length, take, drop, getD, replicate, length-append, List·getD-append}
-use lib.Seq.{drop-cons, drop-drop, drop-at, getD-drop, getD-append-add, drop-nil, take-nil, ext-getD, drop-length}
+use lib.ListN.{length, take, drop, getD, replicate, length-append, length-drop, List·getD-append}
+use lib.Seq.{drop-cons, drop-drop, drop-at, getD-drop, getD-append-add, drop-nil, take-nil, ext-getD, drop-length, length-take-le}
 use borrow.Author.Tests.{eqb-true, eq-eqb, ne-eqb}
 use Rattle.model.specs.declared.Head.{Head}
 use Rattle.model.specs.Limits.{nameLimit, actionPlace}
 use Rattle.model.specs.Split.{same?}
 use Rattle.model.specs.Model.{ActionLine, Model}
-use Rattle.model.specs.Lines.{used?}
+use Rattle.model.specs.Lines.{Line, good, fieldsOf, actionFields, used?}
 use Rattle.model.specs.Store.{padded, actionNumbers, actionsNumbers, stepsNumbers, storeOf, headPlaces}
 use Rattle.model.specs.ReadSoFar.{ActionStored, ActionsStored, Short, AfterActions}
 use Rattle.model.specs.FillLaws.{actionNumbers-length}
-use Rattle.model.specs.ReadLaws.{and-left, and-right}
+use Rattle.model.specs.ReadLaws.{and-left, and-right, actionFields-length}
 
 -- a part of a part
 pub drop-take : (n m : ℕ) (l : List ℕ) → drop n (take m l) ≡ take (m - n) (drop n l)
@@ -26,6 +26,23 @@ drop-take zero m l = let z : m - 0 ≡ m = omega arith in rw z
 drop-take (suc n) zero l = let z : 0 - suc n ≡ 0 = omega arith in rw z (drop-nil (suc n))
 drop-take (suc n) (suc m) [] = rw (take-nil (suc m - suc n)) (drop-nil (suc n))
 drop-take (suc n) (suc m) (x ∷ l) = let z : suc m - suc n ≡ m - n = omega arith in rw z (drop-take n m l)
+
+-- the name of an action's line as a part of the text, from four places behind the line's start up to its end
+pub name-part : (text : List ℕ) (at e level : ℕ) → at ≤ e → e < length text
+    → actionFields (fieldsOf 65 2 (take (e - at) (drop at text)))
+    ≡ good (record { level = level; name = drop 4 (take (e - at) (drop at text)) })
+    → (at + 4 ≤ e) × (length (take (e - (at + 4)) (drop (at + 4) text)) ≤ nameLimit)
+    × (actionFields (fieldsOf 65 2 (take (e - at) (drop at text)))
+    ≡ good (record { level = level; name = take (e - (at + 4)) (drop (at + 4) text) }))
+name-part text at e level h l r =
+    let n = actionFields-length (fieldsOf 65 2 (take (e - at) (drop at text))) _ r in
+    let d = length-drop at text in
+    let m = length-take-le (e - at) (drop at text) (omega arith) in
+    let k = length-drop 4 (take (e - at) (drop at text)) in
+    let z : e - at - 4 ≡ e - (at + 4) = omega arith in
+    let p : drop 4 (take (e - at) (drop at text)) ≡ take (e - (at + 4)) (drop (at + 4) text) =
+        drop-take 4 (e - at) (drop at text) ∙ rw (drop-drop 4 at text, z) in
+    (omega arith, rw (← p) (n .1), r ∙ ap (λ (x : List ℕ). good (record { level = level; name = x })) p)
 
 -- ---- one name
 

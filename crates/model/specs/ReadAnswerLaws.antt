@@ -94,6 +94,16 @@ after-first r text at e b = go (split lineEnd text) refl r e
         }
     go (line ∷ part ∷ parts) s (head-read.Bad f) d = rw (s, ← d)
 
+pub AfterFirst-bad : (r : HeadRead) (text : List ℕ) (at : ℕ) (fault : Fault) → r ≡ head-read.Bad fault → AfterFirst r text at
+    → whole text ≡ faulty fault 1
+unfolding AfterFirst
+AfterFirst-bad r text at fault e b = rw e at b
+
+pub AfterFirst-good : (r : HeadRead) (text : List ℕ) (at : ℕ) (h : Head) → r ≡ head-read.Good h → AfterFirst r text at
+    → AfterHead h text at
+unfolding AfterFirst
+AfterFirst-good r text at h e b = rw e at b
+
 -- ---- the answer
 
 pub ReadOut-faulty : (text store : List ℕ) (fault : Fault) (line : ℕ) → whole text ≡ faulty fault line

@@ -13,7 +13,9 @@ use Rattle.model.specs.declared.Fault.{Fault}
 use Rattle.model.specs.declared.Fault.the-variants.{Absent, Shape, Repeated, Range}
 use Rattle.model.specs.declared.Head.{Head}
 use Rattle.model.specs.declared.StepLine.{StepLine}
-use Rattle.model.specs.Limits.{stateLimit, actionLimit, stepLimit, nameLimit, actionPlace, stepPlace}
+use Rattle.model.specs.declared.body.LinesRead.{LinesRead}
+use Rattle.model.specs.declared.body.LinesRead.the-variants.{Next, Faulty}
+use Rattle.model.specs.Limits.{stateLimit, actionLimit, stepLimit, nameLimit, storeLength, actionPlace}
 use Rattle.model.specs.Bytes.{within?, lineEnd, kindOf}
 use Rattle.model.specs.BytesLaws.{within?-true}
 use Rattle.model.specs.Split.{consFirst, split, indexOf, same?}
@@ -23,8 +25,8 @@ use Rattle.model.specs.Lines.{Line, good, bad, checked, headFits?, headF
 use Rattle.model.specs.LineAnswers.{Last}
 use Rattle.model.specs.Reading.{Reading, done, faulty, onLine, orFault, readNothing, readEnd, readSteps, readActions, readModel, headModel}
 use Rattle.model.specs.Store.{actionsNumbers, storeOf}
-use Rattle.model.specs.ReadSoFar.{Short, whole, InLimits, AfterHead, AfterActions, AfterStep, AfterSteps, AfterEnd}
-use Rattle.model.specs.FillLaws.{actionsNumbers-length, Short-snoc, storeOf-action, storeOf-step, storeOf-head}
+use Rattle.model.specs.ReadSoFar.{Short, whole, InLimits, AfterHead, AfterActions, Further}
+use Rattle.model.specs.FillLaws.{actionsNumbers-length, Short-snoc, storeOf-action, storeOf-length}
 
 -- ---- a line, found by its end
 
@@ -48,6 +50,18 @@ orFault-bad k l read fault e = rw e
 pub orFault-good : {A : Type 0} (k : ℕ) (l : Line A) (read : A → Reading) (a : A) → l ≡ good a → orFault k l read ≡ read a
 unfolding orFault
 orFault-good k l read a e = rw e
+
+-- ---- what some lines came to
+
+pub Further-faulty : (P Q : ℕ → Type 0) (text : List ℕ) (r : LinesRead) (fault : Fault) (line : ℕ) → r ≡ Faulty fault line
+    → Further P text r → Further Q text r
+unfolding Further
+Further-faulty P Q text (Next at) fault line e h = let z : _≡_ {A = ℕ} 0 1 = cc in absurd (omega arith)
+Further-faulty P Q text (Faulty f k) fault line e h = h
+
+pub Further-next : (P : ℕ → Type 0) (text : List ℕ) (r : LinesRead) (at : ℕ) → r ≡ Next at → Further P text r → P at
+unfolding Further
+Further-next P text r at e h = rw e at h
 
 -- ---- what a good line keeps
 
@@ -118,6 +132,14 @@ after-head h text at b =
       stored = refl;
       rest = b .rest ∙ rw z;
     }
+
+pub AfterActions-length : (h : Head) (text : List ℕ) (at i : ℕ) (store : List ℕ) → AfterActions h text at i store → i ≤ h .actions
+    → length store ≡ storeLength
+AfterActions-length h text at i store b l =
+    let n = b .limits .actions in
+    let c = b .count in
+    let m = actionsNumbers-length (b .actions) (b .short) in
+    rw (b .stored) (storeOf-length (record { head = h; actions = b .actions; steps = [] }) (omega arith) (omega arith))
 
 module _ (h : Head) (text : List ℕ) (at i : ℕ) (store : List ℕ) (b : AfterActions h text at i store) (lt : i < h .actions)
     (e : ℕ) (found : e ≡ at + indexOf lineEnd (drop at text)) where

@@ -30,7 +30,7 @@ use Rattle.model.specs.Reading.{Reading, done, tooLong, faulty, onLine, 
 use Rattle.model.specs.Store.{actionsNumbers, storeOf}
 use Rattle.model.specs.Promises.{toldRead, toldReading, readingStore, readLists, ReadPromise}
 use Rattle.model.specs.ReadSoFar.{whole, InLimits, AfterHead, AfterActions, AfterStep, AfterSteps, AfterEnd, AfterLine, AfterFirst, firstLine, ReadOut}
-use Rattle.model.specs.FillLaws.{actionsNumbers-length, storeOf-step}
+use Rattle.model.specs.FillLaws.{actionsNumbers-length, storeOf-step, storeOf-length}
 use Rattle.model.specs.ReadLaws.{onLine-absent, onLine-line, orFault-bad, orFault-good, headOf-limits}
 
 -- ---- the steps
@@ -106,6 +106,14 @@ module _ (h : Head) (text : List ℕ) (at j : ℕ) (last : StepLine) (store : Li
               (onLine-line text at e (b .place) found (2 + h .actions + j) _ l
               ∙ orFault-good (2 + h .actions + j) _ _ s r ∙ rw c);
         }
+
+pub AfterStep-length : (h : Head) (text : List ℕ) (at j : ℕ) (last : StepLine) (store : List ℕ) → AfterStep h text at j last store
+    → j ≤ h .steps → length store ≡ storeLength
+AfterStep-length h text at j last store b l =
+    let n = b .limits .steps in
+    let c = b .count in
+    rw (b .stored)
+    (storeOf-length (record { head = h; actions = b .actions; steps = b .steps }) (b .action-places) (omega arith))
 
 pub after-steps : (h : Head) (text : List ℕ) (at j : ℕ) (last : StepLine) (store : List ℕ)
     → AfterStep h text at j last store → j ≡ h .steps → AfterSteps h text at store
