@@ -8,7 +8,7 @@ use lib.Dec.{leb, eqb}
 use borrow.Author.Tests.{leb-true, eqb-true, eqb-false, le-leb, lt-leb}
 use Rattle.model.specs.Bytes.{within?, kindOf, digit, comma, lineEnd}
 
-and-true : (s t : Bool) → s && t ≡ true → (s ≡ true) × (t ≡ true)
+pub and-true : (s t : Bool) → s && t ≡ true → (s ≡ true) × (t ≡ true)
 and-true true t h = (refl, h)
 and-true false t h = let z : true ≡ false = sym h in (h, cc)
 

@@ -2,7 +2,10 @@ pub mod Limits
 pub mod Decides
 pub mod Bytes
 pub mod BytesLaws
+pub mod TableLaws
 pub mod Numbers
+pub mod ListLaws
+pub mod NumbersLaws
 pub mod Split
 pub mod SplitLaws
 pub mod Model
@@ -15,6 +18,11 @@ pub mod WellFormed
 pub mod StoredModel
 pub mod Wrote
 pub mod LineAnswers
+pub mod PartAnswers
+pub mod FieldsLaws
+pub mod LinesLaws
+pub mod ActionLaws
+pub mod RowLaws
 pub mod Promises
 pub mod ReadSoFar
 pub mod FillLaws

@@ -1,6 +1,7 @@
 // Till models: their texts, and the store that holds one.
 mod actions;
 mod body;
+mod bytes;
 mod line;
 mod number;
 pub mod read;

@@ -1,63 +1,68 @@
+-- After i lines the store holds i actions, and what remains reads as the whole does.
 use borrow.Author.Needs.{needs}
+use native.Mathlib.Omega.{arith}
+use Prim.Native.Nat.{_-_, _≤_}
+use mathlib.Core.Path.{_≡_, refl, _∙_}
+use lib.ListN.{length}
+use Rattle.model.specs.ReadSoFar.{AfterActions, Further}
+use Rattle.model.specs.ReadLaws.{Further-faulty, Further-next}
 use Rattle.model.proofs.actions.actions.Statement.{statement}
 use Rattle.model.proofs.actions.actions.Tie as tie
 use Rattle.model.proofs.actions.actions.Reads as reads
 use Rattle.model.proofs.actions.actions.Lts as lts
 use Rattle.model.proofs.actions.action.Reads as action-reads
 
+
 abbrev Inv-loop : tie.InvT-loop
-Inv-loop text at head out₀ count from₀ i₀ out from i = ?
+Inv-loop text at head out₀ count from₀ i₀ out from i =
+    (i ≤ head .actions) × (length out ≡ length out₀) × AfterActions head text from i out
 
 abbrev μ-loop : tie.MeasureT-loop
-μ-loop text at head out₀ count from₀ i₀ out from i = ?
+μ-loop text at head out₀ count from₀ i₀ out from i = head .actions - i
 
--- src/actions.rt:103:17
 cast-count : tie.Need-cast-count Inv-loop μ-loop
 cast-count c = search needs
 
--- src/actions.rt:106:5
 loop-holds : tie.Need-loop-holds Inv-loop μ-loop
-loop-holds c = search needs
+loop-holds c = (search needs, refl, c .before .before .before .pre)
 
--- src/actions.rt:107:13
 action-requires : tie.Need-action-requires Inv-loop μ-loop
-action-requires c κs = search needs
+action-requires c κs = let l = c .before .before in (l .loop .inv .2, omega arith)
 
--- src/actions.rt:110:17
 enum-told : tie.Need-enum-told Inv-loop μ-loop
 enum-told c = search needs
 
--- src/actions.rt:110:17
 same-length : tie.Need-same-length Inv-loop μ-loop
-same-length c = search needs
+same-length c =
+    let a = c .before .before .before .before in a .action .kept .0 ∙ a .before .before .before .loop .inv .1
 
--- src/actions.rt:110:17
 returns : tie.Need-returns Inv-loop μ-loop
-returns c = ?
+returns c = Further-faulty _ _ _ _ _ _ (c .enum-told .given .1) (c .before .before .before .before .action .ensures)
 
--- src/actions.rt:112:29
 enum-known-read : tie.Need-enum-known-read Inv-loop μ-loop
 enum-known-read c = search needs
 
--- src/actions.rt:116:9
 add-i : tie.Need-add-i Inv-loop μ-loop
-add-i c = search needs
+add-i c = omega arith
 
--- src/actions.rt:106:5
 loop-less : tie.Need-loop-less Inv-loop μ-loop
-loop-less c = search needs
+loop-less c = omega arith
 
--- src/actions.rt:106:5
 loop-again : tie.Need-loop-again Inv-loop μ-loop
-loop-again c = ?
+loop-again c =
+    let a = c .before .before .before .before .before in
+    let l = a .before .before .before in
+    (omega arith, a .action .kept .0 ∙ l .loop .inv .1, Further-next _ _ _ _ (c .before .read .given .1) (a .action .ensures))
 
--- src/actions.rt:99:1
 same-length-2 : tie.Need-same-length-2 Inv-loop μ-loop
-same-length-2 c = search needs
+same-length-2 c = c .before .loop .inv .1
 
--- src/actions.rt:99:1
 returns-2 : tie.Need-returns-2 Inv-loop μ-loop
-returns-2 c = ?
+unfolding Further
+returns-2 c =
+    let l = c .before in
+    let e : l .loop .i ≡ l .before .before .before .before .args .head .actions = omega arith in
+    rw (← e) (l .loop .inv .2)
 
 pub actions-spec : {M : Type 1} → statement M
 actions-spec =

@@ -1,4 +1,9 @@
+-- The local store holds the model where the lines are good, and its copy is what the promise asks; else nothing is stored.
 use borrow.Author.Needs.{needs}
+use mathlib.Core.Path.{_∙_}
+use Rattle.model.specs.FillLaws.{storeOf-head}
+use Rattle.model.specs.ReadLaws.{after-head, Further-next}
+use Rattle.model.specs.ReadAnswerLaws.{ReadOut-done, ReadOut-faulty}
 use Rattle.model.proofs.body.model.Statement.{statement}
 use Rattle.model.proofs.body.model.Tie as tie
 use Rattle.model.proofs.body.model.Reads as reads
@@ -7,49 +12,47 @@ use Rattle.model.proofs.body.copy.Reads as copy-reads
 use Rattle.model.proofs.body.lines.Reads as lines-reads
 use Rattle.model.proofs.body.put_head.Reads as put-head-reads
 
--- src/body.rt:126:14
+
 slice-aggregate-put-head : tie.Need-slice-aggregate-put-head
 slice-aggregate-put-head c = search needs
 
--- src/body.rt:126:5
 put-head-requires : tie.Need-put-head-requires
 put-head-requires c κs = search needs
 
--- src/body.rt:127:38
 slice-aggregate-lines : tie.Need-slice-aggregate-lines
 slice-aggregate-lines c = search needs
 
--- src/body.rt:127:9
 lines-requires : tie.Need-lines-requires
-lines-requires c κs = search needs
+lines-requires c κs =
+    let p = c .before .before in
+    rw (p .put-head .ensures ∙ storeOf-head _) (after-head _ _ _ (p .before .before .before .before .pre .0))
 
--- src/body.rt:130:18
 enum-told : tie.Need-enum-told
 enum-told c = search needs
 
--- src/body.rt:130:18
 slice-aggregate-copy : tie.Need-slice-aggregate-copy
 slice-aggregate-copy c = search needs
 
--- src/body.rt:130:13
 copy-requires : tie.Need-copy-requires
 copy-requires c κs = search needs
 
--- src/body.rt:133:29
 enum-known-read : tie.Need-enum-known-read
 enum-known-read c = search needs
 
--- src/body.rt:121:1
 same-length : tie.Need-same-length
 same-length c = search needs
 
--- src/body.rt:121:1
 returns : tie.Need-returns
-returns c = ?
+returns c =
+    let p = c .before .before in
+    let t = p .before .before .before in
+    let r = t .before .before .before in
+    ReadOut-done _ _ _ _ (Further-next _ _ _ _ (t .enum-told .given .1) (r .lines .ensures)) (r .lines .kept .1 .0) (p .copy .ensures)
 
--- src/body.rt:121:1
 returns-2 : tie.Need-returns-2
-returns-2 c = ?
+returns-2 c =
+    let r = c .before .before .before .before in
+    ReadOut-faulty _ _ _ _ ?f
 
 pub model-spec : {M : Type 1} → statement M
 model-spec =
