@@ -59,6 +59,11 @@ unfolding Further
 Further-faulty P Q text (Next at) fault line e h = let z : _≡_ {A = ℕ} 0 1 = cc in absurd (omega arith)
 Further-faulty P Q text (Faulty f k) fault line e h = h
 
+pub Further-refused : (P : ℕ → Type 0) (text : List ℕ) (r : LinesRead) (fault : Fault) (line : ℕ) → r ≡ Faulty fault line
+    → Further P text r → whole text ≡ faulty fault line
+unfolding Further
+Further-refused P text r fault line e h = rw e at h
+
 pub Further-next : (P : ℕ → Type 0) (text : List ℕ) (r : LinesRead) (at : ℕ) → r ≡ Next at → Further P text r → P at
 unfolding Further
 Further-next P text r at e h = rw e at h
@@ -132,6 +137,10 @@ after-head h text at b =
       stored = refl;
       rest = b .rest ∙ rw z;
     }
+
+pub AfterActions-count : (h : Head) (text : List ℕ) (at i k : ℕ) (store : List ℕ) → i ≡ k → AfterActions h text at i store
+    → AfterActions h text at k store
+AfterActions-count h text at i k store e b = rw e at b
 
 pub AfterActions-length : (h : Head) (text : List ℕ) (at i : ℕ) (store : List ℕ) → AfterActions h text at i store → i ≤ h .actions
     → length store ≡ storeLength

@@ -5,7 +5,7 @@ use Prim.Native.Nat.{_-_, _≤_}
 use mathlib.Core.Path.{_≡_, refl, _∙_}
 use lib.ListN.{length}
 use Rattle.model.specs.ReadSoFar.{AfterActions, Further}
-use Rattle.model.specs.ReadLaws.{Further-faulty, Further-next}
+use Rattle.model.specs.ReadLaws.{AfterActions-count, Further-faulty, Further-next}
 use Rattle.model.proofs.actions.actions.Statement.{statement}
 use Rattle.model.proofs.actions.actions.Tie as tie
 use Rattle.model.proofs.actions.actions.Reads as reads
@@ -34,7 +34,7 @@ enum-told c = search needs
 
 same-length : tie.Need-same-length Inv-loop μ-loop
 same-length c =
-    let a = c .before .before .before .before in a .action .kept .0 ∙ a .before .before .before .loop .inv .1
+    let a = c .before .before .before .before in a .action .kept .1 .1 .1 .1 .0 ∙ a .before .before .before .loop .inv .1
 
 returns : tie.Need-returns Inv-loop μ-loop
 returns c = Further-faulty _ _ _ _ _ _ (c .enum-told .given .1) (c .before .before .before .before .action .ensures)
@@ -52,17 +52,14 @@ loop-again : tie.Need-loop-again Inv-loop μ-loop
 loop-again c =
     let a = c .before .before .before .before .before in
     let l = a .before .before .before in
-    (omega arith, a .action .kept .0 ∙ l .loop .inv .1, Further-next _ _ _ _ (c .before .read .given .1) (a .action .ensures))
+    (omega arith, a .action .kept .1 .1 .1 .1 .0 ∙ l .loop .inv .1, Further-next _ _ _ _ (c .before .read .given .1) (a .action .ensures))
 
 same-length-2 : tie.Need-same-length-2 Inv-loop μ-loop
 same-length-2 c = c .before .loop .inv .1
 
 returns-2 : tie.Need-returns-2 Inv-loop μ-loop
 unfolding Further
-returns-2 c =
-    let l = c .before in
-    let e : l .loop .i ≡ l .before .before .before .before .args .head .actions = omega arith in
-    rw (← e) (l .loop .inv .2)
+returns-2 c = let l = c .before in AfterActions-count _ _ _ (l .loop .i) _ _ (omega arith) (l .loop .inv .2)
 
 pub actions-spec : {M : Type 1} → statement M
 actions-spec =

@@ -2,7 +2,7 @@
 use borrow.Author.Needs.{needs}
 use mathlib.Core.Path.{_∙_}
 use Rattle.model.specs.FillLaws.{storeOf-head}
-use Rattle.model.specs.ReadLaws.{after-head, Further-next}
+use Rattle.model.specs.ReadLaws.{after-head, Further-next, Further-refused}
 use Rattle.model.specs.ReadAnswerLaws.{ReadOut-done, ReadOut-faulty}
 use Rattle.model.proofs.body.model.Statement.{statement}
 use Rattle.model.proofs.body.model.Tie as tie
@@ -47,12 +47,12 @@ returns c =
     let p = c .before .before in
     let t = p .before .before .before in
     let r = t .before .before .before in
-    ReadOut-done _ _ _ _ (Further-next _ _ _ _ (t .enum-told .given .1) (r .lines .ensures)) (r .lines .kept .1 .0) (p .copy .ensures)
+    ReadOut-done _ _ _ _ (Further-next _ _ _ _ (t .enum-told .given .1) (r .lines .ensures)) (r .lines .kept .1 .1 .1 .0 ∙ r .before .before .before .put-head .kept .0) (p .copy .ensures)
 
 returns-2 : tie.Need-returns-2
 returns-2 c =
     let r = c .before .before .before .before in
-    ReadOut-faulty _ _ _ _ ?f
+    ReadOut-faulty _ _ _ _ (Further-refused _ _ _ _ _ (c .before .read .given .1) (r .lines .ensures))
 
 pub model-spec : {M : Type 1} → statement M
 model-spec =
