@@ -10,7 +10,7 @@ use lib.Seq.{sets, set-at, append-snoc, take-suc, drop-cons, length-take-le}
 use Rattle.model.specs.declared.Head.{Head}
 use Rattle.model.specs.declared.StepLine.{StepLine}
 use Rattle.model.specs.Limits.{actionLimit, stepLimit, nameLimit, storeLength, actionPlace, stepPlace}
-use Rattle.model.specs.Model.{ActionLine, Model, withAction, withStep}
+use Rattle.model.specs.Model.{ActionLine, Model}
 use Rattle.model.specs.Reading.{headModel}
 use Rattle.model.specs.Store.{padded, actionNumbers, actionsNumbers, stepsNumbers, headPlaces, storeOf}
 use Rattle.model.specs.ReadSoFar.{Short}

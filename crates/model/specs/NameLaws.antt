@@ -7,14 +7,14 @@ use Prim.Native.Nat.{ℕ, zero, suc, _+_, _-_, _*_, _≤_, _<_}
 use native.Mathlib.Omega.{arith}
 use native.Mathlib.Numerals.{add-one}
 use lib.Dec.{eqb}
-use lib.ListN.{length, take, drop, getD, replicate, length-append, length-drop, List·getD-append}
-use lib.Seq.{drop-cons, drop-drop, drop-at, getD-drop, getD-append-add, drop-nil, take-nil, ext-getD, drop-length, length-take-le}
-use borrow.Author.Tests.{eqb-true, eq-eqb, ne-eqb}
+use lib.ListN.{length, take, drop, getD, replicate, length-drop, List·getD-append}
+use lib.Seq.{drop-cons, drop-drop, drop-at, getD-drop, drop-nil, take-nil, ext-getD, drop-length, length-take-le}
+use borrow.Author.Tests.{eqb-true, eq-eqb}
 use Rattle.model.specs.declared.Head.{Head}
 use Rattle.model.specs.Limits.{nameLimit, actionPlace}
 use Rattle.model.specs.Split.{same?}
-use Rattle.model.specs.Model.{ActionLine, Model}
-use Rattle.model.specs.Lines.{Line, good, fieldsOf, actionFields, used?}
+use Rattle.model.specs.Model.{ActionLine}
+use Rattle.model.specs.Lines.{good, fieldsOf, actionFields, used?}
 use Rattle.model.specs.Store.{padded, actionNumbers, actionsNumbers, stepsNumbers, storeOf, headPlaces}
 use Rattle.model.specs.ReadSoFar.{ActionStored, ActionsStored, Short, AfterActions}
 use Rattle.model.specs.FillLaws.{actionNumbers-length}
@@ -41,7 +41,7 @@ name-part text at e level h l r =
     let k = length-drop 4 (take (e - at) (drop at text)) in
     let z : e - at - 4 ≡ e - (at + 4) = omega arith in
     let p : drop 4 (take (e - at) (drop at text)) ≡ take (e - (at + 4)) (drop (at + 4) text) =
-        drop-take 4 (e - at) (drop at text) ∙ rw (drop-drop 4 at text, z) in
+    drop-take 4 (e - at) (drop at text) ∙ rw (drop-drop 4 at text, z) in
     (omega arith, rw (← p) (n .1), r ∙ ap (λ (x : List ℕ). good (record { level = level; name = x })) p)
 
 -- ---- one name

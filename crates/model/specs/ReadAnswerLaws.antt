@@ -1,11 +1,10 @@
 -- What Read answers and leaves, by what its first line and the lines behind it came to.
 -- Document 01, "The operations, in the order of the work", 1, and both sections on refusals. Assumes nothing.
 use mathlib.Core.List.{List, [], _∷_, _++_}
-use mathlib.Core.Option.{Option, none, some}
+use mathlib.Core.Option.{none, some}
 use mathlib.Core.Path.{_≡_, refl, sym, ap, _∙_}
-use Prim.Native.Nat.{ℕ, suc, _+_, _-_, _≤_, _<_}
+use Prim.Native.Nat.{ℕ, _+_, _-_, _≤_, _<_}
 use native.Mathlib.Omega.{arith}
-use lib.Dec.{ltb}
 use lib.ListN.{length, take, drop, drop-of-length-le}
 use borrow.Author.Tests.{lt-ltb, le-ltb}
 use Rattle.model.specs.declared.Fault.{Fault}
@@ -19,11 +18,10 @@ use Rattle.model.specs.Limits.{storeLength, textLimit}
 use Rattle.model.specs.Bytes.{lineEnd}
 use Rattle.model.specs.Split.{split, indexOf}
 use Rattle.model.specs.SplitLaws.{split-nil, split-first, split-part, split-last, found-le}
-use Rattle.model.specs.Lines.{good, bad, headOf}
+use Rattle.model.specs.Lines.{bad, headOf}
 use Rattle.model.specs.LineAnswers.{headRead}
-use Rattle.model.specs.Faults.{Told, refuses, firstShort}
-use Rattle.model.specs.Reading.{Reading, done, tooLong, faulty, onLine, orFault, readActions, readModel, readText, headModel}
-use Rattle.model.specs.Store.{storeOf}
+use Rattle.model.specs.Faults.{firstShort}
+use Rattle.model.specs.Reading.{faulty, onLine, orFault, readModel, readText}
 use Rattle.model.specs.Promises.{toldRead, toldReading, readingStore, readLists, ReadPromise}
 use Rattle.model.specs.ReadSoFar.{whole, AfterHead, AfterEnd, AfterLine, AfterFirst, firstLine, ReadOut}
 use Rattle.model.specs.ReadLaws.{headOf-limits}

@@ -1,30 +1,28 @@
 -- The reading of a text goes on line by line: what a line that is missing, bad or good makes of what has been read so far.
 -- Document 01, "The text" and "Refused because of the input". Assumes nothing.
-use mathlib.Core.Bool.{Bool, true, false, cond, _&&_}
+use mathlib.Core.Bool.{Bool, true, false, _&&_}
 use mathlib.Core.List.{List, [], _∷_, _++_}
 use mathlib.Core.Path.{_≡_, refl, sym, ap, _∙_}
-use Prim.Native.Nat.{ℕ, zero, suc, _+_, _-_, _*_, _≤_, _<_}
+use Prim.Native.Nat.{ℕ, suc, _+_, _-_, _≤_, _<_}
 use native.Mathlib.Omega.{arith}
-use lib.Dec.{leb, ltb, eqb}
-use lib.ListN.{length, take, drop, getD, length-append, length-drop}
-use lib.Seq.{sets, length-take-le, drop-length}
-use borrow.Author.Tests.{leb-true, eq-eqb, ne-eqb}
+use lib.Dec.{leb, ltb}
+use lib.ListN.{length, take, drop, getD, length-append}
+use lib.Seq.{sets}
+use borrow.Author.Tests.{leb-true}
 use Rattle.model.specs.declared.Fault.{Fault}
 use Rattle.model.specs.declared.Fault.the-variants.{Absent, Shape, Repeated, Range}
 use Rattle.model.specs.declared.Head.{Head}
-use Rattle.model.specs.declared.StepLine.{StepLine}
 use Rattle.model.specs.declared.body.LinesRead.{LinesRead}
 use Rattle.model.specs.declared.body.LinesRead.the-variants.{Next, Faulty}
 use Rattle.model.specs.Limits.{stateLimit, actionLimit, stepLimit, nameLimit, storeLength, actionPlace}
-use Rattle.model.specs.Bytes.{within?, lineEnd, kindOf}
+use Rattle.model.specs.Bytes.{within?, lineEnd}
 use Rattle.model.specs.BytesLaws.{within?-true}
-use Rattle.model.specs.Split.{consFirst, split, indexOf, same?}
-use Rattle.model.specs.SplitLaws.{Is, same, other, is, split-nil, split-end, split-cons, split-first, split-part, split-last, found-le}
-use Rattle.model.specs.Model.{ActionLine, Model, above?, aboveLast?}
-use Rattle.model.specs.Lines.{Line, good, bad, checked, headFits?, headFrom, headOf, headNumbers, numbersLine, levelOf, allOf, nameByte?, name?, nameFrom, actionFields, fieldsOf, used?, actionFrom, actionOf, stepOf}
-use Rattle.model.specs.LineAnswers.{Last}
-use Rattle.model.specs.Reading.{Reading, done, faulty, onLine, orFault, readNothing, readEnd, readSteps, readActions, readModel, headModel}
-use Rattle.model.specs.Store.{actionsNumbers, storeOf}
+use Rattle.model.specs.Split.{split, indexOf}
+use Rattle.model.specs.SplitLaws.{is, split-first, split-part, split-last}
+use Rattle.model.specs.Model.{ActionLine}
+use Rattle.model.specs.Lines.{Line, good, bad, checked, headFits?, headFrom, headOf, headNumbers, numbersLine, levelOf, allOf, nameByte?, name?, nameFrom, actionFields, fieldsOf, used?, actionFrom, actionOf}
+use Rattle.model.specs.Reading.{Reading, faulty, onLine, orFault, readActions, headModel}
+use Rattle.model.specs.Store.{storeOf}
 use Rattle.model.specs.ReadSoFar.{Short, whole, InLimits, AfterHead, AfterActions, Further}
 use Rattle.model.specs.FillLaws.{actionsNumbers-length, Short-snoc, storeOf-action, storeOf-length}
 

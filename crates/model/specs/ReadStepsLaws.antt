@@ -2,36 +2,28 @@
 -- Document 01, "The text" and "Refused because of the input". Assumes nothing.
 use mathlib.Core.Bool.{Bool, true, false, cond, _&&_}
 use mathlib.Core.List.{List, [], _∷_, _++_}
-use mathlib.Core.Option.{Option, none, some}
-use mathlib.Core.Path.{_≡_, refl, sym, ap, _∙_}
-use Prim.Native.Nat.{ℕ, zero, suc, _+_, _-_, _*_, _≤_, _<_}
+use mathlib.Core.Path.{_≡_, refl, sym, _∙_}
+use Prim.Native.Nat.{ℕ, suc, _+_, _-_, _≤_, _<_}
 use native.Mathlib.Omega.{arith}
-use lib.Dec.{ltb, eqb}
+use lib.Dec.{eqb}
 use lib.ListN.{length, take, drop, getD, length-append, length-drop}
-use lib.Seq.{sets, drop-length, length-take-le, getD-take, getD-drop}
-use borrow.Author.Tests.{lt-ltb, le-ltb, eq-eqb, ne-eqb}
+use lib.Seq.{sets, length-take-le, getD-take, getD-drop}
+use borrow.Author.Tests.{eq-eqb, ne-eqb}
 use Rattle.model.specs.declared.Fault.{Fault}
 use Rattle.model.specs.declared.Fault.the-variants.{Absent, Shape}
 use Rattle.model.specs.declared.Head.{Head}
 use Rattle.model.specs.declared.StepLine.{StepLine}
-use Rattle.model.specs.declared.line.HeadRead.{HeadRead}
-use Rattle.model.specs.declared.line.HeadRead.the-variants as head-read
-use Rattle.model.specs.declared.read.ReadAnswer.{ReadAnswer}
-use Rattle.model.specs.declared.read.ReadAnswer.the-variants.{Done, ShortList, TooLong, Faulty}
-use Rattle.model.specs.Limits.{actionLimit, stepLimit, storeLength, textLimit, stepPlace}
+use Rattle.model.specs.Limits.{storeLength, stepPlace}
 use Rattle.model.specs.Bytes.{lineEnd, kindOf}
 use Rattle.model.specs.Split.{consFirst, split, indexOf, same?}
 use Rattle.model.specs.SplitLaws.{Is, same, other, is, split-nil, split-end, split-cons, split-first, found-le}
-use Rattle.model.specs.Model.{ActionLine, Model, above?, aboveLast?}
-use Rattle.model.specs.Lines.{good, bad, headOf, stepOf}
-use Rattle.model.specs.LineAnswers.{Last, headRead}
-use Rattle.model.specs.Faults.{refuses, firstShort}
-use Rattle.model.specs.Reading.{Reading, done, tooLong, faulty, onLine, orFault, readNothing, readEnd, readSteps, readActions, readModel, readText, headModel}
-use Rattle.model.specs.Store.{actionsNumbers, storeOf}
-use Rattle.model.specs.Promises.{toldRead, toldReading, readingStore, readLists, ReadPromise}
-use Rattle.model.specs.ReadSoFar.{whole, InLimits, AfterHead, AfterActions, AfterStep, AfterSteps, AfterEnd, AfterLine, AfterFirst, firstLine, ReadOut}
+use Rattle.model.specs.Model.{Model, above?, aboveLast?}
+use Rattle.model.specs.Lines.{good, bad, stepOf}
+use Rattle.model.specs.LineAnswers.{Last}
+use Rattle.model.specs.Reading.{done, faulty, readNothing, readEnd, readSteps, readActions}
+use Rattle.model.specs.ReadSoFar.{whole, AfterActions, AfterStep, AfterSteps, AfterEnd}
 use Rattle.model.specs.FillLaws.{actionsNumbers-length, storeOf-step, storeOf-length}
-use Rattle.model.specs.ReadLaws.{onLine-absent, onLine-line, orFault-bad, orFault-good, headOf-limits}
+use Rattle.model.specs.ReadLaws.{onLine-absent, onLine-line, orFault-bad, orFault-good}
 
 -- ---- the steps
 

@@ -79,7 +79,10 @@ fn action(text: &[u8], at: usize, head: Head, i: usize, out: &mut [u16]) -> Line
     let line = 2 + i;
     let e = find(text, at, 5);
     if e == text.len() {
-        return LinesRead::Faulty { fault: Fault::Absent, line };
+        return LinesRead::Faulty {
+            fault: Fault::Absent,
+            line,
+        };
     }
     let read = action_line(&text[at..e]);
     match read {
@@ -87,7 +90,10 @@ fn action(text: &[u8], at: usize, head: Head, i: usize, out: &mut [u16]) -> Line
         ActionRead::Good(level) => {
             let from = at + 4;
             if used(out, i, &text[from..e]) {
-                return LinesRead::Faulty { fault: Fault::Repeated, line };
+                return LinesRead::Faulty {
+                    fault: Fault::Repeated,
+                    line,
+                };
             }
             put_action(out, 4 + 14 * i, level, &text[from..e]);
             LinesRead::Next(e + 1)

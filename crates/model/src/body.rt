@@ -62,16 +62,28 @@ fn end(text: &[u8], at: usize, head: Head, out: &[u16]) -> LinesRead
     let line = 2 + head.actions as usize + head.steps as usize;
     let e = find(text, at, 5);
     if e == text.len() {
-        return LinesRead::Faulty { fault: Fault::Absent, line };
+        return LinesRead::Faulty {
+            fault: Fault::Absent,
+            line,
+        };
     }
     if e != at + 1 {
-        return LinesRead::Faulty { fault: Fault::Shape, line };
+        return LinesRead::Faulty {
+            fault: Fault::Shape,
+            line,
+        };
     }
     if text[at] != 69 {
-        return LinesRead::Faulty { fault: Fault::Shape, line };
+        return LinesRead::Faulty {
+            fault: Fault::Shape,
+            line,
+        };
     }
     if e + 1 != text.len() {
-        return LinesRead::Faulty { fault: Fault::Absent, line: line + 1 };
+        return LinesRead::Faulty {
+            fault: Fault::Absent,
+            line: line + 1,
+        };
     }
     LinesRead::Next(e + 1)
 }

@@ -33,18 +33,28 @@ pub fn steps(text: &[u8], at: usize, head: Head, out: &mut [u16]) -> LinesRead
 {
     let count = head.steps as usize;
     let first = 2 + head.actions as usize;
-    let mut last = StepLine { source: State(0), action: Action(0), target: State(0) };
+    let mut last = StepLine {
+        source: State(0),
+        action: Action(0),
+        target: State(0),
+    };
     let mut from = at;
     let mut j = 0;
     while j < count {
         let e = find(text, from, 5);
         if e == text.len() {
-            return LinesRead::Faulty { fault: Fault::Absent, line: first + j };
+            return LinesRead::Faulty {
+                fault: Fault::Absent,
+                line: first + j,
+            };
         }
         let read = step_line(&text[from..e], head, j, last);
         match read {
             StepRead::Bad(fault) => {
-                return LinesRead::Faulty { fault, line: first + j };
+                return LinesRead::Faulty {
+                    fault,
+                    line: first + j,
+                };
             }
             StepRead::Good(s) => {
                 put_step(out, 900 + 3 * j, s);

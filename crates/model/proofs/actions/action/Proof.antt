@@ -14,13 +14,6 @@ use Rattle.model.specs.ReadLaws.{action-absent, action-bad, action-next,
 use Rattle.model.specs.NameLaws.{name-part, ActionsStored-so-far}
 use Rattle.model.proofs.actions.action.Statement.{statement}
 use Rattle.model.proofs.actions.action.Tie as tie
-use Rattle.model.proofs.actions.action.Reads as reads
-use Rattle.model.proofs.actions.action.Lts as lts
-use Rattle.model.proofs.actions.put_action.Reads as put-action-reads
-use Rattle.model.proofs.actions.used.Reads as used-reads
-use Rattle.model.proofs.line.action_line.Reads as action-line-reads
-use Rattle.model.proofs.line.find.Reads as find-reads
-
 
 -- where the line has an end
 inside : (c : tie.Else1)

@@ -8,10 +8,6 @@ use Rattle.model.specs.ReadSoFar.{AfterActions, Further}
 use Rattle.model.specs.ReadLaws.{AfterActions-count, Further-faulty, Further-next}
 use Rattle.model.proofs.actions.actions.Statement.{statement}
 use Rattle.model.proofs.actions.actions.Tie as tie
-use Rattle.model.proofs.actions.actions.Reads as reads
-use Rattle.model.proofs.actions.actions.Lts as lts
-use Rattle.model.proofs.actions.action.Reads as action-reads
-
 
 abbrev Inv-loop : tie.InvT-loop
 Inv-loop text at head out₀ count from₀ i₀ out from i =

@@ -3,14 +3,11 @@ use borrow.Author.Needs.{needs}
 use borrow.Author.Count.{below-more}
 use native.Mathlib.Omega.{arith}
 use Prim.Native.Nat.{ℕ, _+_, _-_, _≤_, _<_}
-use mathlib.Core.Path.{_≡_, _∙_}
+use mathlib.Core.Path.{_≡_}
 use lib.ListN.{length, getD}
 use Rattle.model.specs.NameLaws.{named-length, named-differ, named-same}
 use Rattle.model.proofs.actions.named.Statement.{statement}
 use Rattle.model.proofs.actions.named.Tie as tie
-use Rattle.model.proofs.actions.named.Reads as reads
-use Rattle.model.proofs.actions.named.Lts as lts
-
 
 abbrev Inv-loop : tie.InvT-loop
 Inv-loop store at name i₀ i =

@@ -6,10 +6,6 @@ use mathlib.Core.Path.{_∙_}
 use lib.ListN.{length-set}
 use Rattle.model.proofs.actions.put_action.Statement.{statement}
 use Rattle.model.proofs.actions.put_action.Tie as tie
-use Rattle.model.proofs.actions.put_action.Reads as reads
-use Rattle.model.proofs.actions.put_action.Lts as lts
-use Rattle.model.proofs.actions.put_name.Reads as put-name-reads
-
 
 mul-out : tie.Need-mul-out
 mul-out c = search needs

@@ -2,16 +2,12 @@
 use borrow.Author.Needs.{needs}
 use native.Mathlib.Omega.{arith}
 use native.Mathlib.Numerals.{add-one}
-use Prim.Native.Nat.{ℕ, _+_, _-_, _≤_, _<_}
-use mathlib.Core.List.{List}
-use mathlib.Core.Path.{_≡_, refl, sym, ap, _∙_}
-use lib.ListN.{length, getD, set, length-set, take}
+use Prim.Native.Nat.{_+_, _-_, _≤_, _<_}
+use mathlib.Core.Path.{_≡_, refl, sym, _∙_}
+use lib.ListN.{length, length-set}
 use lib.Seq.{paste, paste-zero, paste-suc, sets-eq, take-length}
 use Rattle.model.proofs.actions.put_name.Statement.{statement}
 use Rattle.model.proofs.actions.put_name.Tie as tie
-use Rattle.model.proofs.actions.put_name.Reads as reads
-use Rattle.model.proofs.actions.put_name.Lts as lts
-
 
 abbrev Inv-loop : tie.InvT-loop
 Inv-loop out₀ at name i₀ out i = (i ≤ length name) × (length out ≡ length out₀) × (out ≡ paste out₀ at name i)
@@ -49,9 +45,11 @@ loop-again c =
     let a = l .before .args in
     let i = l .loop .i in
     let d : a .at + i < length (a .out .now) = omega arith in
-    let h : i < length (a .name .now) = omega arith in
-    (omega arith, simp length-set (l .loop .inv .1),
-      rw (l .loop .inv .2) (paste-suc (a .out .now) (a .at) (a .name .now) i 0 d h ∙ rw (add-one i)))
+    let h : i < length (a .name .now) = omega arith in (
+      omega arith,
+      simp length-set (l .loop .inv .1),
+      rw (l .loop .inv .2) (paste-suc (a .out .now) (a .at) (a .name .now) i 0 d h ∙ rw (add-one i)),
+    )
 
 same-length : tie.Need-same-length Inv-loop μ-loop
 same-length c = search needs

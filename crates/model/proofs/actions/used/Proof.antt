@@ -12,10 +12,6 @@ use Rattle.model.specs.ReadSoFar.{ActionsStored}
 use Rattle.model.specs.NameLaws.{used?-drop, used?-none}
 use Rattle.model.proofs.actions.used.Statement.{statement}
 use Rattle.model.proofs.actions.used.Tie as tie
-use Rattle.model.proofs.actions.used.Reads as reads
-use Rattle.model.proofs.actions.used.Lts as lts
-use Rattle.model.proofs.actions.named.Reads as named-reads
-
 
 abbrev Inv-loop : tie.InvT-loop
 Inv-loop store count name i₀ i =
@@ -54,10 +50,12 @@ loop-less c = search needs
 loop-again : tie.Need-loop-again Inv-loop μ-loop
 loop-again c =
     let f = c .before in
-    let l = f .before .before in
-    (search needs, λ before s n.
-    let h : l .loop .i < length before = omega (arith, n) in
-    l .loop .inv .1 before s n ∙ used?-drop _ _ before s (l .loop .i) h false (λ a t. rw (← (c .if1 .left)) (f .named .ensures a t)))
+    let l = f .before .before in (
+      search needs,
+      λ before s n.
+          let h : l .loop .i < length before = omega (arith, n) in
+          l .loop .inv .1 before s n ∙ used?-drop _ _ before s (l .loop .i) h false (λ a t. rw (← (c .if1 .left)) (f .named .ensures a t)),
+    )
 
 returns-2 : tie.Need-returns-2 Inv-loop μ-loop
 returns-2 c before s n =

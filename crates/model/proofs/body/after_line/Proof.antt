@@ -6,10 +6,6 @@ use Rattle.model.specs.SplitLaws.{found-le}
 use Rattle.model.specs.ReadAnswerLaws.{AfterLine-past, AfterLine-absent, AfterLine-line}
 use Rattle.model.proofs.body.after_line.Statement.{statement}
 use Rattle.model.proofs.body.after_line.Tie as tie
-use Rattle.model.proofs.body.after_line.Reads as reads
-use Rattle.model.proofs.body.after_line.Lts as lts
-use Rattle.model.proofs.line.find.Reads as find-reads
-
 
 returns : tie.Need-returns
 returns c = AfterLine-past _ _ (c .if1 .taken)

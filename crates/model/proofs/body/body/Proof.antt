@@ -3,10 +3,6 @@ use borrow.Author.Needs.{needs}
 use Rattle.model.specs.ReadAnswerLaws.{AfterFirst-bad, AfterFirst-good, ReadOut-faulty}
 use Rattle.model.proofs.body.body.Statement.{statement}
 use Rattle.model.proofs.body.body.Tie as tie
-use Rattle.model.proofs.body.body.Reads as reads
-use Rattle.model.proofs.body.body.Lts as lts
-use Rattle.model.proofs.body.model.Reads as model-reads
-
 
 enum-known-first : tie.Need-enum-known-first
 enum-known-first c = search needs

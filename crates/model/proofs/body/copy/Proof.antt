@@ -3,16 +3,12 @@ use borrow.Author.Needs.{needs}
 use native.Mathlib.Omega.{arith}
 use Prim.Native.Nat.{_-_, _≤_, _<_}
 use mathlib.Core.List.{_++_}
-use mathlib.Core.Path.{_≡_, refl, _∙_}
+use mathlib.Core.Path.{_≡_, _∙_}
 use lib.ListN.{length, take, drop, length-set}
 use lib.Seq.{take-length}
 use Rattle.model.specs.FillLaws.{copy-suc}
-use native.Mathlib.Numerals.{add-one}
 use Rattle.model.proofs.body.copy.Statement.{statement}
 use Rattle.model.proofs.body.copy.Tie as tie
-use Rattle.model.proofs.body.copy.Reads as reads
-use Rattle.model.proofs.body.copy.Lts as lts
-
 
 abbrev Inv-loop : tie.InvT-loop
 Inv-loop from to₀ i₀ to i = (i ≤ length from) × (length to ≡ length to₀) × (to ≡ take i from ++ drop i to₀)

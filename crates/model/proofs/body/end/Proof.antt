@@ -1,7 +1,7 @@
 -- Each return by the test that led to it: `ReadStepsLaws` says what the last line then makes of the whole text.
 use borrow.Author.Needs.{needs}
 use native.Mathlib.Omega.{arith}
-use Prim.Native.Nat.{_<_, _≤_}
+use Prim.Native.Nat.{_<_}
 use lib.ListN.{length}
 use Rattle.model.specs.Bytes.{lineEnd}
 use Rattle.model.specs.SplitLaws.{found-le}
@@ -9,10 +9,6 @@ use Rattle.model.specs.ReadSoFar.{AfterSteps, Further}
 use Rattle.model.specs.ReadStepsLaws.{end-absent, end-long, end-other, end-more, end-done}
 use Rattle.model.proofs.body.end.Statement.{statement}
 use Rattle.model.proofs.body.end.Tie as tie
-use Rattle.model.proofs.body.end.Reads as reads
-use Rattle.model.proofs.body.end.Lts as lts
-use Rattle.model.proofs.line.find.Reads as find-reads
-
 
 -- the contexts of the search and of the place behind it, where the line has an end
 abbrev start : (f : tie.After-find) → AfterSteps (f .before .before .before .before .before .args .head) (f .before .before .before .before .before .args .text .now) (f .before .before .before .before .before .args .at) (f .before .before .before .before .before .args .out .now)

@@ -8,11 +8,6 @@ use Rattle.model.specs.LineAnswers.{headRead}
 use Rattle.model.specs.ReadAnswerLaws.{firstLine-past, firstLine-absent, firstLine-line}
 use Rattle.model.proofs.body.first_line.Statement.{statement}
 use Rattle.model.proofs.body.first_line.Tie as tie
-use Rattle.model.proofs.body.first_line.Reads as reads
-use Rattle.model.proofs.body.first_line.Lts as lts
-use Rattle.model.proofs.line.find.Reads as find-reads
-use Rattle.model.proofs.line.head_line.Reads as head-line-reads
-
 
 returns : tie.Need-returns
 unfolding headRead

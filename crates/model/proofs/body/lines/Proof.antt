@@ -3,12 +3,6 @@ use borrow.Author.Needs.{needs}
 use Rattle.model.specs.ReadLaws.{Further-faulty, Further-next}
 use Rattle.model.proofs.body.lines.Statement.{statement}
 use Rattle.model.proofs.body.lines.Tie as tie
-use Rattle.model.proofs.body.lines.Reads as reads
-use Rattle.model.proofs.body.lines.Lts as lts
-use Rattle.model.proofs.actions.actions.Reads as actions-reads
-use Rattle.model.proofs.body.end.Reads as end-reads
-use Rattle.model.proofs.steps.steps.Reads as steps-reads
-
 
 actions-requires : tie.Need-actions-requires
 actions-requires c κs = c .before .before .before .pre

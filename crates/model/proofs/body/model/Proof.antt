@@ -6,12 +6,6 @@ use Rattle.model.specs.ReadLaws.{after-head, Further-next, Further-refus
 use Rattle.model.specs.ReadAnswerLaws.{ReadOut-done, ReadOut-faulty}
 use Rattle.model.proofs.body.model.Statement.{statement}
 use Rattle.model.proofs.body.model.Tie as tie
-use Rattle.model.proofs.body.model.Reads as reads
-use Rattle.model.proofs.body.model.Lts as lts
-use Rattle.model.proofs.body.copy.Reads as copy-reads
-use Rattle.model.proofs.body.lines.Reads as lines-reads
-use Rattle.model.proofs.body.put_head.Reads as put-head-reads
-
 
 slice-aggregate-put-head : tie.Need-slice-aggregate-put-head
 slice-aggregate-put-head c = search needs

@@ -1,15 +1,11 @@
 -- The stores one after the other are those that `sets` computes to.
 use borrow.Author.Needs.{needs}
 use native.Mathlib.Omega.{arith}
-use native.Mathlib.Numerals.{add-one, add-two}
 use mathlib.Core.Path.{refl}
 use lib.ListN.{length-set}
 use Rattle.model.specs.Store.{headPlaces}
 use Rattle.model.proofs.body.put_head.Statement.{statement}
 use Rattle.model.proofs.body.put_head.Tie as tie
-use Rattle.model.proofs.body.put_head.Reads as reads
-use Rattle.model.proofs.body.put_head.Lts as lts
-
 
 slice-write-out : tie.Need-slice-write-out
 slice-write-out c = search needs

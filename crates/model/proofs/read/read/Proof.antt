@@ -3,10 +3,6 @@ use borrow.Author.Needs.{needs}
 use Rattle.model.specs.ReadAnswerLaws.{ReadPromise-short, ReadPromise-long, ReadPromise-lines}
 use Rattle.model.proofs.read.read.Statement.{statement}
 use Rattle.model.proofs.read.read.Tie as tie
-use Rattle.model.proofs.read.read.Reads as reads
-use Rattle.model.proofs.read.read.Lts as lts
-use Rattle.model.proofs.reader.read_lines.Reads as read-lines-reads
-
 
 returns : tie.Need-returns
 returns c = ReadPromise-short _ _ (c .if1 .taken)

@@ -9,7 +9,6 @@ use Rattle.model.proofs.body.after_line.Reads as after-line-reads
 use Rattle.model.proofs.body.body.Reads as body-reads
 use Rattle.model.proofs.body.first_line.Reads as first-line-reads
 
-
 first-line-requires : tie.Need-first-line-requires
 first-line-requires c κs = search needs
 

@@ -2,14 +2,9 @@
 use borrow.Author.Needs.{needs}
 use native.Mathlib.Omega.{arith}
 use native.Mathlib.Numerals.{add-one, add-two}
-use mathlib.Core.Path.{refl}
 use lib.ListN.{length-set}
-use Rattle.model.specs.Store.{headPlaces}
 use Rattle.model.proofs.steps.put_step.Statement.{statement}
 use Rattle.model.proofs.steps.put_step.Tie as tie
-use Rattle.model.proofs.steps.put_step.Reads as reads
-use Rattle.model.proofs.steps.put_step.Lts as lts
-
 
 mul-out : tie.Need-mul-out
 mul-out c = search needs

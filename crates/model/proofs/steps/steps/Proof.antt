@@ -1,7 +1,7 @@
 -- After j lines the store holds j steps, and what remains reads as the whole does: `ReadStepsLaws` takes that past a line.
 use borrow.Author.Needs.{needs}
 use native.Mathlib.Omega.{arith}
-use Prim.Native.Nat.{_+_, _-_, _≤_, _<_}
+use Prim.Native.Nat.{_-_, _≤_, _<_}
 use mathlib.Core.Path.{_≡_, refl, ap, _∙_}
 use lib.ListN.{length}
 use Rattle.model.specs.Bytes.{lineEnd}
@@ -11,12 +11,6 @@ use Rattle.model.specs.ReadSoFar.{AfterStep, Further}
 use Rattle.model.specs.ReadStepsLaws.{after-actions, step-absent, step-bad, step-next, AfterStep-length, after-steps}
 use Rattle.model.proofs.steps.steps.Statement.{statement}
 use Rattle.model.proofs.steps.steps.Tie as tie
-use Rattle.model.proofs.steps.steps.Reads as reads
-use Rattle.model.proofs.steps.steps.Lts as lts
-use Rattle.model.proofs.line.find.Reads as find-reads
-use Rattle.model.proofs.line.step_line.Reads as step-line-reads
-use Rattle.model.proofs.steps.put_step.Reads as put-step-reads
-
 
 abbrev Inv-loop : tie.InvT-loop
 Inv-loop text at head out₀ count first last₀ from₀ j₀ out last from j =
@@ -132,11 +126,13 @@ loop-again c =
     let e = r .before .before in
     let f = e .before in
     let l = f .before .before in
-    let b = l .loop .inv .2 in
-    (omega arith, p .put-step .kept .0 ∙ l .loop .inv .1,
-    rw (p .put-step .ensures)
-    (step-next _ _ _ (l .loop .j) _ _ b (omega arith) _ (f .find .ensures) (inside e .0) _
-    (r .step-line .ensures (b .steps) (b .last-step) ∙ ap stepRead (a .read2 .given .1))))
+    let b = l .loop .inv .2 in (
+      omega arith,
+      p .put-step .kept .0 ∙ l .loop .inv .1,
+      rw (p .put-step .ensures)
+          (step-next _ _ _ (l .loop .j) _ _ b (omega arith) _ (f .find .ensures) (inside e .0) _
+          (r .step-line .ensures (b .steps) (b .last-step) ∙ ap stepRead (a .read2 .given .1))),
+    )
 
 same-length-3 : tie.Need-same-length-3 Inv-loop μ-loop
 same-length-3 c = c .before .loop .inv .1
