@@ -33,7 +33,6 @@ use denote.Exit.{yes}
 use Rattle.model.specs.declared.reader.Reader.{Reader}
 use Rattle.model.proofs.reader.Reader.Laws as T′
 use Rattle.model.proofs.ReaderParts.{textValue, TextOwn, makes}
-use Rattle.model.proofs.reader.new.Key.{name as #new}
 use Rattle.model.proofs.reader.new as new
 use Rattle.model.proofs.reader.new.Statement as stated
 use Rattle.model.proofs.reader.new.Code as code
