@@ -1,5 +1,5 @@
--- The reader is taken apart, and `first_line` is called on its text and place; all that is known of that is its contract.
--- The reader lends its text and stays whole for the exit. Assumes nothing.
+-- The reader is taken apart, and `first_line` is called on its text and place; all that is known of that is its
+-- contract. The reader lends its text and stays whole for the exit. Assumes nothing.
 use mathlib.Core.Path.{_≡_, refl}
 use Prim.Native.Nat.{_<_, _^_}
 use mathlib.Core.List.{[], _∷_}
@@ -50,6 +50,9 @@ use Rattle.model.proofs.body.first_line.Met as first-line-thm
 use Rattle.model.proofs.reader.first as first
 use Rattle.model.proofs.reader.first.Statement as stated
 use Rattle.model.proofs.reader.first.Code as code
+use lib.Dec.{T as Holds}
+use Rattle.model.proofs.body.first_line.Symbol.{name as #first-line}
+use Rattle.model.proofs.reader.first.Key.{name as #first}
 
 abbrev stayed : Stays (first.ended .signature .params) (first.ended .kept)
 stayed = (stay-none (λ κs. row (κs .0)) yes, tt)

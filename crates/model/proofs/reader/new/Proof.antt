@@ -1,5 +1,5 @@
--- The result's local is filled with the text passed and 0. A shared text is owned twice over: one copy goes into the reader, the
--- other stays with the parameter. Assumes nothing.
+-- The result's local is filled with the text passed and 0. A shared text is owned twice over: one copy goes into the
+-- reader, the other stays with the parameter. Assumes nothing.
 use mathlib.Core.Path.{refl}
 use Prim.Native.Nat.{ℕ}
 use mathlib.Core.List.{List, [], _∷_}
@@ -36,6 +36,7 @@ use Rattle.model.proofs.ReaderParts.{textValue, TextOwn, makes}
 use Rattle.model.proofs.reader.new as new
 use Rattle.model.proofs.reader.new.Statement as stated
 use Rattle.model.proofs.reader.new.Code as code
+use Rattle.model.proofs.reader.new.Key.{name as #new}
 
 abbrev stayed : Stays (new.ended .signature .params) (new.ended .kept)
 stayed = (stay-none-slice (0 ∷ []) tt (plain (λ _. u8)) yes, tt)

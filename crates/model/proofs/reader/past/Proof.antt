@@ -1,5 +1,5 @@
--- The reader is taken apart, `after_line` is called on its text and place, and a reader is made of the same text and the place
--- answered. The reader passed lends its text twice and stays whole for the exit. Assumes nothing.
+-- The reader is taken apart, `after_line` is called on its text and place, and a reader is made of the same text and
+-- the place answered. The reader passed lends its text twice and stays whole for the exit. Assumes nothing.
 use mathlib.Core.Path.{refl, ap}
 use Prim.Native.Nat.{ℕ, _<_, _^_}
 use mathlib.Core.List.{[], _∷_}
@@ -45,6 +45,9 @@ use Rattle.model.proofs.body.after_line.Met as after-line-thm
 use Rattle.model.proofs.reader.past as past
 use Rattle.model.proofs.reader.past.Statement as stated
 use Rattle.model.proofs.reader.past.Code as code
+use lib.Dec.{T as Holds}
+use Rattle.model.proofs.body.after_line.Symbol.{name as #after-line}
+use Rattle.model.proofs.reader.past.Key.{name as #past}
 
 abbrev stayed : Stays (past.ended .signature .params) (past.ended .kept)
 stayed = (stay-none (λ κs. row (κs .0)) yes, tt)

@@ -1,5 +1,5 @@
--- A reader is made, its first line read, and the reader past that line handed on with the store. All that is known of the four
--- functions is that each meets its contract; `after-first` joins the first line with the place after it. Assumes nothing.
+-- A reader is made, its first line read, and the reader past that line handed on with the store. All that is known of
+-- the four functions is their contracts; `after-first` joins the first line with the place after it. Assumes nothing.
 use mathlib.Core.Path.{_≡_, refl}
 use Prim.Native.Nat.{ℕ, _≤_}
 use mathlib.Core.List.{List, [], _∷_}
@@ -67,6 +67,12 @@ use Rattle.model.proofs.reader.rest.Met as rest-thm
 use Rattle.model.proofs.reader.read_lines as read-lines
 use Rattle.model.proofs.reader.read_lines.Statement as stated
 use Rattle.model.proofs.reader.read_lines.Code as code
+use lib.Dec.{T as Holds}
+use Rattle.model.proofs.reader.new.Symbol.{name as #new}
+use Rattle.model.proofs.reader.first.Symbol.{name as #first}
+use Rattle.model.proofs.reader.past.Symbol.{name as #past}
+use Rattle.model.proofs.reader.rest.Symbol.{name as #rest}
+use Rattle.model.proofs.reader.read_lines.Key.{name as #read-lines}
 
 -- at exit nothing is had of the text, and of the store its last contents
 abbrev stayed : Stays (read-lines.ended .signature .params) (read-lines.ended .kept)

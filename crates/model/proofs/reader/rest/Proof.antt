@@ -1,5 +1,5 @@
--- The reader is taken apart, and `body` is called on its text and place, the first line's answer and the store. The store's borrow
--- goes to the callee for good: what `body` says of its last contents is what `rest` says. Assumes nothing.
+-- The reader is taken apart, and `body` is called on its text and place, the first line's answer and the store. The
+-- store's borrow goes to the callee for good: what `body` says of its last contents is what `rest` says. Assumes nothing.
 use mathlib.Core.Path.{_≡_, refl}
 use Prim.Native.Nat.{ℕ, _≤_}
 use mathlib.Core.List.{List, [], _∷_}
@@ -55,6 +55,8 @@ use Rattle.model.proofs.body.body.Met as body-thm
 use Rattle.model.proofs.reader.rest as rest
 use Rattle.model.proofs.reader.rest.Statement as stated
 use Rattle.model.proofs.reader.rest.Code as code
+use Rattle.model.proofs.body.body.Symbol.{name as #body}
+use Rattle.model.proofs.reader.rest.Key.{name as #rest}
 
 -- at exit nothing is had of the reader and the first line, and of the store its last contents
 abbrev stayed : Stays (rest.ended .signature .params) (rest.ended .kept)
