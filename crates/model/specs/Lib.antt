@@ -66,6 +66,12 @@ pub mod RowLaws
 pub mod Promises
 pub mod PromisesLaws
 pub mod OnStoreLaws
+pub mod ReadSoFar
+pub mod FillLaws
+pub mod ReadLaws
+pub mod ReadStepsLaws
+pub mod ReadAnswerLaws
+pub mod NameLaws
 pub mod Examples
 pub mod GoodTestExamples
 pub mod CornerCases

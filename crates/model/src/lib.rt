@@ -1,10 +1,14 @@
 // Till models: their texts, and the store that holds one.
+mod actions;
+mod body;
 mod bytes;
 pub mod good;
 mod line;
 mod number;
 pub mod position;
 pub mod read;
+mod reader;
+mod steps;
 pub mod store;
 pub mod write;
 
