@@ -16,7 +16,7 @@ pub data Told : Type 0 where
 -- The number of each fault of a line:
 -- "2: wrong letter, field count, digit form, level or name; a line that is missing or has no line end; bytes after `E`",
 -- "3: a number outside its range", "4: a name used before", "5: a step not above the one before it".
-unfoldable pub faultNumber : Fault → ℕ
+abbrev pub faultNumber : Fault → ℕ
 faultNumber Absent = 2
 faultNumber Shape = 2
 faultNumber Digits = 2

@@ -1,4 +1,7 @@
 // Till models: their texts, and the store that holds one.
+ghost use mathlib.Core.Path.{_≡_};
+ghost use Rattle.model.specs.Faults.{faultNumber};
+
 mod actions;
 mod body;
 mod bytes;
@@ -44,4 +47,18 @@ pub enum Fault {
     Range,
     Repeated,
     Order,
+}
+
+// The document's number of a fault.
+pub fn fault_number(fault: Fault) -> u16
+    ensures { λ r. ⌜ r ≡ faultNumber fault ⌝ }
+{
+    match fault {
+        Fault::Absent => 2,
+        Fault::Shape => 2,
+        Fault::Digits => 2,
+        Fault::Range => 3,
+        Fault::Repeated => 4,
+        Fault::Order => 5,
+    }
 }

@@ -1,9 +1,11 @@
 // The operations for callers in C and Rust. Each has the promise of the operation that it calls, and adds nothing.
 ghost use mathlib.Core.Path.{_≡_};
 ghost use mathlib.Core.List.{[], _∷_};
-ghost use Rattle.model.specs.Faults.{answers, refuses};
-ghost use Rattle.model.specs.Promises.{WritePromise};
+ghost use Rattle.model.specs.Faults.{answers, refuses, faultNumber};
+ghost use Rattle.model.specs.Promises.{ReadPromise, WritePromise};
 ghost use Rattle.till_c.specs.Answer.{toldAnswer};
+use model::Fault;
+use model::read::ReadAnswer;
 use model::write::WriteAnswer;
 
 // Number 0 with `count` values, or a refusal's number with its place.
@@ -40,6 +42,40 @@ fn value(first: usize) -> TillAnswer
         count: 1,
         first: first as u64,
         second: 0,
+    }
+}
+
+// A success with no value.
+fn done() -> TillAnswer
+    ensures { λ r. ⌜ toldAnswer r ≡ answers [] ⌝ }
+{
+    TillAnswer {
+        number: 0,
+        place: 0,
+        count: 0,
+        first: 0,
+        second: 0,
+    }
+}
+
+// The refusal of a line.
+fn faulty(fault: Fault, line: usize) -> TillAnswer
+    ensures { λ r. ⌜ toldAnswer r ≡ refuses (faultNumber fault) line ⌝ }
+{
+    let number = model::fault_number(fault);
+    refusal(number as u64, line)
+}
+
+#[no_mangle]
+pub extern "C" fn till_read(text: &[u8], store: &mut [u16]) -> TillAnswer
+    ensures { λ r. ⌜ ReadPromise (now (text .entry)) (now (store .entry)) (toldAnswer r) (now (store .exit)) ⌝ }
+{
+    let answer = model::read::read(text, store);
+    match answer {
+        ReadAnswer::Done => done(),
+        ReadAnswer::ShortList(place) => refusal(21, place),
+        ReadAnswer::TooLong => refusal(1, 0),
+        ReadAnswer::Faulty { fault, line } => faulty(fault, line),
     }
 }
 
