@@ -1,0 +1,99 @@
+-- Each answer of Read is told by the same number, place and values.
+use mathlib.Core.List.{List}
+use mathlib.Core.Path.{_≡_, refl, sym, ap, subst, _∙_}
+use Prim.Native.Nat.{ℕ}
+use borrow.Author.Tests.{eqb-false}
+use Rattle.model.specs.Faults.{Told}
+use Rattle.model.specs.Promises.{toldRead, ReadPromise}
+use borrow.Author.Needs.{needs}
+use Rattle.till_c.proofs.till_read.Statement.{statement}
+use Rattle.till_c.proofs.till_read.Tie as tie
+
+-- what tells the same keeps the same promise
+promised : {text store exit : List ℕ} {t u : Told} → t ≡ u → ReadPromise text store t exit → ReadPromise text store u exit
+promised {text} {store} {exit} e p = subst (λ (x : Told). ReadPromise text store x exit) e p
+
+read-requires : tie.Need-read-requires
+read-requires c κs = search needs
+
+enum-told : tie.Need-enum-told
+enum-told c = search needs
+
+done-requires : tie.Need-done-requires
+done-requires c κs = search needs
+
+enum-known-answer : tie.Need-enum-known-answer
+enum-known-answer c = search needs
+
+refusal-requires : tie.Need-refusal-requires
+refusal-requires c κs = λ e. eqb-false 21 0 refl e
+
+enum-told-2 : tie.Need-enum-told-2
+enum-told-2 c = search needs
+
+refusal-requires-2 : tie.Need-refusal-requires-2
+refusal-requires-2 c κs = λ e. eqb-false 1 0 refl e
+
+enum-known-answer-2 : tie.Need-enum-known-answer-2
+enum-known-answer-2 c = search needs
+
+faulty-requires : tie.Need-faulty-requires
+faulty-requires c κs = search needs
+
+same-length : tie.Need-same-length
+same-length c = search needs
+
+returns : tie.Need-returns
+unfolding toldRead
+returns c =
+    let r = c .before .before .before .before .before .read in
+    promised (ap toldRead (c .before .enum-told .given .1) ∙ sym (c .done .ensures)) (r .ensures)
+
+same-length-2 : tie.Need-same-length-2
+same-length-2 c = search needs
+
+returns-2 : tie.Need-returns-2
+unfolding toldRead
+returns-2 c =
+    let r = c .before .before .before .before .before .before .read in
+    promised (ap toldRead (c .before .before .answer .given .1) ∙ sym (c .refusal .ensures)) (r .ensures)
+
+same-length-3 : tie.Need-same-length-3
+same-length-3 c = search needs
+
+returns-3 : tie.Need-returns-3
+unfolding toldRead
+returns-3 c =
+    let r = c .before .before .before .before .before .read in
+    promised (ap toldRead (c .before .enum-told2 .given .1) ∙ sym (c .refusal2 .ensures)) (r .ensures)
+
+same-length-4 : tie.Need-same-length-4
+same-length-4 c = search needs
+
+returns-4 : tie.Need-returns-4
+unfolding toldRead
+returns-4 c =
+    let r = c .before .before .before .before .before .before .read in
+    promised (ap toldRead (c .before .before .answer2 .given .1) ∙ sym (c .faulty .ensures)) (r .ensures)
+
+pub till-read-spec : {M : Type 1} → statement M
+till-read-spec =
+    tie.close
+    (tie.spec
+    read-requires
+    enum-told
+    done-requires
+    enum-known-answer
+    refusal-requires
+    enum-told-2
+    refusal-requires-2
+    enum-known-answer-2
+    faulty-requires
+    same-length
+    returns
+    same-length-2
+    returns-2
+    same-length-3
+    returns-3
+    same-length-4
+    returns-4)
