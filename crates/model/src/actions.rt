@@ -1,4 +1,13 @@
 // The lines of the actions, and how an action stands in a store.
+use crate::Fault;
+use crate::Head;
+use crate::body::LinesRead;
+use crate::bytes::LINE_END;
+use crate::line::ActionRead;
+use crate::line::action_line;
+use crate::line::find;
+use crate::store::ACTION_SIZE;
+use crate::store::ACTIONS_AT;
 ghost use mathlib.Core.List.{List, [], _∷_};
 ghost use mathlib.Core.Path.{_≡_};
 ghost use Prim.Native.Nat.{ℕ, _+_, _*_, _≤_, _<_};
@@ -9,12 +18,6 @@ ghost use Rattle.model.specs.Model.{ActionLine};
 ghost use Rattle.model.specs.Split.{same?};
 ghost use Rattle.model.specs.Lines.{used?};
 ghost use Rattle.model.specs.ReadSoFar.{ActionStored, ActionsStored, AfterActions, AfterSteps, Further};
-use crate::Fault;
-use crate::Head;
-use crate::body::LinesRead;
-use crate::line::ActionRead;
-use crate::line::action_line;
-use crate::line::find;
 
 // Whether the action that stands at a place of the store has a name.
 fn named(store: &[u16], at: usize, name: &[u8]) -> bool
@@ -41,7 +44,7 @@ fn used(store: &[u16], count: usize, name: &[u8]) -> bool
 {
     let mut i = 0;
     while i < count {
-        if named(store, 4 + 14 * i, name) {
+        if named(store, ACTIONS_AT + ACTION_SIZE * i, name) {
             return true;
         }
         i += 1;
@@ -77,7 +80,7 @@ fn action(text: &[u8], at: usize, head: Head, i: usize, out: &mut [u16]) -> Line
     ensures { λ r. ⌜ Further (λ next. AfterActions head (now (text .entry)) next (i + 1) (now (out .exit))) (now (text .entry)) r ⌝ }
 {
     let line = 2 + i;
-    let e = find(text, at, 5);
+    let e = find(text, at, LINE_END);
     if e == text.len() {
         return LinesRead::Faulty {
             fault: Fault::Absent,
@@ -95,7 +98,7 @@ fn action(text: &[u8], at: usize, head: Head, i: usize, out: &mut [u16]) -> Line
                     line,
                 };
             }
-            put_action(out, 4 + 14 * i, level, &text[from..e]);
+            put_action(out, ACTIONS_AT + ACTION_SIZE * i, level, &text[from..e]);
             LinesRead::Next(e + 1)
         }
     }

@@ -1,5 +1,15 @@
 // The text behind its first line: actions, steps and the end, read into a store of zeros that is copied out where all is
 // well.
+use crate::Fault;
+use crate::Head;
+use crate::actions::actions;
+use crate::bytes::LINE_END;
+use crate::line::HeadRead;
+use crate::line::find;
+use crate::line::head_line;
+use crate::read::ReadAnswer;
+use crate::steps::steps;
+use crate::store::STORE_LENGTH;
 ghost use mathlib.Core.Path.{_≡_};
 ghost use mathlib.Core.List.{_++_};
 ghost use Prim.Native.Nat.{_≤_};
@@ -11,14 +21,6 @@ ghost use Rattle.model.specs.Limits.{storeLength};
 ghost use Rattle.model.specs.Store.{headPlaces};
 ghost use Rattle.model.specs.LineAnswers.{headRead};
 ghost use Rattle.model.specs.ReadSoFar.{AfterHead, AfterActions, AfterSteps, AfterEnd, Further, ReadOut, AfterLine, firstLine, AfterFirst};
-use crate::Fault;
-use crate::Head;
-use crate::actions::actions;
-use crate::line::HeadRead;
-use crate::line::find;
-use crate::line::head_line;
-use crate::read::ReadAnswer;
-use crate::steps::steps;
 
 // What reading some of the lines comes to: the place after them, or the first bad line.
 pub enum LinesRead {
@@ -33,7 +35,7 @@ pub fn first_line(text: &[u8], at: usize) -> HeadRead
     if text.len() < at {
         return HeadRead::Bad(Fault::Absent);
     }
-    let e = find(text, at, 5);
+    let e = find(text, at, LINE_END);
     if e == text.len() {
         return HeadRead::Bad(Fault::Absent);
     }
@@ -47,7 +49,7 @@ pub fn after_line(text: &[u8], at: usize) -> usize
     if text.len() < at {
         return text.len();
     }
-    let e = find(text, at, 5);
+    let e = find(text, at, LINE_END);
     if e == text.len() {
         return e;
     }
@@ -60,7 +62,7 @@ fn end(text: &[u8], at: usize, head: Head, out: &[u16]) -> LinesRead
     ensures { λ r. ⌜ Further (λ _. AfterEnd (now (text .entry)) (now (out .entry))) (now (text .entry)) r ⌝ }
 {
     let line = 2 + head.actions as usize + head.steps as usize;
-    let e = find(text, at, 5);
+    let e = find(text, at, LINE_END);
     if e == text.len() {
         return LinesRead::Faulty {
             fault: Fault::Absent,
@@ -73,7 +75,7 @@ fn end(text: &[u8], at: usize, head: Head, out: &[u16]) -> LinesRead
             line,
         };
     }
-    if text[at] != 69 {
+    if text[at] != b'E' {
         return LinesRead::Faulty {
             fault: Fault::Shape,
             line,
@@ -134,7 +136,7 @@ fn model(text: &[u8], at: usize, head: Head, store: &mut [u16]) -> ReadAnswer
     requires { ⌜ AfterHead head (now text) at × (storeLength ≤ length (now store)) ⌝ }
     ensures { λ r. ⌜ ReadOut (now (text .entry)) (now (store .entry)) r (now (store .exit)) ⌝ }
 {
-    let mut local = [0u16; 3972];
+    let mut local = [0u16; STORE_LENGTH];
     put_head(&mut local, head);
     let read = lines(text, at, head, &mut local);
     match read {

@@ -2,7 +2,17 @@
 ghost use mathlib.Core.Path.{_≡_};
 ghost use Rattle.model.specs.Bytes.{kindOf};
 
-// 0 other, 1 digit, 2 small letter, 3 capital, 4 comma, 5 line end
+// The kinds; a byte of kind 0 is any other.
+pub const DIGIT: u8 = 1;
+
+pub const SMALL_LETTER: u8 = 2;
+
+pub const CAPITAL: u8 = 3;
+
+pub const COMMA: u8 = 4;
+
+pub const LINE_END: u8 = 5;
+
 const KINDS: [u8; 256] = [
     0,
     0,

@@ -3,6 +3,8 @@ use crate::Action;
 use crate::Head;
 use crate::Step;
 use crate::StepLine;
+use crate::bytes::DIGIT;
+use crate::bytes::SMALL_LETTER;
 use crate::bytes::kind;
 use crate::line::is_above;
 use crate::store::ACTION_LIMIT;
@@ -66,10 +68,10 @@ fn is_name_byte(x: u16) -> bool
         return false;
     }
     let k = kind(x as u8);
-    if k == 1 {
+    if k == DIGIT {
         return true;
     }
-    if k == 2 {
+    if k == SMALL_LETTER {
         return true;
     }
     false

@@ -1,7 +1,4 @@
 // Till models: their texts, and the store that holds one.
-ghost use mathlib.Core.Path.{_≡_};
-ghost use Rattle.model.specs.Faults.{faultNumber};
-
 mod actions;
 mod body;
 mod bytes;
@@ -14,6 +11,9 @@ mod reader;
 mod steps;
 pub mod store;
 pub mod write;
+
+ghost use mathlib.Core.Path.{_≡_};
+ghost use Rattle.model.specs.Faults.{faultNumber};
 
 // A state number never stands where an action number or a step number is meant.
 pub struct State(pub u16);

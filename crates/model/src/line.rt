@@ -4,6 +4,10 @@ use crate::Fault;
 use crate::Head;
 use crate::State;
 use crate::StepLine;
+use crate::bytes::CAPITAL;
+use crate::bytes::COMMA;
+use crate::bytes::DIGIT;
+use crate::bytes::SMALL_LETTER;
 use crate::bytes::kind;
 use crate::number::Number;
 use crate::number::parse_number;
@@ -79,14 +83,14 @@ fn fields(line: &[u8], letter: u8, n: usize) -> bool
     requires { ⌜ (kindOf letter ≡ capital) × (0 < n) ⌝ }
     ensures { λ r. ⌜ Fields letter n (now (line .entry)) r ⌝ }
 {
-    if count(line, 4) != n {
+    if count(line, COMMA) != n {
         return false;
     }
-    if find(line, 0, 4) != 1 {
+    if find(line, 0, COMMA) != 1 {
         return false;
     }
     let b = line[0];
-    if kind(b) != 3 {
+    if kind(b) != CAPITAL {
         return false;
     }
     if b != letter {
@@ -103,7 +107,7 @@ fn numbers(line: &[u8], from: usize, out: &mut [u32]) -> RowRead
     let mut at = from;
     let mut i = 0;
     while i < out.len() {
-        let e = find(line, at, 4);
+        let e = find(line, at, COMMA);
         let Number::Value(v) = parse_number(&line[at..e]) else {
             return RowRead::Bad(Fault::Digits);
         };
@@ -158,7 +162,7 @@ pub fn head_line(line: &[u8]) -> HeadRead
     ensures { λ r. ⌜ headOf (now (line .entry)) ≡ headRead r ⌝ }
 {
     let mut ns = [0u32; 4];
-    if let RowRead::Bad(fault) = row(line, 77, &mut ns) {
+    if let RowRead::Bad(fault) = row(line, b'M', &mut ns) {
         return HeadRead::Bad(fault);
     }
     let states = ns[0];
@@ -180,16 +184,16 @@ pub fn head_line(line: &[u8]) -> HeadRead
 fn level_of(b: u8) -> u16
     ensures { λ r. ⌜ r ≡ levelNumber b ⌝ }
 {
-    if kind(b) != 3 {
+    if kind(b) != CAPITAL {
         return 3;
     }
-    if b == 76 {
+    if b == b'L' {
         return 0;
     }
-    if b == 68 {
+    if b == b'D' {
         return 1;
     }
-    if b == 72 {
+    if b == b'H' {
         return 2;
     }
     3
@@ -208,8 +212,8 @@ fn is_name(f: &[u8]) -> bool
     let mut i = 0;
     while i < f.len() {
         let k = kind(f[i]);
-        if k != 1 {
-            if k != 2 {
+        if k != DIGIT {
+            if k != SMALL_LETTER {
                 return false;
             }
         }
@@ -222,10 +226,10 @@ fn is_name(f: &[u8]) -> bool
 pub fn action_line(line: &[u8]) -> ActionRead
     ensures { λ r. ⌜ actionFields (fieldsOf 65 2 (now (line .entry))) ≡ actionRead (now (line .entry)) r ⌝ }
 {
-    if !fields(line, 65, 2) {
+    if !fields(line, b'A', 2) {
         return ActionRead::Bad(Fault::Shape);
     }
-    if find(line, 2, 4) != 3 {
+    if find(line, 2, COMMA) != 3 {
         return ActionRead::Bad(Fault::Shape);
     }
     let level = level_of(line[2]);
@@ -277,7 +281,7 @@ pub fn step_line(line: &[u8], head: Head, j: usize, last: StepLine) -> StepRead
     ensures { λ r. ⌜ ((before : List StepLine) → Last before j last → stepOf head before (now (line .entry)) ≡ stepRead r) ⌝ }
 {
     let mut ns = [0u32; 3];
-    if let RowRead::Bad(fault) = row(line, 83, &mut ns) {
+    if let RowRead::Bad(fault) = row(line, b'S', &mut ns) {
         return StepRead::Bad(fault);
     }
     let source = ns[0];

@@ -1,4 +1,5 @@
 // Number fields.
+use crate::bytes::DIGIT;
 use crate::bytes::kind;
 ghost use mathlib.Core.Path.{_≡_};
 ghost use Prim.Native.Nat.{_≤_};
@@ -20,7 +21,7 @@ fn digits_value(f: &[u8]) -> Number
     let mut i = 0;
     while i < f.len() {
         let b = f[i];
-        if kind(b) != 1 {
+        if kind(b) != DIGIT {
             return Number::Bad;
         }
         v = v * 10 + (b as u32 - 48);
@@ -43,7 +44,7 @@ pub fn parse_number(f: &[u8]) -> Number
     if n == 1 {
         return digits_value(f);
     }
-    if f[0] == 48 {
+    if f[0] == b'0' {
         return Number::Bad;
     }
     digits_value(f)

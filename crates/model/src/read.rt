@@ -1,7 +1,11 @@
 // The operation Read.
-ghost use Rattle.model.specs.Promises.{toldRead, ReadPromise};
 use crate::Fault;
 use crate::reader::read_lines;
+use crate::store::STORE_LENGTH;
+ghost use Rattle.model.specs.Promises.{toldRead, ReadPromise};
+
+// A text has at most so many bytes.
+pub const TEXT_LIMIT: usize = 16384;
 
 // What Read answers.
 pub enum ReadAnswer {
@@ -15,10 +19,10 @@ pub enum ReadAnswer {
 pub fn read(text: &[u8], store: &mut [u16]) -> ReadAnswer
     ensures { λ r. ⌜ ReadPromise (now (text .entry)) (now (store .entry)) (toldRead r) (now (store .exit)) ⌝ }
 {
-    if store.len() < 3972 {
+    if store.len() < STORE_LENGTH {
         return ReadAnswer::ShortList(2);
     }
-    if 16384 < text.len() {
+    if TEXT_LIMIT < text.len() {
         return ReadAnswer::TooLong;
     }
     read_lines(text, store)

@@ -1,5 +1,10 @@
 // The reader: a text, and how far it has been read. Each function takes it apart, and leaves the work to a function on a
 // slice and a number.
+use crate::body::after_line;
+use crate::body::body;
+use crate::body::first_line;
+use crate::line::HeadRead;
+use crate::read::ReadAnswer;
 ghost use mathlib.Core.Path.{_≡_};
 ghost use Prim.Native.Nat.{_≤_};
 ghost use lib.ListN.{length, drop};
@@ -8,11 +13,6 @@ ghost use Rattle.model.specs.Bytes.{lineEnd};
 ghost use Rattle.model.specs.Split.{split};
 ghost use Rattle.model.specs.LineAnswers.{headRead};
 ghost use Rattle.model.specs.ReadSoFar.{ReadOut, AfterLine, AfterFirst, firstLine};
-use crate::body::after_line;
-use crate::body::body;
-use crate::body::first_line;
-use crate::line::HeadRead;
-use crate::read::ReadAnswer;
 
 pub struct Reader<'a> {
     pub text: &'a [u8],

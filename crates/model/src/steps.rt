@@ -1,4 +1,16 @@
 // The lines of the steps.
+use crate::Action;
+use crate::Fault;
+use crate::Head;
+use crate::State;
+use crate::StepLine;
+use crate::body::LinesRead;
+use crate::bytes::LINE_END;
+use crate::line::StepRead;
+use crate::line::find;
+use crate::line::step_line;
+use crate::store::STEP_SIZE;
+use crate::store::STEPS_AT;
 ghost use mathlib.Core.List.{List, [], _∷_};
 ghost use mathlib.Core.Path.{_≡_};
 ghost use Prim.Native.Nat.{ℕ, _+_, _*_, _≤_, _<_};
@@ -6,15 +18,6 @@ ghost use lib.ListN.{length};
 ghost use lib.Seq.{sets};
 ghost use Rattle.model.specs.Limits.{stepPlace};
 ghost use Rattle.model.specs.ReadSoFar.{AfterActions, AfterSteps, Further, AfterStep};
-use crate::Action;
-use crate::Fault;
-use crate::Head;
-use crate::State;
-use crate::StepLine;
-use crate::body::LinesRead;
-use crate::line::StepRead;
-use crate::line::find;
-use crate::line::step_line;
 
 // Stores a step.
 fn put_step(out: &mut [u16], at: usize, s: StepLine)
@@ -41,7 +44,7 @@ pub fn steps(text: &[u8], at: usize, head: Head, out: &mut [u16]) -> LinesRead
     let mut from = at;
     let mut j = 0;
     while j < count {
-        let e = find(text, from, 5);
+        let e = find(text, from, LINE_END);
         if e == text.len() {
             return LinesRead::Faulty {
                 fault: Fault::Absent,
@@ -57,7 +60,7 @@ pub fn steps(text: &[u8], at: usize, head: Head, out: &mut [u16]) -> LinesRead
                 };
             }
             StepRead::Good(s) => {
-                put_step(out, 900 + 3 * j, s);
+                put_step(out, STEPS_AT + STEP_SIZE * j, s);
                 last = s;
             }
         }

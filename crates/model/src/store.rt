@@ -21,14 +21,14 @@ pub const STEP_LIMIT: u16 = 1024;
 pub const NAME_LIMIT: u16 = 12;
 
 // Action i stands from 4 + 14 i on: its level, the length of its name, and the twelve places of its name.
-const ACTIONS_AT: usize = 4;
+pub const ACTIONS_AT: usize = 4;
 
-const ACTION_SIZE: usize = 14;
+pub const ACTION_SIZE: usize = 14;
 
 // Step j stands from 900 + 3 j on: its source, its action, its target.
-const STEPS_AT: usize = 900;
+pub const STEPS_AT: usize = 900;
 
-const STEP_SIZE: usize = 3;
+pub const STEP_SIZE: usize = 3;
 
 pub fn states(store: &[u16]) -> u16
     requires { ⌜ storeLength ≤ length (now store) ⌝ }

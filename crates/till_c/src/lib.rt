@@ -1,12 +1,12 @@
 // The operations for callers in C and Rust. Each has the promise of the operation that it calls, and adds nothing.
+use model::Fault;
+use model::read::ReadAnswer;
+use model::write::WriteAnswer;
 ghost use mathlib.Core.Path.{_≡_};
 ghost use mathlib.Core.List.{[], _∷_};
 ghost use Rattle.model.specs.Faults.{answers, refuses, faultNumber};
 ghost use Rattle.model.specs.Promises.{ReadPromise, WritePromise};
 ghost use Rattle.till_c.specs.Answer.{toldAnswer};
-use model::Fault;
-use model::read::ReadAnswer;
-use model::write::WriteAnswer;
 
 // Number 0 with `count` values, or a refusal's number with its place.
 #[repr(C)]
