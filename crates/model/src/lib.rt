@@ -2,6 +2,7 @@
 mod line;
 mod number;
 pub mod read;
+pub mod store;
 pub mod write;
 
 // A state number never stands where an action number or a step number is meant.

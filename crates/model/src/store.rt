@@ -1,0 +1,143 @@
+// The layout of the model store and its limits, each named once, and what stands at its places.
+use crate::Action;
+use crate::Head;
+use crate::State;
+use crate::Step;
+use crate::StepLine;
+ghost use mathlib.Core.Path.{_≡_};
+ghost use Prim.Native.Nat.{_+_, _≤_, _<_};
+ghost use lib.ListN.{length, getD};
+ghost use Rattle.model.specs.Limits.{actionLimit, stepLimit, storeLength, actionPlace, namePlace, stepPlace};
+ghost use Rattle.model.specs.StoredModel.{headAt, actionAt, stepAt};
+
+pub const STORE_LENGTH: usize = 3972;
+
+pub const STATE_LIMIT: u16 = 128;
+
+pub const ACTION_LIMIT: u16 = 64;
+
+pub const STEP_LIMIT: u16 = 1024;
+
+pub const NAME_LIMIT: u16 = 12;
+
+// Action i stands from 4 + 14 i on: its level, the length of its name, and the twelve places of its name.
+const ACTIONS_AT: usize = 4;
+
+const ACTION_SIZE: usize = 14;
+
+// Step j stands from 900 + 3 j on: its source, its action, its target.
+const STEPS_AT: usize = 900;
+
+const STEP_SIZE: usize = 3;
+
+pub fn states(store: &[u16]) -> u16
+    requires { ⌜ storeLength ≤ length (now store) ⌝ }
+    ensures { λ r. ⌜ r ≡ headAt (now (store .entry)) .states ⌝ }
+{
+    store[0]
+}
+
+pub fn actions(store: &[u16]) -> u16
+    requires { ⌜ storeLength ≤ length (now store) ⌝ }
+    ensures { λ r. ⌜ r ≡ headAt (now (store .entry)) .actions ⌝ }
+{
+    store[1]
+}
+
+pub fn steps(store: &[u16]) -> u16
+    requires { ⌜ storeLength ≤ length (now store) ⌝ }
+    ensures { λ r. ⌜ r ≡ headAt (now (store .entry)) .steps ⌝ }
+{
+    store[2]
+}
+
+pub fn start(store: &[u16]) -> State
+    requires { ⌜ storeLength ≤ length (now store) ⌝ }
+    ensures { λ r. ⌜ r ≡ headAt (now (store .entry)) .start ⌝ }
+{
+    State(store[3])
+}
+
+pub fn head(store: &[u16]) -> Head
+    requires { ⌜ storeLength ≤ length (now store) ⌝ }
+    ensures { λ r. ⌜ r ≡ headAt (now (store .entry)) ⌝ }
+{
+    Head {
+        states: store[0],
+        actions: store[1],
+        steps: store[2],
+        start: State(store[3]),
+    }
+}
+
+// Where an action begins: its level, then the length of its name.
+pub fn action_place(a: Action) -> usize
+    requires { ⌜ a .0 < actionLimit ⌝ }
+    ensures { λ r. ⌜ r ≡ actionPlace (a .0) ⌝ }
+{
+    ACTIONS_AT + ACTION_SIZE * a.0 as usize
+}
+
+// Where the bytes of an action's name begin.
+pub fn name_place(a: Action) -> usize
+    requires { ⌜ a .0 < actionLimit ⌝ }
+    ensures { λ r. ⌜ r ≡ namePlace (a .0) ⌝ }
+{
+    ACTIONS_AT + ACTION_SIZE * a.0 as usize + 2
+}
+
+pub fn level(store: &[u16], a: Action) -> u16
+    requires { ⌜ (storeLength ≤ length (now store)) × (a .0 < actionLimit) ⌝ }
+    ensures { λ r. ⌜ r ≡ actionAt (now (store .entry)) (a .0) .level ⌝ }
+{
+    store[ACTIONS_AT + ACTION_SIZE * a.0 as usize]
+}
+
+pub fn name_length(store: &[u16], a: Action) -> u16
+    requires { ⌜ (storeLength ≤ length (now store)) × (a .0 < actionLimit) ⌝ }
+    ensures { λ r. ⌜ r ≡ getD (now (store .entry)) (actionPlace (a .0) + 1) 0 ⌝ }
+{
+    store[ACTIONS_AT + ACTION_SIZE * a.0 as usize + 1]
+}
+
+// Where a step begins: its source, then its action, then its target.
+pub fn step_place(j: Step) -> usize
+    requires { ⌜ j .0 < stepLimit ⌝ }
+    ensures { λ r. ⌜ r ≡ stepPlace (j .0) ⌝ }
+{
+    STEPS_AT + STEP_SIZE * j.0 as usize
+}
+
+pub fn source(store: &[u16], j: Step) -> State
+    requires { ⌜ (storeLength ≤ length (now store)) × (j .0 < stepLimit) ⌝ }
+    ensures { λ r. ⌜ r ≡ stepAt (now (store .entry)) (j .0) .source ⌝ }
+{
+    State(store[STEPS_AT + STEP_SIZE * j.0 as usize])
+}
+
+pub fn action(store: &[u16], j: Step) -> Action
+    requires { ⌜ (storeLength ≤ length (now store)) × (j .0 < stepLimit) ⌝ }
+    ensures { λ r. ⌜ r ≡ stepAt (now (store .entry)) (j .0) .action ⌝ }
+{
+    Action(store[STEPS_AT + STEP_SIZE * j.0 as usize + 1])
+}
+
+pub fn target(store: &[u16], j: Step) -> State
+    requires { ⌜ (storeLength ≤ length (now store)) × (j .0 < stepLimit) ⌝ }
+    ensures { λ r. ⌜ r ≡ stepAt (now (store .entry)) (j .0) .target ⌝ }
+{
+    State(store[STEPS_AT + STEP_SIZE * j.0 as usize + 2])
+}
+
+// The whole of a step.
+pub fn step_line(store: &[u16], j: Step) -> StepLine
+    requires { ⌜ (storeLength ≤ length (now store)) × (j .0 < stepLimit) ⌝ }
+    ensures { λ r. ⌜ r ≡ stepAt (now (store .entry)) (j .0) ⌝ }
+{
+    let at = STEPS_AT + STEP_SIZE * j.0 as usize;
+    StepLine {
+        source: State(store[at]),
+        action: Action(store[at + 1]),
+        target: State(store[at + 2]),
+    }
+}
