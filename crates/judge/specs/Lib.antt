@@ -1,6 +1,9 @@
 pub mod Lists
+pub mod Stored
 pub mod Table
 pub mod MoveList
+pub mod Index
+pub mod Roles
 pub mod Distances
 pub mod Verdicts
 pub mod Runs
