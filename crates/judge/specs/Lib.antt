@@ -2,6 +2,7 @@ pub mod Lists
 pub mod Stored
 pub mod Table
 pub mod MoveList
+pub mod Listing
 pub mod Index
 pub mod Roles
 pub mod Distances
