@@ -49,9 +49,9 @@ readingStore (faulty fault line) store = store
 abbrev pub readLists : List ℕ → List ℕ → Option ℕ
 readLists text store = firstShort 1 (length text ∷ length store ∷ []) (0 ∷ storeLength ∷ [])
 
-pub record ReadPromise (text store : List ℕ) (r : ReadAnswer) (exit : List ℕ) : Type 0 where
-  pub short : (k : ℕ) → readLists text store ≡ some k → (toldRead r ≡ refuses 21 k) × (exit ≡ store)
-  pub told : readLists text store ≡ none → toldRead r ≡ toldReading (readText text)
+pub record ReadPromise (text store : List ℕ) (told : Told) (exit : List ℕ) : Type 0 where
+  pub short : (k : ℕ) → readLists text store ≡ some k → (told ≡ refuses 21 k) × (exit ≡ store)
+  pub answer : readLists text store ≡ none → told ≡ toldReading (readText text)
   pub filled : readLists text store ≡ none → exit ≡ readingStore (readText text) store
 
 -- ---- Write: store, out
@@ -66,7 +66,7 @@ abbrev pub writeLists : List ℕ → List ℕ → Option ℕ
 writeLists store out = firstShort 1 (length store ∷ length out ∷ []) (storeLength ∷ outLength ∷ [])
 
 -- "The text that reads to the store": whichever text reads to it
-abbrev pub WritePromise : List ℕ → List ℕ → WriteAnswer → List ℕ → Type 0
-WritePromise store out r exit =
-    OnStore (writeLists store out) store (toldWrite r) (exit ≡ out)
-    (λ g. (toldWrite r ≡ answers (length (g .text) ∷ [])) × (exit ≡ g .text ++ drop (length (g .text)) out))
+abbrev pub WritePromise : List ℕ → List ℕ → Told → List ℕ → Type 0
+WritePromise store out told exit =
+    OnStore (writeLists store out) store told (exit ≡ out)
+    (λ g. (told ≡ answers (length (g .text) ∷ [])) × (exit ≡ g .text ++ drop (length (g .text)) out))
