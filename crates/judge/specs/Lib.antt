@@ -1,9 +1,11 @@
 pub mod Lists
 pub mod Stored
+pub mod StoredLaws
 pub mod Table
 pub mod MoveList
 pub mod Listing
 pub mod Index
+pub mod IndexLaws
 pub mod Roles
 pub mod Distances
 pub mod Verdicts
