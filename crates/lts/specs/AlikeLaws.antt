@@ -1,27 +1,15 @@
 -- k-alike falls with k and is an equivalence, every bisimulation lies inside it, bisimilar is an equivalence too, and a
 -- pair has one rank. Document 01, "Alike" and "Rank"; definition 14 of source 000. Assumes nothing.
 use mathlib.Core.Path.{_≡_, refl, subst}
-use mathlib.Core.Logic.{_⊎_, inl, inr}
-use mathlib.Core.Bool.{Bool, not, _&&_}
+use mathlib.Core.Bool.{Bool, _&&_}
 use Prim.Native.Nat.{ℕ, zero, suc, _≤_, _<_}
 use native.Mathlib.Omega.{arith}
 use native.Mathlib.Decide.{le-ind}
 use lib.Dec.{T, eqb, eqb→eq, eqb-refl}
 use Rattle.lts.specs.Tests.{any}
-use Rattle.lts.specs.TestsLaws.{and-intro, and-left, and-right, any→Some, Some→any, lt-or-le}
-use Rattle.lts.specs.Alike.{
-  Moves,
-  Relation,
-  Answers,
-  Alike,
-  Bisimulation,
-  Bisimilar,
-  BisimilarBy,
-  Separated,
-  Rank,
-  bisimilar,
-  separated,
-}
+use Rattle.lts.specs.TestsLaws.{and-intro, and-left, and-right, any→Some, Some→any, eq-of-not-lt}
+use Rattle.lts.specs.Alike.{Moves, Relation, Answers, Alike, Bisimulation, Bisimilar, BisimilarBy, Separated}
+use Rattle.lts.specs.Alike.{Rank, bisimilar, separated}
 
 module _ (Move : Moves) where
   -- What answers inside R answers inside a relation that holds R.
@@ -118,12 +106,14 @@ module _ (Move : Moves) where
   -- ---- ranks
 
   pub separated-unique : (p q j k : ℕ) → Separated Move p q j → Separated Move p q k → j ≡ k
-  separated-unique p q j k x y = go (lt-or-le j k) (lt-or-le k j)
-    where
-      go : (j < k) ⊎ (k ≤ j) → (k < j) ⊎ (j ≤ k) → j ≡ k
-      go (inl l) d = absurd (x .not-alike (y .alike-before j l))
-      go (inr l) (inl m) = absurd (y .not-alike (x .alike-before k m))
-      go (inr l) (inr m) = omega arith
+  separated-unique p q j k x y =
+      eq-of-not-lt j k (λ l. x .not-alike (y .alike-before j l)) (λ l. y .not-alike (x .alike-before k l))
+
+  pub separated-sym : (p q k : ℕ) → Separated Move p q k → Separated Move q p k
+  separated-sym p q k x = record {
+    not-alike = λ h. x .not-alike (alike-sym k q p h);
+    alike-before = λ j l. alike-sym j p q (x .alike-before j l);
+  }
 
   -- Round 0 separates nothing.
   pub separated-pos : (p q k : ℕ) → Separated Move p q k → 0 < k
@@ -139,6 +129,13 @@ module _ (Move : Moves) where
   rank-unique p q r s (bisimilar b) (separated n x) = absurd (n b)
   rank-unique p q r s (separated n x) (bisimilar b) = absurd (n b)
   rank-unique p q r s (separated n x) (separated m y) = separated-unique p q r s x y
+
+  pub rank-refl : (p : ℕ) → Rank Move p p 0
+  rank-refl p = bisimilar (bisimilar-refl p)
+
+  pub rank-sym : (p q r : ℕ) → Rank Move p q r → Rank Move q p r
+  rank-sym p q r (bisimilar b) = bisimilar (bisimilar-sym p q b)
+  rank-sym p q r (separated d x) = separated (λ b. d (bisimilar-sym q p b)) (separated-sym p q r x)
 
   pub separated-of-rank : (p q r : ℕ) → 0 < r → Rank Move p q r → Separated Move p q r
   separated-of-rank p q r l (bisimilar b) = absurd (omega arith)

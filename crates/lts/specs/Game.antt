@@ -35,8 +35,7 @@ pub record Separates (Move : Moves) (n k : ℕ) : Type 0 where
   pub alike : Alike Move k one other
   pub not-alike : ¬ (Alike Move (suc k) one other)
 
--- The number of the first round that separates two states, given what the rounds before it found and whether it still
--- passes them.
+-- What the rounds up to k find, 0 if nothing: r is what those before k found, b whether the two states are k-alike.
 abbrev pub nextRank : ℕ → ℕ → Bool → ℕ
 nextRank k zero true = zero
 nextRank k zero false = k

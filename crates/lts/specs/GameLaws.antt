@@ -5,9 +5,9 @@ use mathlib.Core.Bool.{Bool, not, _&&_}
 use Prim.Native.Nat.{ℕ, zero, suc, _≤_, _<_}
 use native.Mathlib.Omega.{arith}
 use lib.Dec.{T, T-not, not-T, ltb, ltb→lt, lt→ltb}
-use Rattle.lts.specs.TestsLaws.{T-cases, and-intro, and-left, and-right, lt-or-le}
+use Rattle.lts.specs.TestsLaws.{T-cases, and-intro, and-left, and-right, le-of-not-lt}
 use Rattle.lts.specs.Alike.{Moves, Answers, Alike, Bisimulation, Bisimilar, Separated, Rank, bisimilar, separated}
-use Rattle.lts.specs.AlikeLaws.{answers-map, alike-le, bisimilar→Alike, answers-below}
+use Rattle.lts.specs.AlikeLaws.{answers-map, alike-le, answers-below}
 use Rattle.lts.specs.Game.{Opening, by-first, by-second, Game, alike?, Settled, Separates}
 
 -- An opening is not answered.
@@ -62,37 +62,39 @@ module _ (Move : Moves) (n : ℕ) (round : (ℕ → ℕ → Bool) → ℕ → �
 
   -- ---- a round that separates no further pair
 
-  -- k-alike, between states.
-  abbrev alikeStates? : ℕ → ℕ → ℕ → Bool
-  alikeStates? k x y = ltb x n && (ltb y n && alike? round k x y)
-
-  alikeStates : (k x y : ℕ) → x < n → y < n → Alike Move k x y → T (alikeStates? k x y)
-  alikeStates k x y lx ly h =
-      and-intro (ltb x n) (ltb y n && alike? round k x y) (lt→ltb x n lx)
-      (and-intro (ltb y n) (alike? round k x y) (lt→ltb y n ly) (Alike→alike? k x y h))
-
   -- Where the next round separates no pair of states, k-alike between states is a bisimulation.
-  pub settled-bisimulation : (k : ℕ) → Settled Move n k → Bisimulation Move (λ x y. T (alikeStates? k x y))
+  pub settled-bisimulation : (k : ℕ) → Settled Move n k
+      → Bisimulation Move (λ x y. (x < n) × (y < n) × Alike Move k x y)
   unfolding Alike
-  settled-bisimulation k s p q t =
-      let lp : p < n = ltb→lt p n (and-left (ltb p n) (ltb q n && alike? round k p q) t) in
-      let u : T (ltb q n && alike? round k p q) = and-right (ltb p n) (ltb q n && alike? round k p q) t in
-      let lq : q < n = ltb→lt q n (and-left (ltb q n) (alike? round k p q) u) in
-      let h : Alike Move k p q = alike?→Alike k p q (and-right (ltb q n) (alike? round k p q) u) in
-      answers-below Move n (G .target-lt) (λ x y lx ly r. alikeStates k x y lx ly r) (s p q lp lq h)
+  settled-bisimulation k s p q (lp, lq, h) =
+      answers-below Move n (G .target-lt) (λ x y lx ly r. (lx, ly, r)) (s p q lp lq h)
+
+  -- The same relation as a test.
+  abbrev both? : ℕ → ℕ → ℕ → Bool
+  both? k x y = ltb x n && (ltb y n && alike? round k x y)
+
+  both?→Alike : (k x y : ℕ) → T (both? k x y) → (x < n) × (y < n) × Alike Move k x y
+  both?→Alike k x y t =
+      let u = and-right (ltb x n) (ltb y n && alike? round k x y) t in (
+        ltb→lt x n (and-left (ltb x n) (ltb y n && alike? round k x y) t),
+        ltb→lt y n (and-left (ltb y n) (alike? round k x y) u),
+        alike?→Alike k x y (and-right (ltb y n) (alike? round k x y) u),
+      )
+
+  Alike→both? : (k x y : ℕ) → (x < n) × (y < n) × Alike Move k x y → T (both? k x y)
+  Alike→both? k x y (lx, ly, h) = and-intro (ltb x n) (ltb y n && alike? round k x y) (lt→ltb x n lx)
+      (and-intro (ltb y n) (alike? round k x y) (lt→ltb y n ly) (Alike→alike? k x y h))
 
   pub bisimilar-of-settled : (k p q : ℕ) → Settled Move n k → p < n → q < n → Alike Move k p q → Bisimilar Move p q
   bisimilar-of-settled k p q s lp lq h = record {
-    rel = alikeStates? k;
-    bisimulation = settled-bisimulation k s;
-    pairs = alikeStates k p q lp lq h;
+    rel = both? k;
+    bisimulation = λ x y t.
+        answers-map Move (Alike→both? k) (settled-bisimulation k s x y (both?→Alike k x y t));
+    pairs = Alike→both? k p q (lp, lq, h);
   }
 
   -- No rank exceeds the last round that separated a pair.
   pub rank-le-settled : (k p q r : ℕ) → Settled Move n k → p < n → q < n → Rank Move p q r → r ≤ k
   rank-le-settled k p q r s lp lq (bisimilar b) = omega arith
-  rank-le-settled k p q r s lp lq (separated d x) = go (lt-or-le k r)
-    where
-      go : (k < r) ⊎ (r ≤ k) → r ≤ k
-      go (inl l) = absurd (d (bisimilar-of-settled k p q s lp lq (x .alike-before k l)))
-      go (inr l) = l
+  rank-le-settled k p q r s lp lq (separated d x) =
+      le-of-not-lt r k (λ l. d (bisimilar-of-settled k p q s lp lq (x .alike-before k l)))

@@ -3,21 +3,16 @@
 -- Assumes nothing.
 use mathlib.Core.Path.{_≡_, refl, sym, subst}
 use mathlib.Core.Logic.{_⊎_, inl, inr, _↔_}
-use mathlib.Core.Bool.{Bool, true, false, not, true≢false}
+use mathlib.Core.Bool.{Bool, true, false, true≢false}
 use Prim.Native.Nat.{ℕ, zero, suc, _-_, _≤_, _<_}
 use native.Mathlib.Nat.{not-suc-le-zero}
 use native.Mathlib.Omega.{arith}
 use lib.Dec.{T}
 use Rattle.lts.specs.TestsLaws.{lt-suc-cases}
 use Rattle.lts.specs.Alike.{Moves, Alike, Bisimilar, BisimilarBy, Separated, Rank, bisimilar}
-use Rattle.lts.specs.AlikeLaws.{
-  alike-le,
-  bisimulation→Alike,
-  bisimilar→BisimilarBy,
-  rank-of-separated,
-  rank-unique,
-}
-use Rattle.lts.specs.Game.{Game, alike?, Settled, nextRank, rankBelow, rank}
+use Rattle.lts.specs.AlikeLaws.{alike-le, bisimulation→Alike, bisimilar→BisimilarBy, rank-of-separated}
+use Rattle.lts.specs.AlikeLaws.{rank-unique}
+use Rattle.lts.specs.Game.{Game, alike?, nextRank, rankBelow, rank}
 use Rattle.lts.specs.GameLaws.{alike?→Alike, Alike→alike?, bisimilar-of-settled, rank-le-settled}
 use Rattle.lts.specs.ClassesLaws.{settled-exists}
 
@@ -73,9 +68,9 @@ module _ (Move : Moves) (n : ℕ) (round : (ℕ → ℕ → Bool) → ℕ → �
   found-below p q (suc k) = found-next p q k (rankBelow round k p q) (found-below p q k) (alike? round k p q) refl
 
   -- The computed rank is the rank.
-  pub rank-is-rank : (p q : ℕ) → p < n → q < n → Rank Move p q (rank round n p q)
+  pub rank→Rank : (p q : ℕ) → p < n → q < n → Rank Move p q (rank round n p q)
   unfolding FoundBelow
-  rank-is-rank p q lp lq = go (rank round n p q) (found-below p q n)
+  rank→Rank p q lp lq = go (rank round n p q) (found-below p q n)
     where
       go : (r : ℕ) → FoundBelow p q n r → Rank Move p q r
       go r (inl f) =
@@ -84,10 +79,10 @@ module _ (Move : Moves) (n : ℕ) (round : (ℕ → ℕ → Bool) → ℕ → �
       go r (inr f) = rank-of-separated Move p q r (f .1)
 
   -- The one rank of p and q is the one computed.
-  pub rank-of-rank : (p q r : ℕ) → p < n → q < n → Rank Move p q r → rank round n p q ≡ r
-  rank-of-rank p q r lp lq x = rank-unique Move p q (rank round n p q) r (rank-is-rank p q lp lq) x
+  pub Rank→rank : (p q r : ℕ) → p < n → q < n → Rank Move p q r → rank round n p q ≡ r
+  Rank→rank p q r lp lq x = rank-unique Move p q (rank round n p q) r (rank→Rank p q lp lq) x
 
   pub rank-exists : (p q : ℕ) → p < n → q < n → (r : ℕ) × (r < n) × Rank Move p q r
   rank-exists p q lp lq =
-      let x = rank-is-rank p q lp lq in
+      let x = rank→Rank p q lp lq in
       (rank round n p q, rank-lt p q (rank round n p q) lp lq x, x)

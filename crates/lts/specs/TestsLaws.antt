@@ -1,9 +1,9 @@
 -- What the tests over the numbers below n say, with the laws on Bool and on the order that every crate needs.
 -- Assumes nothing.
-use mathlib.Core.Path.{_≡_, refl, subst}
+use mathlib.Core.Path.{_≡_, refl}
 use mathlib.Core.Logic.{_⊎_, inl, inr}
 use mathlib.Core.Bool.{Bool, true, false, not, _&&_, _||_}
-use Prim.Native.Nat.{ℕ, zero, suc, _+_, _≤_, _<_}
+use Prim.Native.Nat.{ℕ, zero, suc, _≤_, _<_}
 use native.Mathlib.Nat.{not-suc-le-zero}
 use native.Mathlib.Omega.{arith}
 use native.Mathlib.Decide.{ℕ-discrete, decLt}
@@ -84,6 +84,12 @@ lt-or-le i n = go (decLt i n)
     go : Dec (i < n) → (i < n) ⊎ (n ≤ i)
     go (yes l) = inl l
     go (no c) = inr (omega arith)
+
+pub eq-of-not-lt : (i j : ℕ) → ¬ (i < j) → ¬ (j < i) → i ≡ j
+eq-of-not-lt i j f g = omega arith
+
+pub le-of-not-lt : (i j : ℕ) → ¬ (j < i) → i ≤ j
+le-of-not-lt i j f = omega arith
 
 -- ---- all and any
 
@@ -198,9 +204,5 @@ least-of-passes f x t = go (least-cases f (suc x))
     go (inr z) = absurd (T-not (f x) (z x (omega arith)) t)
 
 pub least-unique : (f : ℕ → Bool) (m n : ℕ) → Least f m → Least f n → m ≡ n
-least-unique f m n x y = go (lt-or-le m n) (lt-or-le n m)
-  where
-    go : (m < n) ⊎ (n ≤ m) → (n < m) ⊎ (m ≤ n) → m ≡ n
-    go (inl l) d = absurd (T-not (f m) (y .none-below m l) (x .passes))
-    go (inr l) (inl k) = absurd (T-not (f n) (x .none-below n k) (y .passes))
-    go (inr l) (inr k) = omega arith
+least-unique f m n x y = eq-of-not-lt m n (λ l. T-not (f m) (y .none-below m l) (x .passes))
+    (λ l. T-not (f n) (x .none-below n l) (y .passes))

@@ -3,7 +3,7 @@
 use mathlib.Core.Path.{_≡_}
 use mathlib.Core.Logic.{_⊎_, _↔_}
 use mathlib.Core.List.{List, [], _∷_}
-use Prim.Native.Nat.{ℕ, _<_}
+use Prim.Native.Nat.{ℕ, _≤_, _<_}
 use lib.ListN.{length}
 use Rattle.lts.specs.Alike.{Moves}
 use Rattle.lts.specs.Run.{Allows}
@@ -31,9 +31,10 @@ NotAfter [] v = Unit {0}
 NotAfter (a ∷ u) [] = ⊥
 NotAfter (a ∷ u) (b ∷ v) = (a < b) ⊎ ((a ≡ b) × NotAfter u v)
 
--- w is the first by action numbers of the low sequences of length k possible from just one of p and q.
-pub record FirstWord (L : Levels) (Step : Moves) (p q k : ℕ) (w : List ℕ) : Type 0 where
+-- w is "among the shortest low sequences possible from just one" of p and q "the first by action numbers" (document 01,
+-- operation 6).
+pub record FirstWord (L : Levels) (Step : Moves) (p q : ℕ) (w : List ℕ) : Type 0 where
   pub is-low : Low L w
-  pub length-is : length w ≡ k
   pub just-one : JustOne Step p q w
-  pub first : (v : List ℕ) → Low L v → length v ≡ k → JustOne Step p q v → NotAfter w v
+  pub shortest : (v : List ℕ) → Low L v → JustOne Step p q v → length w ≤ length v
+  pub first : (v : List ℕ) → Low L v → JustOne Step p q v → length v ≡ length w → NotAfter w v
