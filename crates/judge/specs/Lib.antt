@@ -4,6 +4,8 @@ pub mod StoredLaws
 pub mod Table
 pub mod MoveList
 pub mod Listing
+pub mod ListingLaws
+pub mod StatesListedLaws
 pub mod Index
 pub mod IndexLaws
 pub mod Roles
