@@ -2,6 +2,7 @@ pub mod Lists
 pub mod Stored
 pub mod StoredLaws
 pub mod Table
+pub mod RankedLaws
 pub mod MoveList
 pub mod Listing
 pub mod ListingLaws

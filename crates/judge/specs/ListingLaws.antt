@@ -8,15 +8,11 @@ use native.Mathlib.Omega.{arith}
 use lib.ListN.{length, getD, set}
 use lib.Seq.{getD-set-same, getD-set-other}
 use lib.Dec.{T}
-use Rattle.lts.specs.Alike.{Moves}
-use Rattle.lts.specs.TestsLaws.{lt-or-le, lt-suc-cases}
-use Rattle.model.specs.Limits.{stateLimit, actionLimit, stepLimit}
+use Rattle.lts.specs.TestsLaws.{lt-or-le}
 use Rattle.model.specs.Model.{Model}
-use Rattle.model.specs.System.{source, action, target, levels, LowStep}
-use Rattle.judge.specs.Stored.{Stored}
+use Rattle.model.specs.System.{action, target, levels, LowStep}
 use Rattle.judge.specs.Index.{Begins}
-use Rattle.judge.specs.MoveList.{Listed, MoveList, Lists}
-use Rattle.judge.specs.Listing.{Appended, LowAmong, StatesListed}
+use Rattle.judge.specs.Listing.{Appended, LowAmong}
 
 -- ---- appended moves
 
@@ -72,8 +68,7 @@ appended-append {First} {Next} {Out} {from} {mid} {to} {actions″ = actions″}
       (lt-or-le i mid);
   complete = λ a q o. ⊎-elim
       (λ z.
-      let c = x .complete a q z in
-      (
+      let c = x .complete a q z in (
         c .0,
         c .1,
         omega (arith, c .2, y .from-le),
@@ -167,18 +162,18 @@ module _ {m : Model} where
   appended-steps l k = appended-append (lowAmong-le (omega arith) k) (lowAmong-le l (omega arith)) lowAmong-cases
 
   -- the steps of p are those between where its steps begin and where they end
-  pub appended-state : {p start end from to : ℕ} {actions targets actions′ targets′ : List ℕ} → Begins m p start
-      → Begins m (p + 1) end → Appended (LowAmong m start end) from to actions targets actions′ targets′
+  pub appended-state : {p start end j from to : ℕ} {actions targets actions′ targets′ : List ℕ} → Begins m p start
+      → Begins m (p + 1) end → j ≡ end → Appended (LowAmong m start j) from to actions targets actions′ targets′
       → Appended (LowStep m p) from to actions targets actions′ targets′
-  appended-state {p} {start} {end} b e = appended-same
+  appended-state {p} {start} {end} {j} b e at-end = appended-same
       (λ a q x.
-      let l : x .number < length (m .steps) = omega (arith, x .to-lt, e .from-le) in
-      (
+      let k : x .number < end = omega (arith, x .to-lt, at-end) in
+      let l : x .number < length (m .steps) = omega (arith, k, e .from-le) in (
         x .is-low,
         record {
           number = x .number;
           number-lt = l;
-          source-is = omega (arith, b .above (x .number) (x .from-le) l, e .below (x .number) (x .to-lt));
+          source-is = omega (arith, b .above (x .number) (x .from-le) l, e .below (x .number) k);
           action-is = x .action-is;
           target-is = x .target-is;
         },
@@ -191,7 +186,8 @@ module _ {m : Model} where
             ⊎-elim (λ l. absurd (omega (arith, b .below (s .number) l, s .source-is))) (λ l. l)
             (lt-or-le (s .number) start);
         to-lt =
-            ⊎-elim (λ l. l) (λ l. absurd (omega (arith, e .above (s .number) l (s .number-lt), s .source-is)))
+            ⊎-elim (λ l. omega (arith, at-end))
+            (λ l. absurd (omega (arith, e .above (s .number) l (s .number-lt), s .source-is)))
             (lt-or-le (s .number) end);
         is-low = x .0;
         action-is = s .action-is;

@@ -49,7 +49,7 @@ module _ {Move : Moves} {n from to : ℕ} {first actions targets actions′ targ
   listed-before : (p a q : ℕ) → p < n → Listed (n + 1) next actions′ targets′ p a q → Listed n first actions targets p a q
   listed-before p a q l z =
       let k : z .place < from =
-          omega (arith, z .place-lt, before-is (p + 1) (omega arith), x .first-le (p + 1) (omega arith)) in
+      omega (arith, z .place-lt, before-is (p + 1) (omega arith), x .first-le (p + 1) (omega arith)) in
       record {
         place = z .place;
         source-lt = l;
@@ -103,11 +103,10 @@ module _ {Move : Moves} {n from to : ℕ} {first actions targets actions′ targ
         (omega (arith, before-is n (omega arith), x .end-is, last-is, y .from-le));
     each = λ i l. ⊎-elim
         (λ k.
-        let s = x .each i k in
-        (
+        let s = x .each i k in (
           s .0,
           subst (λ (a : ℕ). Move (s .0) a (getD targets′ i 0)) (sym (y .actions-kept i k))
-          (subst (Move (s .0) _) (sym (y .targets-kept i k)) (s .1)),
+              (subst (Move (s .0) _) (sym (y .targets-kept i k)) (s .1)),
         ))
         (λ k. (n, y .sound i k l))
         (lt-or-le i from);
@@ -121,25 +120,26 @@ module _ {Move : Moves} {n from to : ℕ} {first actions targets actions′ targ
 
 -- ---- all states
 
-pub lists-of-statesListed : {s : List ℕ} {m : Model} {to : ℕ} {first actions targets : List ℕ} → Stored s m
-    → to ≤ stepLimit
-    → StatesListed (LowStep m) (m .head .states) to first actions targets
+pub lists-of-statesListed : {s : List ℕ} {m : Model} {n to : ℕ} {first actions targets : List ℕ} → Stored s m
+    → n ≡ m .head .states → to ≤ stepLimit → StatesListed (LowStep m) n to first actions targets
     → Lists (LowStep m) (m .head .states) first actions targets
-lists-of-statesListed st l x = record {
-  moves = record {
-    some-state = st .states-pos;
-    states-le = st .states-le;
-    rising = x .rising;
-    last-le = λ p k. omega (arith, x .first-le p k);
-    action-lt = λ i k.
-        let s = x .each i (omega (arith, x .end-is)) .1 .1 in
-        omega (arith, s .action-is, st .action-lt (s .number) (s .number-lt), st .actions-le);
-    target-lt = λ i k.
-        let s = x .each i (omega (arith, x .end-is)) .1 .1 in
-        omega (arith, s .target-is, st .target-lt (s .number) (s .number-lt));
-  };
-  sound = x .sound;
-  complete = λ p a q o.
-      let s = o .1 in
-      x .complete p a q (omega (arith, s .source-is, st .source-lt (s .number) (s .number-lt))) o;
-}
+lists-of-statesListed {m = m} {to = to} {first} {actions} {targets} st e l listed =
+    let x = subst (λ (n : ℕ). StatesListed (LowStep m) n to first actions targets) e listed in
+    record {
+      moves = record {
+        some-state = st .states-pos;
+        states-le = st .states-le;
+        rising = x .rising;
+        last-le = λ p k. omega (arith, x .first-le p k);
+        action-lt = λ i k.
+            let s = x .each i (omega (arith, x .end-is)) .1 .1 in
+            omega (arith, s .action-is, st .action-lt (s .number) (s .number-lt), st .actions-le);
+        target-lt = λ i k.
+            let s = x .each i (omega (arith, x .end-is)) .1 .1 in
+            omega (arith, s .target-is, st .target-lt (s .number) (s .number-lt));
+      };
+      sound = x .sound;
+      complete = λ p a q o.
+          let s = o .1 in
+          x .complete p a q (omega (arith, s .source-is, st .source-lt (s .number) (s .number-lt))) o;
+    }

@@ -1,7 +1,7 @@
 // Reachable states, ranks, the verdict and runs of till models.
 mod index;
-mod moves;
 pub mod judge;
+mod moves;
 pub mod rank;
 pub mod reach;
 pub mod run;

@@ -13,7 +13,14 @@ ghost use Rattle.judge.specs.MoveList.{Lists};
 ghost use Rattle.judge.specs.Listing.{Appended, LowAmong};
 
 // Appends a step to the lists at place `at` if it is low, and yields the next free place.
-fn list_step(store: &[u16], roles: &[u16], j: Step, at: u16, actions: &mut [u16], targets: &mut [u16]) -> u16
+fn list_step(
+    store: &[u16],
+    roles: &[u16],
+    j: Step,
+    at: u16,
+    actions: &mut [u16],
+    targets: &mut [u16],
+) -> u16
     requires { ⌜ Stored (now store) (modelAt (now store)) ⌝ }
     requires { ⌜ (64 ≤ length (now roles)) × Roles (levels (modelAt (now store))) (modelAt (now store) .head .actions) (now roles) ⌝ }
     requires { ⌜ (j .0 < length (modelAt (now store) .steps)) × (at < stepLimit) ⌝ }
@@ -79,11 +86,10 @@ pub fn list_moves(
 {
     let n = model::store::states(store);
     let mut at = 0;
-    let mut of = 0;
     first[0] = 0;
     for p in 0..n {
         at = list_state(store, begins, roles, State(p), at, actions, targets);
-        of += 1;
-        first[of] = at;
+        let next = p as usize + 1;
+        first[next] = at;
     }
 }

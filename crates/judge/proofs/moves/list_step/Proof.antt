@@ -1,7 +1,6 @@
 -- The role tells whether the step is low; a low one is stored at the next free place.
-use mathlib.Core.Path.{_≡_, sym, ap, _∙_}
+use mathlib.Core.Path.{sym, ap, _∙_}
 use native.Mathlib.Omega.{arith}
-use lib.ListN.{length-set}
 use borrow.Author.Needs.{needs}
 use Rattle.model.specs.declared.State.{State}
 use Rattle.model.specs.declared.Action.{Action}
@@ -68,10 +67,9 @@ returns-2 c =
     let j = pre .1 .1 .0 .0 in
     let e = ap (λ (x : Action). x .0) (c .before .before .before .before .action .ensures) ∙ stored-action (pre .0) _ j in
     let f = ap (λ (x : State). x .0) (c .target .ensures) ∙ stored-target (pre .0) _ j in
-    let low = low-of-role (pre .1 .0 .1) e (pre .0 .action-lt _ j) (c .before .if1 .left) in
-    (
+    let low = low-of-role (pre .1 .0 .1) e (pre .0 .action-lt _ j) (c .before .if1 .left) in (
       appended-low (omega (arith, pre .1 .1 .0 .1, pre .1 .1 .1 .0)) (omega (arith, pre .1 .1 .0 .1, pre .1 .1 .1 .1))
-      (sym e) (sym f) low,
+          (sym e) (sym f) low,
       omega arith,
     )
 
