@@ -135,7 +135,8 @@ module _ {m : Model} where
     target-is = x .target-is;
   }
 
-  lowAmong-cases : {from mid to : ℕ} (a q : ℕ) → LowAmong m from to a q → LowAmong m from mid a q ⊎ LowAmong m mid to a q
+  lowAmong-cases : {from mid to : ℕ} (a q : ℕ) → LowAmong m from to a q
+      → LowAmong m from mid a q ⊎ LowAmong m mid to a q
   lowAmong-cases {from} {mid} {to} a q x = ⊎-elim
       (λ l. inl (record {
         number = x .number;

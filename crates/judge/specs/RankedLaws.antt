@@ -45,3 +45,45 @@ module _ {M N : Moves} (forth : (p a q : ℕ) → M p a q → N p a q) (back : (
   rank-same p q {k} (separated d x) =
       separated (λ b. d (bisimilar-same back forth p q b)) (separated-same forth back p q k .0 x)
 
+-- ---- the same table, the same answer
+
+module _ {Move : Moves} {n : ℕ} {first actions targets : List ℕ} (l : Lists Move n first actions targets) where
+  abbrev Played : Moves
+  Played = Listed n first actions targets
+
+  rank-forth : (p q : ℕ) {k : ℕ} → Rank Played p q k → Rank Move p q k
+  rank-forth = rank-same (l .sound) (l .complete)
+
+  rank-back : (p q : ℕ) {k : ℕ} → Rank Move p q k → Rank Played p q k
+  rank-back = rank-same (l .complete) (l .sound)
+
+  somePair-map : {P Q : ℕ → ℕ → Type 0} → ((p q : ℕ) → P p q → Q p q) → SomePair n P → SomePair n Q
+  somePair-map f x = record {
+    one = x .one;
+    other = x .other;
+    one-lt = x .one-lt;
+    other-lt = x .other-lt;
+    holds = f (x .one) (x .other) (x .holds);
+  }
+
+  pub ranked-of-listed : {entry exit : List ℕ} {last : ℕ} → Ranked Played n entry exit last
+      → Ranked Move n entry exit last
+  ranked-of-listed {last = last} r = record {
+    table = record {
+      ranks = λ p q lp lq. rank-forth p q (r .table .ranks p q lp lq);
+      outside = r .table .outside;
+    };
+    past = r .past;
+    last-round = record {
+      separates =
+          ⊎-elim inl
+          (λ x. inr (somePair-map (λ p q. separated-same (l .sound) (l .complete) p q last .0) x))
+          (r .last-round .separates);
+      none-later = λ p q k lp lq x.
+          r .last-round .none-later p q k lp lq (separated-same (l .sound) (l .complete) p q k .1 x);
+    };
+    greatest = record {
+      attained = somePair-map (λ p q. rank-forth p q) (r .greatest .attained);
+      bound = λ p q k lp lq x. r .greatest .bound p q k lp lq (rank-back p q x);
+    };
+  }

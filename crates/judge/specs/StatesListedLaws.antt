@@ -46,7 +46,8 @@ module _ {Move : Moves} {n from to : ℕ} {first actions targets actions′ targ
   before-is p l = getD-set-other first (n + 1) p to 0 (λ e. omega arith)
 
   -- a listed move of a state below n stood in the lists before
-  listed-before : (p a q : ℕ) → p < n → Listed (n + 1) next actions′ targets′ p a q → Listed n first actions targets p a q
+  listed-before : (p a q : ℕ) → p < n → Listed (n + 1) next actions′ targets′ p a q
+      → Listed n first actions targets p a q
   listed-before p a q l z =
       let k : z .place < from =
       omega (arith, z .place-lt, before-is (p + 1) (omega arith), x .first-le (p + 1) (omega arith)) in

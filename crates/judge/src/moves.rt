@@ -22,10 +22,12 @@ fn list_step(
     targets: &mut [u16],
 ) -> u16
     requires { ⌜ Stored (now store) (modelAt (now store)) ⌝ }
-    requires { ⌜ (64 ≤ length (now roles)) × Roles (levels (modelAt (now store))) (modelAt (now store) .head .actions) (now roles) ⌝ }
+    requires { ⌜ (64 ≤ length (now roles))
+        × Roles (levels (modelAt (now store))) (modelAt (now store) .head .actions) (now roles) ⌝ }
     requires { ⌜ (j .0 < length (modelAt (now store) .steps)) × (at < stepLimit) ⌝ }
     requires { ⌜ (stepLimit ≤ length (now actions)) × (stepLimit ≤ length (now targets)) ⌝ }
-    ensures { λ r. ⌜ Appended (LowAmong (modelAt (now (store .entry))) (j .0) (j .0 + 1)) at r (now (actions .entry)) (now (targets .entry)) (now (actions .exit)) (now (targets .exit)) ⌝ }
+    ensures { λ r. ⌜ Appended (LowAmong (modelAt (now (store .entry))) (j .0) (j .0 + 1)) at r
+        (now (actions .entry)) (now (targets .entry)) (now (actions .exit)) (now (targets .exit)) ⌝ }
     ensures { λ r. ⌜ r ≤ at + 1 ⌝ }
 {
     let a = model::store::action(store, j);
@@ -51,11 +53,14 @@ fn list_state(
     targets: &mut [u16],
 ) -> u16
     requires { ⌜ Stored (now store) (modelAt (now store)) ⌝ }
-    requires { ⌜ (129 ≤ length (now begins)) × Index (modelAt (now store)) (modelAt (now store) .head .states) (now begins) ⌝ }
-    requires { ⌜ (64 ≤ length (now roles)) × Roles (levels (modelAt (now store))) (modelAt (now store) .head .actions) (now roles) ⌝ }
+    requires { ⌜ (129 ≤ length (now begins))
+        × Index (modelAt (now store)) (modelAt (now store) .head .states) (now begins) ⌝ }
+    requires { ⌜ (64 ≤ length (now roles))
+        × Roles (levels (modelAt (now store))) (modelAt (now store) .head .actions) (now roles) ⌝ }
     requires { ⌜ (p .0 < modelAt (now store) .head .states) × (from ≤ getD (now begins) (p .0) 0) ⌝ }
     requires { ⌜ (stepLimit ≤ length (now actions)) × (stepLimit ≤ length (now targets)) ⌝ }
-    ensures { λ r. ⌜ Appended (LowStep (modelAt (now (store .entry))) (p .0)) from r (now (actions .entry)) (now (targets .entry)) (now (actions .exit)) (now (targets .exit)) ⌝ }
+    ensures { λ r. ⌜ Appended (LowStep (modelAt (now (store .entry))) (p .0)) from r
+        (now (actions .entry)) (now (targets .entry)) (now (actions .exit)) (now (targets .exit)) ⌝ }
     ensures { λ r. ⌜ r ≤ getD (now (begins .entry)) (p .0 + 1) 0 ⌝ }
 {
     let of = p.0 as usize;
@@ -79,10 +84,14 @@ pub fn list_moves(
     targets: &mut [u16],
 )
     requires { ⌜ Stored (now store) (modelAt (now store)) ⌝ }
-    requires { ⌜ (129 ≤ length (now begins)) × Index (modelAt (now store)) (modelAt (now store) .head .states) (now begins) ⌝ }
-    requires { ⌜ (64 ≤ length (now roles)) × Roles (levels (modelAt (now store))) (modelAt (now store) .head .actions) (now roles) ⌝ }
-    requires { ⌜ (129 ≤ length (now first)) × (stepLimit ≤ length (now actions)) × (stepLimit ≤ length (now targets)) ⌝ }
-    ensures { λ _. ⌜ Lists (LowStep (modelAt (now (store .entry)))) (modelAt (now (store .entry)) .head .states) (now (first .exit)) (now (actions .exit)) (now (targets .exit)) ⌝ }
+    requires { ⌜ (129 ≤ length (now begins))
+        × Index (modelAt (now store)) (modelAt (now store) .head .states) (now begins) ⌝ }
+    requires { ⌜ (64 ≤ length (now roles))
+        × Roles (levels (modelAt (now store))) (modelAt (now store) .head .actions) (now roles) ⌝ }
+    requires { ⌜ (129 ≤ length (now first)) × (stepLimit ≤ length (now actions))
+        × (stepLimit ≤ length (now targets)) ⌝ }
+    ensures { λ _. ⌜ Lists (LowStep (modelAt (now (store .entry)))) (modelAt (now (store .entry)) .head .states)
+        (now (first .exit)) (now (actions .exit)) (now (targets .exit)) ⌝ }
 {
     let n = model::store::states(store);
     let mut at = 0;

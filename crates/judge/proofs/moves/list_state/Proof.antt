@@ -97,8 +97,7 @@ returns c =
     let p = at-start .args .p .0 in
     let l = at-start .pre .1 .1 .1 .0 .0 in
     let inv = c .before .loop .inv in (
-      appended-state (index .at p (omega arith)) (index .at (p + 1) (omega arith)) (omega (arith, inv .2, c .loop-test .left))
-          (inv .6),
+      appended-state (index .at p (omega arith)) e (omega (arith, inv .2, c .loop-test .left)) (inv .6),
       omega (arith, inv .2, inv .3),
     )
 

@@ -65,7 +65,8 @@ returns-2 : tie.Need-returns-2
 returns-2 c =
     let pre = c .before .before .before .before .before .before .before .before .before .pre in
     let j = pre .1 .1 .0 .0 in
-    let e = ap (λ (x : Action). x .0) (c .before .before .before .before .action .ensures) ∙ stored-action (pre .0) _ j in
+    let a = c .before .before .before .before .action in
+    let e = ap (λ (x : Action). x .0) (a .ensures) ∙ stored-action (pre .0) _ j in
     let f = ap (λ (x : State). x .0) (c .target .ensures) ∙ stored-target (pre .0) _ j in
     let low = low-of-role (pre .1 .0 .1) e (pre .0 .action-lt _ j) (c .before .if1 .left) in (
       appended-low (omega (arith, pre .1 .1 .0 .1, pre .1 .1 .1 .0)) (omega (arith, pre .1 .1 .0 .1, pre .1 .1 .1 .1))
