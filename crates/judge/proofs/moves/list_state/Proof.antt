@@ -96,7 +96,8 @@ returns c =
     let index = at-start .pre .1 .0 .1 in
     let p = at-start .args .p .0 in
     let l = at-start .pre .1 .1 .1 .0 .0 in
-    let inv = c .before .loop .inv in (
+    let inv = c .before .loop .inv in
+    let e = index .at (p + 1) (omega arith) in (
       appended-state (index .at p (omega arith)) e (omega (arith, inv .2, c .loop-test .left)) (inv .6),
       omega (arith, inv .2, inv .3),
     )
