@@ -7,7 +7,7 @@ use Prim.Native.Nat.{ℕ, zero, suc, _≤_, _<_}
 use native.Mathlib.Nat.{not-suc-le-zero}
 use native.Mathlib.Omega.{arith}
 use lib.Dec.{T, T-not, not-T}
-use Rattle.lts.specs.Tests.{all, any, count, Least}
+use Rattle.lts.specs.Tests.{any}
 use Rattle.lts.specs.TestsLaws.{
   T-cases,
   and-intro,

@@ -14,13 +14,23 @@ pub record Decided (Move : Moves) (n l : ℕ) (move? : ℕ → ℕ → ℕ → B
   pub label-lt : (p a q : ℕ) → Move p a q → a < l
   pub target-lt : (p a q : ℕ) → Move p a q → q < n
 
+-- `start?` decides the starts, and they are states.
+pub record DecidedStarts (Start : ℕ → Type 0) (n : ℕ) (start? : ℕ → Bool) : Type 0 where
+  pub start?→Start : (p : ℕ) → T (start? p) → Start p
+  pub Start→start? : (p : ℕ) → Start p → T (start? p)
+  pub start-lt : (p : ℕ) → Start p → p < n
+
 -- Some move of q with the label a has a target that passes R.
 abbrev pub answer? : ℕ → (ℕ → ℕ → ℕ → Bool) → (ℕ → Bool) → ℕ → ℕ → Bool
 answer? n move? R q a = any n (λ q′. let r = R q′ in move? q a q′ && r)
 
+-- If p has a move with the label a to p′, q answers it inside R.
+abbrev pub met? : ℕ → (ℕ → ℕ → ℕ → Bool) → (ℕ → ℕ → Bool) → ℕ → ℕ → ℕ → ℕ → Bool
+met? n move? R p q a p′ = let r = answer? n move? (R p′) q a in not (move? p a p′) || r
+
 -- The test of `Answered`.
 unfoldable pub answered? : ℕ → ℕ → (ℕ → ℕ → ℕ → Bool) → (ℕ → ℕ → Bool) → ℕ → ℕ → Bool
-answered? n l move? R p q = all l (λ a. all n (λ p′. let r = answer? n move? (R p′) q a in not (move? p a p′) || r))
+answered? n l move? R p q = all l (λ a. all n (met? n move? R p q a))
 
 -- The test of `Answers`: one round.
 unfoldable pub answers? : ℕ → ℕ → (ℕ → ℕ → ℕ → Bool) → (ℕ → ℕ → Bool) → ℕ → ℕ → Bool

@@ -7,7 +7,7 @@ use native.Mathlib.Omega.{arith}
 use lib.Dec.{T, T-not, not-T, ltb, ltb→lt, lt→ltb}
 use Rattle.lts.specs.TestsLaws.{T-cases, and-intro, and-left, and-right, lt-or-le}
 use Rattle.lts.specs.Alike.{Moves, Answers, Alike, Bisimulation, Bisimilar, Separated, Rank, bisimilar, separated}
-use Rattle.lts.specs.AlikeLaws.{answers-map, alike-le, bisimilar→Alike, answers-below}
+use Rattle.lts.specs.AlikeLaws.{answers-map, alike-le, answers-below}
 use Rattle.lts.specs.Game.{Opening, by-first, by-second, Game, alike?, Settled, Separates}
 
 -- An opening is not answered.

@@ -8,6 +8,16 @@ pub mod Classes
 pub mod ClassesLaws
 pub mod RankLaws
 pub mod Run
+pub mod RunLaws
 pub mod Noninterference
+pub mod ThinLaws
+pub mod LowLaws
+pub mod NoninterferenceLaws
 pub mod Word
+pub mod WordLaws
+pub mod FirstWordLaws
+pub mod Agree
+pub mod AgreeLaws
 pub mod Decided
+pub mod DecidedLaws
+pub mod DistanceLaws

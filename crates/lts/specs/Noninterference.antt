@@ -2,10 +2,10 @@
 -- Document 01, "The meaning"; definitions 14 and 19 to 22 of source 000. Assumes nothing.
 use mathlib.Core.Logic.{_↔_}
 use mathlib.Core.List.{List, [], _∷_}
-use mathlib.Core.Bool.{Bool, true, false, not, _&&_, _||_, cond}
+use mathlib.Core.Bool.{Bool, false, not, _&&_, _||_, cond}
 use Prim.Native.Nat.{ℕ}
 use lib.Dec.{T}
-use Rattle.lts.specs.Alike.{Moves, Bisimilar}
+use Rattle.lts.specs.Alike.{Moves, Relation, Bisimilar}
 use Rattle.lts.specs.Run.{Run, Allows, Reachable}
 
 -- "An action is low (L), release (D) or high (H)" (document 01, "The meaning"). Three tests and not one table: silent
@@ -58,11 +58,16 @@ BNID L Step Start = (p a q : ℕ) → Reachable Step Start p → T (L .high? a) 
 abbrev pub NID : Levels → Moves → (ℕ → Type 0) → Type 0
 NID L Step Start = (p a q : ℕ) → Reachable Step Start p → T (L .high? a) → Step p a q → SameLow L Step p q
 
--- A run of the thinned sequence of w leads from s to a state that allows the same low sequences as e.
-abbrev pub ThinnedRun : Levels → Moves → ℕ → List ℕ → ℕ → Type 0
-ThinnedRun L Step s w e = (e′ : ℕ) × Run Step s (thin L w) e′ × SameLow L Step e e′
+-- A run of the thinned sequence of w leads from s to a state that E pairs with e.
+abbrev pub ThinnedRun : Levels → Moves → Relation → ℕ → List ℕ → ℕ → Type 0
+ThinnedRun L Step E s w e = (e′ : ℕ) × Run Step s (thin L w) e′ × E e e′
 
 -- Definition 20 of source 000: where a sequence can be run from a start, so can its thinned sequence, and the two ends
 -- allow the same low sequences.
 abbrev pub INI : Levels → Moves → (ℕ → Type 0) → Type 0
-INI L Step Start = (s : ℕ) → Start s → (w : List ℕ) (e : ℕ) → Run Step s w e → ThinnedRun L Step s w e
+INI L Step Start =
+    (s : ℕ) → Start s → (w : List ℕ) (e : ℕ) → Run Step s w e → ThinnedRun L Step (SameLow L Step) s w e
+
+-- A run of the thinned sequence of w leads from s to a state bisimilar to e (change request (xii)).
+abbrev pub ThinnedBisimilar : Levels → Moves → ℕ → List ℕ → ℕ → Type 0
+ThinnedBisimilar L Step s w e = ThinnedRun L Step (Bisimilar (LowMove L Step)) s w e

@@ -3,7 +3,7 @@
 -- Assumes nothing.
 use mathlib.Core.Path.{_≡_, refl, sym, subst}
 use mathlib.Core.Logic.{_⊎_, inl, inr, _↔_}
-use mathlib.Core.Bool.{Bool, true, false, not, true≢false}
+use mathlib.Core.Bool.{Bool, true, false, true≢false}
 use Prim.Native.Nat.{ℕ, zero, suc, _-_, _≤_, _<_}
 use native.Mathlib.Nat.{not-suc-le-zero}
 use native.Mathlib.Omega.{arith}
@@ -17,7 +17,7 @@ use Rattle.lts.specs.AlikeLaws.{
   rank-of-separated,
   rank-unique,
 }
-use Rattle.lts.specs.Game.{Game, alike?, Settled, nextRank, rankBelow, rank}
+use Rattle.lts.specs.Game.{Game, alike?, nextRank, rankBelow, rank}
 use Rattle.lts.specs.GameLaws.{alike?→Alike, Alike→alike?, bisimilar-of-settled, rank-le-settled}
 use Rattle.lts.specs.ClassesLaws.{settled-exists}
 
