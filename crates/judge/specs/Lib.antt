@@ -5,3 +5,8 @@ pub mod Distances
 pub mod Verdicts
 pub mod Runs
 pub mod Promises
+pub mod ClassList
+pub mod ClassListLaws
+pub mod TableWrites
+pub mod TableWritesLaws
+pub mod RoundsLaws
