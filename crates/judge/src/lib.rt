@@ -1,4 +1,5 @@
 // Reachable states, ranks, the verdict and runs of till models.
+mod classes;
 pub mod judge;
 pub mod rank;
 pub mod reach;
