@@ -4,7 +4,7 @@ use mathlib.Core.List.{List}
 use mathlib.Core.Logic.{_⊎_}
 use mathlib.Core.Path.{_≡_}
 use Prim.Native.Nat.{ℕ, _+_, _*_, _≤_, _<_}
-use lib.ListN.{getD}
+use lib.ListN.{length, getD}
 use Rattle.lts.specs.Alike.{Moves}
 use Rattle.model.specs.Limits.{stateLimit, actionLimit, stepLimit}
 
@@ -43,8 +43,9 @@ pub record Marked (P : ℕ → Type 0) (value : ℕ) (entry exit : List ℕ) : T
 pub record AllMarked (P : ℕ → Type 0) (marks : List ℕ) : Type 0 where
   pub marked : (i : ℕ) → P i → getD marks i 0 ≡ 1
 
--- No place is marked.
+-- All places are there, and none is marked.
 pub record Unmarked (marks : List ℕ) : Type 0 where
+  pub long : marksLength ≤ length marks
   pub zeros : (i : ℕ) → getD marks i 0 ≡ 0
 
 -- The classes are numbers of states.

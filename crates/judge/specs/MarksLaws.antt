@@ -14,9 +14,10 @@ use Rattle.lts.specs.Alike.{Moves, Answered}
 use Rattle.model.specs.Decides.{Decides}
 use Rattle.model.specs.Limits.{stateLimit}
 use Rattle.judge.specs.MoveList.{Listed, MoveList}
+use Rattle.judge.specs.MoveListLaws.{place-lt-last}
 use Rattle.judge.specs.ClassList.{Same}
 use Rattle.judge.specs.ClassListLaws.{eq-or-not, below-add-one}
-use Rattle.judge.specs.Marks.{markPlace, moveMark, Reaches, ReachesFrom, Marked, AllMarked, Unmarked, Bounded}
+use Rattle.judge.specs.Marks.{markPlace, moveMark, Reaches, ReachesFrom, Marked, AllMarked, Unmarked, Bounded, MoveAt}
 
 -- ---- what the places say
 
@@ -70,8 +71,11 @@ holds-of-marked {P} {entry} {exit} u m i e = go (m .kept i)
 
 -- The marks are taken away again.
 pub unmarked-of-marked : {P : ℕ → Type 0} {entry middle exit : List ℕ} {value : ℕ} → Unmarked entry
-    → Marked P value entry middle → Marked P 0 middle exit → Unmarked exit
-unmarked-of-marked {P} {entry} {middle} {exit} u m w = record { zeros = λ i. go i (w .kept i) (m .kept i) }
+    → Marked P value entry middle → Marked P 0 middle exit → length exit ≡ length entry → Unmarked exit
+unmarked-of-marked {P} {entry} {middle} {exit} u m w e = record {
+  long = omega (arith, u .long);
+  zeros = λ i. go i (w .kept i) (m .kept i);
+}
   where
     go : (i : ℕ) → (getD exit i 0 ≡ getD middle i 0) ⊎ P i → (getD middle i 0 ≡ getD entry i 0) ⊎ P i
         → getD exit i 0 ≡ 0
@@ -131,14 +135,14 @@ module _ {actions targets class : List ℕ} where
   pub allMarked-zero : {from : ℕ} {marks : List ℕ} → AllMarked (ReachesFrom actions targets class from from) marks
   allMarked-zero = record { marked = λ i h. absurd (omega (arith, h .from-le, h .move-lt)) }
 
-  pub allMarked-add-one : {from to : ℕ} {marks : List ℕ} → getD marks (moveMark actions targets class to) 0 ≡ 1
+  pub allMarked-add-one : {from to x : ℕ} {marks : List ℕ} → x ≡ moveMark actions targets class to → getD marks x 0 ≡ 1
       → AllMarked (ReachesFrom actions targets class from to) marks
       → AllMarked (ReachesFrom actions targets class from (to + 1)) marks
-  allMarked-add-one {from} {to} {marks} e m = record { marked = λ i h. go i (reachesFrom-add-one h) }
+  allMarked-add-one {from} {to} {x} {marks} ex e m = record { marked = λ i h. go i (reachesFrom-add-one h) }
     where
       go : (i : ℕ) → (moveMark actions targets class to ≡ i) ⊎ ReachesFrom actions targets class from to i
           → getD marks i 0 ≡ 1
-      go i (inl d) = ap (λ (z : ℕ). getD marks z 0) (sym d) ∙ e
+      go i (inl d) = ap (λ (z : ℕ). getD marks z 0) (sym (ex ∙ d)) ∙ e
       go i (inr h) = m .marked i h
 
 -- The places of a state are those of its part of the lists.
@@ -170,3 +174,34 @@ module _ {n : ℕ} {first actions targets class : List ℕ} {p from to : ℕ} (l
         ap (λ (a : ℕ). markPlace a (getD class (getD targets (h .move .place) 0) 0)) (h .move .action-is)
         ∙ ap (λ (t : ℕ). markPlace (h .action) (getD class t 0)) (h .move .target-is) ∙ h .place-is;
   }
+
+  pub allMarked-of-from : {marks : List ℕ} → AllMarked (ReachesFrom actions targets class from to) marks
+      → AllMarked (Reaches (Listed n first actions targets) class p) marks
+  allMarked-of-from m = record { marked = λ i h. m .marked i (reachesFrom-of-reaches i h) }
+
+  pub marked-at : {marks : List ℕ} {i x : ℕ} → AllMarked (Reaches (Listed n first actions targets) class p) marks
+      → from ≤ i → i < to → x ≡ moveMark actions targets class i → getD marks x 0 ≡ 1
+  marked-at {marks} {i} {x} m lf lt e = m .marked x (reaches-of-reachesFrom x (record {
+    move = i;
+    from-le = lf;
+    move-lt = lt;
+    place-is = sym e;
+  }))
+
+  pub marked-of-from : {value : ℕ} {entry exit : List ℕ}
+      → Marked (ReachesFrom actions targets class from to) value entry exit
+      → Marked (Reaches (Listed n first actions targets) class p) value entry exit
+  marked-of-from m = marked-map reaches-of-reachesFrom reachesFrom-of-reaches m
+
+-- A move of a state can be marked.
+pub moveAt : {n : ℕ} {first actions targets class : List ℕ} {p i to : ℕ} → MoveList n first actions targets
+    → Bounded n class → p < n → to ≡ getD first (p + 1) 0 → i < to → MoveAt actions targets class i
+moveAt {n} {first} {actions} {targets} {class} {p} {i} L B lp e l =
+    let li : i < getD first n 0 = place-lt-last L lp (omega arith) in
+    let lt : getD targets i 0 < n = L .target-lt i li in
+    record {
+      place-lt = omega (arith, L .last-le n (omega arith));
+      action-lt = L .action-lt i li;
+      target-lt = omega (arith, L .states-le);
+      class-lt = B .class-lt (getD targets i 0) lt;
+    }

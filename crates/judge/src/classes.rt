@@ -12,7 +12,7 @@ ghost use Rattle.judge.specs.Lists.{tableLength};
 ghost use Rattle.judge.specs.Table.{Ranked};
 ghost use Rattle.judge.specs.MoveList.{Listed, MoveList};
 ghost use Rattle.judge.specs.ClassList.{Same, Refinable, Lowest, Refined, Joins, Moved};
-ghost use Rattle.judge.specs.Marks.{moveMark, Reaches, Marked, AllMarked, Unmarked, Bounded, MoveAt};
+ghost use Rattle.judge.specs.Marks.{marksLength, moveMark, Reaches, Marked, AllMarked, Unmarked, Bounded, MoveAt};
 ghost use Rattle.judge.specs.TableWrites.{Written, PairWritten, RowWritten, RowsWritten, RanksUpTo, Cleared, Finished};
 
 fn wide(x: u16) -> usize
@@ -32,10 +32,11 @@ fn class_of(class: &[u16; 128], p: State) -> State
 // The mark of the move at place i: one for each action and class.
 fn move_mark(actions: &[u16; 1024], targets: &[u16; 1024], class: &[u16; 128], i: usize) -> usize
     requires { ⌜ MoveAt (now actions) (now targets) (now class) i ⌝ }
+    ensures { λ r. ⌜ r < marksLength ⌝ }
     ensures { λ r. ⌜ r ≡ moveMark (now (actions .entry)) (now (targets .entry)) (now (class .entry)) i ⌝ }
 {
-    let target = wide(targets[i]);
-    128 * wide(actions[i]) + wide(class[target])
+    let c = class_of(class, State(targets[i]));
+    128 * wide(actions[i]) + wide(c.0)
 }
 
 // Gives the marks of the moves of p the value.
@@ -47,11 +48,12 @@ fn mark(
     class: &[u16; 128],
     p: State,
     value: u8,
-    marks: &mut [u8; 8192],
+    marks: &mut [u8],
 )
     requires { ⌜ MoveList n (now first) (now actions) (now targets) ⌝ }
     requires { ⌜ Bounded n (now class) ⌝ }
     requires { ⌜ p .0 < n ⌝ }
+    requires { ⌜ marksLength ≤ length (now marks) ⌝ }
     ensures { λ _. ⌜ Marked (Reaches (Listed n (now (first .entry)) (now (actions .entry)) (now (targets .entry))) (now (class .entry)) (p .0)) value (now (marks .entry)) (now (marks .exit)) ⌝ }
 {
     let at = p.0 as usize;
@@ -72,11 +74,12 @@ fn all_marked(
     targets: &[u16; 1024],
     class: &[u16; 128],
     p: State,
-    marks: &[u8; 8192],
+    marks: &[u8],
 ) -> bool
     requires { ⌜ MoveList n (now first) (now actions) (now targets) ⌝ }
     requires { ⌜ Bounded n (now class) ⌝ }
     requires { ⌜ p .0 < n ⌝ }
+    requires { ⌜ marksLength ≤ length (now marks) ⌝ }
     ensures { λ r. ⌜ Decides r (AllMarked (Reaches (Listed n (now (first .entry)) (now (actions .entry)) (now (targets .entry))) (now (class .entry)) (p .0)) (now (marks .entry))) ⌝ }
 {
     let at = p.0 as usize;
@@ -101,7 +104,7 @@ fn answered(
     class: &[u16; 128],
     p: State,
     q: State,
-    marks: &mut [u8; 8192],
+    marks: &mut [u8],
 ) -> bool
     requires { ⌜ MoveList n (now first) (now actions) (now targets) ⌝ }
     requires { ⌜ Bounded n (now class) ⌝ }
@@ -125,7 +128,7 @@ fn answers(
     class: &[u16; 128],
     p: State,
     q: State,
-    marks: &mut [u8; 8192],
+    marks: &mut [u8],
 ) -> bool
     requires { ⌜ MoveList n (now first) (now actions) (now targets) ⌝ }
     requires { ⌜ Bounded n (now class) ⌝ }
@@ -150,7 +153,7 @@ fn joins(
     next: &[u16; 128],
     p: State,
     q: State,
-    marks: &mut [u8; 8192],
+    marks: &mut [u8],
 ) -> bool
     requires { ⌜ MoveList n (now first) (now actions) (now targets) ⌝ }
     requires { ⌜ Refinable (Listed n (now first) (now actions) (now targets)) n (now class) ⌝ }
@@ -180,7 +183,7 @@ fn lowest(
     class: &[u16; 128],
     next: &[u16; 128],
     p: State,
-    marks: &mut [u8; 8192],
+    marks: &mut [u8],
 ) -> State
     requires { ⌜ MoveList n (now first) (now actions) (now targets) ⌝ }
     requires { ⌜ Refinable (Listed n (now first) (now actions) (now targets)) n (now class) ⌝ }
@@ -208,22 +211,23 @@ fn refine(
     actions: &[u16; 1024],
     targets: &[u16; 1024],
     class: &[u16; 128],
-    next: &mut [u16; 128],
-    marks: &mut [u8; 8192],
-)
+    marks: &mut [u8],
+) -> [u16; 128]
     requires { ⌜ MoveList n (now first) (now actions) (now targets) ⌝ }
     requires { ⌜ Refinable (Listed n (now first) (now actions) (now targets)) n (now class) ⌝ }
     requires { ⌜ Unmarked (now marks) ⌝ }
-    ensures { λ _. ⌜ Refined (Listed n (now (first .entry)) (now (actions .entry)) (now (targets .entry))) (now (class .entry)) (now (next .exit)) n ⌝ }
-    ensures { λ _. ⌜ Unmarked (now (marks .exit)) ⌝ }
+    ensures { λ r. ⌜ Refined (Listed n (now (first .entry)) (now (actions .entry)) (now (targets .entry))) (now (class .entry)) r n ⌝ }
+    ensures { λ r. ⌜ Unmarked (now (marks .exit)) ⌝ }
 {
+    let mut next = [0u16; 128];
     let mut p = 0;
     while p < n {
-        let d = lowest(n, first, actions, targets, class, next, State(p), marks);
+        let d = lowest(n, first, actions, targets, class, &next, State(p), marks);
         let at = p as usize;
         next[at] = d.0;
         p += 1;
     }
+    next
 }
 
 // Writes the round for p and q both ways, if it separates them.
@@ -324,11 +328,10 @@ fn rounds(n: u16, first: &[u16; 129], actions: &[u16; 1024], targets: &[u16; 102
     ensures { λ r. ⌜ Finished (Listed n (now (first .entry)) (now (actions .entry)) (now (targets .entry))) n r (now (table .entry)) (now (table .exit)) ⌝ }
 {
     let mut class = [0u16; 128];
-    let mut next = [0u16; 128];
     let mut marks = [0u8; 8192];
     let mut k = 0;
     let last = loop {
-        refine(n, first, actions, targets, &class, &mut next, &mut marks);
+        let next = refine(n, first, actions, targets, &class, &mut marks);
         if separate(table, &class, &next, k + 1, n) {
             class = next;
             k += 1;

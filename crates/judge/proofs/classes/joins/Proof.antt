@@ -1,0 +1,52 @@
+use borrow.Author.Needs.{needs}
+use Rattle.judge.proofs.classes.joins.Statement.{statement}
+use Rattle.judge.proofs.classes.joins.Tie as tie
+use Rattle.judge.proofs.classes.joins.Reads as reads
+use Rattle.judge.proofs.classes.joins.Lts as lts
+use Rattle.judge.proofs.classes.answers.Reads as answers-reads
+use Rattle.judge.proofs.classes.class_of.Reads as class-of-reads
+
+-- src/classes.rt:165:9
+class-of-requires : tie.Need-class-of-requires
+class-of-requires c κs = search needs
+
+-- src/classes.rt:167:9
+returns : tie.Need-returns
+returns c = search needs
+
+-- src/classes.rt:169:9
+class-of-requires-2 : tie.Need-class-of-requires-2
+class-of-requires-2 c κs = search needs
+
+-- src/classes.rt:170:9
+class-of-requires-3 : tie.Need-class-of-requires-3
+class-of-requires-3 c κs = search needs
+
+-- src/classes.rt:172:9
+returns-2 : tie.Need-returns-2
+returns-2 c = ?
+
+-- src/classes.rt:174:5
+answers-requires : tie.Need-answers-requires
+answers-requires c κs = search needs
+
+-- src/classes.rt:147:1
+same-length : tie.Need-same-length
+same-length c = search needs
+
+-- src/classes.rt:147:1
+returns-3 : tie.Need-returns-3
+returns-3 c = ?
+
+pub joins-spec : {M : Type 1} → statement M
+joins-spec =
+    tie.close
+    (tie.spec
+    class-of-requires
+    returns
+    class-of-requires-2
+    class-of-requires-3
+    returns-2
+    answers-requires
+    same-length
+    returns-3)
