@@ -3,6 +3,7 @@
 -- Assumes nothing.
 use mathlib.Core.Path.{_≡_, refl, sym, _∙_, subst}
 use mathlib.Core.Logic.{_⊎_, inl, inr}
+use mathlib.Core.Bool.{Bool}
 use mathlib.Core.List.{List}
 use Prim.Native.Nat.{ℕ, zero, suc, _+_, _≤_, _<_}
 use native.Mathlib.Decide.{ℕ-discrete}
@@ -14,6 +15,8 @@ use Rattle.lts.specs.TestsLaws.{lt-suc-cases, lt-or-le}
 use Rattle.lts.specs.Alike.{Moves, Answered, Answers, Alike}
 use Rattle.lts.specs.AlikeLaws.{alike-suc, alike-sym, alike-trans, answers-below}
 use Rattle.lts.specs.Game.{Settled, Separates}
+use Rattle.model.specs.Decides.{Decides}
+use Rattle.model.specs.DecidesLaws.{decides-iff}
 use Rattle.judge.specs.ClassList.{Same, Classes, Refinable, Lowest, Refined, Joins, Moved}
 
 pub eq-or-not : (a b : ℕ) → (a ≡ b) ⊎ ¬ (a ≡ b)
@@ -60,6 +63,13 @@ module _ (Move : Moves) (class : List ℕ) where
   pub answered-back : {p q : ℕ} → Answers Move (Same class) p q → Answered Move (Same class) q p
   answered-back h a q′ m = let r = h .back a q′ m in (r .0, r .1, sym (r .2))
 
+-- No state below the class of p answers p.
+pub none-below-class : {Move : Moves} {n : ℕ} {class : List ℕ} {p q : ℕ} → Refinable Move n class → p < n
+    → q ≡ getD class p 0 → (i : ℕ) → i < q → ¬ (Answers Move (Same class) p i)
+none-below-class {n = n} {p = p} R lp e i l h =
+    let li : i < n = omega (arith, R .lowest-le p lp) in
+    omega (arith, R .lowest-le i li, R .same-of-answers p i lp li h)
+
 -- ---- one entry after the other
 
 module _ {Move : Moves} {class next : List ℕ} where
@@ -90,6 +100,26 @@ module _ {Move : Moves} {class next : List ℕ} where
       here h (inr d) =
           let k : getD next q 0 < q = omega (arith, w .lowest-le) in
           none (getD next q 0) k (answers-trans Move class h (w .answers))
+
+-- ---- states that left their class
+
+module _ (class next : List ℕ) where
+  pub moved-at : {p q : ℕ} (r : Bool) → p ≡ q → Decides r (Moved class next p) → Decides r (Moved class next q)
+  moved-at r e h = subst (λ (x : ℕ). Decides r (Moved class next x)) e h
+
+  -- A state that stays in its class changes nothing.
+  pub moved-add-one : (p : ℕ) (r : Bool) → getD class p 0 ≡ getD next p 0 → Decides r (Moved class next p)
+      → Decides r (Moved class next (p + 1))
+  moved-add-one p r e = decides-iff r
+      (λ h. record { state = h .state; state-lt = omega (arith, h .state-lt); left = h .left })
+      (λ h. record { state = h .state; state-lt = below h; left = h .left })
+    where
+      below : (h : Moved class next (p + 1)) → h .state < p
+      below h = go (lt-suc-cases (subst (λ (x : ℕ). h .state < x) (add-one p) (h .state-lt)))
+        where
+          go : (h .state ≡ p) ⊎ (h .state < p) → h .state < p
+          go (inl z) = absurd (h .left (subst (λ (x : ℕ). getD class x 0 ≡ getD next x 0) (sym z) e))
+          go (inr l) = l
 
 -- ---- k-alike
 

@@ -2,7 +2,7 @@
 -- places and taking the marks away again leaves none. Assumes nothing.
 use mathlib.Core.Path.{_≡_, refl, sym, ap, _∙_, subst}
 use mathlib.Core.Logic.{_⊎_, inl, inr}
-use mathlib.Core.Bool.{Bool, true, false}
+use mathlib.Core.Bool.{Bool}
 use mathlib.Core.List.{List}
 use Prim.Native.Nat.{ℕ, _+_, _≤_, _<_}
 use native.Mathlib.Numerals.{add-one}
@@ -12,10 +12,11 @@ use lib.Seq.{getD-set-same, getD-set-other}
 use Rattle.lts.specs.TestsLaws.{lt-suc-cases}
 use Rattle.lts.specs.Alike.{Moves, Answered}
 use Rattle.model.specs.Decides.{Decides}
+use Rattle.model.specs.DecidesLaws.{decides-iff}
 use Rattle.model.specs.Limits.{stateLimit}
 use Rattle.judge.specs.MoveList.{Listed, MoveList}
 use Rattle.judge.specs.MoveListLaws.{place-lt-last}
-use Rattle.judge.specs.ClassList.{Same}
+use Rattle.judge.specs.ClassList.{Same, Refinable}
 use Rattle.judge.specs.ClassListLaws.{eq-or-not, below-add-one}
 use Rattle.judge.specs.Marks.{markPlace, moveMark, Reaches, ReachesFrom, Marked, AllMarked, Unmarked, Bounded, MoveAt}
 
@@ -83,9 +84,14 @@ unmarked-of-marked {P} {entry} {middle} {exit} u m w e = record {
     go i (inl e) (inr h) = w .given i h
     go i (inl e) (inl k) = e ∙ k ∙ u .zeros i
 
-pub decides-map : {P Q : Type 0} (b : Bool) → (P → Q) → (Q → P) → Decides b P → Decides b Q
-decides-map true f g h = f h
-decides-map false f g h = λ q. h (g q)
+-- With the places of q marked and no others, p is answered by q exactly when all places of p are marked.
+pub decides-answered : (Move : Moves) (n : ℕ) → ((p a q : ℕ) → Move p a q → q < n) → {class : List ℕ} → Bounded n class
+    → (p q : ℕ) {entry marks : List ℕ} → Unmarked entry → Marked (Reaches Move class q) 1 entry marks → (r : Bool)
+    → Decides r (AllMarked (Reaches Move class p) marks) → Decides r (Answered Move (Same class) p q)
+decides-answered Move n target-lt {class} B p q u m r =
+    decides-iff r
+    (λ h. answered-of-reaches Move n target-lt class B (λ i x. holds-of-marked u m i (h .marked i x)))
+    (λ h. record { marked = λ i x. m .given i (reaches-of-answered Move n target-lt class B h i x) })
 
 -- ---- the places of a part of the lists
 
@@ -192,6 +198,10 @@ module _ {n : ℕ} {first actions targets class : List ℕ} {p from to : ℕ} (l
       → Marked (ReachesFrom actions targets class from to) value entry exit
       → Marked (Reaches (Listed n first actions targets) class p) value entry exit
   marked-of-from m = marked-map reaches-of-reachesFrom reachesFrom-of-reaches m
+
+pub bounded-of-refinable : {Move : Moves} {n : ℕ} {class : List ℕ} → n ≤ stateLimit → Refinable Move n class
+    → Bounded n class
+bounded-of-refinable l R = record { class-lt = λ p lp. omega (arith, R .lowest-le p lp) }
 
 -- A move of a state can be marked.
 pub moveAt : {n : ℕ} {first actions targets class : List ℕ} {p i to : ℕ} → MoveList n first actions targets

@@ -137,10 +137,10 @@ fn answers(
     ensures { λ r. ⌜ Decides r (Answers (Listed n (now (first .entry)) (now (actions .entry)) (now (targets .entry))) (Same (now (class .entry))) (p .0) (q .0)) ⌝ }
     ensures { λ r. ⌜ Unmarked (now (marks .exit)) ⌝ }
 {
-    if !answered(n, first, actions, targets, class, p, q, marks) {
-        return false;
+    if answered(n, first, actions, targets, class, p, q, marks) {
+        return answered(n, first, actions, targets, class, q, p, marks);
     }
-    answered(n, first, actions, targets, class, q, p, marks)
+    false
 }
 
 // Whether q is the lowest state of its new class, and p is of that class.

@@ -1,5 +1,6 @@
 pub mod Limits
 pub mod Decides
+pub mod DecidesLaws
 pub mod Bytes
 pub mod BytesLaws
 pub mod Numbers

@@ -1,3 +1,9 @@
+-- With the moves of q marked, and no others, each move of p is looked up; then the marks are taken away again.
+use mathlib.Core.Path.{_≡_, _∙_}
+use native.Mathlib.Omega.{arith}
+use Rattle.judge.specs.MoveList.{Listed}
+use Rattle.judge.specs.MoveListLaws.{listed-target-lt}
+use Rattle.judge.specs.MarksLaws.{decides-answered, unmarked-of-marked}
 use borrow.Author.Needs.{needs}
 use Rattle.judge.proofs.classes.answered.Statement.{statement}
 use Rattle.judge.proofs.classes.answered.Tie as tie
@@ -12,11 +18,15 @@ mark-requires c κs = search needs
 
 -- src/classes.rt:117:9
 all-marked-requires : tie.Need-all-marked-requires
-all-marked-requires c κs = search needs
+all-marked-requires c κs =
+    let start = c .before .before .before .before .before .before in
+    (start .pre .0, (start .pre .1 .0, (start .pre .1 .1 .0 .0, omega (arith, start .pre .1 .1 .1 .long, c .before .before .before .mark .kept .1 .1 .1 .1 .1 .1 .1 .0))))
 
 -- src/classes.rt:118:5
 mark-requires-2 : tie.Need-mark-requires-2
-mark-requires-2 c κs = search needs
+mark-requires-2 c κs =
+    let start = c .before .before .before .before .before .before .before .before in
+    (start .pre .0, (start .pre .1 .0, (start .pre .1 .1 .0 .1, omega (arith, start .pre .1 .1 .1 .long, c .before .before .before .before .before .mark .kept .1 .1 .1 .1 .1 .1 .1 .0))))
 
 -- src/classes.rt:99:1
 same-length : tie.Need-same-length
@@ -24,7 +34,15 @@ same-length c = search needs
 
 -- src/classes.rt:99:1
 returns : tie.Need-returns
-returns c = ?
+returns c =
+    let start = c .before .before .before .before .before .before .before .before .before .before .before in
+    let L = start .pre .0 in
+    let Move = Listed (start .args .n) (start .args .first .now) (start .args .actions .now) (start .args .targets .now) in
+    let U = start .pre .1 .1 .1 in
+    let m = c .before .before .before .before .before .before .before .before .mark .ensures in (
+      decides-answered Move (start .args .n) (listed-target-lt L) (start .pre .1 .0) (start .args .p .0) (start .args .q .0) U m (c .before .before .before .before .all-marked .result) (c .before .before .before .before .all-marked .ensures),
+      unmarked-of-marked U m (c .before .before .mark2 .ensures) (c .before .before .mark2 .kept .1 .1 .1 .1 .1 .1 .1 .0 ∙ c .before .before .before .before .before .before .before .before .mark .kept .1 .1 .1 .1 .1 .1 .1 .0),
+    )
 
 pub answered-spec : {M : Type 1} → statement M
 answered-spec =

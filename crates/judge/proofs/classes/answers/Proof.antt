@@ -1,35 +1,50 @@
+-- Answers is Answered both ways.
+use native.Mathlib.Omega.{arith}
+use Rattle.lts.specs.Alike.{Answered}
+use Rattle.model.specs.DecidesLaws.{decides-true, decides-false, decides-iff}
+use Rattle.judge.specs.MoveList.{Listed}
+use Rattle.judge.specs.ClassList.{Same}
+use Rattle.judge.specs.ClassListLaws.{answers-of-both, answered-back}
 use borrow.Author.Needs.{needs}
 use Rattle.judge.proofs.classes.answers.Statement.{statement}
 use Rattle.judge.proofs.classes.answers.Tie as tie
-use Rattle.judge.proofs.classes.answers.Reads as reads
-use Rattle.judge.proofs.classes.answers.Lts as lts
-use Rattle.judge.proofs.classes.answered.Reads as answered-reads
 
--- src/classes.rt:140:9
 answered-requires : tie.Need-answered-requires
 answered-requires c κs = search needs
 
--- src/classes.rt:141:9
+answered-requires-2 : tie.Need-answered-requires-2
+answered-requires-2 c κs =
+    let start = c .before .before .before .before .before .before .before in
+    (start .pre .0, (start .pre .1 .0, ((start .pre .1 .1 .0 .1, start .pre .1 .1 .0 .0), c .before .before .before .before .answered .ensures .1)))
+
 same-length : tie.Need-same-length
 same-length c = search needs
 
--- src/classes.rt:141:9
 returns : tie.Need-returns
-returns c = ?
+returns c =
+    let start = c .before .before .before .before .before .before .before .before .before .before in
+    let Move = Listed (start .args .n) (start .args .first .now) (start .args .actions .now) (start .args .targets .now) in
+    let class = start .args .class .now in
+    let first : Answered Move (Same class) (start .args .p .0) (start .args .q .0) =
+    decides-true _ _ (c .before .before .before .before .before .before .before .answered .ensures .0) (c .before .before .before .before .if1 .taken) in
+    let second = c .before .before .answered2 in
+    (decides-iff (second .result) (answers-of-both Move class first) (answered-back Move class) (second .ensures .0), second .ensures .1)
 
--- src/classes.rt:143:5
-answered-requires-2 : tie.Need-answered-requires-2
-answered-requires-2 c κs = search needs
-
--- src/classes.rt:123:1
 same-length-2 : tie.Need-same-length-2
 same-length-2 c = search needs
 
--- src/classes.rt:123:1
 returns-2 : tie.Need-returns-2
-returns-2 c = ?
+returns-2 c =
+    let first = c .before .before .before .answered .ensures in
+    (λ h. decides-false _ _ (first .0) (c .if1 .left) (h .there), first .1)
 
 pub answers-spec : {M : Type 1} → statement M
 answers-spec =
     tie.close
-    (tie.spec answered-requires same-length returns answered-requires-2 same-length-2 returns-2)
+    (tie.spec
+    answered-requires
+    answered-requires-2
+    same-length
+    returns
+    same-length-2
+    returns-2)

@@ -1,3 +1,8 @@
+-- A state of another old class cannot answer.
+use mathlib.Core.Path.{sym, _∙_}
+use native.Mathlib.Omega.{arith}
+use Rattle.model.specs.DecidesLaws.{decides-iff}
+use Rattle.judge.specs.MarksLaws.{bounded-of-refinable}
 use borrow.Author.Needs.{needs}
 use Rattle.judge.proofs.classes.joins.Statement.{statement}
 use Rattle.judge.proofs.classes.joins.Tie as tie
@@ -24,11 +29,20 @@ class-of-requires-3 c κs = search needs
 
 -- src/classes.rt:172:9
 returns-2 : tie.Need-returns-2
-returns-2 c = ?
+returns-2 c =
+    let start = c .before .before .before .before .before .before .before .before .before .before in
+    let l = start .pre .1 .1 .0 in (
+      λ h. c .if2 .taken (c .before .before .before .before .class-of2 .ensures
+      ∙ start .pre .1 .0 .same-of-answers (start .args .p .0) (start .args .q .0) (l .0) (l .1) (h .answers)
+      ∙ sym (c .before .before .before .class-of3 .ensures)),
+      start .pre .1 .1 .1,
+    )
 
 -- src/classes.rt:174:5
 answers-requires : tie.Need-answers-requires
-answers-requires c κs = search needs
+answers-requires c κs =
+    let P = c .before .before .before .before .before .before .before .before .before .before .before .pre in
+    (P .0, (bounded-of-refinable (P .0 .states-le) (P .1 .0), (P .1 .1 .0, P .1 .1 .1)))
 
 -- src/classes.rt:147:1
 same-length : tie.Need-same-length
@@ -36,7 +50,13 @@ same-length c = search needs
 
 -- src/classes.rt:147:1
 returns-3 : tie.Need-returns-3
-returns-3 c = ?
+returns-3 c =
+    let a = c .before .before .answers in (
+      decides-iff (a .result)
+      (λ h. record { represents = sym (c .before .before .before .before .before .before .before .before .before .before .before .before .class-of .ensures) ∙ c .before .before .before .before .before .before .before .before .before .if1 .left; answers = h })
+      (λ h. h .answers) (a .ensures .0),
+      a .ensures .1,
+    )
 
 pub joins-spec : {M : Type 1} → statement M
 joins-spec =

@@ -1,34 +1,41 @@
+-- A state that stays in its class needs no row; one that left it gets its row.
+use mathlib.Core.Path.{sym, _∙_}
+use native.Mathlib.Omega.{arith}
+use Rattle.judge.specs.ClassListLaws.{moved-add-one}
+use Rattle.judge.specs.TableWritesLaws.{written-refl, rows-stay, rows-add-one}
 use borrow.Author.Needs.{needs}
 use Rattle.judge.proofs.classes.write_moved.Statement.{statement}
 use Rattle.judge.proofs.classes.write_moved.Tie as tie
-use Rattle.judge.proofs.classes.write_moved.Reads as reads
-use Rattle.judge.proofs.classes.write_moved.Lts as lts
-use Rattle.judge.proofs.classes.class_of.Reads as class-of-reads
-use Rattle.judge.proofs.classes.write_row.Reads as write-row-reads
 
--- src/classes.rt:288:9
 class-of-requires : tie.Need-class-of-requires
 class-of-requires c κs = search needs
 
--- src/classes.rt:289:9
 class-of-requires-2 : tie.Need-class-of-requires-2
 class-of-requires-2 c κs = search needs
 
--- src/classes.rt:291:9
 returns : tie.Need-returns
-returns c = ?
+returns c =
+    let start = c .before .before .before .before .before .before in
+    let a = start .args in
+    let e = sym (c .before .before .before .before .class-of .ensures) ∙ c .if1 .taken ∙ c .before .before .before .class-of2 .ensures in
+    (written-refl _, (moved-add-one (a .class .now) (a .next .now) (a .p .0) (a .found) e (start .pre .1 .1 .0), rows-add-one (start .pre .1 .1 .1) (λ z. absurd (z e))))
 
--- src/classes.rt:293:5
 write-row-requires : tie.Need-write-row-requires
 write-row-requires c κs = search needs
 
--- src/classes.rt:271:1
 same-length : tie.Need-same-length
 same-length c = search needs
 
--- src/classes.rt:271:1
 returns-2 : tie.Need-returns-2
-returns-2 c = ?
+returns-2 c =
+    let start = c .before .before .before .before .before .before .before .before .before .before in
+    let m = c .before .before .write-row in (
+      m .ensures .0,
+      (
+        record { state = start .args .p .0; state-lt = omega arith; left = λ e. c .before .before .before .before .if1 .left (c .before .before .before .before .before .before .before .before .class-of .ensures ∙ e ∙ sym (c .before .before .before .before .before .before .before .class-of2 .ensures)) },
+        rows-add-one (rows-stay (m .ensures .0) (omega arith) (start .pre .1 .1 .1)) (λ _. m .ensures .1),
+      ),
+    )
 
 pub write-moved-spec : {M : Type 1} → statement M
 write-moved-spec =
