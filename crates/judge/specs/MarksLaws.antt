@@ -4,10 +4,10 @@ use mathlib.Core.Path.{_≡_, refl, sym, ap, _∙_, subst}
 use mathlib.Core.Logic.{_⊎_, inl, inr}
 use mathlib.Core.Bool.{Bool}
 use mathlib.Core.List.{List}
-use Prim.Native.Nat.{ℕ, _+_, _≤_, _<_}
+use Prim.Native.Nat.{ℕ, zero, suc, _+_, _≤_, _<_}
 use native.Mathlib.Numerals.{add-one}
 use native.Mathlib.Omega.{arith}
-use lib.ListN.{length, getD, set, replicate}
+use lib.ListN.{length, getD, set, replicate, length-replicate}
 use lib.Seq.{getD-set-same, getD-set-other}
 use Rattle.lts.specs.TestsLaws.{lt-suc-cases}
 use Rattle.lts.specs.Alike.{Moves, Answered}
@@ -18,7 +18,7 @@ use Rattle.judge.specs.MoveList.{Listed, MoveList}
 use Rattle.judge.specs.MoveListLaws.{place-lt-last}
 use Rattle.judge.specs.ClassList.{Same, Refinable}
 use Rattle.judge.specs.ClassListLaws.{eq-or-not, below-add-one}
-use Rattle.judge.specs.Marks.{markPlace, moveMark, Reaches, ReachesFrom, Marked, AllMarked, Unmarked, Bounded, MoveAt}
+use Rattle.judge.specs.Marks.{marksLength, markPlace, moveMark, Reaches, ReachesFrom, Marked, AllMarked, Unmarked, Bounded, MoveAt}
 
 -- ---- what the places say
 
@@ -60,6 +60,16 @@ marked-map {P} {Q} {value} {entry} {exit} f g m = record {
     go : (i : ℕ) → (getD exit i 0 ≡ getD entry i 0) ⊎ P i → (getD exit i 0 ≡ getD entry i 0) ⊎ Q i
     go i (inl e) = inl e
     go i (inr h) = inr (f i h)
+
+-- ---- lists of zeros
+
+pub getD-zeros : (n p : ℕ) → _≡_ {A = ℕ} (getD (replicate n 0) p 0) 0
+getD-zeros zero p = refl
+getD-zeros (suc n) zero = refl
+getD-zeros (suc n) (suc p) = getD-zeros n p
+
+pub unmarked-zeros : (n : ℕ) → marksLength ≤ n → Unmarked (replicate n 0)
+unmarked-zeros n l = record { long = omega (arith, length-replicate n (zero)); zeros = getD-zeros n }
 
 -- Where nothing was marked, just the places of P are marked now.
 pub holds-of-marked : {P : ℕ → Type 0} {entry exit : List ℕ} → Unmarked entry → Marked P 1 entry exit → (i : ℕ)

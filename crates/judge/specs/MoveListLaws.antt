@@ -12,7 +12,8 @@ use lib.ListN.{getD}
 use Rattle.lts.specs.Tests.{any}
 use Rattle.lts.specs.TestsLaws.{and-intro, and-left, and-right, any→Some, Some→any}
 use Rattle.lts.specs.Alike.{Moves}
-use Rattle.lts.specs.Game.{Game}
+use Rattle.lts.specs.Game.{Game, Separates}
+use Rattle.lts.specs.ClassesLaws.{rounds-lt}
 use Rattle.lts.specs.Decided.{Decided, answers?}
 use Rattle.lts.specs.DecidedLaws.{decided-game}
 use Rattle.model.specs.Limits.{actionLimit}
@@ -85,3 +86,8 @@ module _ {n : ℕ} {first actions targets : List ℕ} (L : MoveList n first acti
 
   pub listed-game : Game (Listed n first actions targets) n (answers? n actionLimit (listed? n first actions targets))
   listed-game = decided-game (Listed n first actions targets) n actionLimit (listed? n first actions targets) listed-decided
+
+  -- There are fewer separating rounds than states.
+  pub listed-rounds-lt : (k : ℕ) → ((j : ℕ) → j < k → Separates (Listed n first actions targets) n j) → k < n
+  listed-rounds-lt k h = rounds-lt (Listed n first actions targets) n
+      (answers? n actionLimit (listed? n first actions targets)) listed-game (L .some-state) k h

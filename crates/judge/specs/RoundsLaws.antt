@@ -16,8 +16,18 @@ use Rattle.lts.specs.GameLaws.{separated-of-separates, bisimilar-of-settled, ra
 use Rattle.model.specs.Limits.{stateLimit}
 use Rattle.judge.specs.Lists.{tableLength, pairPlace, Past}
 use Rattle.judge.specs.Table.{SomePair, Ranks, LastRound, Greatest, Ranked}
-use Rattle.judge.specs.ClassListLaws.{below-add-one}
-use Rattle.judge.specs.TableWrites.{entryOf, RankUpTo, RanksUpTo, Cleared, Finished}
+use Rattle.judge.specs.ClassList.{Classes, Refined, Moved}
+use Rattle.judge.specs.ClassListLaws.{below-add-one, classes-suc, separates-of-moved, settled-of-not-moved}
+use Rattle.judge.specs.TableWrites.{
+  entryOf,
+  Written,
+  RowsWritten,
+  RankUpTo,
+  RanksUpTo,
+  Cleared,
+  Finished,
+}
+use Rattle.judge.specs.TableWritesLaws.{ranksUpTo-suc}
 
 -- ---- the cleared table
 
@@ -37,6 +47,29 @@ pub ranksUpTo-zero : (Move : Moves) {n : ℕ} {t u : List ℕ} → n ≤ stateLi
     → RanksUpTo Move n 0 u
 unfolding Alike
 ranksUpTo-zero Move l C = record { found = λ p q lp lq. inl (C .zeros (pairPlace p q) (omega arith), tt) }
+
+-- ---- one round
+
+module _ (Move : Moves) (n : ℕ) (target-lt : (p a q : ℕ) → Move p a q → q < n) {class next : List ℕ} {k : ℕ}
+    (C : Classes Move n k class) (R : Refined Move class next n) where
+  D : Classes Move n (suc k) next
+  D = classes-suc Move n target-lt C R
+
+  pub round-classes : Classes Move n (k + 1) next
+  round-classes = subst (λ (j : ℕ). Classes Move n j next) (sym (add-one k)) D
+
+  pub round-ranks : {t u : List ℕ} → Written n class next (k + 1) t u → RowsWritten class next (k + 1) u n n
+      → RanksUpTo Move n k t → RanksUpTo Move n (k + 1) u
+  round-ranks {t} {u} W rows U = subst (λ (j : ℕ). RanksUpTo Move n j u) (sym (add-one k))
+      (ranksUpTo-suc Move n target-lt C D (subst (λ (j : ℕ). Written n class next j t u) (add-one k) W)
+      (subst (λ (j : ℕ). RowsWritten class next j u n n) (add-one k) rows) U)
+
+  pub round-separates : ((j : ℕ) → j < k → Separates Move n j) → Moved class next n → (j : ℕ) → j < k + 1
+      → Separates Move n j
+  round-separates h m = below-add-one k h (separates-of-moved Move n target-lt C D m)
+
+  pub round-settled : ¬ (Moved class next n) → Settled Move n k
+  round-settled m = settled-of-not-moved Move n target-lt C D m
 
 -- ---- after the last round
 
