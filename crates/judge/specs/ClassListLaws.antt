@@ -1,6 +1,6 @@
--- One round on class lists makes the classes of (k+1)-alike states from those of k-alike states; a state that leaves its
--- class shows a separated pair, and where none does the round separates nothing. Document 01, "Alike" and operation 3.
--- Assumes nothing.
+-- One round on class lists makes the classes of (k+1)-alike states from those of k-alike states; a state that leaves
+-- its class shows a separated pair, and where none does the round separates nothing. Document 01, "Alike" and
+-- operation 3. Assumes nothing.
 use mathlib.Core.Path.{_≡_, refl, sym, _∙_, subst}
 use mathlib.Core.Logic.{_⊎_, inl, inr}
 use mathlib.Core.Bool.{Bool}
@@ -135,7 +135,8 @@ module _ (Move : Moves) (n : ℕ) (target-lt : (p a q : ℕ) → Move p a q → 
 
   module _ {class : List ℕ} {k : ℕ} (C : Classes Move n k class) where
     pub same-of-alike : (p q : ℕ) → p < n → q < n → Alike Move k p q → Same class p q
-    same-of-alike p q lp lq h = go (lt-or-le (getD class p 0) (getD class q 0)) (lt-or-le (getD class q 0) (getD class p 0))
+    same-of-alike p q lp lq h =
+        go (lt-or-le (getD class p 0) (getD class q 0)) (lt-or-le (getD class q 0) (getD class p 0))
       where
         go : (getD class p 0 < getD class q 0) ⊎ (getD class q 0 ≤ getD class p 0)
             → (getD class q 0 < getD class p 0) ⊎ (getD class p 0 ≤ getD class q 0) → Same class p q

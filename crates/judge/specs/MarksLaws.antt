@@ -18,35 +18,47 @@ use Rattle.judge.specs.MoveList.{Listed, MoveList}
 use Rattle.judge.specs.MoveListLaws.{place-lt-last}
 use Rattle.judge.specs.ClassList.{Same, Refinable}
 use Rattle.judge.specs.ClassListLaws.{eq-or-not, below-add-one}
-use Rattle.judge.specs.Marks.{marksLength, markPlace, moveMark, Reaches, ReachesFrom, Marked, AllMarked, Unmarked, Bounded, MoveAt}
+use Rattle.judge.specs.Marks.{
+  marksLength,
+  markPlace,
+  moveMark,
+  Reaches,
+  ReachesFrom,
+  Marked,
+  AllMarked,
+  Unmarked,
+  Bounded,
+  MoveAt,
+}
 
 -- ---- what the places say
 
 module _ (Move : Moves) (n : ℕ) (target-lt : (p a q : ℕ) → Move p a q → q < n) (class : List ℕ) (B : Bounded n class)
-    where
-  pub reaches-of-answered : {p q : ℕ} → Answered Move (Same class) p q → (i : ℕ) → Reaches Move class p i
-      → Reaches Move class q i
-  reaches-of-answered h i x =
-      let r = h (x .action) (x .target) (x .move) in
-      record {
-        action = x .action;
-        target = r .0;
-        move = r .1;
-        place-is = ap (markPlace (x .action)) (sym (r .2)) ∙ x .place-is;
-      }
+  where
+    pub reaches-of-answered : {p q : ℕ} → Answered Move (Same class) p q → (i : ℕ) → Reaches Move class p i
+        → Reaches Move class q i
+    reaches-of-answered h i x =
+        let r = h (x .action) (x .target) (x .move) in
+        record {
+          action = x .action;
+          target = r .0;
+          move = r .1;
+          place-is = ap (markPlace (x .action)) (sym (r .2)) ∙ x .place-is;
+        }
 
-  pub answered-of-reaches : {p q : ℕ} → ((i : ℕ) → Reaches Move class p i → Reaches Move class q i)
-      → Answered Move (Same class) p q
-  answered-of-reaches {p} {q} h a p′ m =
-      let x : Reaches Move class p (markPlace a (getD class p′ 0)) =
-      record { action = a; target = p′; move = m; place-is = refl } in
-      let y = h (markPlace a (getD class p′ 0)) x in
-      let lp : getD class p′ 0 < stateLimit = B .class-lt p′ (target-lt p a p′ m) in
-      let lq : getD class (y .target) 0 < stateLimit = B .class-lt (y .target) (target-lt q (y .action) (y .target) (y .move)) in
-      let e : markPlace (y .action) (getD class (y .target) 0) ≡ markPlace a (getD class p′ 0) = y .place-is in
-      let ea : y .action ≡ a = omega (arith, e, lp, lq) in
-      let ec : getD class p′ 0 ≡ getD class (y .target) 0 = omega (arith, e, lp, lq) in
-      (y .target, subst (λ (b : ℕ). Move q b (y .target)) ea (y .move), ec)
+    pub answered-of-reaches : {p q : ℕ} → ((i : ℕ) → Reaches Move class p i → Reaches Move class q i)
+        → Answered Move (Same class) p q
+    answered-of-reaches {p} {q} h a p′ m =
+        let x : Reaches Move class p (markPlace a (getD class p′ 0)) =
+        record { action = a; target = p′; move = m; place-is = refl } in
+        let y = h (markPlace a (getD class p′ 0)) x in
+        let lp : getD class p′ 0 < stateLimit = B .class-lt p′ (target-lt p a p′ m) in
+        let lq : getD class (y .target) 0 < stateLimit =
+        B .class-lt (y .target) (target-lt q (y .action) (y .target) (y .move)) in
+        let e : markPlace (y .action) (getD class (y .target) 0) ≡ markPlace a (getD class p′ 0) = y .place-is in
+        let ea : y .action ≡ a = omega (arith, e, lp, lq) in
+        let ec : getD class p′ 0 ≡ getD class (y .target) 0 = omega (arith, e, lp, lq) in
+        (y .target, subst (λ (b : ℕ). Move q b (y .target)) ea (y .move), ec)
 
 -- ---- marking
 
@@ -95,10 +107,10 @@ unmarked-of-marked {P} {entry} {middle} {exit} u m w e = record {
     go i (inl e) (inl k) = e ∙ k ∙ u .zeros i
 
 -- With the places of q marked and no others, p is answered by q exactly when all places of p are marked.
-pub decides-answered : (Move : Moves) (n : ℕ) → ((p a q : ℕ) → Move p a q → q < n) → {class : List ℕ} → Bounded n class
-    → (p q : ℕ) {entry marks : List ℕ} → Unmarked entry → Marked (Reaches Move class q) 1 entry marks → (r : Bool)
+pub decides-answered : {Move : Moves} {n : ℕ} {class : List ℕ} → ((p a q : ℕ) → Move p a q → q < n) → Bounded n class
+    → (p : ℕ) {q : ℕ} {entry marks : List ℕ} → Unmarked entry → Marked (Reaches Move class q) 1 entry marks → (r : Bool)
     → Decides r (AllMarked (Reaches Move class p) marks) → Decides r (Answered Move (Same class) p q)
-decides-answered Move n target-lt {class} B p q u m r =
+decides-answered {Move} {n} {class} target-lt B p u m r =
     decides-iff r
     (λ h. answered-of-reaches Move n target-lt class B (λ i x. holds-of-marked u m i (h .marked i x)))
     (λ h. record { marked = λ i x. m .given i (reaches-of-answered Move n target-lt class B h i x) })
@@ -115,7 +127,8 @@ module _ {actions targets class : List ℕ} where
       go (inl e) = inl (ap (moveMark actions targets class) (sym e) ∙ h .place-is)
       go (inr l) = inr (record { move = h .move; from-le = h .from-le; move-lt = l; place-is = h .place-is })
 
-  pub marked-zero : {from value : ℕ} (marks : List ℕ) → Marked (ReachesFrom actions targets class from from) value marks marks
+  pub marked-zero : {from value : ℕ} (marks : List ℕ)
+      → Marked (ReachesFrom actions targets class from from) value marks marks
   marked-zero marks = record {
     given = λ i h. absurd (omega (arith, h .from-le, h .move-lt));
     kept = λ i. inl refl;

@@ -85,7 +85,8 @@ module _ {n : ℕ} {first actions targets : List ℕ} (L : MoveList n first acti
   }
 
   pub listed-game : Game (Listed n first actions targets) n (answers? n actionLimit (listed? n first actions targets))
-  listed-game = decided-game (Listed n first actions targets) n actionLimit (listed? n first actions targets) listed-decided
+  listed-game =
+      decided-game (Listed n first actions targets) n actionLimit (listed? n first actions targets) listed-decided
 
   -- There are fewer separating rounds than states.
   pub listed-rounds-lt : (k : ℕ) → ((j : ℕ) → j < k → Separates (Listed n first actions targets) n j) → k < n

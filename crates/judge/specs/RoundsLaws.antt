@@ -50,7 +50,7 @@ ranksUpTo-zero Move l C = record { found = λ p q lp lq. inl (C .zeros (pairPlac
 
 -- ---- one round
 
-module _ (Move : Moves) (n : ℕ) (target-lt : (p a q : ℕ) → Move p a q → q < n) {class next : List ℕ} {k : ℕ}
+module _ {Move : Moves} {n : ℕ} (target-lt : (p a q : ℕ) → Move p a q → q < n) {class next : List ℕ} {k : ℕ}
     (C : Classes Move n k class) (R : Refined Move class next n) where
   D : Classes Move n (suc k) next
   D = classes-suc Move n target-lt C R
@@ -73,7 +73,7 @@ module _ (Move : Moves) (n : ℕ) (target-lt : (p a q : ℕ) → Move p a q → 
 
 -- ---- after the last round
 
-module _ (Move : Moves) (n : ℕ) (round : (ℕ → ℕ → Bool) → ℕ → ℕ → Bool) (G : Game Move n round) (some : 0 < n)
+module _ {Move : Moves} {n : ℕ} {round : (ℕ → ℕ → Bool) → ℕ → ℕ → Bool} (G : Game Move n round) (some : 0 < n)
     {last : ℕ} {t u w : List ℕ} (limit : n ≤ stateLimit) (C : Cleared tableLength t u) (F : Finished Move n last u w)
     (same-length : length w ≡ length t) where
   -- A pair that round `last` separated, if there is such a round.

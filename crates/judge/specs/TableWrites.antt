@@ -1,5 +1,5 @@
--- What a round writes into the table, over class lists before and after it. Only the contracts of inner functions cite it.
--- Document 01, operation 3.
+-- What a round writes into the table, over the class lists before and after it. Only the contracts of inner functions
+-- cite it. Document 01, operation 3.
 use mathlib.Core.List.{List}
 use mathlib.Core.Logic.{_⊎_}
 use mathlib.Core.Path.{_≡_}

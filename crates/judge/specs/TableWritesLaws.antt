@@ -1,5 +1,5 @@
--- The rows of the states that left their class hold every pair that the round separates, so the table is right one round
--- further; after the last round it holds the ranks. Document 01, operation 3. Assumes nothing.
+-- The rows of the states that left their class hold every pair that the round separates, so the table is right one
+-- round further. Document 01, operation 3. Assumes nothing.
 use mathlib.Core.Path.{_≡_, refl, sym, ap, _∙_, subst}
 use mathlib.Core.Logic.{_⊎_, inl, inr}
 use mathlib.Core.Bool.{Bool}
@@ -104,7 +104,7 @@ module _ {n : ℕ} {class next : List ℕ} {round : ℕ} where
           inr (
             subst (λ (z : ℕ). SeparatedBy class next x z) eq (subst (λ (z : ℕ). SeparatedBy class next z q) ep h),
             ap (λ (z : ℕ). getD (set t (pairPlace p q) round) z 0) e
-            ∙ getD-set-same t (pairPlace p q) round 0 (omega arith),
+                ∙ getD-set-same t (pairPlace p q) round 0 (omega arith),
           )
 
       elsewhere : (x y : ℕ) → y < stateLimit → (n ≤ x) ⊎ (n ≤ y) → pairPlace x y ≡ pairPlace p q → ⊥
@@ -129,7 +129,7 @@ module _ {class next : List ℕ} (round : ℕ) (t : List ℕ) {p q : ℕ} (lp : 
       record {
         both = λ _. (
           written-stays (second stateLimit (omega arith) lp lq) p q lp lq
-          (getD-set-same t (pairPlace p q) round 0 (omega arith)),
+              (getD-set-same t (pairPlace p q) round 0 (omega arith)),
           getD-set-same (set t (pairPlace p q) round) (pairPlace q p) round 0 (omega arith),
         );
       }

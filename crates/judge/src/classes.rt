@@ -1,7 +1,6 @@
 // Ranks by classes, over moves given as lists: entry p of a class list is the lowest state of the class of p, and each
 // round compares states by the classes of the round before.
 use model::State;
-
 ghost use mathlib.Core.Path.{_≡_};
 ghost use Prim.Native.Nat.{ℕ, _+_, _≤_, _<_};
 ghost use lib.ListN.{length, getD};
@@ -54,7 +53,9 @@ fn mark(
     requires { ⌜ Bounded n (now class) ⌝ }
     requires { ⌜ p .0 < n ⌝ }
     requires { ⌜ marksLength ≤ length (now marks) ⌝ }
-    ensures { λ _. ⌜ Marked (Reaches (Listed n (now (first .entry)) (now (actions .entry)) (now (targets .entry))) (now (class .entry)) (p .0)) value (now (marks .entry)) (now (marks .exit)) ⌝ }
+    ensures { λ _. ⌜ Marked
+        (Reaches (Listed n (now (first .entry)) (now (actions .entry)) (now (targets .entry))) (now (class .entry))
+        (p .0)) value (now (marks .entry)) (now (marks .exit)) ⌝ }
 {
     let at = p.0 as usize;
     let to = wide(first[at + 1]);
@@ -80,7 +81,9 @@ fn all_marked(
     requires { ⌜ Bounded n (now class) ⌝ }
     requires { ⌜ p .0 < n ⌝ }
     requires { ⌜ marksLength ≤ length (now marks) ⌝ }
-    ensures { λ r. ⌜ Decides r (AllMarked (Reaches (Listed n (now (first .entry)) (now (actions .entry)) (now (targets .entry))) (now (class .entry)) (p .0)) (now (marks .entry))) ⌝ }
+    ensures { λ r. ⌜ Decides r
+        (AllMarked (Reaches (Listed n (now (first .entry)) (now (actions .entry)) (now (targets .entry)))
+        (now (class .entry)) (p .0)) (now (marks .entry))) ⌝ }
 {
     let at = p.0 as usize;
     let to = wide(first[at + 1]);
@@ -110,7 +113,9 @@ fn answered(
     requires { ⌜ Bounded n (now class) ⌝ }
     requires { ⌜ (p .0 < n) × (q .0 < n) ⌝ }
     requires { ⌜ Unmarked (now marks) ⌝ }
-    ensures { λ r. ⌜ Decides r (Answered (Listed n (now (first .entry)) (now (actions .entry)) (now (targets .entry))) (Same (now (class .entry))) (p .0) (q .0)) ⌝ }
+    ensures { λ r. ⌜ Decides r
+        (Answered (Listed n (now (first .entry)) (now (actions .entry)) (now (targets .entry)))
+        (Same (now (class .entry))) (p .0) (q .0)) ⌝ }
     ensures { λ r. ⌜ Unmarked (now (marks .exit)) ⌝ }
 {
     mark(n, first, actions, targets, class, q, 1, marks);
@@ -134,7 +139,9 @@ fn answers(
     requires { ⌜ Bounded n (now class) ⌝ }
     requires { ⌜ (p .0 < n) × (q .0 < n) ⌝ }
     requires { ⌜ Unmarked (now marks) ⌝ }
-    ensures { λ r. ⌜ Decides r (Answers (Listed n (now (first .entry)) (now (actions .entry)) (now (targets .entry))) (Same (now (class .entry))) (p .0) (q .0)) ⌝ }
+    ensures { λ r. ⌜ Decides r
+        (Answers (Listed n (now (first .entry)) (now (actions .entry)) (now (targets .entry)))
+        (Same (now (class .entry))) (p .0) (q .0)) ⌝ }
     ensures { λ r. ⌜ Unmarked (now (marks .exit)) ⌝ }
 {
     if answered(n, first, actions, targets, class, p, q, marks) {
@@ -159,16 +166,18 @@ fn joins(
     requires { ⌜ Refinable (Listed n (now first) (now actions) (now targets)) n (now class) ⌝ }
     requires { ⌜ (p .0 < n) × (q .0 < n) ⌝ }
     requires { ⌜ Unmarked (now marks) ⌝ }
-    ensures { λ r. ⌜ Decides r (Joins (Listed n (now (first .entry)) (now (actions .entry)) (now (targets .entry))) (now (class .entry)) (now (next .entry)) (p .0) (q .0)) ⌝ }
+    ensures { λ r. ⌜ Decides r
+        (Joins (Listed n (now (first .entry)) (now (actions .entry)) (now (targets .entry))) (now (class .entry))
+        (now (next .entry)) (p .0) (q .0)) ⌝ }
     ensures { λ r. ⌜ Unmarked (now (marks .exit)) ⌝ }
 {
-    let d = class_of(next, q);
-    if d.0 != q.0 {
+    let own = class_of(next, q);
+    if own.0 != q.0 {
         return false;
     }
-    let b = class_of(class, p);
-    let c = class_of(class, q);
-    if b.0 != c.0 {
+    let a = class_of(class, p);
+    let b = class_of(class, q);
+    if a.0 != b.0 {
         return false;
     }
     answers(n, first, actions, targets, class, p, q, marks)
@@ -190,7 +199,8 @@ fn lowest(
     requires { ⌜ Refined (Listed n (now first) (now actions) (now targets)) (now class) (now next) (p .0) ⌝ }
     requires { ⌜ p .0 < n ⌝ }
     requires { ⌜ Unmarked (now marks) ⌝ }
-    ensures { λ r. ⌜ Lowest (Listed n (now (first .entry)) (now (actions .entry)) (now (targets .entry))) (now (class .entry)) (p .0) (r .0) ⌝ }
+    ensures { λ r. ⌜ Lowest (Listed n (now (first .entry)) (now (actions .entry)) (now (targets .entry)))
+        (now (class .entry)) (p .0) (r .0) ⌝ }
     ensures { λ r. ⌜ Unmarked (now (marks .exit)) ⌝ }
 {
     let c = class_of(class, p);
@@ -216,7 +226,8 @@ fn refine(
     requires { ⌜ MoveList n (now first) (now actions) (now targets) ⌝ }
     requires { ⌜ Refinable (Listed n (now first) (now actions) (now targets)) n (now class) ⌝ }
     requires { ⌜ Unmarked (now marks) ⌝ }
-    ensures { λ r. ⌜ Refined (Listed n (now (first .entry)) (now (actions .entry)) (now (targets .entry))) (now (class .entry)) r n ⌝ }
+    ensures { λ r. ⌜ Refined (Listed n (now (first .entry)) (now (actions .entry)) (now (targets .entry)))
+        (now (class .entry)) r n ⌝ }
     ensures { λ r. ⌜ Unmarked (now (marks .exit)) ⌝ }
 {
     let mut next = [0u16; 128];
@@ -231,10 +242,18 @@ fn refine(
 }
 
 // Writes the round for p and q both ways, if it separates them.
-fn write_pair(table: &mut [u8], class: &[u16; 128], next: &[u16; 128], round: u8, p: State, q: State)
+fn write_pair(
+    table: &mut [u8],
+    class: &[u16; 128],
+    next: &[u16; 128],
+    round: u8,
+    p: State,
+    q: State,
+)
     requires { ⌜ tableLength ≤ length (now table) ⌝ }
     requires { ⌜ (p .0 < stateLimit) × (q .0 < stateLimit) ⌝ }
-    ensures { λ _. ⌜ ((n : ℕ) → n ≤ stateLimit → p .0 < n → q .0 < n → Written n (now (class .entry)) (now (next .entry)) round (now (table .entry)) (now (table .exit))) ⌝ }
+    ensures { λ _. ⌜ ((n : ℕ) → n ≤ stateLimit → p .0 < n → q .0 < n → Written n (now (class .entry))
+        (now (next .entry)) round (now (table .entry)) (now (table .exit))) ⌝ }
     ensures { λ _. ⌜ PairWritten (now (class .entry)) (now (next .entry)) round (now (table .exit)) (p .0) (q .0) ⌝ }
 {
     let a = class_of(class, p);
@@ -257,7 +276,8 @@ fn write_pair(table: &mut [u8], class: &[u16; 128], next: &[u16; 128], round: u8
 fn write_row(table: &mut [u8], class: &[u16; 128], next: &[u16; 128], round: u8, n: u16, p: State)
     requires { ⌜ tableLength ≤ length (now table) ⌝ }
     requires { ⌜ (n ≤ stateLimit) × (p .0 < n) ⌝ }
-    ensures { λ _. ⌜ Written n (now (class .entry)) (now (next .entry)) round (now (table .entry)) (now (table .exit)) ⌝ }
+    ensures { λ _. ⌜ Written n (now (class .entry)) (now (next .entry)) round (now (table .entry))
+        (now (table .exit)) ⌝ }
     ensures { λ _. ⌜ RowWritten (now (class .entry)) (now (next .entry)) round (now (table .exit)) (p .0) n ⌝ }
 {
     let mut q = 0;
@@ -281,13 +301,14 @@ fn write_moved(
     requires { ⌜ (n ≤ stateLimit) × (p .0 < n) ⌝ }
     requires { ⌜ Decides found (Moved (now class) (now next) (p .0)) ⌝ }
     requires { ⌜ RowsWritten (now class) (now next) round (now table) (p .0) n ⌝ }
-    ensures { λ r. ⌜ Written n (now (class .entry)) (now (next .entry)) round (now (table .entry)) (now (table .exit)) ⌝ }
+    ensures { λ r. ⌜ Written n (now (class .entry)) (now (next .entry)) round (now (table .entry))
+        (now (table .exit)) ⌝ }
     ensures { λ r. ⌜ Decides r (Moved (now (class .entry)) (now (next .entry)) (p .0 + 1)) ⌝ }
     ensures { λ r. ⌜ RowsWritten (now (class .entry)) (now (next .entry)) round (now (table .exit)) (p .0 + 1) n ⌝ }
 {
-    let c = class_of(class, p);
-    let d = class_of(next, p);
-    if c.0 == d.0 {
+    let before = class_of(class, p);
+    let after = class_of(next, p);
+    if before.0 == after.0 {
         return found;
     }
     write_row(table, class, next, round, n, p);
@@ -298,7 +319,8 @@ fn write_moved(
 fn separate(table: &mut [u8], class: &[u16; 128], next: &[u16; 128], round: u8, n: u16) -> bool
     requires { ⌜ tableLength ≤ length (now table) ⌝ }
     requires { ⌜ n ≤ stateLimit ⌝ }
-    ensures { λ r. ⌜ Written n (now (class .entry)) (now (next .entry)) round (now (table .entry)) (now (table .exit)) ⌝ }
+    ensures { λ r. ⌜ Written n (now (class .entry)) (now (next .entry)) round (now (table .entry))
+        (now (table .exit)) ⌝ }
     ensures { λ r. ⌜ Decides r (Moved (now (class .entry)) (now (next .entry)) n) ⌝ }
     ensures { λ r. ⌜ RowsWritten (now (class .entry)) (now (next .entry)) round (now (table .exit)) n n ⌝ }
 {
@@ -321,11 +343,18 @@ fn clear(table: &mut [u8])
 }
 
 // Goes round until a round separates no further pair, and yields the last round that did.
-fn rounds(n: u16, first: &[u16; 129], actions: &[u16; 1024], targets: &[u16; 1024], table: &mut [u8]) -> u8
+fn rounds(
+    n: u16,
+    first: &[u16; 129],
+    actions: &[u16; 1024],
+    targets: &[u16; 1024],
+    table: &mut [u8],
+) -> u8
     requires { ⌜ MoveList n (now first) (now actions) (now targets) ⌝ }
     requires { ⌜ tableLength ≤ length (now table) ⌝ }
     requires { ⌜ RanksUpTo (Listed n (now first) (now actions) (now targets)) n 0 (now table) ⌝ }
-    ensures { λ r. ⌜ Finished (Listed n (now (first .entry)) (now (actions .entry)) (now (targets .entry))) n r (now (table .entry)) (now (table .exit)) ⌝ }
+    ensures { λ r. ⌜ Finished (Listed n (now (first .entry)) (now (actions .entry)) (now (targets .entry))) n r
+        (now (table .entry)) (now (table .exit)) ⌝ }
 {
     let mut class = [0u16; 128];
     let mut marks = [0u8; 8192];
@@ -343,10 +372,17 @@ fn rounds(n: u16, first: &[u16; 129], actions: &[u16; 1024], targets: &[u16; 102
 }
 
 // Fills the table with the ranks of n states, and answers the last round that separated two of them.
-pub fn rank_moves(n: u16, first: &[u16; 129], actions: &[u16; 1024], targets: &[u16; 1024], table: &mut [u8]) -> u8
+pub fn rank_moves(
+    n: u16,
+    first: &[u16; 129],
+    actions: &[u16; 1024],
+    targets: &[u16; 1024],
+    table: &mut [u8],
+) -> u8
     requires { ⌜ MoveList n (now first) (now actions) (now targets) ⌝ }
     requires { ⌜ tableLength ≤ length (now table) ⌝ }
-    ensures { λ r. ⌜ Ranked (Listed n (now (first .entry)) (now (actions .entry)) (now (targets .entry))) n (now (table .entry)) (now (table .exit)) r ⌝ }
+    ensures { λ r. ⌜ Ranked (Listed n (now (first .entry)) (now (actions .entry)) (now (targets .entry))) n
+        (now (table .entry)) (now (table .exit)) r ⌝ }
 {
     clear(table);
     rounds(n, first, actions, targets, table)

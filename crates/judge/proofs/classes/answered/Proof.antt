@@ -19,31 +19,32 @@ mark-requires c κs = search needs
 -- src/classes.rt:117:9
 all-marked-requires : tie.Need-all-marked-requires
 all-marked-requires c κs =
-    let start = c .before .before .before .before .before .before in
-    (start .pre .0, (start .pre .1 .0, (start .pre .1 .1 .0 .0, omega (arith, start .pre .1 .1 .1 .long, c .before .before .before .mark .kept .1 .1 .1 .1 .1 .1 .1 .0))))
+    let P = c .before .before .before .before .before .before .pre in
+    let same = c .before .before .before .mark .kept .1 .1 .1 .1 .1 .1 .1 .0 in
+    (P .0, (P .1 .0, (P .1 .1 .0 .0, omega (arith, P .1 .1 .1 .long, same))))
 
--- src/classes.rt:118:5
 mark-requires-2 : tie.Need-mark-requires-2
 mark-requires-2 c κs =
-    let start = c .before .before .before .before .before .before .before .before in
-    (start .pre .0, (start .pre .1 .0, (start .pre .1 .1 .0 .1, omega (arith, start .pre .1 .1 .1 .long, c .before .before .before .before .before .mark .kept .1 .1 .1 .1 .1 .1 .1 .0))))
+    let P = c .before .before .before .before .before .before .before .before .pre in
+    let same = c .before .before .before .before .before .mark .kept .1 .1 .1 .1 .1 .1 .1 .0 in
+    (P .0, (P .1 .0, (P .1 .1 .0 .1, omega (arith, P .1 .1 .1 .long, same))))
 
--- src/classes.rt:99:1
 same-length : tie.Need-same-length
 same-length c = search needs
 
--- src/classes.rt:99:1
 returns : tie.Need-returns
 returns c =
-    let start = c .before .before .before .before .before .before .before .before .before .before .before in
+    let unmarking = c .before .before .mark2 in
+    let looking = c .before .before .before .before in
+    let marking = looking .before .before .before .before .mark in
+    let start = looking .before .before .before .before .before .before .before in
     let L = start .pre .0 in
-    let Move = Listed (start .args .n) (start .args .first .now) (start .args .actions .now) (start .args .targets .now) in
     let U = start .pre .1 .1 .1 in
-    let m = c .before .before .before .before .before .before .before .before .mark .ensures in (
-      decides-answered Move (start .args .n) (listed-target-lt L) (start .pre .1 .0) (start .args .p .0) (start .args .q .0) U m (c .before .before .before .before .all-marked .result) (c .before .before .before .before .all-marked .ensures),
-      unmarked-of-marked U m (c .before .before .mark2 .ensures) (c .before .before .mark2 .kept .1 .1 .1 .1 .1 .1 .1 .0 ∙ c .before .before .before .before .before .before .before .before .mark .kept .1 .1 .1 .1 .1 .1 .1 .0),
+    let same = unmarking .kept .1 .1 .1 .1 .1 .1 .1 .0 ∙ marking .kept .1 .1 .1 .1 .1 .1 .1 .0 in (
+      decides-answered (listed-target-lt L) (start .pre .1 .0) (start .args .p .0) U (marking .ensures)
+          (looking .all-marked .result) (looking .all-marked .ensures),
+      unmarked-of-marked U (marking .ensures) (unmarking .ensures) same,
     )
 
 pub answered-spec : {M : Type 1} → statement M
-answered-spec =
-    tie.close (tie.spec mark-requires all-marked-requires mark-requires-2 same-length returns)
+answered-spec = tie.close (tie.spec mark-requires all-marked-requires mark-requires-2 same-length returns)

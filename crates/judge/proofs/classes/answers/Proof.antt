@@ -14,21 +14,23 @@ answered-requires c κs = search needs
 
 answered-requires-2 : tie.Need-answered-requires-2
 answered-requires-2 c κs =
-    let start = c .before .before .before .before .before .before .before in
-    (start .pre .0, (start .pre .1 .0, ((start .pre .1 .1 .0 .1, start .pre .1 .1 .0 .0), c .before .before .before .before .answered .ensures .1)))
+    let P = c .before .before .before .before .before .before .before .pre in
+    (P .0, (P .1 .0, ((P .1 .1 .0 .1, P .1 .1 .0 .0), c .before .before .before .before .answered .ensures .1)))
 
 same-length : tie.Need-same-length
 same-length c = search needs
 
 returns : tie.Need-returns
 returns c =
-    let start = c .before .before .before .before .before .before .before .before .before .before in
-    let Move = Listed (start .args .n) (start .args .first .now) (start .args .actions .now) (start .args .targets .now) in
-    let class = start .args .class .now in
-    let first : Answered Move (Same class) (start .args .p .0) (start .args .q .0) =
-    decides-true _ _ (c .before .before .before .before .before .before .before .answered .ensures .0) (c .before .before .before .before .if1 .taken) in
     let second = c .before .before .answered2 in
-    (decides-iff (second .result) (answers-of-both Move class first) (answered-back Move class) (second .ensures .0), second .ensures .1)
+    let then = c .before .before .before .before in
+    let a = then .before .before .before .before .before .before .args in
+    let class = a .class .now in
+    let Move = Listed (a .n) (a .first .now) (a .actions .now) (a .targets .now) in
+    let there : Answered Move (Same class) (a .p .0) (a .q .0) =
+    decides-true _ _ (then .before .before .before .answered .ensures .0) (then .if1 .taken) in
+    let both = answers-of-both Move class there in
+    (decides-iff (second .result) both (answered-back Move class) (second .ensures .0), second .ensures .1)
 
 same-length-2 : tie.Need-same-length-2
 same-length-2 c = search needs

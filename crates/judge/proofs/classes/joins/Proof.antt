@@ -30,15 +30,13 @@ class-of-requires-3 c κs = search needs
 -- src/classes.rt:172:9
 returns-2 : tie.Need-returns-2
 returns-2 c =
+    let a = c .before .before .before .before .class-of2 .ensures in
+    let b = c .before .before .before .class-of3 .ensures in
     let start = c .before .before .before .before .before .before .before .before .before .before in
-    let l = start .pre .1 .1 .0 in (
-      λ h. c .if2 .taken (c .before .before .before .before .class-of2 .ensures
-      ∙ start .pre .1 .0 .same-of-answers (start .args .p .0) (start .args .q .0) (l .0) (l .1) (h .answers)
-      ∙ sym (c .before .before .before .class-of3 .ensures)),
-      start .pre .1 .1 .1,
-    )
+    let l = start .pre .1 .1 .0 in
+    let same = start .pre .1 .0 .same-of-answers (start .args .p .0) (start .args .q .0) (l .0) (l .1) in
+    (λ h. c .if2 .taken (a ∙ same (h .answers) ∙ sym b), start .pre .1 .1 .1)
 
--- src/classes.rt:174:5
 answers-requires : tie.Need-answers-requires
 answers-requires c κs =
     let P = c .before .before .before .before .before .before .before .before .before .before .before .pre in
@@ -51,11 +49,11 @@ same-length c = search needs
 -- src/classes.rt:147:1
 returns-3 : tie.Need-returns-3
 returns-3 c =
-    let a = c .before .before .answers in (
-      decides-iff (a .result)
-      (λ h. record { represents = sym (c .before .before .before .before .before .before .before .before .before .before .before .before .class-of .ensures) ∙ c .before .before .before .before .before .before .before .before .before .if1 .left; answers = h })
-      (λ h. h .answers) (a .ensures .0),
-      a .ensures .1,
+    let played = c .before .before .answers in
+    let else = c .before .before .before .before .before .before .before .before .before in
+    let own = sym (else .before .before .before .class-of .ensures) ∙ else .if1 .left in (
+      decides-iff (played .result) (λ h. record { represents = own; answers = h }) (λ h. h .answers) (played .ensures .0),
+      played .ensures .1,
     )
 
 pub joins-spec : {M : Type 1} → statement M

@@ -1,10 +1,8 @@
 -- The cleared table is right for round 0, and what the rounds leave keeps the promise.
 use mathlib.Core.Path.{_∙_}
 use native.Mathlib.Omega.{arith}
-use Rattle.lts.specs.Decided.{answers?}
-use Rattle.model.specs.Limits.{actionLimit}
 use Rattle.judge.specs.MoveList.{Listed}
-use Rattle.judge.specs.MoveListLaws.{listed?, listed-game}
+use Rattle.judge.specs.MoveListLaws.{listed-game}
 use Rattle.judge.specs.RoundsLaws.{ranksUpTo-zero, ranked-of-finished}
 use borrow.Author.Needs.{needs}
 use Rattle.judge.proofs.classes.rank_moves.Statement.{statement}
@@ -22,7 +20,8 @@ clear-requires c κs = search needs
 rounds-requires : tie.Need-rounds-requires
 rounds-requires c κs =
     let start = c .before .before .before .before .before .before in
-    let Move = Listed (start .args .n) (start .args .first .now) (start .args .actions .now) (start .args .targets .now) in
+    let a = start .args in
+    let Move = Listed (a .n) (a .first .now) (a .actions .now) (a .targets .now) in
     let cleared = c .before .before .before .clear in (
       start .pre .0,
       (
@@ -40,15 +39,9 @@ returns : tie.Need-returns
 returns c =
     let start = c .before .before .before .before .before .before .before .before .before in
     let L = start .pre .0 in
-    let n = start .args .n in
-    let first = start .args .first .now in
-    let actions = start .args .actions .now in
-    let targets = start .args .targets .now in
-    let round = answers? n actionLimit (listed? n first actions targets) in
     let cleared = c .before .before .before .before .before .before .clear in
     let done = c .before .before .rounds in
-    ranked-of-finished (Listed n first actions targets) n round (listed-game L) (L .some-state) (L .states-le)
-    (cleared .ensures) (done .ensures) (done .kept .1 .1 .1 .1 .0 ∙ cleared .kept .0)
+    ranked-of-finished (listed-game L) (L .some-state) (L .states-le) (cleared .ensures) (done .ensures) (done .kept .1 .1 .1 .1 .0 ∙ cleared .kept .0)
 
 pub rank-moves-spec : {M : Type 1} → statement M
 rank-moves-spec = tie.close (tie.spec clear-requires rounds-requires same-length returns)

@@ -35,7 +35,8 @@ abbrev μ-loop : tie.MeasureT-loop
 loop-holds : tie.Need-loop-holds Inv-loop μ-loop
 loop-holds c =
     let start = c .before in
-    let Move = Listed (start .args .n) (start .args .first .now) (start .args .actions .now) (start .args .targets .now) in (
+    let a = start .args in
+    let Move = Listed (a .n) (a .first .now) (a .actions .now) (a .targets .now) in (
       start .pre .1 .1,
       classes-zero Move (start .args .n) (listed-target-lt (start .pre .0)) (getD-zeros 128),
       λ j l. absurd (omega arith),
@@ -53,11 +54,11 @@ slice-aggregate-refine c = search needs
 refine-requires : tie.Need-refine-requires Inv-loop μ-loop
 refine-requires c κs =
     let start = c .before .before .before .before in
-    let Move = Listed (start .args .n) (start .args .first .now) (start .args .actions .now) (start .args .targets .now) in
+    let a = start .args in
     let inv = c .before .before .loop .inv in
-    (start .pre .0, (classes-refinable Move (start .args .n) (listed-target-lt (start .pre .0)) (inv .1), inv .4))
+    let lt = listed-target-lt (start .pre .0) in
+    (start .pre .0, (classes-refinable (Listed (a .n) (a .first .now) (a .actions .now) (a .targets .now)) (a .n) lt (inv .1), inv .4))
 
--- src/classes.rt:335:43
 add-separate : tie.Need-add-separate Inv-loop μ-loop
 add-separate c =
     let start = c .before .before .before .before .before .before .before .before .before in
@@ -73,53 +74,53 @@ separate-requires c κs =
 -- src/classes.rt:337:13
 add-k : tie.Need-add-k Inv-loop μ-loop
 add-k c =
-    let start = c .before .before .before .before .before .before .before .before .before .before .before .before .before in
-    let at = c .before .before .before .before .before .before .before .before .before .before .before .loop in
+    let after-refine = c .before .before .before .before .before .before .before .before in
+    let start = after-refine .before .before .before .before .before in
+    let at = after-refine .before .before .before .loop in
     omega (arith, listed-rounds-lt (start .pre .0) (at .k) (at .inv .2), start .pre .0 .states-le)
 
 -- src/classes.rt:333:9
 loop-less : tie.Need-loop-less Inv-loop μ-loop
 loop-less c =
-    let start = c .before .before .before .before .before .before .before .before .before .before .before .before .before in
-    let at = c .before .before .before .before .before .before .before .before .before .before .before .loop in
+    let after-refine = c .before .before .before .before .before .before .before .before in
+    let start = after-refine .before .before .before .before .before in
+    let at = after-refine .before .before .before .loop in
     omega (arith, listed-rounds-lt (start .pre .0) (at .k) (at .inv .2), start .pre .0 .states-le)
 
 -- src/classes.rt:333:9
 loop-again : tie.Need-loop-again Inv-loop μ-loop
 loop-again c =
-    let start = c .before .before .before .before .before .before .before .before .before .before .before .before .before in
-    let Move = Listed (start .args .n) (start .args .first .now) (start .args .actions .now) (start .args .targets .now) in
-    let lt = listed-target-lt (start .pre .0) in
-    let inv = c .before .before .before .before .before .before .before .before .before .before .before .loop .inv in
-    let refined = c .before .before .before .before .before .before .before .before .refine in
     let after = c .before .before .before .separate in
+    let at-refine = c .before .before .before .before .before .before .before .before in
+    let R = at-refine .refine .ensures in
+    let inv = at-refine .before .before .before .loop .inv in
+    let lt = listed-target-lt (at-refine .before .before .before .before .before .pre .0) in
     let moved = decides-true _ _ (after .ensures .1 .0) (c .if1 .taken) in (
-      round-ranks Move (start .args .n) lt (inv .1) (refined .ensures .0) (after .ensures .0) (after .ensures .1 .1) (inv .0),
-      round-classes Move (start .args .n) lt (inv .1) (refined .ensures .0),
-      round-separates Move (start .args .n) lt (inv .1) (refined .ensures .0) (inv .2) moved,
+      round-ranks lt (inv .1) (R .0) (after .ensures .0) (after .ensures .1 .1) (inv .0),
+      round-classes lt (inv .1) (R .0),
+      round-separates lt (inv .1) (R .0) (inv .2) moved,
       outside-trans (inv .3) (after .ensures .0 .outside),
-      refined .ensures .1,
+      R .1,
       after .kept .0 ∙ inv .5,
-      refined .kept .1 .1 .1 .1 .1 .0 ∙ inv .6,
+      at-refine .refine .kept .1 .1 .1 .1 .1 .0 ∙ inv .6,
     )
 
--- src/classes.rt:324:1
 same-length : tie.Need-same-length Inv-loop μ-loop
-same-length c = c .before .before .before .separate .kept .0 ∙ c .before .before .before .before .before .before .before .before .before .before .before .loop .inv .5
+same-length c =
+    let at-refine = c .before .before .before .before .before .before .before .before in
+    c .before .before .before .separate .kept .0 ∙ at-refine .before .before .before .loop .inv .5
 
--- src/classes.rt:324:1
 returns : tie.Need-returns Inv-loop μ-loop
 returns c =
-    let start = c .before .before .before .before .before .before .before .before .before .before .before .before .before in
-    let Move = Listed (start .args .n) (start .args .first .now) (start .args .actions .now) (start .args .targets .now) in
-    let lt = listed-target-lt (start .pre .0) in
-    let inv = c .before .before .before .before .before .before .before .before .before .before .before .loop .inv in
-    let N = c .before .before .before .before .before .before .before .before .refine .ensures .0 in
     let after = c .before .before .before .separate .ensures in
+    let at-refine = c .before .before .before .before .before .before .before .before in
+    let R = at-refine .refine .ensures .0 in
+    let inv = at-refine .before .before .before .loop .inv in
+    let lt = listed-target-lt (at-refine .before .before .before .before .before .pre .0) in
     record {
-      ranks = round-ranks Move (start .args .n) lt (inv .1) N (after .0) (after .1 .1) (inv .0);
+      ranks = round-ranks lt (inv .1) R (after .0) (after .1 .1) (inv .0);
       separates = inv .2;
-      settled = round-settled Move (start .args .n) lt (inv .1) N (decides-false _ _ (after .1 .0) (c .if1 .left));
+      settled = round-settled lt (inv .1) R (decides-false _ _ (after .1 .0) (c .if1 .left));
       outside = outside-trans (inv .3) (after .0 .outside);
     }
 
