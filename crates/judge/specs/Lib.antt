@@ -15,3 +15,11 @@ pub mod Distances
 pub mod Verdicts
 pub mod Runs
 pub mod Promises
+pub mod MoveListLaws
+pub mod ClassList
+pub mod ClassListLaws
+pub mod TableWrites
+pub mod TableWritesLaws
+pub mod RoundsLaws
+pub mod Marks
+pub mod MarksLaws

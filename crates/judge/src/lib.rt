@@ -1,4 +1,5 @@
 // Reachable states, ranks, the verdict and runs of till models.
+mod classes;
 mod index;
 pub mod judge;
 mod moves;
