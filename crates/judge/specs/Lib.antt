@@ -1,6 +1,7 @@
 pub mod Lists
 pub mod Stored
 pub mod StoredLaws
+pub mod GoodStoredLaws
 pub mod Table
 pub mod RankedLaws
 pub mod MoveList

@@ -3,12 +3,11 @@
 use mathlib.Core.List.{List}
 use mathlib.Core.Logic.{inl, inr, ⊎-elim, _↔_}
 use Prim.Native.Nat.{ℕ}
-use Rattle.lts.specs.Alike.{Moves, Relation, Answered, Answers, Bisimilar, Separated, Rank, bisimilar, separated}
+use Rattle.lts.specs.Alike.{Moves, Relation, Answered, Bisimilar, Separated, Rank, bisimilar, separated}
 use Rattle.lts.specs.Agree.{Agree}
 use Rattle.lts.specs.AgreeLaws.{separated-agree}
-use Rattle.judge.specs.Lists.{Past}
 use Rattle.judge.specs.MoveList.{Listed, Lists}
-use Rattle.judge.specs.Table.{SomePair, Ranks, LastRound, Greatest, Ranked}
+use Rattle.judge.specs.Table.{SomePair, Ranked}
 
 -- ---- the same moves
 
