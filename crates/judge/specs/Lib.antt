@@ -1,4 +1,5 @@
 pub mod Lists
+pub mod FirstShortLaws
 pub mod Stored
 pub mod StoredLaws
 pub mod GoodStoredLaws
