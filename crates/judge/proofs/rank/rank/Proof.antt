@@ -3,7 +3,8 @@ use native.Mathlib.Omega.{arith}
 use borrow.Author.Needs.{needs}
 use Rattle.model.specs.DecidesLaws.{decides-passed, decides-refused}
 use Rattle.judge.specs.GoodStoredLaws.{good→Stored}
-use Rattle.judge.proofs.RankAnswers.{short-store-promised, short-table-promised, not-good-promised, ranked-promised}
+use Rattle.judge.proofs.RankAnswers.{short-store-promised, short-table-promised, not-good-promised}
+use Rattle.judge.proofs.RankAnswers.{ranked-promised}
 use Rattle.judge.proofs.rank.rank.Statement.{statement}
 use Rattle.judge.proofs.rank.rank.Tie as tie
 
