@@ -25,3 +25,4 @@ pub mod TableWritesLaws
 pub mod RoundsLaws
 pub mod Marks
 pub mod MarksLaws
+pub mod RankPromiseLaws
