@@ -1,10 +1,10 @@
 -- The table starts right for round 0, and after the last round it keeps Rank's promise: what no round separated is
 -- bisimilar, and the last separating round is the greatest rank. Document 01, operation 3. Assumes nothing.
-use mathlib.Core.Path.{_≡_, refl, sym, ap, _∙_, subst}
+use mathlib.Core.Path.{_≡_, refl, sym, _∙_, subst}
 use mathlib.Core.Logic.{_⊎_, inl, inr}
 use mathlib.Core.Bool.{Bool}
 use mathlib.Core.List.{List}
-use Prim.Native.Nat.{ℕ, zero, suc, _+_, _*_, _/_, _%_, _≤_, _<_}
+use Prim.Native.Nat.{ℕ, zero, suc, _+_, _/_, _%_, _≤_, _<_}
 use native.Mathlib.Numerals.{add-one}
 use native.Mathlib.Omega.{arith}
 use lib.ListN.{length, getD, set, drop, length-drop}
@@ -15,7 +15,7 @@ use Rattle.lts.specs.Game.{Game, Settled, Separates}
 use Rattle.lts.specs.GameLaws.{separated-of-separates, bisimilar-of-settled, rank-le-settled}
 use Rattle.model.specs.Limits.{stateLimit}
 use Rattle.judge.specs.Lists.{tableLength, pairPlace, Past}
-use Rattle.judge.specs.Table.{SomePair, Ranks, LastRound, Greatest, Ranked}
+use Rattle.judge.specs.Table.{SomePair, Ranked}
 use Rattle.judge.specs.ClassList.{Classes, Refined, Moved}
 use Rattle.judge.specs.ClassListLaws.{below-add-one, classes-suc, separates-of-moved, settled-of-not-moved}
 use Rattle.judge.specs.TableWrites.{

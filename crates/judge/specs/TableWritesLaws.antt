@@ -2,21 +2,16 @@
 -- round further. Document 01, operation 3. Assumes nothing.
 use mathlib.Core.Path.{_≡_, refl, sym, ap, _∙_, subst}
 use mathlib.Core.Logic.{_⊎_, inl, inr}
-use mathlib.Core.Bool.{Bool}
 use mathlib.Core.List.{List}
-use Prim.Native.Nat.{ℕ, zero, suc, _+_, _*_, _/_, _%_, _≤_, _<_}
-use native.Mathlib.Numerals.{add-one}
+use Prim.Native.Nat.{ℕ, suc, _+_, _≤_, _<_}
 use native.Mathlib.Omega.{arith}
-use lib.ListN.{length, getD, set, drop, length-set, length-drop}
-use lib.Seq.{getD-set-same, getD-set-other, getD-drop, ext-getD}
-use Rattle.lts.specs.Alike.{Moves, Alike, Separated, Rank, bisimilar}
-use Rattle.lts.specs.AlikeLaws.{alike-suc, alike-le, bisimilar-refl, rank-of-separated}
-use Rattle.lts.specs.Game.{Game, Settled, Separates}
-use Rattle.lts.specs.GameLaws.{separated-of-separates, bisimilar-of-settled, rank-le-settled}
+use lib.ListN.{length, getD, set, length-set}
+use lib.Seq.{getD-set-same, getD-set-other}
+use Rattle.lts.specs.Alike.{Moves, Alike, Separated}
+use Rattle.lts.specs.AlikeLaws.{alike-le}
 use Rattle.model.specs.Limits.{stateLimit}
-use Rattle.judge.specs.Lists.{tableLength, pairPlace, Past}
-use Rattle.judge.specs.Table.{SomePair, Ranks, LastRound, Greatest, Ranked}
-use Rattle.judge.specs.ClassList.{Same, Classes, Moved}
+use Rattle.judge.specs.Lists.{tableLength, pairPlace}
+use Rattle.judge.specs.ClassList.{Same, Classes}
 use Rattle.judge.specs.ClassListLaws.{eq-or-not, below-add-one, same-of-alike, alike-of-same}
 use Rattle.judge.specs.TableWrites.{
   entryOf,

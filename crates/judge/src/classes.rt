@@ -28,6 +28,24 @@ fn class_of(class: &[u16; 128], p: State) -> State
     State(class[at])
 }
 
+// Where the moves of p begin in the lists.
+fn moves_from(first: &[u16; 129], p: State) -> usize
+    requires { ⌜ p .0 < stateLimit ⌝ }
+    ensures { λ r. ⌜ r ≡ getD (now (first .entry)) (p .0) 0 ⌝ }
+{
+    let at = p.0 as usize;
+    wide(first[at])
+}
+
+// Where they end.
+fn moves_to(first: &[u16; 129], p: State) -> usize
+    requires { ⌜ p .0 < stateLimit ⌝ }
+    ensures { λ r. ⌜ r ≡ getD (now (first .entry)) (p .0 + 1) 0 ⌝ }
+{
+    let at = p.0 as usize;
+    wide(first[at + 1])
+}
+
 // The mark of the move at place i: one for each action and class.
 fn move_mark(actions: &[u16; 1024], targets: &[u16; 1024], class: &[u16; 128], i: usize) -> usize
     requires { ⌜ MoveAt (now actions) (now targets) (now class) i ⌝ }
@@ -57,9 +75,8 @@ fn mark(
         (Reaches (Listed n (now (first .entry)) (now (actions .entry)) (now (targets .entry))) (now (class .entry))
         (p .0)) value (now (marks .entry)) (now (marks .exit)) ⌝ }
 {
-    let at = p.0 as usize;
-    let to = wide(first[at + 1]);
-    let mut i = wide(first[at]);
+    let to = moves_to(first, p);
+    let mut i = moves_from(first, p);
     while i < to {
         let place = move_mark(actions, targets, class, i);
         marks[place] = value;
@@ -85,9 +102,8 @@ fn all_marked(
         (AllMarked (Reaches (Listed n (now (first .entry)) (now (actions .entry)) (now (targets .entry)))
         (now (class .entry)) (p .0)) (now (marks .entry))) ⌝ }
 {
-    let at = p.0 as usize;
-    let to = wide(first[at + 1]);
-    let mut i = wide(first[at]);
+    let to = moves_to(first, p);
+    let mut i = moves_from(first, p);
     while i < to {
         let place = move_mark(actions, targets, class, i);
         if marks[place] != 1 {

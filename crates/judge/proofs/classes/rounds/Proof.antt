@@ -17,10 +17,6 @@ use Rattle.judge.specs.RoundsLaws.{round-ranks, round-classes, round-sep
 use borrow.Author.Needs.{needs}
 use Rattle.judge.proofs.classes.rounds.Statement.{statement}
 use Rattle.judge.proofs.classes.rounds.Tie as tie
-use Rattle.judge.proofs.classes.rounds.Reads as reads
-use Rattle.judge.proofs.classes.rounds.Lts as lts
-use Rattle.judge.proofs.classes.refine.Reads as refine-reads
-use Rattle.judge.proofs.classes.separate.Reads as separate-reads
 
 abbrev Inv-loop : tie.InvT-loop
 Inv-loop n first actions targets table₀ class₀ marks₀ k₀ table class marks k =
@@ -31,7 +27,6 @@ Inv-loop n first actions targets table₀ class₀ marks₀ k₀ table class mar
 abbrev μ-loop : tie.MeasureT-loop
 μ-loop n first actions targets table₀ class₀ marks₀ k₀ table class marks k = n - k
 
--- src/classes.rt:333:9
 loop-holds : tie.Need-loop-holds Inv-loop μ-loop
 loop-holds c =
     let start = c .before in
@@ -46,11 +41,9 @@ loop-holds c =
       length-replicate 8192 (zero),
     )
 
--- src/classes.rt:334:63
 slice-aggregate-refine : tie.Need-slice-aggregate-refine Inv-loop μ-loop
 slice-aggregate-refine c = search needs
 
--- src/classes.rt:334:20
 refine-requires : tie.Need-refine-requires Inv-loop μ-loop
 refine-requires c κs =
     let start = c .before .before .before .before in
@@ -65,13 +58,11 @@ add-separate c =
     let at = c .before .before .before .before .before .before .before .loop in
     omega (arith, listed-rounds-lt (start .pre .0) (at .k) (at .inv .2), start .pre .0 .states-le)
 
--- src/classes.rt:335:12
 separate-requires : tie.Need-separate-requires Inv-loop μ-loop
 separate-requires c κs =
     let start = c .before .before .before .before .before .before .before .before .before in
     (omega (arith, start .pre .1 .0, c .before .before .before .before .before .before .before .loop .inv .5), start .pre .0 .states-le)
 
--- src/classes.rt:337:13
 add-k : tie.Need-add-k Inv-loop μ-loop
 add-k c =
     let after-refine = c .before .before .before .before .before .before .before .before in
@@ -79,7 +70,6 @@ add-k c =
     let at = after-refine .before .before .before .loop in
     omega (arith, listed-rounds-lt (start .pre .0) (at .k) (at .inv .2), start .pre .0 .states-le)
 
--- src/classes.rt:333:9
 loop-less : tie.Need-loop-less Inv-loop μ-loop
 loop-less c =
     let after-refine = c .before .before .before .before .before .before .before .before in
@@ -87,7 +77,6 @@ loop-less c =
     let at = after-refine .before .before .before .loop in
     omega (arith, listed-rounds-lt (start .pre .0) (at .k) (at .inv .2), start .pre .0 .states-le)
 
--- src/classes.rt:333:9
 loop-again : tie.Need-loop-again Inv-loop μ-loop
 loop-again c =
     let after = c .before .before .before .separate in
