@@ -123,7 +123,7 @@ module _ (class next : List ℕ) where
 
 -- ---- k-alike
 
-module _ (Move : Moves) (n : ℕ) (target-lt : (p a q : ℕ) → Move p a q → q < n) where
+module _ {Move : Moves} {n : ℕ} (target-lt : (p a q : ℕ) → Move p a q → q < n) where
   -- Before any round all states are of one class.
   pub classes-zero : {class : List ℕ} → ((p : ℕ) → getD class p 0 ≡ 0) → Classes Move n 0 class
   unfolding Alike

@@ -53,7 +53,7 @@ ranksUpTo-zero Move l C = record { found = λ p q lp lq. inl (C .zeros (pairPlac
 module _ {Move : Moves} {n : ℕ} (target-lt : (p a q : ℕ) → Move p a q → q < n) {class next : List ℕ} {k : ℕ}
     (C : Classes Move n k class) (R : Refined Move class next n) where
   D : Classes Move n (suc k) next
-  D = classes-suc Move n target-lt C R
+  D = classes-suc target-lt C R
 
   pub round-classes : Classes Move n (k + 1) next
   round-classes = subst (λ (j : ℕ). Classes Move n j next) (sym (add-one k)) D
@@ -61,15 +61,15 @@ module _ {Move : Moves} {n : ℕ} (target-lt : (p a q : ℕ) → Move p a q → 
   pub round-ranks : {t u : List ℕ} → Written n class next (k + 1) t u → RowsWritten class next (k + 1) u n n
       → RanksUpTo Move n k t → RanksUpTo Move n (k + 1) u
   round-ranks {t} {u} W rows U = subst (λ (j : ℕ). RanksUpTo Move n j u) (sym (add-one k))
-      (ranksUpTo-suc Move n target-lt C D (subst (λ (j : ℕ). Written n class next j t u) (add-one k) W)
+      (ranksUpTo-suc target-lt C D (subst (λ (j : ℕ). Written n class next j t u) (add-one k) W)
       (subst (λ (j : ℕ). RowsWritten class next j u n n) (add-one k) rows) U)
 
   pub round-separates : ((j : ℕ) → j < k → Separates Move n j) → Moved class next n → (j : ℕ) → j < k + 1
       → Separates Move n j
-  round-separates h m = below-add-one k h (separates-of-moved Move n target-lt C D m)
+  round-separates h m = below-add-one k h (separates-of-moved target-lt C D m)
 
   pub round-settled : ¬ (Moved class next n) → Settled Move n k
-  round-settled m = settled-of-not-moved Move n target-lt C D m
+  round-settled m = settled-of-not-moved target-lt C D m
 
 -- ---- after the last round
 

@@ -164,7 +164,7 @@ entry-of-separated {class} {next} {t} {round} r p q lp lq h = go (eq-or-not (get
         let left : ¬ (getD class q 0 ≡ getD next q 0) = λ g. h .not-same-after (sym e ∙ h .same-before ∙ g) in
         r .row q lq left .pair p lp .both (separatedBy-sym h) .1
 
-module _ (Move : Moves) (n : ℕ) (target-lt : (p a q : ℕ) → Move p a q → q < n) {class next t u : List ℕ} {k : ℕ}
+module _ {Move : Moves} {n : ℕ} (target-lt : (p a q : ℕ) → Move p a q → q < n) {class next t u : List ℕ} {k : ℕ}
     (C : Classes Move n k class) (D : Classes Move n (suc k) next) (W : Written n class next (suc k) t u)
     (R : RowsWritten class next (suc k) u n n) where
   kept-of-not : (p q : ℕ) → p < n → q < n → ¬ (SeparatedBy class next p q) → entryOf u p q ≡ entryOf t p q
@@ -181,7 +181,7 @@ module _ (Move : Moves) (n : ℕ) (target-lt : (p a q : ℕ) → Move p a q → 
     where
       sep : (p q : ℕ) → p < n → q < n → Alike Move k p q → ¬ (Same next p q) → Separated Move p q (suc k)
       sep p q lp lq h d = record {
-        not-alike = λ g. d (same-of-alike Move n target-lt D p q lp lq g);
+        not-alike = λ g. d (same-of-alike target-lt D p q lp lq g);
         alike-before = λ j l. alike-le Move p q j k (omega arith) h;
       }
 
@@ -189,10 +189,10 @@ module _ (Move : Moves) (n : ℕ) (target-lt : (p a q : ℕ) → Move p a q → 
           → (getD next p 0 ≡ getD next q 0) ⊎ ¬ (getD next p 0 ≡ getD next q 0)
           → RankUpTo Move (suc k) p q (entryOf u p q)
       new p q lp lq z h (inl e) =
-          inl (kept-of-not p q lp lq (λ s. s .not-same-after e) ∙ z, alike-of-same Move n target-lt D p q lp lq e)
+          inl (kept-of-not p q lp lq (λ s. s .not-same-after e) ∙ z, alike-of-same target-lt D p q lp lq e)
       new p q lp lq z h (inr d) =
           let s : SeparatedBy class next p q = record {
-            same-before = same-of-alike Move n target-lt C p q lp lq h;
+            same-before = same-of-alike target-lt C p q lp lq h;
             not-same-after = d;
           } in
           let e : entryOf u p q ≡ suc k = entry-of-separated R p q lp lq s in
@@ -202,6 +202,6 @@ module _ (Move : Moves) (n : ℕ) (target-lt : (p a q : ℕ) → Move p a q → 
       go p q lp lq (inl (z, h)) = new p q lp lq z h (eq-or-not (getD next p 0) (getD next q 0))
       go p q lp lq (inr (l, x)) =
           let apart : ¬ (SeparatedBy class next p q) = λ s. x .not-alike
-          (alike-le Move p q (entryOf t p q) k l (alike-of-same Move n target-lt C p q lp lq (s .same-before))) in
+          (alike-le Move p q (entryOf t p q) k l (alike-of-same target-lt C p q lp lq (s .same-before))) in
           let e : entryOf u p q ≡ entryOf t p q = kept-of-not p q lp lq apart in
           inr (omega arith, subst (Separated Move p q) (sym e) x)

@@ -39,10 +39,9 @@ returns-3 : tie.Need-returns-3
 returns-3 c =
     let played = c .before .before .answers in
     let else = c .before .before .before .before .before .before .before .before .before in
-    let own = sym (else .before .before .before .class-of .ensures) ∙ else .if1 .left in (
-      decides-iff (played .result) (λ h. record { represents = own; answers = h }) (λ h. h .answers) (played .ensures .0),
-      played .ensures .1,
-    )
+    let own = sym (else .before .before .before .class-of .ensures) ∙ else .if1 .left in
+    let told = played .ensures in
+    (decides-iff (played .result) (λ h. record { represents = own; answers = h }) (λ h. h .answers) (told .0), told .1)
 
 pub joins-spec : {M : Type 1} → statement M
 joins-spec =

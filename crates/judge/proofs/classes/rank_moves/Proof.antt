@@ -33,7 +33,8 @@ returns c =
     let L = start .pre .0 in
     let cleared = c .before .before .before .before .before .before .clear in
     let done = c .before .before .rounds in
-    ranked-of-finished (listed-game L) (L .some-state) (L .states-le) (cleared .ensures) (done .ensures) (done .kept .1 .1 .1 .1 .0 ∙ cleared .kept .0)
+    let same = done .kept .1 .1 .1 .1 .0 ∙ cleared .kept .0 in
+    ranked-of-finished (listed-game L) (L .some-state) (L .states-le) (cleared .ensures) (done .ensures) same
 
 pub rank-moves-spec : {M : Type 1} → statement M
 rank-moves-spec = tie.close (tie.spec clear-requires rounds-requires same-length returns)
