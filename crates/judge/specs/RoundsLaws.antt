@@ -9,6 +9,7 @@ use native.Mathlib.Numerals.{add-one}
 use native.Mathlib.Omega.{arith}
 use lib.ListN.{length, getD, set, drop, length-drop}
 use lib.Seq.{getD-set-same, getD-set-other, getD-drop, ext-getD}
+use borrow.Author.Count.{below-more}
 use Rattle.lts.specs.Alike.{Moves, Alike, Separated, Rank, bisimilar}
 use Rattle.lts.specs.AlikeLaws.{alike-suc, bisimilar-refl, rank-of-separated}
 use Rattle.lts.specs.Game.{Game, Settled, Separates}
@@ -17,7 +18,7 @@ use Rattle.model.specs.Limits.{stateLimit}
 use Rattle.judge.specs.Lists.{tableLength, pairPlace, Past}
 use Rattle.judge.specs.Table.{SomePair, Ranked}
 use Rattle.judge.specs.ClassList.{Classes, Refined, Moved}
-use Rattle.judge.specs.ClassListLaws.{below-add-one, classes-suc, separates-of-moved, settled-of-not-moved}
+use Rattle.judge.specs.ClassListLaws.{classes-suc, separates-of-moved, settled-of-not-moved}
 use Rattle.judge.specs.TableWrites.{
   entryOf,
   Written,
@@ -36,7 +37,7 @@ cleared-zero t = record { zeros = λ i l. absurd (omega arith); kept = λ i l. r
 
 pub cleared-add-one : {m : ℕ} {t u : List ℕ} → Cleared m t u → m < length u → Cleared (m + 1) t (set u m 0)
 cleared-add-one {m} {t} {u} C l = record {
-  zeros = below-add-one m (λ i k. getD-set-other u m i 0 0 (λ e. omega arith) ∙ C .zeros i k) (getD-set-same u m 0 0 l);
+  zeros = below-more _ m (λ i k. getD-set-other u m i 0 0 (λ e. omega arith) ∙ C .zeros i k) (getD-set-same u m 0 0 l);
   kept = λ i k. getD-set-other u m i 0 0 (λ e. omega arith) ∙ C .kept i (omega arith);
 }
 
@@ -66,7 +67,7 @@ module _ {Move : Moves} {n : ℕ} (target-lt : (p a q : ℕ) → Move p a q → 
 
   pub round-separates : ((j : ℕ) → j < k → Separates Move n j) → Moved class next n → (j : ℕ) → j < k + 1
       → Separates Move n j
-  round-separates h m = below-add-one k h (separates-of-moved target-lt C D m)
+  round-separates h m = below-more _ k h (separates-of-moved target-lt C D m)
 
   pub round-settled : ¬ (Moved class next n) → Settled Move n k
   round-settled m = settled-of-not-moved target-lt C D m

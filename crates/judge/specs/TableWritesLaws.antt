@@ -7,12 +7,13 @@ use Prim.Native.Nat.{ℕ, suc, _+_, _≤_, _<_}
 use native.Mathlib.Omega.{arith}
 use lib.ListN.{length, getD, set, length-set}
 use lib.Seq.{getD-set-same, getD-set-other}
+use borrow.Author.Count.{below-more}
 use Rattle.lts.specs.Alike.{Moves, Alike, Separated}
 use Rattle.lts.specs.AlikeLaws.{alike-le}
 use Rattle.model.specs.Limits.{stateLimit}
 use Rattle.judge.specs.Lists.{tableLength, pairPlace}
 use Rattle.judge.specs.ClassList.{Same, Classes}
-use Rattle.judge.specs.ClassListLaws.{eq-or-not, below-add-one, same-of-alike, alike-of-same}
+use Rattle.judge.specs.ClassListLaws.{eq-or-not, same-of-alike, alike-of-same}
 use Rattle.judge.specs.TableWrites.{
   entryOf,
   SeparatedBy,
@@ -135,7 +136,7 @@ module _ {class next t : List ℕ} {round : ℕ} where
 
   pub row-add-one : {p q : ℕ} → RowWritten class next round t p q → PairWritten class next round t p q
       → RowWritten class next round t p (q + 1)
-  row-add-one {q = q} r w = record { pair = below-add-one q (r .pair) w }
+  row-add-one {q = q} r w = record { pair = below-more _ q (r .pair) w }
 
   pub row-le : {p m n : ℕ} → n ≤ m → RowWritten class next round t p m → RowWritten class next round t p n
   row-le l r = record { pair = λ q k. r .pair q (omega arith) }
@@ -146,7 +147,7 @@ module _ {class next t : List ℕ} {round : ℕ} where
   pub rows-add-one : {p n : ℕ} → RowsWritten class next round t p n
       → (¬ (getD class p 0 ≡ getD next p 0) → RowWritten class next round t p n)
       → RowsWritten class next round t (p + 1) n
-  rows-add-one {p = p} r h = record { row = below-add-one p (r .row) h }
+  rows-add-one {p = p} r h = record { row = below-more _ p (r .row) h }
 
   pub rows-le : {m k n : ℕ} → k ≤ m → RowsWritten class next round t m n → RowsWritten class next round t k n
   rows-le l r = record { row = λ p k. r .row p (omega arith) }
