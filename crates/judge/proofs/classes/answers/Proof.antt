@@ -1,4 +1,5 @@
 -- Answers is Answered both ways.
+use native.Mathlib.Omega.{arith}
 use Rattle.lts.specs.Alike.{Answered}
 use Rattle.model.specs.DecidesLaws.{decides-true, decides-false, decides-iff}
 use Rattle.judge.specs.MoveList.{Listed}
