@@ -4,6 +4,7 @@ use mathlib.Core.List.{List}
 use mathlib.Core.Path.{_≡_}
 use Prim.Native.Nat.{ℕ, _+_, _≤_, _<_}
 use lib.ListN.{getD}
+use Rattle.lts.specs.Alike.{Moves}
 use Rattle.model.specs.Limits.{stateLimit, actionLimit, stepLimit}
 
 -- The lists have a move from p with the action a to q.
@@ -23,3 +24,9 @@ pub record MoveList (n : ℕ) (first actions targets : List ℕ) : Type 0 where
   pub last-le : (p : ℕ) → p ≤ n → getD first p 0 ≤ stepLimit
   pub action-lt : (i : ℕ) → i < getD first n 0 → getD actions i 0 < actionLimit
   pub target-lt : (i : ℕ) → i < getD first n 0 → getD targets i 0 < n
+
+-- The lists have just the moves of another relation.
+pub record Lists (Move : Moves) (n : ℕ) (first actions targets : List ℕ) : Type 0 where
+  pub moves : MoveList n first actions targets
+  pub sound : (p a q : ℕ) → Listed n first actions targets p a q → Move p a q
+  pub complete : (p a q : ℕ) → Move p a q → Listed n first actions targets p a q

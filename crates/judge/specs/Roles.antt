@@ -1,0 +1,15 @@
+-- The role of each action, found once and handed down: 0 low, 1 release, 2 high, as the levels of the store.
+-- Only the contracts of inner functions cite it.
+use mathlib.Core.List.{List}
+use mathlib.Core.Path.{_≡_}
+use Prim.Native.Nat.{ℕ, _<_}
+use lib.Dec.{eqb}
+use lib.ListN.{getD}
+use Rattle.lts.specs.Noninterference.{Levels}
+use Rattle.model.specs.Model.{low, release, high}
+
+-- The list has the roles of the first n actions.
+pub record Roles (L : Levels) (n : ℕ) (roles : List ℕ) : Type 0 where
+  pub low-is : (a : ℕ) → a < n → L .low? a ≡ eqb (getD roles a 0) low
+  pub release-is : (a : ℕ) → a < n → L .release? a ≡ eqb (getD roles a 0) release
+  pub high-is : (a : ℕ) → a < n → L .high? a ≡ eqb (getD roles a 0) high
