@@ -46,13 +46,24 @@ readingStore (done m) store = storeOf m ++ drop storeLength store
 readingStore tooLong store = store
 readingStore (faulty fault line) store = store
 
+-- the answer that a reading is, with the cause of the fault, which the numbers do not always tell apart
+unfoldable pub readAnswer : Reading → ReadAnswer
+readAnswer (done m) = Done
+readAnswer tooLong = TooLong
+readAnswer (faulty fault line) = Faulty fault line
+
 abbrev pub readLists : List ℕ → List ℕ → Option ℕ
 readLists text store = firstShort 1 (length text ∷ length store ∷ []) (0 ∷ storeLength ∷ [])
 
+-- A refusal leaves the store as it was; the text is only read. On success 3,972 places are filled, and the rest stays.
 pub record ReadPromise (text store : List ℕ) (told : Told) (exit : List ℕ) : Type 0 where
   pub short : (k : ℕ) → readLists text store ≡ some k → (told ≡ refuses 21 k) × (exit ≡ store)
   pub answer : readLists text store ≡ none → told ≡ toldReading (readText text)
   pub filled : readLists text store ≡ none → exit ≡ readingStore (readText text) store
+
+-- Read answers with the cause that the reading finds.
+pub record ReadCause (text store : List ℕ) (r : ReadAnswer) : Type 0 where
+  pub cause : readLists text store ≡ none → r ≡ readAnswer (readText text)
 
 -- ---- Write: store, out
 

@@ -21,8 +21,16 @@ use Rattle.model.specs.SplitLaws.{split-nil, split-first, split-part, sp
 use Rattle.model.specs.Lines.{bad, headOf}
 use Rattle.model.specs.LineAnswers.{headRead}
 use Rattle.model.specs.Faults.{firstShort}
-use Rattle.model.specs.Reading.{faulty, onLine, orFault, readModel, readText}
-use Rattle.model.specs.Promises.{toldRead, toldReading, readingStore, readLists, ReadPromise}
+use Rattle.model.specs.Reading.{Reading, done, tooLong, faulty, onLine, orFault, readModel, readText}
+use Rattle.model.specs.Promises.{
+  toldRead,
+  toldReading,
+  readAnswer,
+  readingStore,
+  readLists,
+  ReadPromise,
+  ReadCause,
+}
 use Rattle.model.specs.ReadSoFar.{whole, AfterHead, AfterEnd, AfterLine, AfterFirst, firstLine, ReadOut}
 use Rattle.model.specs.ReadLaws.{headOf-limits}
 
@@ -106,13 +114,13 @@ AfterFirst-good r text at h e b = rw e at b
 
 pub ReadOut-faulty : (text store : List ℕ) (fault : Fault) (line : ℕ) → whole text ≡ faulty fault line
     → ReadOut text store (Faulty fault line) store
-unfolding toldRead toldReading readingStore
-ReadOut-faulty text store fault line e = record { told = rw e; filled = rw e }
+unfolding readAnswer readingStore
+ReadOut-faulty text store fault line e = record { answer = rw e; filled = rw e }
 
 pub ReadOut-done : (text store local exit : List ℕ) → AfterEnd text local → length local ≡ storeLength
     → exit ≡ local ++ drop (length local) store → ReadOut text store Done exit
-unfolding toldRead toldReading readingStore
-ReadOut-done text store local exit b n c = record { told = rw (b .reads); filled = c ∙ rw (b .reads, n, b .stored) }
+unfolding readAnswer readingStore
+ReadOut-done text store local exit b n c = record { answer = rw (b .reads); filled = c ∙ rw (b .reads, n, b .stored) }
 
 readLists-short : (text store : List ℕ) → length store < storeLength → readLists text store ≡ some 2
 unfolding firstShort
@@ -121,6 +129,13 @@ readLists-short text store h = rw (le-ltb (length text) 0 (omega arith), lt-ltb 
 readLists-none : (text store : List ℕ) → storeLength ≤ length store → readLists text store ≡ none
 unfolding firstShort
 readLists-none text store h = rw (le-ltb (length text) 0 (omega arith), le-ltb (length store) storeLength h)
+
+-- what a reading's answer tells
+toldRead-readAnswer : (x : Reading) → toldRead (readAnswer x) ≡ toldReading x
+unfolding toldRead toldReading readAnswer
+toldRead-readAnswer (done m) = refl
+toldRead-readAnswer tooLong = refl
+toldRead-readAnswer (faulty fault line) = refl
 
 pub ReadPromise-short : (text store : List ℕ) → length store < storeLength → ReadPromise text store (toldRead (ShortList 2)) store
 unfolding toldRead
@@ -147,4 +162,18 @@ module _ (text store : List ℕ) (h : storeLength ≤ length store) where
   unfolding readText
   ReadPromise-lines r exit l b =
       let t = le-ltb textLimit (length text) l in
-      record { short = λ k e. absurd (not-short k e); answer = λ e. rw t (b .told); filled = λ e. rw t (b .filled) }
+      record { short = λ k e. absurd (not-short k e); answer = λ e. rw t (ap toldRead (b .answer) ∙ toldRead-readAnswer (whole text)); filled = λ e. rw t (b .filled) }
+
+  pub ReadCause-long : textLimit < length text → ReadCause text store TooLong
+  unfolding readText readAnswer
+  ReadCause-long l = let t = lt-ltb textLimit (length text) l in record { cause = λ e. rw t }
+
+  pub ReadCause-lines : (r : ReadAnswer) (exit : List ℕ) → length text ≤ textLimit → ReadOut text store r exit
+      → ReadCause text store r
+  unfolding readText
+  ReadCause-lines r exit l b = let t = le-ltb textLimit (length text) l in record { cause = λ e. rw t (b .answer) }
+
+pub ReadCause-short : (text store : List ℕ) (r : ReadAnswer) → length store < storeLength → ReadCause text store r
+ReadCause-short text store r h =
+    let s = readLists-short text store h in
+    record { cause = λ e. let z : _≡_ {A = ℕ} 0 1 = cc in absurd (omega arith) }

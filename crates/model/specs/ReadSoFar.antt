@@ -20,7 +20,7 @@ use Rattle.model.specs.Lines.{Line, bad, headOf}
 use Rattle.model.specs.LineAnswers.{Last}
 use Rattle.model.specs.Reading.{Reading, faulty, done, headModel, readModel, readActions, readSteps}
 use Rattle.model.specs.Store.{actionNumbers, actionsNumbers, storeOf}
-use Rattle.model.specs.Promises.{toldRead, toldReading, readingStore}
+use Rattle.model.specs.Promises.{readAnswer, readingStore}
 
 -- ---- an action in the store
 
@@ -125,5 +125,5 @@ AfterFirst (head-read.Bad fault) text at = whole text ≡ faulty fault 1
 -- ---- what the lines of a text come to
 
 pub record ReadOut (text store : List ℕ) (r : ReadAnswer) (exit : List ℕ) : Type 0 where
-  pub told : toldRead r ≡ toldReading (whole text)
+  pub answer : r ≡ readAnswer (whole text)
   pub filled : exit ≡ readingStore (whole text) store

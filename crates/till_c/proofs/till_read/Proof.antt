@@ -47,7 +47,7 @@ returns : tie.Need-returns
 unfolding toldRead
 returns c =
     let r = c .before .before .before .before .before .read in
-    promised (ap toldRead (c .before .enum-told .given .1) ∙ sym (c .done .ensures)) (r .ensures)
+    promised (ap toldRead (c .before .enum-told .given .1) ∙ sym (c .done .ensures)) (r .ensures .0)
 
 same-length-2 : tie.Need-same-length-2
 same-length-2 c = search needs
@@ -56,7 +56,7 @@ returns-2 : tie.Need-returns-2
 unfolding toldRead
 returns-2 c =
     let r = c .before .before .before .before .before .before .read in
-    promised (ap toldRead (c .before .before .answer .given .1) ∙ sym (c .refusal .ensures)) (r .ensures)
+    promised (ap toldRead (c .before .before .answer .given .1) ∙ sym (c .refusal .ensures)) (r .ensures .0)
 
 same-length-3 : tie.Need-same-length-3
 same-length-3 c = search needs
@@ -65,7 +65,7 @@ returns-3 : tie.Need-returns-3
 unfolding toldRead
 returns-3 c =
     let r = c .before .before .before .before .before .read in
-    promised (ap toldRead (c .before .enum-told2 .given .1) ∙ sym (c .refusal2 .ensures)) (r .ensures)
+    promised (ap toldRead (c .before .enum-told2 .given .1) ∙ sym (c .refusal2 .ensures)) (r .ensures .0)
 
 same-length-4 : tie.Need-same-length-4
 same-length-4 c = search needs
@@ -74,7 +74,7 @@ returns-4 : tie.Need-returns-4
 unfolding toldRead
 returns-4 c =
     let r = c .before .before .before .before .before .before .read in
-    promised (ap toldRead (c .before .before .answer2 .given .1) ∙ sym (c .faulty .ensures)) (r .ensures)
+    promised (ap toldRead (c .before .before .answer2 .given .1) ∙ sym (c .faulty .ensures)) (r .ensures .0)
 
 pub till-read-spec : {M : Type 1} → statement M
 till-read-spec =
