@@ -1,4 +1,5 @@
 // Till models: their texts, and the store that holds one.
+mod bytes;
 mod line;
 mod number;
 pub mod read;
