@@ -1,5 +1,8 @@
 pub mod Limits
 pub mod Decides
+pub mod DecidesLaws
+pub mod EachFrom
+pub mod EachFromLaws
 pub mod Bytes
 pub mod BytesLaws
 pub mod TableLaws
@@ -42,6 +45,13 @@ pub mod AboveLaws
 pub mod System
 pub mod WellFormedLaws
 pub mod StoredModel
+pub mod GoodPlaces
+pub mod PlacesLaws
+pub mod ListedLaws
+pub mod NamePlacesLaws
+pub mod GoodPlacesLaws
+pub mod HoldsLaws
+pub mod GoodLaws
 pub mod Wrote
 pub mod LineAnswers
 pub mod PartAnswers
