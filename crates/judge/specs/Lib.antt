@@ -12,3 +12,10 @@ pub mod Distances
 pub mod Verdicts
 pub mod Runs
 pub mod Promises
+pub mod StepTest
+pub mod StepTestLaws
+pub mod ModelLists
+pub mod LeakSearch
+pub mod LeakSearchLaws
+pub mod TableLaws
+pub mod VerdictsLaws
