@@ -17,6 +17,7 @@ pub mod StepTestLaws
 pub mod ModelLists
 pub mod LeakSearch
 pub mod LeakSearchLaws
+pub mod GoodStoredLaws
 pub mod ModelListsLaws
 pub mod Judging
 pub mod TableLaws
