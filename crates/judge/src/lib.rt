@@ -1,7 +1,9 @@
 // Reachable states, ranks, the verdict and runs of till models.
+mod classes;
 mod index;
 mod lists;
 pub mod judge;
+mod moves;
 pub mod rank;
 pub mod reach;
 pub mod run;
