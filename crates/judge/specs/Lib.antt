@@ -23,8 +23,13 @@ pub mod LeakSearch
 pub mod LeakSearchLaws
 pub mod ModelListsLaws
 pub mod Judging
+pub mod JudgeLaws
 pub mod TableLaws
 pub mod VerdictsLaws
+pub mod VerdictTest
+pub mod VerdictTestLaws
+pub mod Bench
+pub mod BenchLaws
 pub mod MoveListLaws
 pub mod ClassList
 pub mod ClassListLaws
