@@ -1,14 +1,16 @@
--- Which bytes are digits, and that a comma and a line end are one byte each.
+-- Which bytes are of which kind, and that a comma and a line end are one byte each.
 -- Document 01, "The text". Assumes nothing.
 use mathlib.Core.Bool.{Bool, true, false, cond, _&&_}
+use mathlib.Core.List.{[], _∷_}
 use mathlib.Core.Path.{_≡_, refl, sym}
-use Prim.Native.Nat.{ℕ, _≤_, _<_}
+use Prim.Native.Nat.{ℕ, suc, _≤_}
 use native.Mathlib.Omega.{arith}
 use lib.Dec.{leb, eqb}
-use borrow.Author.Tests.{leb-true, eqb-true, eqb-false, le-leb, lt-leb}
-use Rattle.model.specs.Bytes.{between?, kindOf, digit, comma, lineEnd}
+use lib.ListN.{getD}
+use borrow.Author.Tests.{leb-true, eqb-true, le-leb}
+use Rattle.model.specs.Bytes.{between?, kindOf, digit, smallLetter, capital, comma, lineEnd}
 
-and-true : (s t : Bool) → s && t ≡ true → (s ≡ true) × (t ≡ true)
+pub and-true : (s t : Bool) → s && t ≡ true → (s ≡ true) × (t ≡ true)
 and-true true t h = (refl, h)
 and-true false t h = let z : true ≡ false = sym h in (h, cc)
 
@@ -19,26 +21,44 @@ between?-true least most x h =
 pub between?-le : (least most x : ℕ) → least ≤ x → x ≤ most → between? least most x ≡ true
 between?-le least most x h l = rw (le-leb least x h, le-leb x most l)
 
--- the kind of a byte, by the first of five tests that it passes
+-- ---- the kind of a byte, by the first of five tests that it passes
+
 tests : Bool → Bool → Bool → Bool → Bool → ℕ
 tests d s c m e = cond d 1 (cond s 2 (cond c 3 (cond m 4 (cond e 5 0))))
 
-tests-digit : (d s c m e : Bool) → tests d s c m e ≡ digit → d ≡ true
+-- the test of the kind that came out was passed
+tests-passed : (d s c m e : Bool) (k : ℕ) → tests d s c m e ≡ suc k → getD (d ∷ s ∷ c ∷ m ∷ e ∷ []) k false ≡ true
 unfolding tests
-tests-digit true s c m e h = refl
-tests-digit false true c m e h = absurd (omega arith)
-tests-digit false false true m e h = absurd (omega arith)
-tests-digit false false false true e h = absurd (omega arith)
-tests-digit false false false false true h = absurd (omega arith)
-tests-digit false false false false false h = absurd (omega arith)
+tests-passed true s c m e k h = let z : k ≡ 0 = omega arith in rw z
+tests-passed false true c m e k h = let z : k ≡ 1 = omega arith in rw z
+tests-passed false false true m e k h = let z : k ≡ 2 = omega arith in rw z
+tests-passed false false false true e k h = let z : k ≡ 3 = omega arith in rw z
+tests-passed false false false false true k h = let z : k ≡ 4 = omega arith in rw z
+tests-passed false false false false false k h = absurd (omega arith)
 
--- the digits are bytes 48 to 57
-pub digit-within : (b : ℕ) → kindOf b ≡ digit → (48 ≤ b) × (b ≤ 57)
-unfolding kindOf tests
-digit-within b h =
-    between?-true 48 57 b
-    (tests-digit (between? 48 57 b) (between? 97 122 b) (between? 65 90 b) (eqb b 44) (eqb b 10) h)
+module _ (b : ℕ) where
+  passed : (k : ℕ) → kindOf b ≡ suc k
+      → getD (between? 48 57 b ∷ between? 97 122 b ∷ between? 65 90 b ∷ eqb b 44 ∷ eqb b 10 ∷ []) k false ≡ true
+  unfolding kindOf tests
+  passed k h = tests-passed (between? 48 57 b) (between? 97 122 b) (between? 65 90 b) (eqb b 44) (eqb b 10) k h
 
-pub digit-kind : (b : ℕ) → 48 ≤ b → b ≤ 57 → kindOf b ≡ digit
-unfolding kindOf
-digit-kind b h l = rw (le-leb 48 b h, le-leb b 57 l)
+  -- the digits are bytes 48 to 57, the small letters 97 to 122, the capitals 65 to 90
+  pub digit-within : kindOf b ≡ digit → (48 ≤ b) × (b ≤ 57)
+  digit-within h = between?-true 48 57 b (passed 0 h)
+
+  pub smallLetter-within : kindOf b ≡ smallLetter → (97 ≤ b) × (b ≤ 122)
+  smallLetter-within h = between?-true 97 122 b (passed 1 h)
+
+  pub capital-within : kindOf b ≡ capital → (65 ≤ b) × (b ≤ 90)
+  capital-within h = between?-true 65 90 b (passed 2 h)
+
+  -- the comma is byte 44 alone, and the line end is byte 10 alone
+  pub comma-only : kindOf b ≡ comma → b ≡ 44
+  comma-only h = eqb-true b 44 (passed 3 h)
+
+  pub lineEnd-only : kindOf b ≡ lineEnd → b ≡ 10
+  lineEnd-only h = eqb-true b 10 (passed 4 h)
+
+  pub digit-kind : 48 ≤ b → b ≤ 57 → kindOf b ≡ digit
+  unfolding kindOf
+  digit-kind h l = rw (le-leb 48 b h, le-leb b 57 l)

@@ -1,0 +1,116 @@
+-- Damaged texts, each refused by evaluation with its fault at its line.
+-- Document 01, "Refused because of the input" and "Bench models".
+use mathlib.Core.List.{List, [], _∷_, _++_}
+use mathlib.Core.Path.{_≡_, refl}
+use Prim.Native.Nat.{ℕ}
+use lib.ListN.{replicate}
+use Rattle.model.specs.declared.Fault.the-variants.{Absent, Shape, Digits, Range, Repeated, Order}
+use Rattle.model.specs.Bytes.{kindOf}
+use Rattle.model.specs.Numbers.{digitsValue, numberShape?, numberOf}
+use Rattle.model.specs.Split.{consFirst, split, same?}
+use Rattle.model.specs.Model.{above?, aboveLast?}
+use Rattle.model.specs.Lines.{checked, fieldsFrom, fieldsOf, consNumber, numbersOf, numbersFrom, numbersLine}
+use Rattle.model.specs.Lines.{headFits?, headFrom, headOf, levelOf, allOf, nameByte?, name?, nameFrom}
+use Rattle.model.specs.Lines.{actionFields}
+use Rattle.model.specs.Lines.{used?, actionFrom, actionOf, stepFits?, rising, stepFrom, stepOf}
+use Rattle.model.specs.Reading.{tooLong, faulty, onLine, orFault, readNothing, readEnd, readSteps}
+use Rattle.model.specs.Reading.{readActions, readModel, readText}
+
+-- M,2,1,2,0 / A,L,a / S,0,0,0 / S,0,0,1 / E
+head : List ℕ
+head = 77 ∷ 44 ∷ 50 ∷ 44 ∷ 49 ∷ 44 ∷ 50 ∷ 44 ∷ 48 ∷ 10 ∷ []
+
+action : List ℕ
+action = 65 ∷ 44 ∷ 76 ∷ 44 ∷ 97 ∷ 10 ∷ []
+
+first : List ℕ
+first = 83 ∷ 44 ∷ 48 ∷ 44 ∷ 48 ∷ 44 ∷ 48 ∷ 10 ∷ []
+
+second : List ℕ
+second = 83 ∷ 44 ∷ 48 ∷ 44 ∷ 48 ∷ 44 ∷ 49 ∷ 10 ∷ []
+
+end : List ℕ
+end = 69 ∷ 10 ∷ []
+
+-- each text and its reading
+record Refused : Type 0 where
+  -- the empty text
+  empty : readText [] ≡ faulty Absent 1
+  -- cut after line 4
+  cut : readText (head ++ action ++ first ++ second) ≡ faulty Absent 5
+  -- no line end after `E`
+  no-line-end : readText (head ++ action ++ first ++ second ++ (69 ∷ [])) ≡ faulty Absent 5
+  -- a lone line end, or any byte, after `E`
+  line-end-after : readText (head ++ action ++ first ++ second ++ end ++ (10 ∷ [])) ≡ faulty Absent 6
+  byte-after : readText (head ++ action ++ first ++ second ++ end ++ (0 ∷ [])) ≡ faulty Absent 6
+  -- a step where `E` is due, and `E` where a step is due
+  surplus-step : readText (head ++ action ++ first ++ second ++ second ++ end) ≡ faulty Shape 5
+  missing-step : readText (head ++ action ++ first ++ end) ≡ faulty Shape 4
+  -- M,99999,1,2,0 / M,100000,1,2,0 / M,02,1,2,0 / M,200,1,2,x
+  five-digits : readText ((77 ∷ 44 ∷ 57 ∷ 57 ∷ 57 ∷ 57 ∷ 57 ∷ 44 ∷ 49 ∷ 44 ∷ 50 ∷ 44 ∷ 48 ∷ 10 ∷ []) ++ action)
+      ≡ faulty Range 1
+  six-digits : readText ((77 ∷ 44 ∷ 49 ∷ 48 ∷ 48 ∷ 48 ∷ 48 ∷ 48 ∷ 44 ∷ 49 ∷ 44 ∷ 50 ∷ 44 ∷ 48 ∷ 10 ∷ []) ++ action)
+      ≡ faulty Digits 1
+  leading-zero : readText ((77 ∷ 44 ∷ 48 ∷ 50 ∷ 44 ∷ 49 ∷ 44 ∷ 50 ∷ 44 ∷ 48 ∷ 10 ∷ []) ++ action) ≡ faulty Digits 1
+  digits-before-range : readText ((77 ∷ 44 ∷ 50 ∷ 48 ∷ 48 ∷ 44 ∷ 49 ∷ 44 ∷ 50 ∷ 44 ∷ 120 ∷ 10 ∷ []) ++ action)
+      ≡ faulty Digits 1
+  -- M,129,1,2,0 / M,2,1,2,2
+  states-above-limit : readText ((77 ∷ 44 ∷ 49 ∷ 50 ∷ 57 ∷ 44 ∷ 49 ∷ 44 ∷ 50 ∷ 44 ∷ 48 ∷ 10 ∷ []) ++ action)
+      ≡ faulty Range 1
+  start-not-below-states : readText ((77 ∷ 44 ∷ 50 ∷ 44 ∷ 49 ∷ 44 ∷ 50 ∷ 44 ∷ 50 ∷ 10 ∷ []) ++ action) ≡ faulty Range 1
+  -- M,2,1,2,0 and a carriage return / a blank before M / M,2,1,2
+  carriage-return : readText ((77 ∷ 44 ∷ 50 ∷ 44 ∷ 49 ∷ 44 ∷ 50 ∷ 44 ∷ 48 ∷ 13 ∷ 10 ∷ []) ++ action) ≡ faulty Digits 1
+  blank : readText ((32 ∷ []) ++ head ++ action) ≡ faulty Shape 1
+  four-fields : readText ((77 ∷ 44 ∷ 50 ∷ 44 ∷ 49 ∷ 44 ∷ 50 ∷ 10 ∷ []) ++ action) ≡ faulty Shape 1
+  -- A,M,a / A,L,A / A,L, / A,L, and thirteen letters
+  level-unknown : readText (head ++ (65 ∷ 44 ∷ 77 ∷ 44 ∷ 97 ∷ 10 ∷ []) ++ first) ≡ faulty Shape 2
+  name-capital : readText (head ++ (65 ∷ 44 ∷ 76 ∷ 44 ∷ 65 ∷ 10 ∷ []) ++ first) ≡ faulty Shape 2
+  name-empty : readText (head ++ (65 ∷ 44 ∷ 76 ∷ 44 ∷ 10 ∷ []) ++ first) ≡ faulty Shape 2
+  name-of-thirteen : readText (head ++ (65 ∷ 44 ∷ 76 ∷ 44 ∷ []) ++ replicate 13 97 ++ (10 ∷ []) ++ first)
+      ≡ faulty Shape 2
+  -- M,2,2,2,0 with A,L,a twice
+  name-repeated : readText ((77 ∷ 44 ∷ 50 ∷ 44 ∷ 50 ∷ 44 ∷ 50 ∷ 44 ∷ 48 ∷ 10 ∷ []) ++ action ++ action ++ first)
+      ≡ faulty Repeated 3
+  -- S,0,0,2
+  target-equal-to-states : readText (head ++ action ++ (83 ∷ 44 ∷ 48 ∷ 44 ∷ 48 ∷ 44 ∷ 50 ∷ 10 ∷ []) ++ second)
+      ≡ faulty Range 3
+  -- a step given twice, and steps that fall
+  step-given-twice : readText (head ++ action ++ first ++ first ++ end) ≡ faulty Order 4
+  steps-falling : readText (head ++ action ++ second ++ first ++ end) ≡ faulty Order 4
+  -- "A text of 16,384 bytes is judged by its lines, one of 16,385 gets 1."
+  most-bytes : readText (replicate 16384 10) ≡ faulty Shape 1
+  too-many-bytes : readText (replicate 16385 10) ≡ tooLong
+
+refused : Refused
+unfolding readText readModel readActions readSteps readEnd readNothing orFault onLine stepOf stepFrom rising stepFits?
+    actionOf actionFrom used? actionFields nameFrom name? nameByte? allOf levelOf headOf headFrom headFits? numbersLine
+    numbersFrom numbersOf consNumber fieldsOf fieldsFrom checked above? aboveLast? same? split consFirst digitsValue
+    numberShape? numberOf kindOf head action first second end
+refused = record {
+  empty = refl;
+  cut = refl;
+  no-line-end = refl;
+  line-end-after = refl;
+  byte-after = refl;
+  surplus-step = refl;
+  missing-step = refl;
+  five-digits = refl;
+  six-digits = refl;
+  leading-zero = refl;
+  digits-before-range = refl;
+  states-above-limit = refl;
+  start-not-below-states = refl;
+  carriage-return = refl;
+  blank = refl;
+  four-fields = refl;
+  level-unknown = refl;
+  name-capital = refl;
+  name-empty = refl;
+  name-of-thirteen = refl;
+  name-repeated = refl;
+  target-equal-to-states = refl;
+  step-given-twice = refl;
+  steps-falling = refl;
+  most-bytes = refl;
+  too-many-bytes = refl;
+}

@@ -1,0 +1,44 @@
+-- Tests that compute: whether a model is well-formed, and whether a store is good.
+-- Document 01, "The text" and "The model store".
+use mathlib.Core.Bool.{Bool, true, not, _&&_}
+use mathlib.Core.List.{List, [], _∷_, _++_}
+use Prim.Native.Nat.{ℕ}
+use lib.Dec.{leb, eqb}
+use lib.ListN.{length, take}
+use Rattle.model.specs.declared.Head.{Head}
+use Rattle.model.specs.declared.StepLine.{StepLine}
+use Rattle.model.specs.Limits.{storeLength}
+use Rattle.model.specs.Split.{same?}
+use Rattle.model.specs.Model.{high, ActionLine, Model, aboveLast?}
+use Rattle.model.specs.Lines.{headFits?, name?, used?, stepFits?}
+use Rattle.model.specs.Store.{storeOf}
+use Rattle.model.specs.StoredModel.{headAt, modelAt}
+
+-- The test of `EachAfter`. What a test leaves for later stands in a `let`: it is computed only if the test passes.
+unfoldable pub eachAfter? : {A : Type 0} → (List A → A → Bool) → List A → List A → Bool
+eachAfter? test before [] = true
+eachAfter? test before (x ∷ xs) = let rest = eachAfter? test (before ++ (x ∷ [])) xs in test before x && rest
+
+unfoldable pub actionFits? : List ActionLine → ActionLine → Bool
+actionFits? before a = leb (a .level) high && name? (a .name) && not (used? (a .name) before)
+
+unfoldable pub stepRises? : Head → List StepLine → StepLine → Bool
+stepRises? h before s = stepFits? h s && aboveLast? before s
+
+unfoldable pub wellFormed? : Model → Bool
+wellFormed? m =
+    headFits? (m .head)
+    && eqb (length (m .actions)) (m .head .actions)
+    && eqb (length (m .steps)) (m .head .steps)
+    && eachAfter? actionFits? [] (m .actions)
+    && eachAfter? (stepRises? (m .head)) [] (m .steps)
+
+-- the store shows a well-formed model, and is the store of that model
+unfoldable pub holds? : List ℕ → Bool
+holds? store =
+    let m = modelAt store in
+    wellFormed? m && same? (storeOf m) (take storeLength store)
+
+-- the numbers of line 1 are tested before the model is read off
+unfoldable pub good? : List ℕ → Bool
+good? store = let rest = holds? store in headFits? (headAt store) && rest

@@ -1,0 +1,39 @@
+-- The lines of a model's text without their ends, as fields joined by commas.
+-- Document 01, "The text".
+use mathlib.Core.List.{List, [], _∷_, _++_, map}
+use mathlib.Core.Path.{_≡_}
+use Prim.Native.Nat.{ℕ, _<_}
+use Rattle.model.specs.declared.Head.{Head}
+use Rattle.model.specs.declared.StepLine.{StepLine}
+use Rattle.model.specs.Bytes.{kindOf, lineEnd}
+use Rattle.model.specs.Numbers.{digits}
+use Rattle.model.specs.Join.{join}
+use Rattle.model.specs.Model.{ActionLine, Model}
+use Rattle.model.specs.Text.{levelByte}
+use Rattle.model.specs.Store.{headPlaces}
+
+-- a letter and fields
+abbrev pub lineOf : ℕ → List (List ℕ) → List ℕ
+lineOf letter fields = join 44 ((letter ∷ []) ∷ fields)
+
+abbrev pub lineOfHead : Head → List ℕ
+lineOfHead h = lineOf 77 (map digits (headPlaces h))
+
+abbrev pub lineOfAction : ActionLine → List ℕ
+lineOfAction a = lineOf 65 ((levelByte (a .level) ∷ []) ∷ a .name ∷ [])
+
+abbrev pub stepPlaces : StepLine → List ℕ
+stepPlaces s = s .source .0 ∷ s .action .0 ∷ s .target .0 ∷ []
+
+abbrev pub lineOfStep : StepLine → List ℕ
+lineOfStep s = lineOf 83 (map digits (stepPlaces s))
+
+-- the parts of a model's text between its line ends: its lines, and nothing after the last line end
+abbrev pub partsOf : Model → List (List ℕ)
+partsOf m =
+    lineOfHead (m .head)
+    ∷ (map lineOfAction (m .actions) ++ (map lineOfStep (m .steps) ++ ((69 ∷ []) ∷ [] ∷ [])))
+
+-- a byte that may stand in a line
+abbrev pub LineByte : ℕ → Type 0
+LineByte b = (b < 256) × (kindOf b ≡ lineEnd → ⊥)

@@ -1,0 +1,26 @@
+-- The test `same?` decides whether two lists of numbers are equal.
+-- Assumes nothing.
+use mathlib.Core.List.{List, [], _∷_}
+use mathlib.Core.Path.{_≡_, refl, subst}
+use Prim.Native.Nat.{ℕ}
+use lib.Dec.{T, eqb, eqb→eq, eqb-refl}
+use Rattle.lts.specs.TestsLaws.{and-left, and-right, and-intro}
+use Rattle.model.specs.Split.{same?}
+
+pub same?→eq : (xs ys : List ℕ) → T (same? xs ys) → xs ≡ ys
+unfolding same?
+same?→eq [] [] t = refl
+same?→eq [] (y ∷ ys) t = absurd t
+same?→eq (x ∷ xs) [] t = absurd t
+same?→eq (x ∷ xs) (y ∷ ys) t =
+    let e = eqb→eq x y (and-left (eqb x y) (same? xs ys) t) in
+    let f = same?→eq xs ys (and-right (eqb x y) (same? xs ys) t) in
+    cc
+
+pub same?-refl : (xs : List ℕ) → T (same? xs xs)
+unfolding same?
+same?-refl [] = tt
+same?-refl (x ∷ xs) = and-intro (eqb x x) (same? xs xs) (eqb-refl x) (same?-refl xs)
+
+pub eq→same? : (xs ys : List ℕ) → xs ≡ ys → T (same? xs ys)
+eq→same? xs ys e = subst (λ (l : List ℕ). T (same? xs l)) e (same?-refl xs)
