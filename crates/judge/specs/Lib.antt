@@ -7,6 +7,7 @@ pub mod Listing
 pub mod Index
 pub mod IndexLaws
 pub mod Roles
+pub mod RolesLaws
 pub mod Distances
 pub mod Verdicts
 pub mod Runs
