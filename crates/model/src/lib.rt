@@ -1,4 +1,6 @@
 // Till models: their texts, and the store that holds one.
+mod bytes;
+pub mod good;
 mod line;
 mod number;
 pub mod read;

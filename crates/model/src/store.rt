@@ -72,7 +72,6 @@ pub fn head(store: &[u16]) -> Head
 
 // Where an action begins: its level, then the length of its name.
 pub fn action_place(a: Action) -> usize
-    requires { ⌜ a .0 < actionLimit ⌝ }
     ensures { λ r. ⌜ r ≡ actionPlace (a .0) ⌝ }
 {
     ACTIONS_AT + ACTION_SIZE * a.0 as usize
@@ -80,7 +79,6 @@ pub fn action_place(a: Action) -> usize
 
 // Where the bytes of an action's name begin.
 pub fn name_place(a: Action) -> usize
-    requires { ⌜ a .0 < actionLimit ⌝ }
     ensures { λ r. ⌜ r ≡ namePlace (a .0) ⌝ }
 {
     ACTIONS_AT + ACTION_SIZE * a.0 as usize + 2
@@ -102,7 +100,6 @@ pub fn name_length(store: &[u16], a: Action) -> u16
 
 // Where a step begins: its source, then its action, then its target.
 pub fn step_place(j: Step) -> usize
-    requires { ⌜ j .0 < stepLimit ⌝ }
     ensures { λ r. ⌜ r ≡ stepPlace (j .0) ⌝ }
 {
     STEPS_AT + STEP_SIZE * j.0 as usize

@@ -1,0 +1,57 @@
+-- The loop has passed only good actions; one that is not refutes the range.
+use Prim.Native.Nat.{_-_}
+use native.Mathlib.Omega.{arith}
+use Rattle.model.specs.EachFrom.{EachFrom}
+use Rattle.model.specs.EachFromLaws.{each-from-nil, each-from-snoc, each-from-le}
+use Rattle.model.specs.DecidesLaws.{decides-passed, decides-refused}
+use Rattle.model.specs.GoodPlaces.{GoodAction}
+use borrow.Author.Needs.{needs}
+use Rattle.model.proofs.good.actions_good.Statement.{statement}
+use Rattle.model.proofs.good.actions_good.Tie as tie
+
+abbrev Inv-loop : tie.InvT-loop
+Inv-loop store n i₀ i = EachFrom (GoodAction store) 0 i
+
+abbrev μ-loop : tie.MeasureT-loop
+μ-loop store n i₀ i = n - i
+
+loop-holds : tie.Need-loop-holds Inv-loop μ-loop
+loop-holds c = each-from-nil _
+
+action-good-requires : tie.Need-action-good-requires Inv-loop μ-loop
+action-good-requires c κs = search needs
+
+returns : tie.Need-returns Inv-loop μ-loop
+returns c =
+    let f = c .before .action-good in
+    let i = c .before .before .before .loop .i in
+    λ b. decides-refused (f .result) _ (f .ensures) (c .if1 .taken) (b .at i (omega arith) (omega arith))
+
+add-i : tie.Need-add-i Inv-loop μ-loop
+add-i c = search needs
+
+loop-less : tie.Need-loop-less Inv-loop μ-loop
+loop-less c = search needs
+
+loop-again : tie.Need-loop-again Inv-loop μ-loop
+loop-again c =
+    let f = c .before .action-good in
+    let b = c .before .before .before .loop .inv in
+    each-from-snoc _ b (decides-passed (f .result) _ (f .ensures) (c .if1 .left))
+
+returns-2 : tie.Need-returns-2 Inv-loop μ-loop
+returns-2 c = each-from-le _ (omega arith) (c .before .loop .inv)
+
+pub actions-good-spec : {M : Type 1} → statement M
+actions-good-spec =
+    tie.close
+    (tie.spec
+    Inv-loop
+    μ-loop
+    loop-holds
+    action-good-requires
+    returns
+    add-i
+    loop-less
+    loop-again
+    returns-2)

@@ -1,0 +1,110 @@
+-- Each test decides one of the conditions on a store's places; its head is the one that was read.
+use mathlib.Core.Path.{ap}
+use native.Mathlib.Omega.{arith}
+use Rattle.model.specs.declared.Head.{Head}
+use Rattle.model.specs.Lines.{headFits?}
+use Rattle.model.specs.RangesLaws.{headFits?→HeadRanges}
+use Rattle.model.specs.DecidesLaws.{decides-passed, decides-refused, decides-iff}
+use borrow.Author.Needs.{needs}
+use Rattle.model.proofs.good.places_good.Statement.{statement}
+use Rattle.model.proofs.good.places_good.Tie as tie
+
+head-requires : tie.Need-head-requires
+head-requires c κs = search needs
+
+head-fits-requires : tie.Need-head-fits-requires
+head-fits-requires c κs = search needs
+
+returns : tie.Need-returns
+returns c =
+    let f = c .before .head-fits in
+    let e = c .before .before .head .ensures in
+    λ p. decides-refused (f .result) _ (f .ensures) (c .if1 .taken) (rw e (p .head))
+
+actions-good-requires : tie.Need-actions-good-requires
+actions-good-requires c κs =
+    let r = headFits?→HeadRanges _ (decides-passed (c .before .head-fits .result) _ (c .before .head-fits .ensures) (c .if1 .left)) in
+    (omega arith, omega arith)
+
+returns-2 : tie.Need-returns-2
+returns-2 c =
+    let f = c .before .actions-good in
+    let n = ap (λ (x : Head). x .actions) (c .before .before .before .before .head .ensures) in
+    λ p. decides-refused (f .result) _ (f .ensures) (c .if2 .taken) (rw n (p .actions))
+
+steps-good-requires : tie.Need-steps-good-requires
+steps-good-requires c κs =
+    let r = headFits?→HeadRanges _ (decides-passed (c .before .before .before .head-fits .result) _ (c .before .before .before .head-fits .ensures) (c .before .before .if1 .left)) in
+    (omega arith, omega arith)
+
+returns-3 : tie.Need-returns-3
+returns-3 c =
+    let f = c .before .steps-good in
+    let e = c .before .before .before .before .before .before .head .ensures in
+    λ p. decides-refused (f .result) _ (f .ensures) (c .if3 .taken) (rw e (p .steps))
+
+action-place-requires : tie.Need-action-place-requires
+action-place-requires c κs = search needs
+
+step-place-requires : tie.Need-step-place-requires
+step-place-requires c κs = search needs
+
+zeros-requires : tie.Need-zeros-requires
+zeros-requires c κs = search needs
+
+returns-4 : tie.Need-returns-4
+returns-4 c =
+    let f = c .before .zeros in
+    let n = ap (λ (x : Head). x .actions) (c .before .before .before .before .before .before .before .before .before .before .head .ensures) in
+    let a = c .before .before .before .action-place .ensures in
+    let s = c .before .before .step-place .ensures in
+    λ p.
+    decides-refused (f .result) _ (f .ensures) (c .if4 .taken)
+    (record { at = λ k h l. p .unused-actions .at k (omega arith) (omega arith) })
+
+step-place-requires-2 : tie.Need-step-place-requires-2
+step-place-requires-2 c κs = search needs
+
+zeros-requires-2 : tie.Need-zeros-requires-2
+zeros-requires-2 c κs = search needs
+
+returns-5 : tie.Need-returns-5
+returns-5 c =
+    let e = c .before .before .before .before .before .before .before .before .before .before .before .before .head .ensures in
+    let n = ap (λ (x : Head). x .actions) e in
+    let m = ap (λ (x : Head). x .steps) e in
+    let a = c .before .before .before .before .before .action-place .ensures in
+    let s = c .before .before .before .before .step-place .ensures in
+    let t = c .before .step-place2 .ensures in
+    let head = decides-passed (c .before .before .before .before .before .before .before .before .before .before .before .head-fits .result) _ (c .before .before .before .before .before .before .before .before .before .before .before .head-fits .ensures) (c .before .before .before .before .before .before .before .before .before .before .if1 .left) in
+    let actions = decides-passed (c .before .before .before .before .before .before .before .before .before .actions-good .result) _ (c .before .before .before .before .before .before .before .before .before .actions-good .ensures) (c .before .before .before .before .before .before .before .before .if2 .left) in
+    let steps = decides-passed (c .before .before .before .before .before .before .before .steps-good .result) _ (c .before .before .before .before .before .before .before .steps-good .ensures) (c .before .before .before .before .before .before .if3 .left) in
+    let unused = decides-passed (c .before .before .before .zeros .result) _ (c .before .before .before .zeros .ensures) (c .before .before .if4 .left) in
+    decides-iff (c .zeros2 .result)
+    (λ z. record {
+      head = rw e at head;
+      actions = rw n at actions;
+      steps = rw e at steps;
+      unused-actions = record { at = λ k h l. unused .at k (omega arith) (omega arith) };
+      unused-steps = record { at = λ k h l. z .at k (omega arith) (omega arith) };
+    })
+    (λ p. record { at = λ k h l. p .unused-steps .at k (omega arith) (omega arith) }) (c .zeros2 .ensures)
+
+pub places-good-spec : {M : Type 1} → statement M
+places-good-spec =
+    tie.close
+    (tie.spec
+    head-requires
+    head-fits-requires
+    returns
+    actions-good-requires
+    returns-2
+    steps-good-requires
+    returns-3
+    action-place-requires
+    step-place-requires
+    zeros-requires
+    returns-4
+    step-place-requires-2
+    zeros-requires-2
+    returns-5)
