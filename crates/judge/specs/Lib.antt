@@ -1,6 +1,8 @@
 pub mod Lists
+pub mod ListsLaws
 pub mod Stored
 pub mod StoredLaws
+pub mod GoodStoredLaws
 pub mod Table
 pub mod MoveList
 pub mod Listing
@@ -9,6 +11,14 @@ pub mod IndexLaws
 pub mod Roles
 pub mod RolesLaws
 pub mod Distances
+pub mod StepTest
+pub mod StepTestLaws
+pub mod Waves
+pub mod WavesLaws
 pub mod Verdicts
 pub mod Runs
+pub mod RunTail
+pub mod RunTailLaws
 pub mod Promises
+pub mod ReachLaws
+pub mod RunsLaws
