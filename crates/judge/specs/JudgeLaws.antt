@@ -1,14 +1,12 @@
--- Judge keeps its promise in each of its ways, and the promise pins one answer and one content of each list.
+-- Judge keeps its promise in each of its ways; this promise, and Rank's, pin one answer and one content of each list.
 -- Document 01, operation 4 and "Refused because of the state". Assumes nothing.
-use mathlib.Core.List.{List}
-use mathlib.Core.Logic.{⊎-elim}
-use mathlib.Core.Option.{none, some}
+use mathlib.Core.List.{List, [], _∷_}
+use mathlib.Core.Option.{Option, none, some}
 use mathlib.Core.Path.{_≡_, refl, sym, ap, subst, _∙_}
 use Prim.Native.Nat.{ℕ, _≤_, _<_}
 use lib.ListN.{length}
-use borrow.Author.Tests.{lt-ltb, le-ltb}
 use Rattle.model.specs.Limits.{storeLength}
-use Rattle.model.specs.Faults.{Told, refuses, firstShort}
+use Rattle.model.specs.Faults.{Told, answers}
 use Rattle.model.specs.Model.{Model}
 use Rattle.model.specs.Store.{Good}
 use Rattle.model.specs.StoredModel.{modelAt}
@@ -16,70 +14,114 @@ use Rattle.model.specs.StoredModelLaws.{good-model}
 use Rattle.model.specs.Promises.{OnStore}
 use Rattle.model.specs.PromisesLaws.{onStore-unique}
 use Rattle.model.specs.OnStoreLaws.{onStore-short, onStore-not-good, onStore-good}
+use Rattle.model.specs.System.{LowStep}
 use Rattle.judge.specs.declared.judge.Verdict.{Verdict}
 use Rattle.judge.specs.declared.judge.JudgeAnswer.the-variants as judge
 use Rattle.judge.specs.Lists.{distancesLength, tableLength}
-use Rattle.judge.specs.Promises.{toldVerdict, toldJudge, judgeLists, JudgePromise, Filled}
+use Rattle.judge.specs.FirstShortLaws.{firstShort-nil, firstShort-lt, firstShort-le}
+use Rattle.judge.specs.Stored.{Stored}
+use Rattle.judge.specs.Table.{Ranked}
+use Rattle.judge.specs.TableLaws.{ranks-past-unique, ranked-unique}
+use Rattle.judge.specs.ReachLaws.{distances-unique, good-stored}
 use Rattle.judge.specs.Verdicts.{Judged}
+use Rattle.judge.specs.VerdictsLaws.{judged-unique}
 use Rattle.judge.specs.Judging.{Judging}
+use Rattle.judge.specs.Promises.{toldVerdict, toldJudge, judgeLists, Filled, JudgePromise}
+use Rattle.judge.specs.Promises.{rankLists, RankPromise}
 
 module _ (store distances table : List ℕ) where
-  -- ---- lists that are too short, and long enough
-
-  judgeLists-first : length store < storeLength → judgeLists store distances table ≡ some 1
-  unfolding firstShort
-  judgeLists-first h = rw (lt-ltb (length store) storeLength h)
-
-  judgeLists-second : storeLength ≤ length store → length distances < distancesLength
-      → judgeLists store distances table ≡ some 2
-  unfolding firstShort
-  judgeLists-second g h =
-      rw (le-ltb (length store) storeLength g, lt-ltb (length distances) distancesLength h)
-
-  judgeLists-third : storeLength ≤ length store → distancesLength ≤ length distances → length table < tableLength
-      → judgeLists store distances table ≡ some 3
-  unfolding firstShort
-  judgeLists-third f g h =
-      rw (le-ltb (length store) storeLength f, le-ltb (length distances) distancesLength g,
-      lt-ltb (length table) tableLength h)
-
-  pub judgeLists-none : storeLength ≤ length store → distancesLength ≤ length distances → tableLength ≤ length table
-      → judgeLists store distances table ≡ none
-  unfolding firstShort
-  judgeLists-none f g h =
-      rw (le-ltb (length store) storeLength f, le-ltb (length distances) distancesLength g,
-      le-ltb (length table) tableLength h)
-
-  -- ---- the ways
+  -- ---- the ways of the promise: the lengths of the lists decide first, then goodness
 
   pub judge-first-short : length store < storeLength
       → JudgePromise store distances table (toldJudge (judge.ShortList 1)) distances table
   unfolding toldJudge
-  judge-first-short h = onStore-short (judgeLists-first h) refl (refl, refl)
+  judge-first-short h = onStore-short (firstShort-lt _ _ _ h) refl (refl, refl)
 
-  pub judge-second-short : storeLength ≤ length store → length distances < distancesLength
-      → JudgePromise store distances table (toldJudge (judge.ShortList 2)) distances table
-  unfolding toldJudge
-  judge-second-short g h = onStore-short (judgeLists-second g h) refl (refl, refl)
-
-  pub judge-third-short : storeLength ≤ length store → distancesLength ≤ length distances → length table < tableLength
-      → JudgePromise store distances table (toldJudge (judge.ShortList 3)) distances table
-  unfolding toldJudge
-  judge-third-short f g h = onStore-short (judgeLists-third f g h) refl (refl, refl)
-
-  module _ (f : storeLength ≤ length store) (g : distancesLength ≤ length distances) (h : tableLength ≤ length table) where
-    pub judge-not-good : ¬ (Good store) → JudgePromise store distances table (toldJudge judge.NotGood) distances table
+  module _ (first-long : storeLength ≤ length store) where
+    pub judge-second-short : length distances < distancesLength
+        → JudgePromise store distances table (toldJudge (judge.ShortList 2)) distances table
     unfolding toldJudge
-    judge-not-good n = onStore-not-good (judgeLists-none f g h) n refl (refl, refl)
+    judge-second-short h = onStore-short (firstShort-le _ _ _ first-long ∙ firstShort-lt _ _ _ h) refl (refl, refl)
 
-    pub judge-done : Good store → (v : Verdict) (first roles distances′ table′ : List ℕ)
-        → Judging (modelAt store) v distances table first roles distances′ table′
-        → JudgePromise store distances table (toldJudge (judge.Judged v)) distances′ table′
-    unfolding toldJudge
-    judge-done good v first roles distances′ table′ j = onStore-good (judgeLists-none f g h) good (λ k.
-        let e = sym (good-model store k) in (
-          v,
-          refl,
-          subst (λ (m : Model). Judged m v) e (j .verdict),
-          subst (λ (m : Model). Filled m distances table distances′ table′) e (j .filled),
-        ))
+    module _ (second-long : distancesLength ≤ length distances) where
+      pub judge-third-short : length table < tableLength
+          → JudgePromise store distances table (toldJudge (judge.ShortList 3)) distances table
+      unfolding toldJudge
+      judge-third-short h = onStore-short
+          (firstShort-le _ _ _ first-long ∙ firstShort-le _ _ _ second-long ∙ firstShort-lt _ _ _ h) refl (refl, refl)
+
+      module _ (third-long : tableLength ≤ length table) where
+        pub judgeLists-none : judgeLists store distances table ≡ none
+        judgeLists-none =
+            firstShort-le _ _ _ first-long ∙ firstShort-le _ _ _ second-long ∙ firstShort-le _ _ _ third-long
+            ∙ firstShort-nil _
+
+        pub judge-not-good : ¬ (Good store)
+            → JudgePromise store distances table (toldJudge judge.NotGood) distances table
+        unfolding toldJudge
+        judge-not-good n = onStore-not-good judgeLists-none n refl (refl, refl)
+
+        -- whatever text reads to a good store, it states the model that the store shows
+        pub judge-done : Good store → (v : Verdict) (first roles distances′ table′ : List ℕ)
+            → Judging (modelAt store) v distances table first roles distances′ table′
+            → JudgePromise store distances table (toldJudge (judge.Judged v)) distances′ table′
+        unfolding toldJudge
+        judge-done good v first roles distances′ table′ j = onStore-good judgeLists-none good (λ g.
+            let e = sym (good-model store g) in (
+              v,
+              refl,
+              subst (λ (m : Model). Judged m v) e (j .verdict),
+              subst (λ (m : Model). Filled m distances table distances′ table′) e (j .filled),
+            ))
+
+-- ---- one answer
+
+filled-unique : {s : List ℕ} {m : Model} → Stored s m → (distances table u v x y : List ℕ) → Filled m distances table u v
+    → Filled m distances table x y → (u ≡ x) × (v ≡ y)
+filled-unique {m = m} st distances table u v x y f g = (
+  distances-unique st (f .distances-filled) (g .distances-filled),
+  ranks-past-unique (LowStep m) (m .head .states) table v y (f .ranks) (g .ranks) (f .table-past) (g .table-past),
+)
+
+-- the two lists of Judge, as one
+abbrev Lists : Type 0
+Lists = List ℕ × List ℕ
+
+pub judgePromise-unique : (store distances table : List ℕ) (told told′ : Told) (u v x y : List ℕ)
+    → JudgePromise store distances table told u v → JudgePromise store distances table told′ x y
+    → (told ≡ told′) × (u ≡ x) × (v ≡ y)
+judgePromise-unique store distances table told told′ u v x y p q =
+    let r = onStore-unique {A = Lists} lists store told told′ (distances, table) (u, v) (x, y) Done pins
+        (as-one told u v p) (as-one told′ x y q) in
+    (r .0, ap (λ (l : Lists). l .0) (r .1), ap (λ (l : Lists). l .1) (r .1))
+  where
+    lists : Option ℕ
+    lists = judgeLists store distances table
+
+    Done : Told → Lists → Good store → Type 0
+    Done t l g = (w : Verdict) × (t ≡ toldVerdict w) × Judged (g .model) w
+        × Filled (g .model) distances table (l .0) (l .1)
+
+    as-one : (t : Told) (c d : List ℕ) → JudgePromise store distances table t c d
+        → OnStore lists store t (_≡_ {A = Lists} (c, d) (distances, table)) (Done t (c, d))
+    as-one t c d o = record {
+      short = λ k e. let a = o .short k e in (a .0, λ i. (a .1 .0 i, a .1 .1 i));
+      not-good = λ e n. let a = o .not-good e n in (a .0, λ i. (a .1 .0 i, a .1 .1 i));
+      good = o .good;
+    }
+
+    pins : (g : Good store) → Done told (u, v) g → Done told′ (x, y) g
+        → (told ≡ told′) × (_≡_ {A = Lists} (u, v) (x, y))
+    pins g a b =
+        let e = judged-unique (g .model) (a .0) (b .0) (a .2) (b .2) in
+        let f = filled-unique (good-stored store g) distances table u v x y (a .3) (b .3) in
+        (a .1 ∙ ap toldVerdict e ∙ sym (b .1), λ i. (f .0 i, f .1 i))
+
+pub rankPromise-unique : (store table : List ℕ) (told told′ : Told) (exit exit′ : List ℕ)
+    → RankPromise store table told exit → RankPromise store table told′ exit′ → (told ≡ told′) × (exit ≡ exit′)
+rankPromise-unique store table told told′ exit exit′ =
+    onStore-unique (rankLists store table) store told told′ table exit exit′
+    (λ t x g. (last : ℕ) × (t ≡ answers (last ∷ [])) × Ranked (LowStep (g .model)) (g .model .head .states) table x last)
+    (λ g a b.
+    let r = ranked-unique (LowStep (g .model)) (g .model .head .states) table exit exit′ (a .0) (b .0) (a .2) (b .2) in
+    (a .1 ∙ ap (λ (k : ℕ). answers (k ∷ [])) (r .0) ∙ sym (b .1), r .1))

@@ -1,4 +1,5 @@
 pub mod Lists
+pub mod ListsLaws
 pub mod Stored
 pub mod StoredLaws
 pub mod GoodStoredLaws
@@ -13,11 +14,16 @@ pub mod IndexLaws
 pub mod Roles
 pub mod RolesLaws
 pub mod Distances
-pub mod Verdicts
-pub mod Runs
-pub mod Promises
 pub mod StepTest
 pub mod StepTestLaws
+pub mod Waves
+pub mod WavesLaws
+pub mod Verdicts
+pub mod Runs
+pub mod RunTail
+pub mod RunTailLaws
+pub mod Promises
+pub mod FirstShortLaws
 pub mod ModelLists
 pub mod LeakSearch
 pub mod LeakSearchLaws
@@ -38,3 +44,5 @@ pub mod TableWritesLaws
 pub mod RoundsLaws
 pub mod Marks
 pub mod MarksLaws
+pub mod ReachLaws
+pub mod RunsLaws

@@ -1,7 +1,6 @@
 // Reachable states, ranks, the verdict and runs of till models.
 mod classes;
 mod index;
-mod lists;
 pub mod judge;
 mod moves;
 pub mod rank;

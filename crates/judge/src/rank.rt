@@ -9,6 +9,8 @@ ghost use Rattle.judge.specs.Index.{Index};
 ghost use Rattle.judge.specs.Roles.{Roles};
 ghost use Rattle.judge.specs.Table.{Ranked};
 
+pub const TABLE_LENGTH: usize = 16384;
+
 // What Rank answers: the last round that separated two states.
 pub enum RankAnswer {
     Last(u8),
