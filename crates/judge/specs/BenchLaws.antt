@@ -1,4 +1,4 @@
--- The joint fact on the starred bench models, by evaluation: each text is read, and the computed verdict is the verdict.
+-- The joint fact on the starred bench models, by evaluation: each text is read, and the computed verdict is the one.
 -- Document 01, "Bench models". Assumes nothing.
 use mathlib.Core.Bool.{Bool, _&&_, _||_}
 use mathlib.Core.List.{List, [], _∷_, _++_}
@@ -23,7 +23,8 @@ use Rattle.model.specs.Model.{Model, above?, aboveLast?}
 use Rattle.model.specs.Lines.{checked, fieldsFrom, fieldsOf, consNumber, numbersOf, numbersFrom, numbersLine}
 use Rattle.model.specs.Lines.{headFits?, headFrom, headOf, levelOf, allOf, nameByte?, name?, nameFrom, actionFields}
 use Rattle.model.specs.Lines.{used?, actionFrom, actionOf, stepFits?, rising, stepFrom, stepOf}
-use Rattle.model.specs.Reading.{done, onLine, orFault, readNothing, readEnd, readSteps, readActions, readModel, readText}
+use Rattle.model.specs.Reading.{done, onLine, orFault, readNothing, readEnd, readSteps, readActions}
+use Rattle.model.specs.Reading.{readModel, readText}
 use Rattle.model.specs.ReadingLaws.{textOf-of-readText}
 use Rattle.model.specs.Store.{storeOf}
 use Rattle.model.specs.StoreLaws.{storeOf-length}
@@ -39,10 +40,10 @@ use Rattle.judge.specs.Distances.{ReachableIn}
 use Rattle.judge.specs.Verdicts.{Judged}
 use Rattle.judge.specs.VerdictTest.{greatestBelow, leastBelow, verdictOf}
 use Rattle.judge.specs.VerdictTestLaws.{verdictOf-judged, Reachable→reachable?}
-use Rattle.judge.specs.Bench.{worked, workedText, scannedOnce, scannedOnceText, released, releasedText}
-use Rattle.judge.specs.Bench.{closeLow, closeLowText, branching, branchingText, noSteps, noStepsText}
-use Rattle.judge.specs.Bench.{printLoop, printLoopText, unreachedPrint, unreachedPrintText, refusedAt}
-use Rattle.judge.specs.Bench.{ReadsAndJudged, JointFact}
+use Rattle.judge.specs.BenchModels.{worked, workedText, scannedOnce, scannedOnceText, released, releasedText}
+use Rattle.judge.specs.BenchModels.{closeLow, closeLowText, branching, branchingText, noSteps, noStepsText}
+use Rattle.judge.specs.BenchModels.{printLoop, printLoopText, unreachedPrint, unreachedPrintText}
+use Rattle.judge.specs.Bench.{ReadsAndJudged, refusedAt, JointFact}
 
 -- ---- what evaluation finds
 
@@ -144,12 +145,14 @@ joint-fact = record {
       judged-of-computed scannedOnceText scannedOnce (read .scanned-once) (Passed 1) (computed .scanned-once);
   released-passed = judged-of-computed releasedText released (read .released) (Passed 1) (computed .released);
   close-low-refused = judged-of-computed closeLowText closeLow (read .close-low) (refusedAt 0 1) (computed .close-low);
-  branching-refused = judged-of-computed branchingText branching (read .branching) (refusedAt 2 2) (computed .branching);
+  branching-refused =
+      judged-of-computed branchingText branching (read .branching) (refusedAt 2 2) (computed .branching);
   branching-same-words = branching-same-words;
   no-steps-passed = judged-of-computed noStepsText noSteps (read .no-steps) (Passed 0) (computed .no-steps);
   print-loop-passed = judged-of-computed printLoopText printLoop (read .print-loop) (Passed 0) (computed .print-loop);
   unreached-print-passed =
-      judged-of-computed unreachedPrintText unreachedPrint (read .unreached-print) (Passed 1) (computed .unreached-print);
+      judged-of-computed unreachedPrintText unreachedPrint (read .unreached-print) (Passed 1)
+      (computed .unreached-print);
   print-unreachable = print-unreachable;
   thinned = refl;
   thinned-empty = refl;

@@ -76,8 +76,8 @@ module _ (store distances table : List ℕ) where
 
 -- ---- one answer
 
-filled-unique : {s : List ℕ} {m : Model} → Stored s m → (distances table u v x y : List ℕ) → Filled m distances table u v
-    → Filled m distances table x y → (u ≡ x) × (v ≡ y)
+filled-unique : {s : List ℕ} {m : Model} → Stored s m → (distances table u v x y : List ℕ)
+    → Filled m distances table u v → Filled m distances table x y → (u ≡ x) × (v ≡ y)
 filled-unique {m = m} st distances table u v x y f g = (
   distances-unique st (f .distances-filled) (g .distances-filled),
   ranks-past-unique (LowStep m) (m .head .states) table v y (f .ranks) (g .ranks) (f .table-past) (g .table-past),
@@ -121,7 +121,8 @@ pub rankPromise-unique : (store table : List ℕ) (told told′ : Told) (exit ex
     → RankPromise store table told exit → RankPromise store table told′ exit′ → (told ≡ told′) × (exit ≡ exit′)
 rankPromise-unique store table told told′ exit exit′ =
     onStore-unique (rankLists store table) store told told′ table exit exit′
-    (λ t x g. (last : ℕ) × (t ≡ answers (last ∷ [])) × Ranked (LowStep (g .model)) (g .model .head .states) table x last)
+    (λ t x g. (last : ℕ) × (t ≡ answers (last ∷ []))
+    × Ranked (LowStep (g .model)) (g .model .head .states) table x last)
     (λ g a b.
     let r = ranked-unique (LowStep (g .model)) (g .model .head .states) table exit exit′ (a .0) (b .0) (a .2) (b .2) in
     (a .1 ∙ ap (λ (k : ℕ). answers (k ∷ [])) (r .0) ∙ sym (b .1), r .1))

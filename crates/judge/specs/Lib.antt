@@ -34,6 +34,7 @@ pub mod TableLaws
 pub mod VerdictsLaws
 pub mod VerdictTest
 pub mod VerdictTestLaws
+pub mod BenchModels
 pub mod Bench
 pub mod BenchLaws
 pub mod MoveListLaws

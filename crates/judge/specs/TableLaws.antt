@@ -6,28 +6,21 @@ use mathlib.Core.Path.{_≡_, sym, ap, _∙_}
 use Prim.Native.Nat.{ℕ, _+_, _*_, _-_, _/_, _%_, _≤_, _<_}
 use native.Mathlib.Omega.{arith}
 use lib.ListN.{length, getD, drop}
-use lib.Seq.{ext-getD, getD-drop}
+use lib.Seq.{ext-getD}
 use Rattle.lts.specs.Alike.{Moves}
 use Rattle.lts.specs.AlikeLaws.{rank-unique}
 use Rattle.lts.specs.TestsLaws.{lt-or-le}
 use Rattle.model.specs.Limits.{stateLimit}
 use Rattle.judge.specs.Lists.{tableLength, pairPlace, Past}
+use Rattle.judge.specs.ListsLaws.{past-getD}
 use Rattle.judge.specs.Table.{Ranks, Greatest, Ranked}
 
--- two lists that agree up to the least length, and past it with what stood there before, are one
+-- two lists that agree up to the least length are one, if past it both kept what stood there
 pub past-unique : {least : ℕ} {entry exit exit′ : List ℕ} → Past least entry exit → Past least entry exit′
     → ((i : ℕ) → i < least → getD exit i 0 ≡ getD exit′ i 0) → exit ≡ exit′
 past-unique {least} {entry} {exit} {exit′} p q h =
     ext-getD 0 exit exit′ (p .same-length ∙ sym (q .same-length))
-    (λ i l. ⊎-elim (h i) (past i) (lt-or-le i least))
-  where
-    past : (i : ℕ) → least ≤ i → getD exit i 0 ≡ getD exit′ i 0
-    past i l =
-        let e : least + (i - least) ≡ i = omega arith in
-        let f : drop least exit ≡ drop least exit′ = p .kept ∙ sym (q .kept) in
-        ap (λ (x : ℕ). getD exit x 0) (sym e) ∙ sym (getD-drop least exit (i - least) 0)
-        ∙ ap (λ (x : List ℕ). getD x (i - least) 0) f ∙ getD-drop least exit′ (i - least) 0
-        ∙ ap (λ (x : ℕ). getD exit′ x 0) e
+    (λ i l. ⊎-elim (h i) (λ k. past-getD p i k ∙ sym (past-getD q i k)) (lt-or-le i least))
 
 module _ (Move : Moves) (n : ℕ) where
   pub greatest-unique : (top top′ : ℕ) → Greatest Move n top → Greatest Move n top′ → top ≡ top′

@@ -62,7 +62,8 @@ greatestBelow-attained zero f =
     let s = greatest-step 0 (f 0) in
     let e : f 0 ≡ cond (ltb 0 (f 0)) (f 0) 0 = ⊎-elim sym (λ z. omega (arith, s .1, z)) (s .2) in
     (0, omega arith, e)
-greatestBelow-attained (suc n) f = go (greatestBelow-attained n f) (greatest-step (greatestBelow (suc n) f) (f (suc n)) .2)
+greatestBelow-attained (suc n) f =
+    go (greatestBelow-attained n f) (greatest-step (greatestBelow (suc n) f) (f (suc n)) .2)
   where
     g : ℕ
     g = cond (ltb (greatestBelow (suc n) f) (f (suc n))) (f (suc n)) (greatestBelow (suc n) f)
@@ -110,8 +111,8 @@ module _ {s : List ℕ} {m : Model} (st : Stored s m) where
       (start? m) (decided-steps st) (decided-start st) p r
 
   leak-high : (j d : ℕ) → Leak m j d → T (highStep? m j)
-  leak-high j d x = and-intro (eqb (level m (action m j)) high) (reachable? m (source m j)) (T-eqb (x .high-step .is-high))
-      (Reachable→reachable? (source m j) (x .high-step .reachable))
+  leak-high j d x = and-intro (eqb (level m (action m j)) high) (reachable? m (source m j))
+      (T-eqb (x .high-step .is-high)) (Reachable→reachable? (source m j) (x .high-step .reachable))
 
   depthAt-is : (j : ℕ) → j < length (m .steps) → DepthAt m j (depthAt m j)
   depthAt-is j l = go (T-cases (highStep? m j))

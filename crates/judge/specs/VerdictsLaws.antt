@@ -79,7 +79,8 @@ module _ (m : Model) where
           reachable = subst (ReachableIn m) (sym (x .source-is)) r;
         }
 
-        pair : ((k : ℕ) × Rank (LowStep m) (source m j) (target m j) k) → Bisimilar (LowStep m) (source m j) (target m j)
+        pair : ((k : ℕ) × Rank (LowStep m) (source m j) (target m j) k)
+            → Bisimilar (LowStep m) (source m j) (target m j)
         pair (k, w) = ⊎-elim
             (λ l. absurd (h j k (record { high-step = high-step; rank = w; above-zero = l })))
             (λ l. bisimilar-of-rank (LowStep m) (source m j) (target m j) k (omega arith) w)
