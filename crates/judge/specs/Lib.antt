@@ -1,5 +1,6 @@
 pub mod Lists
 pub mod ListsLaws
+pub mod FirstShortLaws
 pub mod Stored
 pub mod StoredLaws
 pub mod GoodStoredLaws
@@ -23,7 +24,6 @@ pub mod Runs
 pub mod RunTail
 pub mod RunTailLaws
 pub mod Promises
-pub mod FirstShortLaws
 pub mod ModelLists
 pub mod LeakSearch
 pub mod LeakSearchLaws

@@ -2,11 +2,12 @@
 -- Document 01, "Rank". Assumes nothing.
 use mathlib.Core.List.{List}
 use mathlib.Core.Logic.{inl, inr, ⊎-elim, _↔_}
+use mathlib.Core.Path.{_≡_, sym, subst}
 use Prim.Native.Nat.{ℕ}
 use Rattle.lts.specs.Alike.{Moves, Relation, Answered, Bisimilar, Separated, Rank, bisimilar, separated}
 use Rattle.lts.specs.Agree.{Agree}
 use Rattle.lts.specs.AgreeLaws.{separated-agree}
-use Rattle.judge.specs.MoveList.{Listed, Lists}
+use Rattle.judge.specs.MoveList.{Listed, MoveList, Lists}
 use Rattle.judge.specs.Table.{SomePair, Ranked}
 
 -- ---- the same moves
@@ -65,9 +66,8 @@ module _ {Move : Moves} {n : ℕ} {first actions targets : List ℕ} (l : Lists 
     holds = f (x .one) (x .other) (x .holds);
   }
 
-  pub ranked-of-listed : {entry exit : List ℕ} {last : ℕ} → Ranked Played n entry exit last
-      → Ranked Move n entry exit last
-  ranked-of-listed {last = last} r = record {
+  ranked-of-played : {entry exit : List ℕ} {last : ℕ} → Ranked Played n entry exit last → Ranked Move n entry exit last
+  ranked-of-played {last = last} r = record {
     table = record {
       ranks = λ p q lp lq. rank-forth p q (r .table .ranks p q lp lq);
       outside = r .table .outside;
@@ -86,3 +86,13 @@ module _ {Move : Moves} {n : ℕ} {first actions targets : List ℕ} (l : Lists 
       bound = λ p q k lp lq x. r .greatest .bound p q k lp lq (rank-back p q x);
     };
   }
+
+  -- the lists, and what is ranked by them, for a number that is n
+  module _ {x : ℕ} (e : x ≡ n) where
+    pub moveList-of-lists : MoveList x first actions targets
+    moveList-of-lists = subst (λ (y : ℕ). MoveList y first actions targets) (sym e) (l .moves)
+
+    pub ranked-of-listed : {entry exit : List ℕ} {last : ℕ}
+        → Ranked (Listed x first actions targets) x entry exit last → Ranked Move n entry exit last
+    ranked-of-listed {entry} {exit} {last} r =
+        ranked-of-played (subst (λ (y : ℕ). Ranked (Listed y first actions targets) y entry exit last) e r)
