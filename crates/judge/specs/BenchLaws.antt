@@ -1,7 +1,7 @@
 -- The joint fact on the starred bench models, by evaluation: each text is read, and the computed verdict is the one.
 -- Document 01, "Bench models". Assumes nothing.
 use mathlib.Core.Bool.{Bool, _&&_, _||_}
-use mathlib.Core.List.{List, [], _∷_, _++_}
+use mathlib.Core.List.{List, [], _++_}
 use mathlib.Core.Path.{_≡_, refl, subst}
 use Prim.Native.Nat.{ℕ, _<_, _≤_}
 use native.Mathlib.Omega.{arith}
@@ -103,7 +103,7 @@ module _ (text : List ℕ) (m : Model) (e : readText text ≡ done m) where
   stored-of-read =
       let w = textOf-of-readText text m e .0 in
       let l : storeLength ≤ length (storeOf m ++ []) =
-          omega (arith, storeOf-length m w, length-append (storeOf m) []) in
+      omega (arith, storeOf-length m w, length-append (storeOf m) []) in
       holds→Stored (storeOf m ++ []) m l (holds-storeOf m [] w)
 
   judged-of-computed : (v : Verdict) → verdictOf m ≡ v → ReadsAndJudged text m v

@@ -1,7 +1,7 @@
 -- Judge keeps its promise in each of its ways; this promise, and Rank's, pin one answer and one content of each list.
 -- Document 01, operation 4 and "Refused because of the state". Assumes nothing.
 use mathlib.Core.List.{List, [], _∷_}
-use mathlib.Core.Option.{Option, none, some}
+use mathlib.Core.Option.{Option, none}
 use mathlib.Core.Path.{_≡_, refl, sym, ap, subst, _∙_}
 use Prim.Native.Nat.{ℕ, _≤_, _<_}
 use lib.ListN.{length}
@@ -92,7 +92,7 @@ pub judgePromise-unique : (store distances table : List ℕ) (told told′ : Tol
     → (told ≡ told′) × (u ≡ x) × (v ≡ y)
 judgePromise-unique store distances table told told′ u v x y p q =
     let r = onStore-unique {A = Lists} lists store told told′ (distances, table) (u, v) (x, y) Done pins
-        (as-one told u v p) (as-one told′ x y q) in
+    (as-one told u v p) (as-one told′ x y q) in
     (r .0, ap (λ (l : Lists). l .0) (r .1), ap (λ (l : Lists). l .1) (r .1))
   where
     lists : Option ℕ

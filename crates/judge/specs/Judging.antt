@@ -1,7 +1,6 @@
 -- What judging a good store leaves. Only the contracts of inner functions cite it.
 -- Document 01, operation 4.
 use mathlib.Core.List.{List}
-use mathlib.Core.Path.{_≡_}
 use Prim.Native.Nat.{ℕ, _≤_}
 use lib.ListN.{length}
 use Rattle.model.specs.Limits.{actionLimit}

@@ -1,13 +1,13 @@
 -- The computed verdict is the verdict, so every model of a good store has one.
 -- Document 01, operations 3 and 4. Assumes nothing.
-use mathlib.Core.Bool.{Bool, true, false, not, cond, _&&_}
+use mathlib.Core.Bool.{Bool, true, false, not, cond}
 use mathlib.Core.List.{List}
 use mathlib.Core.Logic.{_⊎_, inl, inr, ⊎-elim}
 use mathlib.Core.Path.{_≡_, refl, sym, ap, subst, _∙_}
 use Prim.Native.Nat.{ℕ, zero, suc, _+_, _-_, _≤_, _<_}
 use native.Mathlib.Numerals.{add-one}
 use native.Mathlib.Omega.{arith}
-use lib.Dec.{T, T-not, eqb, ltb, eqb→eq, ltb→lt}
+use lib.Dec.{T, T-not, eqb, ltb, eqb→eq}
 use lib.ListN.{length}
 use borrow.Author.Tests.{lt-ltb, le-ltb}
 use Rattle.lts.specs.Alike.{Rank}
@@ -17,12 +17,10 @@ use Rattle.lts.specs.CheckedLaws.{lowRank→Rank}
 use Rattle.lts.specs.DistanceLaws.{Reachable→within?, within?→Reachable}
 use Rattle.model.specs.Model.{high, Model}
 use Rattle.model.specs.System.{source, action, target, level, levels, Steps, Start, LowStep}
-use Rattle.judge.specs.declared.judge.Verdict.{Verdict}
-use Rattle.judge.specs.declared.judge.Verdict.the-variants.{Passed, Refused}
 use Rattle.judge.specs.Stored.{Stored}
 use Rattle.judge.specs.StepTest.{step?, start?}
 use Rattle.judge.specs.StepTestLaws.{T-eqb, decided-steps, decided-start}
-use Rattle.judge.specs.Table.{SomePair, Greatest}
+use Rattle.judge.specs.Table.{Greatest}
 use Rattle.judge.specs.Distances.{ReachableIn}
 use Rattle.judge.specs.Verdicts.{Leak, Judged}
 use Rattle.judge.specs.VerdictsLaws.{bnid-of-no-leak}
@@ -96,8 +94,12 @@ module _ {s : List ℕ} {m : Model} (st : Stored s m) where
         };
         bound = λ p q k lp lq r.
             let e = rank-unique (LowStep m) p q k (rankIn m p q) r (rankIn→Rank p q lp lq) in
-            omega (arith, e, greatestBelow-le n (rankIn m p) q lq,
-            greatestBelow-le n (λ p. greatestBelow n (rankIn m p)) p lp);
+            omega (
+              arith,
+              e,
+              greatestBelow-le n (rankIn m p) q lq,
+              greatestBelow-le n (λ p. greatestBelow n (rankIn m p)) p lp,
+            );
       }
 
   -- ---- the depth of a step

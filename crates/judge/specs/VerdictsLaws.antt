@@ -1,19 +1,17 @@
 -- The verdict is pinned: a model has one. It is passed exactly when BNID holds.
 -- Document 01, operation 4; definition 22 of source 000. Assumes nothing.
 use mathlib.Core.List.{List}
-use mathlib.Core.Logic.{_⊎_, inl, inr, _↔_, ⊎-elim}
+use mathlib.Core.Logic.{_⊎_, _↔_, ⊎-elim}
 use mathlib.Core.Path.{_≡_, refl, sym, ap, subst, _∙_}
-use Prim.Native.Nat.{ℕ, _≤_, _<_}
+use Prim.Native.Nat.{ℕ, _<_}
 use native.Mathlib.Omega.{arith}
-use lib.Dec.{T, eqb, eqb→eq}
-use lib.ListN.{length}
+use lib.Dec.{eqb, eqb→eq}
 use Rattle.lts.specs.Alike.{Rank, bisimilar, Bisimilar}
 use Rattle.lts.specs.AlikeLaws.{rank-unique, bisimilar-of-rank}
 use Rattle.lts.specs.TestsLaws.{lt-or-le}
 use Rattle.lts.specs.Noninterference.{BNID}
 use Rattle.lts.specs.Checked.{lowRank}
 use Rattle.lts.specs.CheckedLaws.{lowRank→Rank}
-use Rattle.model.specs.declared.Step.{Step}
 use Rattle.model.specs.Model.{high, Model}
 use Rattle.model.specs.System.{source, action, target, level, levels, Steps, Start, LowStep}
 use Rattle.judge.specs.declared.judge.Verdict.{Verdict}
@@ -24,7 +22,6 @@ use Rattle.judge.specs.StepTestLaws.{T-eqb, decided-steps}
 use Rattle.judge.specs.Distances.{ReachableIn}
 use Rattle.judge.specs.TableLaws.{greatest-unique}
 use Rattle.judge.specs.Verdicts.{HighStep, Leak, PassedWith, RefusedAt, Judged}
-use Rattle.judge.specs.LeakSearchLaws.{leak-unique}
 
 -- the verdict is passed, or refused, with whatever numbers
 abbrev pub IsPassed : Verdict → Type 0
@@ -51,7 +48,7 @@ module _ (m : Model) where
   pub no-leak-of-bnid : BNID (levels m) (Steps m) (Start m) → (j d : ℕ) → ¬ (Leak m j d)
   no-leak-of-bnid b j d x =
       let pair = b (source m j) (action m j) (target m j) (x .high-step .reachable) (T-eqb (x .high-step .is-high))
-          (leak-step x) in
+      (leak-step x) in
       let e : d ≡ 0 = rank-unique (LowStep m) (source m j) (target m j) d 0 (x .rank) (bisimilar pair) in
       omega (arith, x .above-zero)
 
