@@ -23,7 +23,7 @@ use Rattle.judge.specs.StepTestLaws.{T-eqb, decided-steps, decided-start
 use Rattle.judge.specs.Table.{Greatest}
 use Rattle.judge.specs.Distances.{ReachableIn}
 use Rattle.judge.specs.Verdicts.{Leak, Judged}
-use Rattle.judge.specs.VerdictsLaws.{bnid-of-no-leak}
+use Rattle.judge.specs.VerdictsLaws.{passed-of-no-leak}
 use Rattle.judge.specs.LeakSearch.{DepthAt, FoundBelow}
 use Rattle.judge.specs.LeakSearchLaws.{found-zero, found-skip, found-keep, found-new}
 use Rattle.judge.specs.LeakSearchLaws.{refused-of-found, no-leak-of-found}
@@ -188,9 +188,7 @@ module _ {s : List ℕ} {m : Model} (st : Stored s m) where
         where
           by-depth : T (eqb (found .depth) 0) ⊎ T (not (eqb (found .depth) 0))
               → Judged m (verdictFrom (greatestRank m) found)
-          by-depth (inl t) = rw (T→true (eqb (found .depth) 0) t) (record {
-            bnid = bnid-of-no-leak m st (no-leak-of-found (omega arith) f (eqb→eq (found .depth) 0 t));
-            greatest = greatestRank-greatest;
-          })
+          by-depth (inl t) = rw (T→true (eqb (found .depth) 0) t) (passed-of-no-leak m st
+              (no-leak-of-found (omega arith) f (eqb→eq (found .depth) 0 t)) greatestRank-greatest)
           by-depth (inr t) = rw (not-T→false (eqb (found .depth) 0) t)
               (refused-of-found (omega arith) f (not-eqb (found .depth) 0 t))

@@ -20,6 +20,7 @@ use Rattle.judge.specs.Stored.{Stored}
 use Rattle.judge.specs.StepTest.{step?}
 use Rattle.judge.specs.StepTestLaws.{T-eqb, decided-steps}
 use Rattle.judge.specs.Distances.{ReachableIn}
+use Rattle.judge.specs.Table.{Greatest}
 use Rattle.judge.specs.TableLaws.{greatest-unique}
 use Rattle.judge.specs.Verdicts.{HighStep, Leak, PassedWith, RefusedAt, Judged}
 
@@ -82,6 +83,10 @@ module _ (m : Model) where
             (λ l. absurd (h j k (record { high-step = high-step; rank = w; above-zero = l })))
             (λ l. bisimilar-of-rank (LowStep m) (source m j) (target m j) k (omega arith) w)
             (lt-or-le 0 k)
+
+    pub passed-of-no-leak : {top : ℕ} → ((j d : ℕ) → ¬ (Leak m j d)) → Greatest (LowStep m) (m .head .states) top
+        → PassedWith m top
+    passed-of-no-leak h g = record { bnid = bnid-of-no-leak h; greatest = g }
 
   -- ---- one verdict
 
