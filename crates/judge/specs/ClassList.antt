@@ -1,5 +1,5 @@
--- Classes of states as lists, over any moves: entry p is the lowest state of the class of p, and one round makes the next
--- list from it. Only the contracts of inner functions cite it. Document 01, "Alike" and operation 3.
+-- Classes of states as lists, over any moves: entry p is the lowest state of the class of p, and one round makes the
+-- next list from it. Only the contracts of inner functions cite it. Document 01, "Alike" and operation 3.
 use mathlib.Core.List.{List}
 use mathlib.Core.Path.{_≡_}
 use Prim.Native.Nat.{ℕ, _≤_, _<_}

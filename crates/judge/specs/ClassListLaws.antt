@@ -5,12 +5,13 @@ use mathlib.Core.Path.{_≡_, refl, sym, _∙_, subst}
 use mathlib.Core.Logic.{_⊎_, inl, inr}
 use mathlib.Core.Bool.{Bool}
 use mathlib.Core.List.{List}
-use Prim.Native.Nat.{ℕ, zero, suc, _+_, _≤_, _<_}
+use Prim.Native.Nat.{ℕ, suc, _+_, _≤_, _<_}
 use native.Mathlib.Decide.{ℕ-discrete}
 use native.Mathlib.Numerals.{add-one}
 use native.Mathlib.Omega.{arith}
-use lib.ListN.{length, getD, set, replicate}
+use lib.ListN.{length, getD, set}
 use lib.Seq.{getD-set-same, getD-set-other}
+use borrow.Author.Count.{below-more}
 use Rattle.lts.specs.TestsLaws.{lt-suc-cases, lt-or-le}
 use Rattle.lts.specs.Alike.{Moves, Answered, Answers, Alike}
 use Rattle.lts.specs.AlikeLaws.{alike-suc, alike-sym, alike-trans, answers-below}
@@ -25,14 +26,6 @@ eq-or-not a b = go (ℕ-discrete a b)
     go : Dec (a ≡ b) → (a ≡ b) ⊎ ¬ (a ≡ b)
     go (yes e) = inl e
     go (no d) = inr d
-
--- What holds below n and at n holds below n + 1.
-pub below-add-one : {P : ℕ → Type 0} (n : ℕ) → ((i : ℕ) → i < n → P i) → P n → (i : ℕ) → i < n + 1 → P i
-below-add-one {P} n h e i l = go (lt-suc-cases (subst (λ (x : ℕ). i < x) (add-one n) l))
-  where
-    go : (i ≡ n) ⊎ (i < n) → P i
-    go (inl z) = subst P (sym z) e
-    go (inr m) = h i m
 
 -- ---- answers inside classes
 
@@ -82,7 +75,7 @@ module _ {Move : Moves} {class next : List ℕ} where
   pub refined-set : {p r : ℕ} → p < length next → Lowest Move class p r → Refined Move class next p
       → Refined Move class (set next p r) (p + 1)
   refined-set {p} {r} l w h = record {
-    lowest = below-add-one p
+    lowest = below-more _ p
         (λ q m. subst (Lowest Move class q) (sym (getD-set-other next p q r 0 (λ e. omega arith))) (h .lowest q m))
         (subst (Lowest Move class p) (sym (getD-set-same next p r 0 l)) w);
   }
@@ -90,7 +83,7 @@ module _ {Move : Moves} {class next : List ℕ} where
   -- A state that p does not join is not the lowest: its new class has a lower one.
   pub none-lower-suc : {p q : ℕ} → Refined Move class next p → q < p → ¬ (Joins Move class next p q)
       → ((i : ℕ) → i < q → ¬ (Answers Move (Same class) p i)) → (i : ℕ) → i < q + 1 → ¬ (Answers Move (Same class) p i)
-  none-lower-suc {p} {q} r l no-join none = below-add-one q none (λ h. here h (eq-or-not (getD next q 0) q))
+  none-lower-suc {p} {q} r l no-join none = below-more _ q none (λ h. here h (eq-or-not (getD next q 0) q))
     where
       w : Lowest Move class q (getD next q 0)
       w = r .lowest q l
@@ -123,7 +116,7 @@ module _ (class next : List ℕ) where
 
 -- ---- k-alike
 
-module _ (Move : Moves) (n : ℕ) (target-lt : (p a q : ℕ) → Move p a q → q < n) where
+module _ {Move : Moves} {n : ℕ} (target-lt : (p a q : ℕ) → Move p a q → q < n) where
   -- Before any round all states are of one class.
   pub classes-zero : {class : List ℕ} → ((p : ℕ) → getD class p 0 ≡ 0) → Classes Move n 0 class
   unfolding Alike

@@ -1,13 +1,16 @@
 -- A good store has all that the judge uses of it.
 -- Document 01, "The text" and "The model store". Assumes nothing.
+use mathlib.Core.Bool.{Bool, false, not}
 use mathlib.Core.List.{List}
 use mathlib.Core.Logic.{⊎-elim}
-use mathlib.Core.Path.{sym, ap}
+use mathlib.Core.Path.{_≡_, sym, ap}
 use Prim.Native.Nat.{ℕ, _≤_}
 use native.Mathlib.Omega.{arith}
 use native.Mathlib.Nat.{eq-or-lt-of-le}
 use lib.ListN.{length}
 use Rattle.model.specs.Limits.{storeLength}
+use Rattle.model.specs.Decides.{Decides}
+use Rattle.model.specs.DecidesLaws.{decides-passed}
 use Rattle.model.specs.Model.{Model}
 use Rattle.model.specs.Ranges.{HeadRanges}
 use Rattle.model.specs.Store.{Good}
@@ -50,3 +53,8 @@ module _ (s : List ℕ) (m : Model) (long : storeLength ≤ length s) (h : Holds
 
 pub good→Stored : (s : List ℕ) → storeLength ≤ length s → Good s → Stored s (modelAt s)
 good→Stored s long g = holds→Stored s (modelAt s) long (Good→Holds s g)
+
+-- the same after a test `if !good(store) { return ..; }` that was passed
+pub passed→Stored : (s : List ℕ) (r : Bool) → storeLength ≤ length s → Decides r (Good s) → not r ≡ false
+    → Stored s (modelAt s)
+passed→Stored s r long d e = good→Stored s long (decides-passed r (Good s) d e)

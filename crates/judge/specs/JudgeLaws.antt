@@ -1,12 +1,12 @@
--- Judge keeps its promise in each of its ways; this promise, and Rank's, pin one answer and one content of each list.
+-- Judge keeps its promise in each of its ways, and the promise pins one answer and one content of each list.
 -- Document 01, operation 4 and "Refused because of the state". Assumes nothing.
-use mathlib.Core.List.{List, [], _∷_}
+use mathlib.Core.List.{List}
 use mathlib.Core.Option.{Option, none}
 use mathlib.Core.Path.{_≡_, refl, sym, ap, subst, _∙_}
 use Prim.Native.Nat.{ℕ, _≤_, _<_}
 use lib.ListN.{length}
 use Rattle.model.specs.Limits.{storeLength}
-use Rattle.model.specs.Faults.{Told, answers}
+use Rattle.model.specs.Faults.{Told}
 use Rattle.model.specs.Model.{Model}
 use Rattle.model.specs.Store.{Good}
 use Rattle.model.specs.StoredModel.{modelAt}
@@ -20,14 +20,12 @@ use Rattle.judge.specs.declared.judge.JudgeAnswer.the-variants as judge
 use Rattle.judge.specs.Lists.{distancesLength, tableLength}
 use Rattle.judge.specs.FirstShortLaws.{firstShort-nil, firstShort-lt, firstShort-le}
 use Rattle.judge.specs.Stored.{Stored}
-use Rattle.judge.specs.Table.{Ranked}
-use Rattle.judge.specs.TableLaws.{ranks-past-unique, ranked-unique}
+use Rattle.judge.specs.RankPromiseLaws.{ranks-unique}
 use Rattle.judge.specs.ReachLaws.{distances-unique, good-stored}
 use Rattle.judge.specs.Verdicts.{Judged}
 use Rattle.judge.specs.VerdictsLaws.{judged-unique}
 use Rattle.judge.specs.Judging.{Judging}
 use Rattle.judge.specs.Promises.{toldVerdict, toldJudge, judgeLists, Filled, JudgePromise}
-use Rattle.judge.specs.Promises.{rankLists, RankPromise}
 
 module _ (store distances table : List ℕ) where
   -- ---- the ways of the promise: the lengths of the lists decide first, then goodness
@@ -80,7 +78,7 @@ filled-unique : {s : List ℕ} {m : Model} → Stored s m → (distances table u
     → Filled m distances table u v → Filled m distances table x y → (u ≡ x) × (v ≡ y)
 filled-unique {m = m} st distances table u v x y f g = (
   distances-unique st (f .distances-filled) (g .distances-filled),
-  ranks-past-unique (LowStep m) (m .head .states) table v y (f .ranks) (g .ranks) (f .table-past) (g .table-past),
+  ranks-unique (LowStep m) (m .head .states) table v y (f .ranks) (f .table-past) (g .ranks) (g .table-past),
 )
 
 -- the two lists of Judge, as one
@@ -116,13 +114,3 @@ judgePromise-unique store distances table told told′ u v x y p q =
         let e = judged-unique (g .model) (a .0) (b .0) (a .2) (b .2) in
         let f = filled-unique (good-stored store g) distances table u v x y (a .3) (b .3) in
         (a .1 ∙ ap toldVerdict e ∙ sym (b .1), λ i. (f .0 i, f .1 i))
-
-pub rankPromise-unique : (store table : List ℕ) (told told′ : Told) (exit exit′ : List ℕ)
-    → RankPromise store table told exit → RankPromise store table told′ exit′ → (told ≡ told′) × (exit ≡ exit′)
-rankPromise-unique store table told told′ exit exit′ =
-    onStore-unique (rankLists store table) store told told′ table exit exit′
-    (λ t x g. (last : ℕ) × (t ≡ answers (last ∷ []))
-    × Ranked (LowStep (g .model)) (g .model .head .states) table x last)
-    (λ g a b.
-    let r = ranked-unique (LowStep (g .model)) (g .model .head .states) table exit exit′ (a .0) (b .0) (a .2) (b .2) in
-    (a .1 ∙ ap (λ (k : ℕ). answers (k ∷ [])) (r .0) ∙ sym (b .1), r .1))

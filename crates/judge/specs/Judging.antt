@@ -15,16 +15,16 @@ use Rattle.judge.specs.Verdicts.{Judged}
 use Rattle.judge.specs.Promises.{Filled}
 
 -- A good store, and lists long enough for its index, its roles, its distances and its table.
-pub record Judgeable (m : Model) (store first roles distances table : List ℕ) : Type 0 where
+pub record Judgeable (m : Model) (store begins roles distances table : List ℕ) : Type 0 where
   pub stored : Stored store m
-  pub index-length : 129 ≤ length first
+  pub index-length : 129 ≤ length begins
   pub roles-length : actionLimit ≤ length roles
   pub distances-length : distancesLength ≤ length distances
   pub table-length : tableLength ≤ length table
 
 -- The verdict v, and the four lists filled.
-pub record Judging (m : Model) (v : Verdict) (distances table first′ roles′ distances′ table′ : List ℕ) : Type 0 where
+pub record Judging (m : Model) (v : Verdict) (distances table begins′ roles′ distances′ table′ : List ℕ) : Type 0 where
   pub verdict : Judged m v
-  pub index : Index m (m .head .states) first′
+  pub index : Index m (m .head .states) begins′
   pub roles : Roles (levels m) (m .head .actions) roles′
   pub filled : Filled m distances table distances′ table′

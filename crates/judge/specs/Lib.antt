@@ -30,7 +30,6 @@ pub mod LeakSearchLaws
 pub mod ModelListsLaws
 pub mod Judging
 pub mod JudgeLaws
-pub mod TableLaws
 pub mod VerdictsLaws
 pub mod VerdictTest
 pub mod VerdictTestLaws
@@ -47,3 +46,4 @@ pub mod Marks
 pub mod MarksLaws
 pub mod ReachLaws
 pub mod RunsLaws
+pub mod RankPromiseLaws

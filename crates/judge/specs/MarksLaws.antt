@@ -17,7 +17,7 @@ use Rattle.model.specs.Limits.{stateLimit}
 use Rattle.judge.specs.MoveList.{Listed, MoveList}
 use Rattle.judge.specs.MoveListLaws.{place-lt-last}
 use Rattle.judge.specs.ClassList.{Same, Refinable}
-use Rattle.judge.specs.ClassListLaws.{eq-or-not, below-add-one}
+use Rattle.judge.specs.ClassListLaws.{eq-or-not}
 use Rattle.judge.specs.Marks.{
   marksLength,
   markPlace,

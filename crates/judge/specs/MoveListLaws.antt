@@ -11,7 +11,6 @@ use lib.Dec.{T, leb, ltb, eqb, leb→le, le→leb, ltb→lt, lt→ltb, eqb→eq,
 use lib.ListN.{getD}
 use Rattle.lts.specs.Tests.{any}
 use Rattle.lts.specs.TestsLaws.{and-intro, and-left, and-right, any→Some, Some→any}
-use Rattle.lts.specs.Alike.{Moves}
 use Rattle.lts.specs.Game.{Game, Separates}
 use Rattle.lts.specs.ClassesLaws.{rounds-lt}
 use Rattle.lts.specs.Decided.{Decided, answers?}

@@ -1,23 +1,24 @@
 -- The table starts right for round 0, and after the last round it keeps Rank's promise: what no round separated is
 -- bisimilar, and the last separating round is the greatest rank. Document 01, operation 3. Assumes nothing.
-use mathlib.Core.Path.{_≡_, refl, sym, ap, _∙_, subst}
+use mathlib.Core.Path.{_≡_, refl, sym, _∙_, subst}
 use mathlib.Core.Logic.{_⊎_, inl, inr}
 use mathlib.Core.Bool.{Bool}
 use mathlib.Core.List.{List}
-use Prim.Native.Nat.{ℕ, zero, suc, _+_, _*_, _/_, _%_, _≤_, _<_}
+use Prim.Native.Nat.{ℕ, zero, suc, _+_, _/_, _%_, _≤_, _<_}
 use native.Mathlib.Numerals.{add-one}
 use native.Mathlib.Omega.{arith}
 use lib.ListN.{length, getD, set, drop, length-drop}
 use lib.Seq.{getD-set-same, getD-set-other, getD-drop, ext-getD}
+use borrow.Author.Count.{below-more}
 use Rattle.lts.specs.Alike.{Moves, Alike, Separated, Rank, bisimilar}
 use Rattle.lts.specs.AlikeLaws.{alike-suc, bisimilar-refl, rank-of-separated}
 use Rattle.lts.specs.Game.{Game, Settled, Separates}
 use Rattle.lts.specs.GameLaws.{separated-of-separates, bisimilar-of-settled, rank-le-settled}
 use Rattle.model.specs.Limits.{stateLimit}
 use Rattle.judge.specs.Lists.{tableLength, pairPlace, Past}
-use Rattle.judge.specs.Table.{SomePair, Ranks, LastRound, Greatest, Ranked}
+use Rattle.judge.specs.Table.{SomePair, Ranked}
 use Rattle.judge.specs.ClassList.{Classes, Refined, Moved}
-use Rattle.judge.specs.ClassListLaws.{below-add-one, classes-suc, separates-of-moved, settled-of-not-moved}
+use Rattle.judge.specs.ClassListLaws.{classes-suc, separates-of-moved, settled-of-not-moved}
 use Rattle.judge.specs.TableWrites.{
   entryOf,
   Written,
@@ -36,7 +37,7 @@ cleared-zero t = record { zeros = λ i l. absurd (omega arith); kept = λ i l. r
 
 pub cleared-add-one : {m : ℕ} {t u : List ℕ} → Cleared m t u → m < length u → Cleared (m + 1) t (set u m 0)
 cleared-add-one {m} {t} {u} C l = record {
-  zeros = below-add-one m (λ i k. getD-set-other u m i 0 0 (λ e. omega arith) ∙ C .zeros i k) (getD-set-same u m 0 0 l);
+  zeros = below-more _ m (λ i k. getD-set-other u m i 0 0 (λ e. omega arith) ∙ C .zeros i k) (getD-set-same u m 0 0 l);
   kept = λ i k. getD-set-other u m i 0 0 (λ e. omega arith) ∙ C .kept i (omega arith);
 }
 
@@ -53,7 +54,7 @@ ranksUpTo-zero Move l C = record { found = λ p q lp lq. inl (C .zeros (pairPlac
 module _ {Move : Moves} {n : ℕ} (target-lt : (p a q : ℕ) → Move p a q → q < n) {class next : List ℕ} {k : ℕ}
     (C : Classes Move n k class) (R : Refined Move class next n) where
   D : Classes Move n (suc k) next
-  D = classes-suc Move n target-lt C R
+  D = classes-suc target-lt C R
 
   pub round-classes : Classes Move n (k + 1) next
   round-classes = subst (λ (j : ℕ). Classes Move n j next) (sym (add-one k)) D
@@ -61,15 +62,15 @@ module _ {Move : Moves} {n : ℕ} (target-lt : (p a q : ℕ) → Move p a q → 
   pub round-ranks : {t u : List ℕ} → Written n class next (k + 1) t u → RowsWritten class next (k + 1) u n n
       → RanksUpTo Move n k t → RanksUpTo Move n (k + 1) u
   round-ranks {t} {u} W rows U = subst (λ (j : ℕ). RanksUpTo Move n j u) (sym (add-one k))
-      (ranksUpTo-suc Move n target-lt C D (subst (λ (j : ℕ). Written n class next j t u) (add-one k) W)
+      (ranksUpTo-suc target-lt C D (subst (λ (j : ℕ). Written n class next j t u) (add-one k) W)
       (subst (λ (j : ℕ). RowsWritten class next j u n n) (add-one k) rows) U)
 
   pub round-separates : ((j : ℕ) → j < k → Separates Move n j) → Moved class next n → (j : ℕ) → j < k + 1
       → Separates Move n j
-  round-separates h m = below-add-one k h (separates-of-moved Move n target-lt C D m)
+  round-separates h m = below-more _ k h (separates-of-moved target-lt C D m)
 
   pub round-settled : ¬ (Moved class next n) → Settled Move n k
-  round-settled m = settled-of-not-moved Move n target-lt C D m
+  round-settled m = settled-of-not-moved target-lt C D m
 
 -- ---- after the last round
 

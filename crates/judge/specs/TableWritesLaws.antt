@@ -2,22 +2,18 @@
 -- round further. Document 01, operation 3. Assumes nothing.
 use mathlib.Core.Path.{_≡_, refl, sym, ap, _∙_, subst}
 use mathlib.Core.Logic.{_⊎_, inl, inr}
-use mathlib.Core.Bool.{Bool}
 use mathlib.Core.List.{List}
-use Prim.Native.Nat.{ℕ, zero, suc, _+_, _*_, _/_, _%_, _≤_, _<_}
-use native.Mathlib.Numerals.{add-one}
+use Prim.Native.Nat.{ℕ, suc, _+_, _≤_, _<_}
 use native.Mathlib.Omega.{arith}
-use lib.ListN.{length, getD, set, drop, length-set, length-drop}
-use lib.Seq.{getD-set-same, getD-set-other, getD-drop, ext-getD}
-use Rattle.lts.specs.Alike.{Moves, Alike, Separated, Rank, bisimilar}
-use Rattle.lts.specs.AlikeLaws.{alike-suc, alike-le, bisimilar-refl, rank-of-separated}
-use Rattle.lts.specs.Game.{Game, Settled, Separates}
-use Rattle.lts.specs.GameLaws.{separated-of-separates, bisimilar-of-settled, rank-le-settled}
+use lib.ListN.{length, getD, set, length-set}
+use lib.Seq.{getD-set-same, getD-set-other}
+use borrow.Author.Count.{below-more}
+use Rattle.lts.specs.Alike.{Moves, Alike, Separated}
+use Rattle.lts.specs.AlikeLaws.{alike-le}
 use Rattle.model.specs.Limits.{stateLimit}
-use Rattle.judge.specs.Lists.{tableLength, pairPlace, Past}
-use Rattle.judge.specs.Table.{SomePair, Ranks, LastRound, Greatest, Ranked}
-use Rattle.judge.specs.ClassList.{Same, Classes, Moved}
-use Rattle.judge.specs.ClassListLaws.{eq-or-not, below-add-one, same-of-alike, alike-of-same}
+use Rattle.judge.specs.Lists.{tableLength, pairPlace}
+use Rattle.judge.specs.ClassList.{Same, Classes}
+use Rattle.judge.specs.ClassListLaws.{eq-or-not, same-of-alike, alike-of-same}
 use Rattle.judge.specs.TableWrites.{
   entryOf,
   SeparatedBy,
@@ -140,7 +136,7 @@ module _ {class next t : List ℕ} {round : ℕ} where
 
   pub row-add-one : {p q : ℕ} → RowWritten class next round t p q → PairWritten class next round t p q
       → RowWritten class next round t p (q + 1)
-  row-add-one {q = q} r w = record { pair = below-add-one q (r .pair) w }
+  row-add-one {q = q} r w = record { pair = below-more _ q (r .pair) w }
 
   pub row-le : {p m n : ℕ} → n ≤ m → RowWritten class next round t p m → RowWritten class next round t p n
   row-le l r = record { pair = λ q k. r .pair q (omega arith) }
@@ -151,7 +147,7 @@ module _ {class next t : List ℕ} {round : ℕ} where
   pub rows-add-one : {p n : ℕ} → RowsWritten class next round t p n
       → (¬ (getD class p 0 ≡ getD next p 0) → RowWritten class next round t p n)
       → RowsWritten class next round t (p + 1) n
-  rows-add-one {p = p} r h = record { row = below-add-one p (r .row) h }
+  rows-add-one {p = p} r h = record { row = below-more _ p (r .row) h }
 
   pub rows-le : {m k n : ℕ} → k ≤ m → RowsWritten class next round t m n → RowsWritten class next round t k n
   rows-le l r = record { row = λ p k. r .row p (omega arith) }
@@ -169,7 +165,7 @@ entry-of-separated {class} {next} {t} {round} r p q lp lq h = go (eq-or-not (get
         let left : ¬ (getD class q 0 ≡ getD next q 0) = λ g. h .not-same-after (sym e ∙ h .same-before ∙ g) in
         r .row q lq left .pair p lp .both (separatedBy-sym h) .1
 
-module _ (Move : Moves) (n : ℕ) (target-lt : (p a q : ℕ) → Move p a q → q < n) {class next t u : List ℕ} {k : ℕ}
+module _ {Move : Moves} {n : ℕ} (target-lt : (p a q : ℕ) → Move p a q → q < n) {class next t u : List ℕ} {k : ℕ}
     (C : Classes Move n k class) (D : Classes Move n (suc k) next) (W : Written n class next (suc k) t u)
     (R : RowsWritten class next (suc k) u n n) where
   kept-of-not : (p q : ℕ) → p < n → q < n → ¬ (SeparatedBy class next p q) → entryOf u p q ≡ entryOf t p q
@@ -186,7 +182,7 @@ module _ (Move : Moves) (n : ℕ) (target-lt : (p a q : ℕ) → Move p a q → 
     where
       sep : (p q : ℕ) → p < n → q < n → Alike Move k p q → ¬ (Same next p q) → Separated Move p q (suc k)
       sep p q lp lq h d = record {
-        not-alike = λ g. d (same-of-alike Move n target-lt D p q lp lq g);
+        not-alike = λ g. d (same-of-alike target-lt D p q lp lq g);
         alike-before = λ j l. alike-le Move p q j k (omega arith) h;
       }
 
@@ -194,10 +190,10 @@ module _ (Move : Moves) (n : ℕ) (target-lt : (p a q : ℕ) → Move p a q → 
           → (getD next p 0 ≡ getD next q 0) ⊎ ¬ (getD next p 0 ≡ getD next q 0)
           → RankUpTo Move (suc k) p q (entryOf u p q)
       new p q lp lq z h (inl e) =
-          inl (kept-of-not p q lp lq (λ s. s .not-same-after e) ∙ z, alike-of-same Move n target-lt D p q lp lq e)
+          inl (kept-of-not p q lp lq (λ s. s .not-same-after e) ∙ z, alike-of-same target-lt D p q lp lq e)
       new p q lp lq z h (inr d) =
           let s : SeparatedBy class next p q = record {
-            same-before = same-of-alike Move n target-lt C p q lp lq h;
+            same-before = same-of-alike target-lt C p q lp lq h;
             not-same-after = d;
           } in
           let e : entryOf u p q ≡ suc k = entry-of-separated R p q lp lq s in
@@ -207,6 +203,6 @@ module _ (Move : Moves) (n : ℕ) (target-lt : (p a q : ℕ) → Move p a q → 
       go p q lp lq (inl (z, h)) = new p q lp lq z h (eq-or-not (getD next p 0) (getD next q 0))
       go p q lp lq (inr (l, x)) =
           let apart : ¬ (SeparatedBy class next p q) = λ s. x .not-alike
-          (alike-le Move p q (entryOf t p q) k l (alike-of-same Move n target-lt C p q lp lq (s .same-before))) in
+          (alike-le Move p q (entryOf t p q) k l (alike-of-same target-lt C p q lp lq (s .same-before))) in
           let e : entryOf u p q ≡ entryOf t p q = kept-of-not p q lp lq apart in
           inr (omega arith, subst (Separated Move p q) (sym e) x)

@@ -21,7 +21,7 @@ use Rattle.judge.specs.StepTest.{step?}
 use Rattle.judge.specs.StepTestLaws.{T-eqb, decided-steps}
 use Rattle.judge.specs.Distances.{ReachableIn}
 use Rattle.judge.specs.Table.{Greatest}
-use Rattle.judge.specs.TableLaws.{greatest-unique}
+use Rattle.judge.specs.RankPromiseLaws.{greatest-unique}
 use Rattle.judge.specs.Verdicts.{HighStep, Leak, PassedWith, RefusedAt, Judged}
 
 -- the verdict is passed, or refused, with whatever numbers

@@ -12,7 +12,8 @@ ghost use Rattle.judge.specs.Table.{Ranked};
 ghost use Rattle.judge.specs.MoveList.{Listed, MoveList};
 ghost use Rattle.judge.specs.ClassList.{Same, Refinable, Lowest, Refined, Joins, Moved};
 ghost use Rattle.judge.specs.Marks.{marksLength, moveMark, Reaches, Marked, AllMarked, Unmarked, Bounded, MoveAt};
-ghost use Rattle.judge.specs.TableWrites.{Written, PairWritten, RowWritten, RowsWritten, RanksUpTo, Cleared, Finished};
+ghost use Rattle.judge.specs.TableWrites.{Written, PairWritten, RowWritten, RowsWritten};
+ghost use Rattle.judge.specs.TableWrites.{RanksUpTo, Cleared, Finished};
 
 fn wide(x: u16) -> usize
     ensures { λ r. ⌜ r ≡ x ⌝ }
@@ -26,6 +27,24 @@ fn class_of(class: &[u16; 128], p: State) -> State
 {
     let at = p.0 as usize;
     State(class[at])
+}
+
+// Where the moves of p begin in the lists.
+fn moves_from(first: &[u16; 129], p: State) -> usize
+    requires { ⌜ p .0 < stateLimit ⌝ }
+    ensures { λ r. ⌜ r ≡ getD (now (first .entry)) (p .0) 0 ⌝ }
+{
+    let at = p.0 as usize;
+    wide(first[at])
+}
+
+// Where they end.
+fn moves_to(first: &[u16; 129], p: State) -> usize
+    requires { ⌜ p .0 < stateLimit ⌝ }
+    ensures { λ r. ⌜ r ≡ getD (now (first .entry)) (p .0 + 1) 0 ⌝ }
+{
+    let at = p.0 as usize;
+    wide(first[at + 1])
 }
 
 // The mark of the move at place i: one for each action and class.
@@ -57,9 +76,8 @@ fn mark(
         (Reaches (Listed n (now (first .entry)) (now (actions .entry)) (now (targets .entry))) (now (class .entry))
         (p .0)) value (now (marks .entry)) (now (marks .exit)) ⌝ }
 {
-    let at = p.0 as usize;
-    let to = wide(first[at + 1]);
-    let mut i = wide(first[at]);
+    let to = moves_to(first, p);
+    let mut i = moves_from(first, p);
     while i < to {
         let place = move_mark(actions, targets, class, i);
         marks[place] = value;
@@ -85,9 +103,8 @@ fn all_marked(
         (AllMarked (Reaches (Listed n (now (first .entry)) (now (actions .entry)) (now (targets .entry)))
         (now (class .entry)) (p .0)) (now (marks .entry))) ⌝ }
 {
-    let at = p.0 as usize;
-    let to = wide(first[at + 1]);
-    let mut i = wide(first[at]);
+    let to = moves_to(first, p);
+    let mut i = moves_from(first, p);
     while i < to {
         let place = move_mark(actions, targets, class, i);
         if marks[place] != 1 {

@@ -1,22 +1,15 @@
 -- With the moves of q marked, and no others, each move of p is looked up; then the marks are taken away again.
-use mathlib.Core.Path.{_≡_, _∙_}
+use mathlib.Core.Path.{_∙_}
 use native.Mathlib.Omega.{arith}
-use Rattle.judge.specs.MoveList.{Listed}
 use Rattle.judge.specs.MoveListLaws.{listed-target-lt}
 use Rattle.judge.specs.MarksLaws.{decides-answered, unmarked-of-marked}
 use borrow.Author.Needs.{needs}
 use Rattle.judge.proofs.classes.answered.Statement.{statement}
 use Rattle.judge.proofs.classes.answered.Tie as tie
-use Rattle.judge.proofs.classes.answered.Reads as reads
-use Rattle.judge.proofs.classes.answered.Lts as lts
-use Rattle.judge.proofs.classes.all_marked.Reads as all-marked-reads
-use Rattle.judge.proofs.classes.mark.Reads as mark-reads
 
--- src/classes.rt:116:5
 mark-requires : tie.Need-mark-requires
 mark-requires c κs = search needs
 
--- src/classes.rt:117:9
 all-marked-requires : tie.Need-all-marked-requires
 all-marked-requires c κs =
     let P = c .before .before .before .before .before .before .pre in

@@ -15,7 +15,7 @@ answered-requires c κs = search needs
 answered-requires-2 : tie.Need-answered-requires-2
 answered-requires-2 c κs =
     let P = c .before .before .before .before .before .before .before .pre in
-    (P .0, (P .1 .0, ((P .1 .1 .0 .1, P .1 .1 .0 .0), c .before .before .before .before .answered .ensures .1)))
+    (P .0, (P .1 .0, ((omega arith, omega arith), c .before .before .before .before .answered .ensures .1)))
 
 same-length : tie.Need-same-length
 same-length c = search needs

@@ -1,33 +1,23 @@
 -- A state of another old class cannot answer.
 use mathlib.Core.Path.{sym, _∙_}
-use native.Mathlib.Omega.{arith}
 use Rattle.model.specs.DecidesLaws.{decides-iff}
 use Rattle.judge.specs.MarksLaws.{bounded-of-refinable}
 use borrow.Author.Needs.{needs}
 use Rattle.judge.proofs.classes.joins.Statement.{statement}
 use Rattle.judge.proofs.classes.joins.Tie as tie
-use Rattle.judge.proofs.classes.joins.Reads as reads
-use Rattle.judge.proofs.classes.joins.Lts as lts
-use Rattle.judge.proofs.classes.answers.Reads as answers-reads
-use Rattle.judge.proofs.classes.class_of.Reads as class-of-reads
 
--- src/classes.rt:165:9
 class-of-requires : tie.Need-class-of-requires
 class-of-requires c κs = search needs
 
--- src/classes.rt:167:9
 returns : tie.Need-returns
 returns c = search needs
 
--- src/classes.rt:169:9
 class-of-requires-2 : tie.Need-class-of-requires-2
 class-of-requires-2 c κs = search needs
 
--- src/classes.rt:170:9
 class-of-requires-3 : tie.Need-class-of-requires-3
 class-of-requires-3 c κs = search needs
 
--- src/classes.rt:172:9
 returns-2 : tie.Need-returns-2
 returns-2 c =
     let a = c .before .before .before .before .class-of2 .ensures in
@@ -42,19 +32,16 @@ answers-requires c κs =
     let P = c .before .before .before .before .before .before .before .before .before .before .before .pre in
     (P .0, (bounded-of-refinable (P .0 .states-le) (P .1 .0), (P .1 .1 .0, P .1 .1 .1)))
 
--- src/classes.rt:147:1
 same-length : tie.Need-same-length
 same-length c = search needs
 
--- src/classes.rt:147:1
 returns-3 : tie.Need-returns-3
 returns-3 c =
     let played = c .before .before .answers in
     let else = c .before .before .before .before .before .before .before .before .before in
-    let own = sym (else .before .before .before .class-of .ensures) ∙ else .if1 .left in (
-      decides-iff (played .result) (λ h. record { represents = own; answers = h }) (λ h. h .answers) (played .ensures .0),
-      played .ensures .1,
-    )
+    let own = sym (else .before .before .before .class-of .ensures) ∙ else .if1 .left in
+    let told = played .ensures in
+    (decides-iff (played .result) (λ h. record { represents = own; answers = h }) (λ h. h .answers) (told .0), told .1)
 
 pub joins-spec : {M : Type 1} → statement M
 joins-spec =

@@ -12,10 +12,6 @@ use Rattle.judge.specs.Marks.{Unmarked}
 use borrow.Author.Needs.{needs}
 use Rattle.judge.proofs.classes.lowest.Statement.{statement}
 use Rattle.judge.proofs.classes.lowest.Tie as tie
-use Rattle.judge.proofs.classes.lowest.Reads as reads
-use Rattle.judge.proofs.classes.lowest.Lts as lts
-use Rattle.judge.proofs.classes.class_of.Reads as class-of-reads
-use Rattle.judge.proofs.classes.joins.Reads as joins-reads
 
 abbrev Inv-loop : tie.InvT-loop
 Inv-loop n first actions targets class next p marks₀ q₀ marks q =
@@ -25,11 +21,9 @@ Inv-loop n first actions targets class next p marks₀ q₀ marks q =
 abbrev μ-loop : tie.MeasureT-loop
 μ-loop n first actions targets class next p marks₀ q₀ marks q = p .0 - q
 
--- src/classes.rt:196:9
 class-of-requires : tie.Need-class-of-requires Inv-loop μ-loop
 class-of-requires c κs = search needs
 
--- src/classes.rt:198:5
 loop-holds : tie.Need-loop-holds Inv-loop μ-loop
 loop-holds c =
     let start = c .before .before in
@@ -38,33 +32,30 @@ loop-holds c =
     let low = R .lowest-le (start .args .p .0) lp in
     (omega (arith, c .class-of .ensures), none-below-class R lp (c .class-of .ensures), start .pre .1 .1 .1 .1, refl)
 
--- src/classes.rt:199:12
 joins-requires : tie.Need-joins-requires Inv-loop μ-loop
 joins-requires c κs =
     let P = c .before .before .before .before .before .before .pre in
     let inv = c .before .before .before .loop .inv in
     (P .0, (P .1 .0, ((P .1 .1 .1 .0, omega arith), inv .2)))
 
--- src/classes.rt:200:13
 same-length : tie.Need-same-length Inv-loop μ-loop
-same-length c = c .before .before .before .joins .kept .1 .1 .1 .1 .1 .1 .1 .1 .0 ∙ c .before .before .before .before .before .before .before .loop .inv .3
+same-length c =
+    let j = c .before .before .before in
+    j .joins .kept .1 .1 .1 .1 .1 .1 .1 .1 .0 ∙ j .before .before .before .before .loop .inv .3
 
--- src/classes.rt:200:13
 returns : tie.Need-returns Inv-loop μ-loop
 returns c =
     let inv = c .before .before .before .before .before .before .before .loop .inv in
     let j = c .before .before .before .joins .ensures in
-    (record { lowest-le = inv .0; answers = decides-true _ _ (j .0) (c .if2 .taken) .answers; none-lower = inv .1 }, j .1)
+    let joined = decides-true _ _ (j .0) (c .if2 .taken) in
+    (record { lowest-le = inv .0; answers = joined .answers; none-lower = inv .1 }, j .1)
 
--- src/classes.rt:202:9
 add-q : tie.Need-add-q Inv-loop μ-loop
 add-q c = search needs
 
--- src/classes.rt:198:5
 loop-less : tie.Need-loop-less Inv-loop μ-loop
 loop-less c = search needs
 
--- src/classes.rt:198:5
 loop-again : tie.Need-loop-again Inv-loop μ-loop
 loop-again c =
     let F = c .before .before .before .before .before .before .before .before .before .before .pre .1 .1 .0 in
@@ -76,19 +67,18 @@ loop-again c =
       j .kept .1 .1 .1 .1 .1 .1 .1 .1 .0 ∙ inv .3,
     )
 
--- src/classes.rt:178:1
 same-length-2 : tie.Need-same-length-2 Inv-loop μ-loop
 same-length-2 c = c .before .before .loop .inv .3
 
--- src/classes.rt:178:1
 returns-2 : tie.Need-returns-2 Inv-loop μ-loop
 returns-2 c =
     let start = c .before .before .before .before .before in
-    let Move = Listed (start .args .n) (start .args .first .now) (start .args .actions .now) (start .args .targets .now) in
+    let a = start .args in
+    let Move = Listed (a .n) (a .first .now) (a .actions .now) (a .targets .now) in
     let inv = c .before .before .loop .inv in (
       record {
         lowest-le = omega arith;
-        answers = answers-refl Move (start .args .class .now) (start .args .p .0);
+        answers = answers-refl Move (a .class .now) (a .p .0);
         none-lower = λ i l. inv .1 i (omega arith);
       },
       inv .2,

@@ -7,16 +7,10 @@ use Rattle.judge.specs.RoundsLaws.{ranksUpTo-zero, ranked-of-finished}
 use borrow.Author.Needs.{needs}
 use Rattle.judge.proofs.classes.rank_moves.Statement.{statement}
 use Rattle.judge.proofs.classes.rank_moves.Tie as tie
-use Rattle.judge.proofs.classes.rank_moves.Reads as reads
-use Rattle.judge.proofs.classes.rank_moves.Lts as lts
-use Rattle.judge.proofs.classes.clear.Reads as clear-reads
-use Rattle.judge.proofs.classes.rounds.Reads as rounds-reads
 
--- src/classes.rt:351:5
 clear-requires : tie.Need-clear-requires
 clear-requires c κs = search needs
 
--- src/classes.rt:352:5
 rounds-requires : tie.Need-rounds-requires
 rounds-requires c κs =
     let start = c .before .before .before .before .before .before in
@@ -30,18 +24,17 @@ rounds-requires c κs =
       ),
     )
 
--- src/classes.rt:346:1
 same-length : tie.Need-same-length
 same-length c = search needs
 
--- src/classes.rt:346:1
 returns : tie.Need-returns
 returns c =
     let start = c .before .before .before .before .before .before .before .before .before in
     let L = start .pre .0 in
     let cleared = c .before .before .before .before .before .before .clear in
     let done = c .before .before .rounds in
-    ranked-of-finished (listed-game L) (L .some-state) (L .states-le) (cleared .ensures) (done .ensures) (done .kept .1 .1 .1 .1 .0 ∙ cleared .kept .0)
+    let same = done .kept .1 .1 .1 .1 .0 ∙ cleared .kept .0 in
+    ranked-of-finished (listed-game L) (L .some-state) (L .states-le) (cleared .ensures) (done .ensures) same
 
 pub rank-moves-spec : {M : Type 1} → statement M
 rank-moves-spec = tie.close (tie.spec clear-requires rounds-requires same-length returns)

@@ -10,9 +10,6 @@ use Rattle.judge.specs.Marks.{Unmarked}
 use borrow.Author.Needs.{needs}
 use Rattle.judge.proofs.classes.refine.Statement.{statement}
 use Rattle.judge.proofs.classes.refine.Tie as tie
-use Rattle.judge.proofs.classes.refine.Reads as reads
-use Rattle.judge.proofs.classes.refine.Lts as lts
-use Rattle.judge.proofs.classes.lowest.Reads as lowest-reads
 
 abbrev Inv-loop : tie.InvT-loop
 Inv-loop n first actions targets class marks₀ next₀ p₀ marks next p =
@@ -22,40 +19,32 @@ Inv-loop n first actions targets class marks₀ next₀ p₀ marks next p =
 abbrev μ-loop : tie.MeasureT-loop
 μ-loop n first actions targets class marks₀ next₀ p₀ marks next p = n - p
 
--- src/classes.rt:224:5
 loop-holds : tie.Need-loop-holds Inv-loop μ-loop
 loop-holds c = (omega arith, refined-zero, c .before .pre .1 .1, refl, refl)
 
--- src/classes.rt:225:13
 lowest-requires : tie.Need-lowest-requires Inv-loop μ-loop
 lowest-requires c κs =
     let P = c .before .before .before .before .before .pre in
     let inv = c .before .before .before .loop .inv in
     (P .0, (P .1 .0, (inv .1, (c .before .before .loop-test .taken, inv .2))))
 
--- src/classes.rt:226:18
 cast-at : tie.Need-cast-at Inv-loop μ-loop
 cast-at c = search needs
 
--- src/classes.rt:227:9
 mul-next : tie.Need-mul-next Inv-loop μ-loop
 mul-next c =
     let room = c .before .before .before .before .before .before .before .before .pre .0 .states-le in
     search needs
 
--- src/classes.rt:227:9
 array-write-next : tie.Need-array-write-next Inv-loop μ-loop
 array-write-next c = omega (arith, c .before .before .before .before .before .before .before .before .pre .0 .states-le)
 
--- src/classes.rt:228:9
 add-p : tie.Need-add-p Inv-loop μ-loop
 add-p c = search needs
 
--- src/classes.rt:224:5
 loop-less : tie.Need-loop-less Inv-loop μ-loop
 loop-less c = search needs
 
--- src/classes.rt:224:5
 loop-again : tie.Need-loop-again Inv-loop μ-loop
 loop-again c =
     let inv = c .before .before .before .before .before .before .loop .inv in
@@ -68,11 +57,9 @@ loop-again c =
       simp length-set (inv .4),
     )
 
--- src/classes.rt:208:1
 same-length : tie.Need-same-length Inv-loop μ-loop
 same-length c = c .before .loop .inv .3
 
--- src/classes.rt:208:1
 returns : tie.Need-returns Inv-loop μ-loop
 returns c =
     let inv = c .before .loop .inv in

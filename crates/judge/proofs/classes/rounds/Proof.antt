@@ -17,10 +17,6 @@ use Rattle.judge.specs.RoundsLaws.{round-ranks, round-classes, round-sep
 use borrow.Author.Needs.{needs}
 use Rattle.judge.proofs.classes.rounds.Statement.{statement}
 use Rattle.judge.proofs.classes.rounds.Tie as tie
-use Rattle.judge.proofs.classes.rounds.Reads as reads
-use Rattle.judge.proofs.classes.rounds.Lts as lts
-use Rattle.judge.proofs.classes.refine.Reads as refine-reads
-use Rattle.judge.proofs.classes.separate.Reads as separate-reads
 
 abbrev Inv-loop : tie.InvT-loop
 Inv-loop n first actions targets table₀ class₀ marks₀ k₀ table class marks k =
@@ -31,63 +27,52 @@ Inv-loop n first actions targets table₀ class₀ marks₀ k₀ table class mar
 abbrev μ-loop : tie.MeasureT-loop
 μ-loop n first actions targets table₀ class₀ marks₀ k₀ table class marks k = n - k
 
--- src/classes.rt:333:9
 loop-holds : tie.Need-loop-holds Inv-loop μ-loop
-loop-holds c =
-    let start = c .before in
-    let a = start .args in
-    let Move = Listed (a .n) (a .first .now) (a .actions .now) (a .targets .now) in (
-      start .pre .1 .1,
-      classes-zero Move (start .args .n) (listed-target-lt (start .pre .0)) (getD-zeros 128),
-      λ j l. absurd (omega arith),
-      outside-refl _,
-      unmarked-zeros 8192 (omega arith),
-      refl,
-      length-replicate 8192 (zero),
-    )
+loop-holds c = (
+  c .before .pre .1 .1,
+  classes-zero (listed-target-lt (c .before .pre .0)) (getD-zeros 128),
+  λ j l. absurd (omega arith),
+  outside-refl _,
+  unmarked-zeros 8192 (omega arith),
+  refl,
+  length-replicate 8192 (zero),
+)
 
--- src/classes.rt:334:63
 slice-aggregate-refine : tie.Need-slice-aggregate-refine Inv-loop μ-loop
 slice-aggregate-refine c = search needs
 
--- src/classes.rt:334:20
 refine-requires : tie.Need-refine-requires Inv-loop μ-loop
 refine-requires c κs =
     let start = c .before .before .before .before in
-    let a = start .args in
     let inv = c .before .before .loop .inv in
-    let lt = listed-target-lt (start .pre .0) in
-    (start .pre .0, (classes-refinable (Listed (a .n) (a .first .now) (a .actions .now) (a .targets .now)) (a .n) lt (inv .1), inv .4))
+    (start .pre .0, (classes-refinable (listed-target-lt (start .pre .0)) (inv .1), inv .4))
 
 add-separate : tie.Need-add-separate Inv-loop μ-loop
 add-separate c =
-    let start = c .before .before .before .before .before .before .before .before .before in
-    let at = c .before .before .before .before .before .before .before .loop in
-    omega (arith, listed-rounds-lt (start .pre .0) (at .k) (at .inv .2), start .pre .0 .states-le)
+    let at-loop = c .before .before .before .before .before .before .before in
+    let L = at-loop .before .before .pre .0 in
+    omega (arith, listed-rounds-lt L (at-loop .loop .k) (at-loop .loop .inv .2), L .states-le)
 
--- src/classes.rt:335:12
 separate-requires : tie.Need-separate-requires Inv-loop μ-loop
 separate-requires c κs =
-    let start = c .before .before .before .before .before .before .before .before .before in
-    (omega (arith, start .pre .1 .0, c .before .before .before .before .before .before .before .loop .inv .5), start .pre .0 .states-le)
+    let at-loop = c .before .before .before .before .before .before .before in
+    let P = at-loop .before .before .pre in
+    (omega (arith, P .1 .0, at-loop .loop .inv .5), P .0 .states-le)
 
--- src/classes.rt:337:13
 add-k : tie.Need-add-k Inv-loop μ-loop
 add-k c =
     let after-refine = c .before .before .before .before .before .before .before .before in
-    let start = after-refine .before .before .before .before .before in
-    let at = after-refine .before .before .before .loop in
-    omega (arith, listed-rounds-lt (start .pre .0) (at .k) (at .inv .2), start .pre .0 .states-le)
+    let at-loop = after-refine .before .before .before in
+    let L = at-loop .before .before .pre .0 in
+    omega (arith, listed-rounds-lt L (at-loop .loop .k) (at-loop .loop .inv .2), L .states-le)
 
--- src/classes.rt:333:9
 loop-less : tie.Need-loop-less Inv-loop μ-loop
 loop-less c =
     let after-refine = c .before .before .before .before .before .before .before .before in
-    let start = after-refine .before .before .before .before .before in
-    let at = after-refine .before .before .before .loop in
-    omega (arith, listed-rounds-lt (start .pre .0) (at .k) (at .inv .2), start .pre .0 .states-le)
+    let at-loop = after-refine .before .before .before in
+    let L = at-loop .before .before .pre .0 in
+    omega (arith, listed-rounds-lt L (at-loop .loop .k) (at-loop .loop .inv .2), L .states-le)
 
--- src/classes.rt:333:9
 loop-again : tie.Need-loop-again Inv-loop μ-loop
 loop-again c =
     let after = c .before .before .before .separate in

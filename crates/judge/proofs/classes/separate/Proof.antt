@@ -14,7 +14,8 @@ use Rattle.judge.proofs.classes.separate.Tie as tie
 
 abbrev Inv-loop : tie.InvT-loop
 Inv-loop table₀ class next round n found₀ p₀ table found p =
-    (p ≤ n) × Written n class next round table₀ table × Decides found (Moved class next p) × RowsWritten class next round table p n × (length table ≡ length table₀)
+    (p ≤ n) × Written n class next round table₀ table × Decides found (Moved class next p)
+    × RowsWritten class next round table p n × (length table ≡ length table₀)
 
 abbrev μ-loop : tie.MeasureT-loop
 μ-loop table₀ class next round n found₀ p₀ table found p = n - p
@@ -44,9 +45,12 @@ same-length c = c .before .loop .inv .4
 
 returns : tie.Need-returns Inv-loop μ-loop
 returns c =
-    let inv = c .before .loop .inv in
-    let a = c .before .before .before .args in
-    (inv .1, (moved-at (a .class .now) (a .next .now) (c .before .loop .found) (omega arith) (inv .2), rows-le (omega arith) (inv .3)))
+    let at-loop = c .before in
+    let inv = at-loop .loop .inv in
+    let a = at-loop .before .before .args in
+    let end : at-loop .loop .p ≡ a .n = omega arith in
+    let moved = moved-at (a .class .now) (a .next .now) (at-loop .loop .found) end (inv .2) in
+    (inv .1, (moved, rows-le (omega arith) (inv .3)))
 
 pub separate-spec : {M : Type 1} → statement M
 separate-spec =

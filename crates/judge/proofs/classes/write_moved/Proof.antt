@@ -17,8 +17,11 @@ returns : tie.Need-returns
 returns c =
     let start = c .before .before .before .before .before .before in
     let a = start .args in
-    let e = sym (c .before .before .before .before .class-of .ensures) ∙ c .if1 .taken ∙ c .before .before .before .class-of2 .ensures in
-    (written-refl _, (moved-add-one (a .class .now) (a .next .now) (a .p .0) (a .found) e (start .pre .1 .1 .0), rows-add-one (start .pre .1 .1 .1) (λ z. absurd (z e))))
+    let P = start .pre .1 .1 in
+    let e = sym (c .before .before .before .before .class-of .ensures) ∙ c .if1 .taken in
+    let stays = e ∙ c .before .before .before .class-of2 .ensures in
+    let moved = moved-add-one (a .class .now) (a .next .now) (a .p .0) (a .found) stays (P .0) in
+    (written-refl _, (moved, rows-add-one (P .1) (λ d. absurd (d stays))))
 
 write-row-requires : tie.Need-write-row-requires
 write-row-requires c κs = search needs
@@ -28,11 +31,14 @@ same-length c = search needs
 
 returns-2 : tie.Need-returns-2
 returns-2 c =
-    let start = c .before .before .before .before .before .before .before .before .before .before in
-    let m = c .before .before .write-row in (
+    let m = c .before .before .write-row in
+    let else = c .before .before .before .before in
+    let x = else .before .before .before .before .class-of .ensures in
+    let y = else .before .before .before .class-of2 .ensures in
+    let start = else .before .before .before .before .before .before in (
       m .ensures .0,
       (
-        record { state = start .args .p .0; state-lt = omega arith; left = λ e. c .before .before .before .before .if1 .left (c .before .before .before .before .before .before .before .before .class-of .ensures ∙ e ∙ sym (c .before .before .before .before .before .before .before .class-of2 .ensures)) },
+        record { state = start .args .p .0; state-lt = omega arith; left = λ e. else .if1 .left (x ∙ e ∙ sym y) },
         rows-add-one (rows-stay (m .ensures .0) (omega arith) (start .pre .1 .1 .1)) (λ _. m .ensures .1),
       ),
     )

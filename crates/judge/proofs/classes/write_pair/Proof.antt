@@ -15,7 +15,10 @@ class-of-requires-2 : tie.Need-class-of-requires-2
 class-of-requires-2 c κs = search needs
 
 returns : tie.Need-returns
-returns c = (λ n _ _ _. written-refl _, record { both = λ h. absurd (c .if1 .taken (c .before .before .before .before .class-of .ensures ∙ h .same-before ∙ sym (c .before .before .before .class-of2 .ensures))) })
+returns c =
+    let a = c .before .before .before .before .class-of .ensures in
+    let b = c .before .before .before .class-of2 .ensures in
+    (λ n _ _ _. written-refl _, record { both = λ h. absurd (c .if1 .taken (a ∙ h .same-before ∙ sym b)) })
 
 class-of-requires-3 : tie.Need-class-of-requires-3
 class-of-requires-3 c κs = search needs
@@ -24,7 +27,10 @@ class-of-requires-4 : tie.Need-class-of-requires-4
 class-of-requires-4 c κs = search needs
 
 returns-2 : tie.Need-returns-2
-returns-2 c = (λ n _ _ _. written-refl _, record { both = λ h. absurd (h .not-same-after (sym (c .before .before .before .before .class-of3 .ensures) ∙ c .if2 .taken ∙ c .before .before .before .class-of4 .ensures)) })
+returns-2 c =
+    let e = sym (c .before .before .before .before .class-of3 .ensures) ∙ c .if2 .taken in
+    let d = c .before .before .before .class-of4 .ensures in
+    (λ n _ _ _. written-refl _, record { both = λ h. absurd (h .not-same-after (e ∙ d)) })
 
 cast-x : tie.Need-cast-x
 cast-x c = search needs
@@ -55,12 +61,20 @@ same-length c = search needs
 
 returns-3 : tie.Need-returns-3
 returns-3 c =
-    let a = c .before .before .before .before .before .before .before .before .before .before .before .before .before .args in
+    let after = c .before .before in
+    let x = after .before .before .before .before .class-of3 .ensures in
+    let y = after .before .before .before .class-of4 .ensures in
+    let before = after .before .before .before .before .before in
+    let u = before .before .before .before .before .class-of .ensures in
+    let v = before .before .before .before .class-of2 .ensures in
+    let a = before .before .before .before .before .before .before .args in
     let h : SeparatedBy (a .class .now) (a .next .now) (a .p .0) (a .q .0) = record {
-      same-before = sym (c .before .before .before .before .before .before .before .before .before .before .before .class-of .ensures) ∙ c .before .before .before .before .before .before .before .if1 .left ∙ c .before .before .before .before .before .before .before .before .before .before .class-of2 .ensures;
-      not-same-after = λ e. c .before .before .if2 .left (c .before .before .before .before .before .before .class-of3 .ensures ∙ e ∙ sym (c .before .before .before .before .before .class-of4 .ensures));
-    } in
-    (pair-written (a .round) (a .table .now) (omega arith) (omega arith) (omega arith) h, pair-both (a .round) (a .table .now) (omega arith) (omega arith) (omega arith) h)
+      same-before = sym u ∙ before .if1 .left ∙ v;
+      not-same-after = λ e. after .if2 .left (x ∙ e ∙ sym y);
+    } in (
+      pair-written (a .round) (a .table .now) (omega arith) (omega arith) (omega arith) h,
+      pair-both (a .round) (a .table .now) (omega arith) (omega arith) (omega arith) h,
+    )
 
 pub write-pair-spec : {M : Type 1} → statement M
 write-pair-spec =

@@ -10,7 +10,9 @@ use Rattle.judge.proofs.classes.write_row.Statement.{statement}
 use Rattle.judge.proofs.classes.write_row.Tie as tie
 
 abbrev Inv-loop : tie.InvT-loop
-Inv-loop table₀ class next round n p q₀ table q = (q ≤ n) × Written n class next round table₀ table × RowWritten class next round table (p .0) q × (length table ≡ length table₀)
+Inv-loop table₀ class next round n p q₀ table q =
+    (q ≤ n) × Written n class next round table₀ table × RowWritten class next round table (p .0) q
+    × (length table ≡ length table₀)
 
 abbrev μ-loop : tie.MeasureT-loop
 μ-loop table₀ class next round n p q₀ table q = n - q
@@ -30,9 +32,11 @@ loop-less c = search needs
 loop-again : tie.Need-loop-again Inv-loop μ-loop
 loop-again c =
     let m = c .before .before .write-pair in
-    let inv = c .before .before .before .before .before .loop .inv in
-    let P = m .ensures .0 (c .before .before .before .before .before .before .before .args .n) (omega arith) (omega arith) (omega arith) in
-    (omega arith, written-trans (inv .1) P, row-add-one (row-stays P (omega arith) (omega arith) (inv .2)) (m .ensures .1), m .kept .0 ∙ inv .3)
+    let at-loop = c .before .before .before .before .before in
+    let inv = at-loop .loop .inv in
+    let W = m .ensures .0 (at-loop .before .before .args .n) (omega arith) (omega arith) (omega arith) in
+    let row = row-stays W (omega arith) (omega arith) (inv .2) in
+    (omega arith, written-trans (inv .1) W, row-add-one row (m .ensures .1), m .kept .0 ∙ inv .3)
 
 same-length : tie.Need-same-length Inv-loop μ-loop
 same-length c = c .before .loop .inv .3

@@ -2,7 +2,7 @@
 use native.Mathlib.Omega.{arith}
 use borrow.Author.Needs.{needs}
 use Rattle.model.specs.DecidesLaws.{decides-passed, decides-refused}
-use Rattle.judge.specs.GoodStoredLaws.{good→Stored}
+use Rattle.judge.specs.GoodStoredLaws.{passed→Stored}
 use Rattle.judge.proofs.RankAnswers.{short-store-promised, short-table-promised, not-good-promised}
 use Rattle.judge.proofs.RankAnswers.{ranked-promised}
 use Rattle.judge.proofs.rank.rank.Statement.{statement}
@@ -30,8 +30,8 @@ index-requires : tie.Need-index-requires
 index-requires c κs =
     let passed = c .before in
     let tested = passed .before .good2 in
-    let good = decides-passed (tested .result) _ (tested .ensures) (passed .if3 .left) in
-    (good→Stored _ (passed .before .before .before .if1 .left) good, omega arith)
+    let long = passed .before .before .before .if1 .left in
+    (passed→Stored _ (tested .result) long (tested .ensures) (passed .if3 .left), omega arith)
 
 slice-aggregate-roles : tie.Need-slice-aggregate-roles
 slice-aggregate-roles c = search needs
@@ -40,8 +40,8 @@ roles-requires : tie.Need-roles-requires
 roles-requires c κs =
     let passed = c .before .before .before .before in
     let tested = passed .before .good2 in
-    let good = decides-passed (tested .result) _ (tested .ensures) (passed .if3 .left) in
-    (good→Stored _ (passed .before .before .before .if1 .left) good, omega arith)
+    let long = passed .before .before .before .if1 .left in
+    (passed→Stored _ (tested .result) long (tested .ensures) (passed .if3 .left), omega arith)
 
 slice-aggregate-fill-table : tie.Need-slice-aggregate-fill-table
 slice-aggregate-fill-table c = search needs
@@ -55,9 +55,8 @@ fill-table-requires c κs =
     let indexed = after .before .before .before in
     let passed = indexed .before .before in
     let tested = passed .before .good2 in
-    let good = decides-passed (tested .result) _ (tested .ensures) (passed .if3 .left) in
-    let stored = good→Stored _ (passed .before .before .before .if1 .left) good in (
-      stored,
+    let long = passed .before .before .before .if1 .left in (
+      passed→Stored _ (tested .result) long (tested .ensures) (passed .if3 .left),
       (
         (omega arith, indexed .index .ensures),
         ((omega arith, after .roles2 .ensures), passed .before .before .if2 .left),
