@@ -2,7 +2,7 @@
 -- Document 01, "The text": steps rise by source. Assumes nothing.
 use mathlib.Core.List.{List}
 use mathlib.Core.Logic.{⊎-elim}
-use mathlib.Core.Path.{_≡_, sym, ap, subst, _∙_}
+use mathlib.Core.Path.{_≡_, sym, subst}
 use Prim.Native.Nat.{ℕ, _+_, _≤_, _<_}
 use native.Mathlib.Omega.{arith}
 use lib.ListN.{length, getD, set}
@@ -26,6 +26,13 @@ begins-suc st p from to b top own end = record {
   above = λ j l k. omega (arith, end (omega arith), st .source-le to j l k);
 }
 
+pub begins-le : {m : Model} {p from to : ℕ} → Begins m p from → Begins m (p + 1) to → from ≤ to
+begins-le {m} {p} {from} {to} b c =
+    ⊎-elim
+    (λ l. absurd (omega (arith, b .below to l, c .above to (omega arith) (omega (arith, b .from-le)))))
+    (λ l. l)
+    (lt-or-le to from)
+
 pub index-zero : (m : Model) (first : List ℕ) → 0 < length first → Index m 0 (set first 0 0)
 index-zero m first l = record {
   at = λ p k.
@@ -34,14 +41,15 @@ index-zero m first l = record {
       (subst (λ (y : ℕ). Begins m 0 y) (sym (getD-set-same first 0 0 0 l)) (begins-zero m));
 }
 
-pub index-suc : {m : Model} {first : List ℕ} {p i to : ℕ} → i ≡ p + 1 → i < length first → Begins m (p + 1) to → Index m p first
-    → Index m (p + 1) (set first i to)
+pub index-suc : {m : Model} {first : List ℕ} {p i to : ℕ} → i ≡ p + 1 → i < length first → Begins m (p + 1) to
+    → Index m p first → Index m (p + 1) (set first i to)
 index-suc {m} {first} {p} {i} {to} e l b x = record {
   at = λ q k. ⊎-elim
       (λ z.
       let g : q ≡ i = omega arith in
       subst (λ (y : ℕ). Begins m y (getD (set first i to) y 0)) (sym g)
-      (subst (λ (y : ℕ). Begins m i y) (sym (getD-set-same first i to 0 l)) (subst (λ (y : ℕ). Begins m y to) (sym e) b)))
+      (subst (λ (y : ℕ). Begins m i y) (sym (getD-set-same first i to 0 l))
+      (subst (λ (y : ℕ). Begins m y to) (sym e) b)))
       (λ z.
       subst (λ (y : ℕ). Begins m q y) (sym (getD-set-other first i q to 0 (λ g. omega arith)))
       (x .at q (omega arith)))

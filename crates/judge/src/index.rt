@@ -32,7 +32,8 @@ fn end_of(store: &[u16], q: State, from: u16) -> u16
 pub fn index(store: &[u16], first: &mut [u16])
     requires { ⌜ Stored (now store) (modelAt (now store)) ⌝ }
     requires { ⌜ 129 ≤ length (now first) ⌝ }
-    ensures { λ _. ⌜ Index (modelAt (now (store .entry))) (modelAt (now (store .entry)) .head .states) (now (first .exit)) ⌝ }
+    ensures { λ _. ⌜ Index (modelAt (now (store .entry)))
+        (modelAt (now (store .entry)) .head .states) (now (first .exit)) ⌝ }
 {
     let n = model::store::states(store);
     let mut from = 0;
@@ -49,7 +50,8 @@ pub fn index(store: &[u16], first: &mut [u16])
 pub fn roles(store: &[u16], out: &mut [u16])
     requires { ⌜ Stored (now store) (modelAt (now store)) ⌝ }
     requires { ⌜ 64 ≤ length (now out) ⌝ }
-    ensures { λ _. ⌜ Roles (levels (modelAt (now (store .entry)))) (modelAt (now (store .entry)) .head .actions) (now (out .exit)) ⌝ }
+    ensures { λ _. ⌜ Roles (levels (modelAt (now (store .entry))))
+        (modelAt (now (store .entry)) .head .actions) (now (out .exit)) ⌝ }
 {
     let n = model::store::actions(store);
     let mut a = 0;

@@ -12,7 +12,9 @@ module _ (P : ℕ → Type 0) {from : ℕ} where
   each-from-nil = record { at = λ k h l. absurd (omega arith) }
 
   pub each-from-snoc : {i : ℕ} → EachFrom P from i → P i → EachFrom P from (i + 1)
-  each-from-snoc {i} b p = record { at = λ k h l. ⊎-elim (λ e. subst P (sym e) p) (λ m. b .at k h m) (eq-or-lt-of-le (le k l)) }
+  each-from-snoc {i} b p = record {
+    at = λ k h l. ⊎-elim (λ e. subst P (sym e) p) (λ m. b .at k h m) (eq-or-lt-of-le (le k l));
+  }
     where
       le : (k : ℕ) → k < i + 1 → k ≤ i
       le k l = omega arith

@@ -5,7 +5,6 @@ use Prim.Native.Nat.{ℕ, _≤_}
 use lib.ListN.{length}
 use Rattle.model.specs.Limits.{storeLength}
 use Rattle.model.specs.Store.{Good}
-use Rattle.model.specs.StoredModel.{Holds}
 use Rattle.model.specs.StoredModelLaws.{Good→Holds, Holds→Good}
 use Rattle.model.specs.GoodPlaces.{GoodPlaces}
 use Rattle.model.specs.GoodPlacesLaws.{GoodPlaces→Holds}

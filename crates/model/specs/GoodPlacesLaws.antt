@@ -62,7 +62,9 @@ module _ (s : List ℕ) (fits : storeLength ≤ length s) where
         let e : suc j - 1 ≡ j = omega arith in
         record {
           in-range = t .in-range;
-          rising = rw (aboveLast?-append (listed j (stepAt s)) (stepAt s j) [] (stepAt s (suc j))) (rw e at (t .rising (omega arith)));
+          rising =
+              rw (aboveLast?-append (listed j (stepAt s)) (stepAt s j) [] (stepAt s (suc j)))
+              (rw e at (t .rising (omega arith)));
         }
 
     GoodPlaces→WellFormed : WellFormed (modelAt s)
@@ -101,7 +103,8 @@ module _ (s : List ℕ) (fits : storeLength ≤ length s) where
         let r = ranges in
         let actions =
         ap (padded (14 * actionLimit))
-        (blocks-listed actionNumbers actionsNumbers 14 refl (λ a acts. refl) s 4 (actionAt s) (getD s 1 0) action-numbers)
+        (blocks-listed actionNumbers actionsNumbers 14 refl (λ a acts. refl) s 4 (actionAt s) (getD s 1 0)
+        action-numbers)
         ∙ padded-part s 4 (14 * getD s 1 0) 896 (omega arith) (omega arith) (g .unused-actions) in
         let steps =
         ap (padded (3 * stepLimit))

@@ -19,13 +19,21 @@ use Rattle.model.specs.StoredModel.{headAt, actionAt, stepAt, listed, mo
 use Rattle.model.specs.Ranges.{HeadRanges}
 use Rattle.model.specs.RangesLaws.{headFits?→HeadRanges}
 use Rattle.model.specs.ActionLineLaws.{name-length}
-use Rattle.model.specs.StoreLaws.{actionsNumbers-length, stepsNumbers-length, actions-padded-length, storeOf-action}
+use Rattle.model.specs.StoreLaws.{actionsNumbers-length, stepsNumbers-length}
+use Rattle.model.specs.StoreLaws.{actions-padded-length, storeOf-action}
 use Rattle.model.specs.StoredModelLaws.{listed-length, holds-store, actionAt-holds, Holds→Good}
 use Rattle.model.specs.GoodPlaces.{SameName, nameLengthAt, GoodAction, GoodStep, GoodPlaces}
 use Rattle.model.specs.PlacesLaws.{padded-zero, allOf→getD}
 use Rattle.model.specs.ListedLaws.{each-listed, listed-used?}
 use Rattle.model.specs.AboveLaws.{aboveLast?-append}
 use Rattle.model.specs.NamePlacesLaws.{name-at, SameName→eq}
+
+-- the numbers of the actions and of the steps that a store shows
+abbrev storedActions : List ℕ → List ℕ
+storedActions s = actionsNumbers (listed (getD s 1 0) (actionAt s))
+
+abbrev storedSteps : List ℕ → List ℕ
+storedSteps s = stepsNumbers (listed (getD s 2 0) (stepAt s))
 
 module _ (s : List ℕ) (fits : storeLength ≤ length s) where
   module _ (holds : Holds s (modelAt s)) where
@@ -43,7 +51,8 @@ module _ (s : List ℕ) (fits : storeLength ≤ length s) where
     name-whole i h f =
         let d = length-drop (namePlace i) s in
         ⊎-elim
-        (λ l. let e = take-all (nameLengthAt s i) (drop (namePlace i) s) (omega arith) in absurd (omega (arith, ap length e)))
+        (λ l.
+        let e = take-all (nameLengthAt s i) (drop (namePlace i) s) (omega arith) in absurd (omega (arith, ap length e)))
         (λ l. length-take-le (nameLengthAt s i) (drop (namePlace i) s) l)
         (lt-or-le (length (drop (namePlace i) s)) (nameLengthAt s i))
 
@@ -56,7 +65,8 @@ module _ (s : List ℕ) (fits : storeLength ≤ length s) where
         let b = storeOf-action (modelAt s) (holds .well-formed) (drop storeLength s) i none l in (
           b .0,
           ap (drop (actionPlace i)) (holds-store s (modelAt s) holds)
-              ∙ b .1 ∙ ap (λ (a : ActionLine). actionNumbers a ++ b .0) (sym (actionAt-holds s (modelAt s) holds i none l)),
+              ∙ b .1
+              ∙ ap (λ (a : ActionLine). actionNumbers a ++ b .0) (sym (actionAt-holds s (modelAt s) holds i none l)),
         )
 
     name-zeros : (i : ℕ) → i < getD s 1 0 → (x : ℕ) → length (actionAt s i .name) ≤ x → x < nameLimit
@@ -93,7 +103,8 @@ module _ (s : List ℕ) (fits : storeLength ≤ length s) where
           once = record {
             at = λ g u v same.
                 T-not (used? name (listed i (actionAt s))) (a .fresh)
-                (listed-used? name (actionAt s) i g v (SameName→eq s fits g i (omega arith) (omega arith) (omega arith) same));
+                (listed-used? name (actionAt s) i g v
+                (SameName→eq s fits g i (omega arith) (omega arith) (omega arith) same));
           };
           unused = record {
             at = λ k u v.
@@ -108,7 +119,8 @@ module _ (s : List ℕ) (fits : storeLength ≤ length s) where
         let f = each-listed (StepFits (headAt s)) (stepAt s) (getD s 2 0) (holds .well-formed .steps) j h in
         record { in-range = f .in-range; rising = λ p. rising j p (f .rising) }
       where
-        rising : (k : ℕ) → 0 < k → T (aboveLast? (listed k (stepAt s)) (stepAt s k)) → T (above? (stepAt s (k - 1)) (stepAt s k))
+        rising : (k : ℕ) → 0 < k → T (aboveLast? (listed k (stepAt s)) (stepAt s k))
+            → T (above? (stepAt s (k - 1)) (stepAt s k))
         rising zero p t = absurd (omega arith)
         rising (suc k) p t =
             let e : suc k - 1 ≡ k = omega arith in
@@ -116,8 +128,8 @@ module _ (s : List ℕ) (fits : storeLength ≤ length s) where
 
     -- the store by its parts, each with what follows it
     by-parts : s ≡ headPlaces (headAt s)
-        ++ (padded (14 * actionLimit) (actionsNumbers (listed (getD s 1 0) (actionAt s)))
-        ++ (padded (3 * stepLimit) (stepsNumbers (listed (getD s 2 0) (stepAt s))) ++ drop storeLength s))
+        ++ (padded (14 * actionLimit) (storedActions s)
+        ++ (padded (3 * stepLimit) (storedSteps s) ++ drop storeLength s))
     unfolding modelAt storeOf
     by-parts = holds-store s (modelAt s) holds ∙ simp append-assoc
 
@@ -127,24 +139,24 @@ module _ (s : List ℕ) (fits : storeLength ≤ length s) where
         let n = actionsNumbers-length [] (listed (getD s 1 0) (actionAt s)) (holds .well-formed .actions) in
         let c = listed-length (getD s 1 0) (actionAt s) in
         let e : k ≡ 4 + (k - 4) = omega arith in
-        let m : length (actionsNumbers (listed (getD s 1 0) (actionAt s))) ≤ k - 4 = omega arith in
+        let m : length (storedActions s) ≤ k - 4 = omega arith in
         ap (λ (x : ℕ). getD s x 0) e
         ∙ ap (λ (x : List ℕ). getD x (4 + (k - 4)) 0) by-parts
-        ∙ padded-zero (headPlaces (headAt s)) (actionsNumbers (listed (getD s 1 0) (actionAt s))) _ (14 * actionLimit) (k - 4) m (omega arith)
+        ∙ padded-zero (headPlaces (headAt s)) (storedActions s) _ (14 * actionLimit) (k - 4) m (omega arith)
 
     step-zeros : (k : ℕ) → stepPlace (getD s 2 0) ≤ k → k < storeLength → getD s k 0 ≡ 0
     unfolding modelAt headPlaces
     step-zeros k h l =
-        let before : List ℕ = headPlaces (headAt s) ++ padded (14 * actionLimit) (actionsNumbers (listed (getD s 1 0) (actionAt s))) in
+        let before : List ℕ = headPlaces (headAt s) ++ padded (14 * actionLimit) (storedActions s) in
         let a = actions-padded-length (modelAt s) (holds .well-formed) in
         let b : length before ≡ 900 = simp length-append (omega arith) in
         let n = stepsNumbers-length (listed (getD s 2 0) (stepAt s)) in
         let c = listed-length (getD s 2 0) (stepAt s) in
         let e : k ≡ length before + (k - 900) = omega arith in
-        let m : length (stepsNumbers (listed (getD s 2 0) (stepAt s))) ≤ k - 900 = omega arith in
+        let m : length (storedSteps s) ≤ k - 900 = omega arith in
         ap (λ (x : ℕ). getD s x 0) e
         ∙ ap (λ (x : List ℕ). getD x (length before + (k - 900)) 0) by-parts
-        ∙ padded-zero before (stepsNumbers (listed (getD s 2 0) (stepAt s))) (drop storeLength s) (3 * stepLimit) (k - 900) m (omega arith)
+        ∙ padded-zero before (storedSteps s) (drop storeLength s) (3 * stepLimit) (k - 900) m (omega arith)
 
   pub Holds→GoodPlaces : Holds s (modelAt s) → GoodPlaces s
   unfolding modelAt

@@ -61,6 +61,7 @@ pub mod ActionLaws
 pub mod RowLaws
 pub mod Promises
 pub mod PromisesLaws
+pub mod OnStoreLaws
 pub mod Examples
 pub mod GoodTestExamples
 pub mod CornerCases

@@ -34,7 +34,10 @@ module _ {A : Type 0} (P : List A → A → Type 0) (f : ℕ → A) where
   each-listed zero e i h = absurd (omega arith)
   each-listed (suc n) e i h =
       let u = snoc-each P [] (listed n f) (f n) e in
-      ⊎-elim (λ z. subst (λ (k : ℕ). P (listed k f) (f k)) (sym z) (u .1)) (λ l. each-listed n (u .0) i l) (lt-suc-cases h)
+      ⊎-elim
+      (λ z. subst (λ (k : ℕ). P (listed k f) (f k)) (sym z) (u .1))
+      (λ l. each-listed n (u .0) i l)
+      (lt-suc-cases h)
 
 -- ---- names
 

@@ -25,11 +25,13 @@ module _ (s : List ℕ) (fits : storeLength ≤ length s) where
       → actionAt s h .name ≡ actionAt s i .name
   SameName→eq h i k l f same =
       let n : nameLengthAt s h ≡ nameLengthAt s i =
-      same-at (actionPlace h + 1) (actionPlace i + 1) (same .at 0 (omega arith) (omega arith)) (omega arith) (omega arith) in
+      same-at (actionPlace h + 1) (actionPlace i + 1) (same .at 0 (omega arith) (omega arith)) (omega arith)
+      (omega arith) in
       rw n
       (part-same s (namePlace h) (nameLengthAt s i) (omega arith) (namePlace i) (omega arith)
       (λ j m.
-      same-at (namePlace h + j) (namePlace i + j) (same .at (1 + j) (omega arith) (omega arith)) (omega arith) (omega arith)))
+      same-at (namePlace h + j) (namePlace i + j) (same .at (1 + j) (omega arith) (omega arith)) (omega arith)
+      (omega arith)))
 
   pub eq→SameName : (h i : ℕ) → h < actionLimit → i < actionLimit → GoodAction s h → GoodAction s i
       → actionAt s h .name ≡ actionAt s i .name → SameName s h i
@@ -54,4 +56,5 @@ module _ (s : List ℕ) (fits : storeLength ≤ length s) where
       at : (j : ℕ) → j < nameLimit + 1 → SameAt s (actionPlace h + 1) (actionPlace i + 1) j
       at zero m = same-at (actionPlace h + 1 + 0) (actionPlace i + 1 + 0) n (omega arith) (omega arith)
       at (suc j) m =
-          same-at (actionPlace h + 1 + suc j) (actionPlace i + 1 + suc j) (in-name j (omega arith)) (omega arith) (omega arith)
+          same-at (actionPlace h + 1 + suc j) (actionPlace i + 1 + suc j) (in-name j (omega arith)) (omega arith)
+          (omega arith)

@@ -39,7 +39,8 @@ module _ (s : List ℕ) (p n : ℕ) (fits : p + n ≤ length s) where
           rw (getD-take n (drop p s) i 0 l, getD-drop, e, getD-replicate {A = ℕ} n i 0 0 l)
 
   -- two parts with the same numbers are the same
-  pub part-same : (q : ℕ) → q + n ≤ length s → ((i : ℕ) → i < n → SameAt s p q i) → take n (drop p s) ≡ take n (drop q s)
+  pub part-same : (q : ℕ) → q + n ≤ length s → ((i : ℕ) → i < n → SameAt s p q i)
+      → take n (drop p s) ≡ take n (drop q s)
   part-same q g same =
       ext-getD 0 (take n (drop p s)) (take n (drop q s)) (part-length ∙ sym other-length) at
     where

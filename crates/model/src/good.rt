@@ -17,7 +17,6 @@ use crate::store::name_length;
 use crate::store::name_place;
 use crate::store::step_line;
 use crate::store::step_place;
-ghost use mathlib.Core.Path.{_≡_};
 ghost use Prim.Native.Nat.{_+_, _≤_, _<_};
 ghost use lib.Dec.{T};
 ghost use lib.ListN.{length};
@@ -25,9 +24,9 @@ ghost use Rattle.model.specs.Limits.{actionLimit, stepLimit, storeLength
 ghost use Rattle.model.specs.Decides.{Decides};
 ghost use Rattle.model.specs.Lines.{headFits?, nameByte?, stepFits?};
 ghost use Rattle.model.specs.Store.{Good};
-ghost use Rattle.model.specs.StoredModel.{headAt};
 ghost use Rattle.model.specs.EachFrom.{EachFrom};
-ghost use Rattle.model.specs.GoodPlaces.{ZeroAt, NameByteAt, SameAt, SameName, OtherName, GoodAction, GoodStep, GoodPlaces};
+ghost use Rattle.model.specs.GoodPlaces.{ZeroAt, NameByteAt, SameAt, SameName, OtherName};
+ghost use Rattle.model.specs.GoodPlaces.{GoodAction, GoodStep, GoodPlaces};
 
 // Whether the places from `from` on and below `to` hold 0.
 fn zeros(store: &[u16], from: usize, to: usize) -> bool

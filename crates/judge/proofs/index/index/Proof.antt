@@ -28,8 +28,14 @@ slice-write-first c = search needs
 loop-holds : tie.Need-loop-holds Inv-loop μ-loop
 loop-holds c =
     let at-start = c .before .before .before in
-    let e = c .states .ensures ∙ stored-states (at-start .pre .0) in
-    (e, omega arith, refl, refl, begins-zero _, index-zero _ (at-start .args .first .now) (omega (arith, at-start .pre .1)))
+    let e = c .states .ensures ∙ stored-states (at-start .pre .0) in (
+      e,
+      omega arith,
+      refl,
+      refl,
+      begins-zero _,
+      index-zero _ (at-start .args .first .now) (omega (arith, at-start .pre .1)),
+    )
 
 end-of-requires : tie.Need-end-of-requires Inv-loop μ-loop
 end-of-requires c κs = (c .before .before .before .before .before .pre .0, c .before .loop .inv .4)

@@ -1,4 +1,4 @@
--- The kind of the byte decides, and a number of 256 or more is of kind other.
+-- The kind of the byte decides; digits and small letters stand below 256, so a larger number is none.
 use native.Mathlib.Omega.{arith}
 use mathlib.Core.Path.{_≡_}
 use Prim.Native.Nat.{ℕ}

@@ -40,7 +40,10 @@ loop-less : tie.Need-loop-less Inv-loop μ-loop
 loop-less c = search needs
 
 loop-again : tie.Need-loop-again Inv-loop μ-loop
-loop-again c = (omega arith, each-from-snoc _ (c .before .before .before .before .loop .inv .1) (decides-passed (c .before .is-name-byte .result) _ (c .before .is-name-byte .ensures) (c .if1 .left)))
+loop-again c =
+    let f = c .before .is-name-byte in
+    let i = c .before .before .before .before .loop .inv in
+    (omega arith, each-from-snoc _ (i .1) (decides-passed (f .result) _ (f .ensures) (c .if1 .left)))
 
 returns-2 : tie.Need-returns-2 Inv-loop μ-loop
 returns-2 c = each-from-le _ (omega arith) (c .before .loop .inv .1)

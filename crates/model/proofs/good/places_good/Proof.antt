@@ -23,7 +23,8 @@ returns c =
 
 actions-good-requires : tie.Need-actions-good-requires
 actions-good-requires c κs =
-    let r = headFits?→HeadRanges _ (decides-passed (c .before .head-fits .result) _ (c .before .head-fits .ensures) (c .if1 .left)) in
+    let f = c .before .head-fits in
+    let r = headFits?→HeadRanges _ (decides-passed (f .result) _ (f .ensures) (c .if1 .left)) in
     (omega arith, omega arith)
 
 returns-2 : tie.Need-returns-2
@@ -34,7 +35,9 @@ returns-2 c =
 
 steps-good-requires : tie.Need-steps-good-requires
 steps-good-requires c κs =
-    let r = headFits?→HeadRanges _ (decides-passed (c .before .before .before .head-fits .result) _ (c .before .before .before .head-fits .ensures) (c .before .before .if1 .left)) in
+    let passed = c .before .before in
+    let f = passed .before .head-fits in
+    let r = headFits?→HeadRanges _ (decides-passed (f .result) _ (f .ensures) (passed .if1 .left)) in
     (omega arith, omega arith)
 
 returns-3 : tie.Need-returns-3
@@ -55,7 +58,8 @@ zeros-requires c κs = search needs
 returns-4 : tie.Need-returns-4
 returns-4 c =
     let f = c .before .zeros in
-    let n = ap (λ (x : Head). x .actions) (c .before .before .before .before .before .before .before .before .before .before .head .ensures) in
+    let e = c .before .before .before .before .before .before .before .before .before .before .head .ensures in
+    let n = ap (λ (x : Head). x .actions) e in
     let a = c .before .before .before .action-place .ensures in
     let s = c .before .before .step-place .ensures in
     λ p.
@@ -70,16 +74,24 @@ zeros-requires-2 c κs = search needs
 
 returns-5 : tie.Need-returns-5
 returns-5 c =
-    let e = c .before .before .before .before .before .before .before .before .before .before .before .before .head .ensures in
+    let unused-passed = c .before .before in
+    let steps-passed = unused-passed .before .before .before .before in
+    let actions-passed = steps-passed .before .before in
+    let head-passed = actions-passed .before .before in
+    let e = head-passed .before .before .head .ensures in
     let n = ap (λ (x : Head). x .actions) e in
     let m = ap (λ (x : Head). x .steps) e in
-    let a = c .before .before .before .before .before .action-place .ensures in
-    let s = c .before .before .before .before .step-place .ensures in
+    let a = unused-passed .before .before .before .action-place .ensures in
+    let s = unused-passed .before .before .step-place .ensures in
     let t = c .before .step-place2 .ensures in
-    let head = decides-passed (c .before .before .before .before .before .before .before .before .before .before .before .head-fits .result) _ (c .before .before .before .before .before .before .before .before .before .before .before .head-fits .ensures) (c .before .before .before .before .before .before .before .before .before .before .if1 .left) in
-    let actions = decides-passed (c .before .before .before .before .before .before .before .before .before .actions-good .result) _ (c .before .before .before .before .before .before .before .before .before .actions-good .ensures) (c .before .before .before .before .before .before .before .before .if2 .left) in
-    let steps = decides-passed (c .before .before .before .before .before .before .before .steps-good .result) _ (c .before .before .before .before .before .before .before .steps-good .ensures) (c .before .before .before .before .before .before .if3 .left) in
-    let unused = decides-passed (c .before .before .before .zeros .result) _ (c .before .before .before .zeros .ensures) (c .before .before .if4 .left) in
+    let hd = head-passed .before .head-fits in
+    let ac = actions-passed .before .actions-good in
+    let st = steps-passed .before .steps-good in
+    let un = unused-passed .before .zeros in
+    let head = decides-passed (hd .result) _ (hd .ensures) (head-passed .if1 .left) in
+    let actions = decides-passed (ac .result) _ (ac .ensures) (actions-passed .if2 .left) in
+    let steps = decides-passed (st .result) _ (st .ensures) (steps-passed .if3 .left) in
+    let unused = decides-passed (un .result) _ (un .ensures) (unused-passed .if4 .left) in
     decides-iff (c .zeros2 .result)
     (λ z. record {
       head = rw e at head;

@@ -39,7 +39,11 @@ same-requires : tie.Need-same-requires
 same-requires c κs = search needs
 
 returns : tie.Need-returns
-returns c = same-at (c .before .before .before .before .args .store .now) (c .same .result) 13 (c .before .before .action-place .ensures) (c .before .action-place2 .ensures) (c .same .ensures)
+returns c =
+    let s = c .before .before .before .before .args .store .now in
+    let p = c .before .before .action-place .ensures in
+    let q = c .before .action-place2 .ensures in
+    same-at s (c .same .result) 13 p q (c .same .ensures)
 
 pub same-name-spec : {M : Type 1} → statement M
 same-name-spec =

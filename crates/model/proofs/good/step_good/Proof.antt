@@ -51,17 +51,20 @@ is-above-requires c κs = search needs
 
 returns-3 : tie.Need-returns-3
 returns-3 c =
-    let f = c .before .before .before .before .before .before .before .step-fits in
-    let d = fits-at _ (f .result) (c .before .before .before .before .before .before .before .before .step-line .ensures) (f .ensures) in
-    let a = above-at (c .before .before .step-line2 .ensures) (c .before .before .before .before .before .before .before .before .step-line .ensures) (c .before .is-above .ensures) in
+    let passed = c .before .before .before .before .before .before in
+    let f = passed .before .step-fits in
+    let s = passed .before .before .step-line .ensures in
+    let d = fits-at _ (f .result) s (f .ensures) in
+    let a = above-at (c .before .before .step-line2 .ensures) s (c .before .is-above .ensures) in
     record {
-      in-range = decides-passed (f .result) _ d (c .before .before .before .before .before .before .if1 .left);
+      in-range = decides-passed (f .result) _ d (passed .if1 .left);
       rising = λ h. T-of-true _ (sym a ∙ c .if3 .taken);
     }
 
 returns-4 : tie.Need-returns-4
 returns-4 c =
-    let a = above-at (c .before .before .step-line2 .ensures) (c .before .before .before .before .before .before .before .before .step-line .ensures) (c .before .is-above .ensures) in
+    let s = c .before .before .before .before .before .before .before .before .step-line .ensures in
+    let a = above-at (c .before .before .step-line2 .ensures) s (c .before .is-above .ensures) in
     λ p. not-T-of-false _ (sym a ∙ c .if3 .left) (p .rising (omega arith))
 
 pub step-good-spec : {M : Type 1} → statement M
