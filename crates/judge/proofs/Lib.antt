@@ -1,1 +1,2 @@
 pub mod RankAnswers
+pub mod ReachAnswers
