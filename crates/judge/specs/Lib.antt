@@ -26,6 +26,7 @@ pub mod RunTailLaws
 pub mod Promises
 pub mod ReachLaws
 pub mod RunsLaws
+pub mod RunPromiseLaws
 pub mod MoveListLaws
 pub mod ClassList
 pub mod ClassListLaws
