@@ -36,6 +36,9 @@ pub mod VerdictTestLaws
 pub mod BenchModels
 pub mod Bench
 pub mod BenchLaws
+pub mod ReachLaws
+pub mod RunsLaws
+pub mod RunPromiseLaws
 pub mod MoveListLaws
 pub mod ClassList
 pub mod ClassListLaws
@@ -44,6 +47,4 @@ pub mod TableWritesLaws
 pub mod RoundsLaws
 pub mod Marks
 pub mod MarksLaws
-pub mod ReachLaws
-pub mod RunsLaws
 pub mod RankPromiseLaws
