@@ -55,7 +55,8 @@ judge-good-requires c κs =
     let second-long = third-long .before in
     let first-long = second-long .before in
     let store = first-long .before .before .before .before .args .store .now in
-    let good = decides-passed (after-good .good2 .result) (Good store) (after-good .good2 .ensures) (is-good .if4 .left) in
+    let tested = after-good .good2 in
+    let good = decides-passed (tested .result) (Good store) (tested .ensures) (is-good .if4 .left) in
     record {
       stored = good→Stored store (first-long .if1 .left) good;
       index-length = omega arith;
@@ -80,7 +81,8 @@ returns-5 c =
     let first-long = second-long .before in
     let args = first-long .before .before .before .before .args in
     let store = args .store .now in
-    let good = decides-passed (after-good .good2 .result) (Good store) (after-good .good2 .ensures) (is-good .if4 .left) in
+    let tested = after-good .good2 in
+    let good = decides-passed (tested .result) (Good store) (tested .ensures) (is-good .if4 .left) in
     judge-done store (args .distances .now) (args .table .now) (first-long .if1 .left) (second-long .if2 .left)
     (third-long .if3 .left) good _ _ _ _ _ (after-judge .judge-good .ensures)
 
