@@ -21,7 +21,7 @@ pub past-getD : {least : ℕ} {t u : List ℕ} → Past least t u → (i : ℕ) 
 past-getD {least} {t} {u} x i l =
     let e : i ≡ least + (i - least) = omega arith in
     let f : getD (drop least u) (i - least) 0 ≡ getD (drop least t) (i - least) 0 =
-        ap (λ (y : List ℕ). getD y (i - least) 0) (x .kept) in
+    ap (λ (y : List ℕ). getD y (i - least) 0) (x .kept) in
     let g : getD u (least + (i - least)) 0 ≡ getD t (least + (i - least)) 0 =
-        sym (getD-drop least u (i - least) 0) ∙ f ∙ getD-drop least t (i - least) 0 in
+    sym (getD-drop least u (i - least) 0) ∙ f ∙ getD-drop least t (i - least) 0 in
     rw e g
