@@ -19,6 +19,7 @@ pub mod StepTest
 pub mod StepTestLaws
 pub mod Waves
 pub mod WavesLaws
+pub mod WaveKeptLaws
 pub mod Verdicts
 pub mod Runs
 pub mod RunTail

@@ -49,8 +49,8 @@ returns-5 c =
     let tested = passed .before .good2 in
     let long = passed .before .before in
     let good = decides-passed (tested .result) _ (tested .ensures) (passed .if4 .left) in
-    done-promised _ _ _ _ (long .before .before .if1 .left) (long .before .if2 .left) (long .if3 .left) (done .result) _ _
-    good (done .ensures)
+    done-promised _ _ _ _ (long .before .before .if1 .left) (long .before .if2 .left) (long .if3 .left) (done .result) _
+    _ good (done .ensures)
 
 pub run-spec : {M : Type 1} → statement M
 run-spec =

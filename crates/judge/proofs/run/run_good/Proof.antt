@@ -28,8 +28,9 @@ slice-aggregate-fill-distances c = search needs
 
 fill-distances-requires : tie.Need-fill-distances-requires
 fill-distances-requires c κs =
-    let pre = c .before .before .before .before .before .before .before .before .before .before .before .pre in
-    (pre .0, (c .before .before .before .index .ensures, (omega arith, pre .1 .0)))
+    let indexed = c .before .before .before in
+    let pre = indexed .before .before .before .before .before .before .before .before .pre in
+    (pre .0, (indexed .index .ensures, (omega arith, pre .1 .0)))
 
 cast-place : tie.Need-cast-place
 cast-place c = search needs
@@ -39,35 +40,35 @@ mul-if2 c = search needs
 
 slice-read-if2 : tie.Need-slice-read-if2
 slice-read-if2 c =
-    let pre = c .before .before .before .before .before .before .before .before .before .before .before .before .before .before .before .before .pre in
-    let e = c .before .before .before .before .before .before .before .before .before .before .before .before .states .ensures ∙ stored-states (pre .0) in
-    let n = c .before .before .before .before .fill-distances .ensures .past .same-length in
-    omega (arith, e, n, c .before .before .before .before .before .before .before .before .before .before .if1 .left, pre .0 .states-le, pre .1)
+    let filled = c .before .before .before .before in
+    let below = filled .before .before .before .before .before .before in
+    let pre = below .before .before .before .before .before .before .pre in
+    let e = below .before .before .states .ensures ∙ stored-states (pre .0) in
+    let n = filled .fill-distances .ensures .past .same-length in
+    omega (arith, e, n, below .if1 .left, pre .0 .states-le, pre .1)
 
 same-length : tie.Need-same-length
 same-length c = search needs
 
 returns-2 : tie.Need-returns-2
 returns-2 c =
-    let at-start = c .before .before .before .before .before .before .before .before .before .before .before .before .before .before .before .before .before in
-    let e = c .before .before .before .before .before .before .before .before .before .before .before .before .before .states .ensures ∙ stored-states (at-start .pre .0) in
-    unreachable-done (at-start .pre .0) (at-start .args .p) _ (omega (arith, e, c .before .before .before .before .before .before .before .before .before .before .before .if1 .left))
-    (c .before .before .before .before .before .fill-distances .ensures) (c .if2 .taken)
+    let filled = c .before .before .before .before .before in
+    let below = filled .before .before .before .before .before .before in
+    let at-start = below .before .before .before .before .before .before in
+    let e = below .before .before .states .ensures ∙ stored-states (at-start .pre .0) in
+    unreachable-done (at-start .pre .0) (at-start .args .p) _ (omega (arith, e, below .if1 .left))
+    (filled .fill-distances .ensures) (c .if2 .taken)
 
 fill-run-requires : tie.Need-fill-run-requires
 fill-run-requires c κs =
-    let pre = c .before .before .before .before .before .before .before .before .before .before .before .before .before .before .before .before .before .before .before .pre in
-    let e = c .before .before .before .before .before .before .before .before .before .before .before .before .before .before .before .states .ensures ∙ stored-states (pre .0) in
-    let d = c .before .before .before .before .before .before .before .fill-distances .ensures in (
-      pre .0,
-      (
-        (omega (arith, d .past .same-length, pre .1), d .list),
-        (
-          list-reachable (pre .0) (d .list) (omega (arith, e, c .before .before .before .before .before .before .before .before .before .before .before .before .before .if1 .left)) (c .before .before .if2 .left),
-          pre .1 .1,
-        ),
-      ),
-    )
+    let reached = c .before .before in
+    let filled = reached .before .before .before .before .before in
+    let below = filled .before .before .before .before .before .before in
+    let pre = below .before .before .before .before .before .before .pre in
+    let e = below .before .before .states .ensures ∙ stored-states (pre .0) in
+    let d = filled .fill-distances .ensures in
+    let r = list-reachable (pre .0) (d .list) (omega (arith, e, below .if1 .left)) (reached .if2 .left) in
+    (pre .0, ((omega (arith, d .past .same-length, pre .1), d .list), (r, pre .1 .1)))
 
 same-length-2 : tie.Need-same-length-2
 same-length-2 c = search needs
@@ -77,10 +78,13 @@ same-length-3 c = search needs
 
 returns-3 : tie.Need-returns-3
 returns-3 c =
-    let at-start = c .before .before .before .before .before .before .before .before .before .before .before .before .before .before .before .before .before .before .before .before .before .before in
-    let e = c .before .before .before .before .before .before .before .before .before .before .before .before .before .before .before .before .before .before .states .ensures ∙ stored-states (at-start .pre .0) in
-    filled-done (at-start .pre .0) (at-start .args .p) (omega (arith, e, c .before .before .before .before .before .before .before .before .before .before .before .before .before .before .before .before .if1 .left))
-    (c .before .before .before .before .before .before .before .before .before .before .fill-distances .ensures) (c .before .before .before .before .before .if2 .left) (c .before .before .fill-run .ensures)
+    let reached = c .before .before .before .before .before in
+    let filled = reached .before .before .before .before .before in
+    let below = filled .before .before .before .before .before .before in
+    let at-start = below .before .before .before .before .before .before in
+    let e = below .before .before .states .ensures ∙ stored-states (at-start .pre .0) in
+    filled-done (at-start .pre .0) (at-start .args .p) (omega (arith, e, below .if1 .left))
+    (filled .fill-distances .ensures) (reached .if2 .left) (c .before .before .fill-run .ensures)
 
 pub run-good-spec : {M : Type 1} → statement M
 run-good-spec =
