@@ -13,6 +13,8 @@ use Rattle.model.specs.Limits.{actionLimit, stepLimit, nameLimit, storeL
 use Rattle.model.specs.Model.{ActionLine, Model}
 use Rattle.model.specs.Reading.{headModel}
 use Rattle.model.specs.Store.{padded, actionNumbers, actionsNumbers, stepsNumbers, headPlaces, storeOf}
+use Rattle.model.specs.BlocksLaws.{padded-length}
+use Rattle.model.specs.StoreLaws.{actionNumbers-length, stepsNumbers-length}
 use Rattle.model.specs.ReadSoFar.{Short}
 
 -- ---- numbers over zeros
@@ -37,15 +39,11 @@ sets-zeros p (v ∷ vs) r (suc m) i e h =
 zeros-split : (m n k : ℕ) → m + n ≡ k → zeros k ≡ zeros m ++ zeros n
 zeros-split m n k e = sym (replicate-append-replicate m n 0 ∙ ap zeros e)
 
-padded-length : (n : ℕ) (l : List ℕ) → length l ≤ n → length (padded n l) ≡ n
-unfolding padded
-padded-length n l h = rw (length-append, length-replicate) (omega arith)
-
 -- numbers behind those that are there, over zeros
-padded-append : (n : ℕ) (p q vs : List ℕ) (i : ℕ) → length (p ++ q) ≡ i → length q + length vs ≤ n
+sets-padded : (n : ℕ) (p q vs : List ℕ) (i : ℕ) → length (p ++ q) ≡ i → length q + length vs ≤ n
     → sets (p ++ padded n q) i vs ≡ p ++ padded n (q ++ vs)
 unfolding padded
-padded-append n p q vs i e h =
+sets-padded n p q vs i e h =
     let k : n - length q - length vs ≡ n - length (q ++ vs) = rw length-append (omega arith) in
     let f : length vs ≤ n - length q = omega arith in
     ap (λ (x : List ℕ). sets x i vs) (simp (append-assoc, append-nil))
@@ -80,10 +78,6 @@ unfolding actionsNumbers
 actionsNumbers-snoc [] a = append-nil (actionNumbers a)
 actionsNumbers-snoc (b ∷ rest) a = rw (actionsNumbers-snoc rest a) (sym (append-assoc (actionNumbers b) (actionsNumbers rest) (actionNumbers a)))
 
-pub actionNumbers-length : (a : ActionLine) → length (a .name) ≤ nameLimit → length (actionNumbers a) ≡ 14
-unfolding actionNumbers
-actionNumbers-length a h = let l = padded-length nameLimit (a .name) h in omega arith
-
 pub actionsNumbers-length : (actions : List ActionLine) → Short actions → length (actionsNumbers actions) ≡ 14 * length actions
 unfolding actionsNumbers Short
 actionsNumbers-length [] s = refl
@@ -101,13 +95,13 @@ Short-snoc (b ∷ rest) a s h = (s .0, Short-snoc rest a (s .1) h)
 regroup : (h a v y z t : List ℕ) → h ++ a ++ (v ++ (y ++ z ++ t)) ≡ h ++ (a ++ (v ++ y) ++ z) ++ t
 regroup h a v y z t = simp append-assoc
 
-pub storeOf-action : (h : Head) (actions : List ActionLine) (a : ActionLine) (i : ℕ) → length actions ≡ i → i < actionLimit
+pub storeOf-withAction : (h : Head) (actions : List ActionLine) (a : ActionLine) (i : ℕ) → length actions ≡ i → i < actionLimit
     → Short actions → length (a .name) ≤ nameLimit
     → sets (storeOf (record { head = h; actions = actions; steps = [] })) (actionPlace i)
     (a .level ∷ length (a .name) ∷ a .name)
     ≡ storeOf (record { head = h; actions = actions ++ (a ∷ []); steps = [] })
 unfolding storeOf padded headPlaces stepsNumbers actionNumbers
-storeOf-action h actions a i c l s n =
+storeOf-withAction h actions a i c l s n =
     let hp : List ℕ = headPlaces h in
     let A : List ℕ = actionsNumbers actions in
     let vs : List ℕ = a .level ∷ length (a .name) ∷ a .name in
@@ -131,25 +125,20 @@ unfolding stepsNumbers
 stepsNumbers-snoc [] s = refl
 stepsNumbers-snoc (t ∷ rest) s = rw (stepsNumbers-snoc rest s)
 
-pub stepsNumbers-length : (steps : List StepLine) → length (stepsNumbers steps) ≡ 3 * length steps
-unfolding stepsNumbers
-stepsNumbers-length [] = refl
-stepsNumbers-length (t ∷ rest) = let e = stepsNumbers-length rest in omega arith
-
-pub storeOf-step : (h : Head) (actions : List ActionLine) (steps : List StepLine) (s : StepLine) (j : ℕ)
+pub storeOf-withStep : (h : Head) (actions : List ActionLine) (steps : List StepLine) (s : StepLine) (j : ℕ)
     → length (actionsNumbers actions) ≤ 14 * actionLimit → length steps ≡ j → j < stepLimit
     → sets (storeOf (record { head = h; actions = actions; steps = steps })) (stepPlace j)
     (s .source .0 ∷ s .action .0 ∷ s .target .0 ∷ [])
     ≡ storeOf (record { head = h; actions = actions; steps = steps ++ (s ∷ []) })
 unfolding storeOf headPlaces
-storeOf-step h actions steps s j f c l =
+storeOf-withStep h actions steps s j f c l =
     let P : List ℕ = headPlaces h ++ padded 896 (actionsNumbers actions) in
     let S : List ℕ = stepsNumbers steps in
     let vs : List ℕ = s .source .0 ∷ s .action .0 ∷ s .target .0 ∷ [] in
     let la = padded-length 896 (actionsNumbers actions) f in
     let ls = stepsNumbers-length steps in
     let lp = length-append (headPlaces h) (padded 896 (actionsNumbers actions)) in
-    padded-append 3072 P S vs (900 + 3 * j) (length-append P S ∙ omega arith) (omega arith) ∙ rw (stepsNumbers-snoc steps s)
+    sets-padded 3072 P S vs (900 + 3 * j) (length-append P S ∙ omega arith) (omega arith) ∙ rw (stepsNumbers-snoc steps s)
 
 pub storeOf-length : (m : Model) → length (actionsNumbers (m .actions)) ≤ 14 * actionLimit → length (m .steps) ≤ stepLimit
     → length (storeOf m) ≡ storeLength

@@ -1,11 +1,10 @@
 -- The reading of a text goes on through its steps to its end, and what it then comes to.
 -- Document 01, "The text" and "Refused because of the input". Assumes nothing.
-use mathlib.Core.Bool.{Bool, true, false, cond, _&&_}
+use mathlib.Core.Bool.{Bool, true, false, cond}
 use mathlib.Core.List.{List, [], _∷_, _++_}
 use mathlib.Core.Path.{_≡_, refl, sym, _∙_}
 use Prim.Native.Nat.{ℕ, suc, _+_, _-_, _≤_, _<_}
 use native.Mathlib.Omega.{arith}
-use lib.Dec.{eqb}
 use lib.ListN.{length, take, drop, getD, length-append, length-drop}
 use lib.Seq.{sets, length-take-le, getD-take, getD-drop}
 use borrow.Author.Tests.{eq-eqb, ne-eqb}
@@ -17,12 +16,13 @@ use Rattle.model.specs.Limits.{storeLength, stepPlace}
 use Rattle.model.specs.Bytes.{lineEnd, kindOf}
 use Rattle.model.specs.Split.{consFirst, split, indexOf, same?}
 use Rattle.model.specs.SplitLaws.{Is, same, other, is, split-nil, split-end, split-cons, split-first, found-le}
+use Rattle.model.specs.SameLaws.{same?-length}
 use Rattle.model.specs.Model.{Model, above?, aboveLast?}
 use Rattle.model.specs.Lines.{good, bad, stepOf}
 use Rattle.model.specs.LineAnswers.{Last}
 use Rattle.model.specs.Reading.{done, faulty, readNothing, readEnd, readSteps, readActions}
 use Rattle.model.specs.ReadSoFar.{whole, AfterActions, AfterStep, AfterSteps, AfterEnd}
-use Rattle.model.specs.FillLaws.{actionsNumbers-length, storeOf-step, storeOf-length}
+use Rattle.model.specs.FillLaws.{actionsNumbers-length, storeOf-withStep, storeOf-length}
 use Rattle.model.specs.ReadLaws.{onLine-absent, onLine-line, orFault-bad, orFault-good}
 
 -- ---- the steps
@@ -93,7 +93,7 @@ module _ (h : Head) (text : List ℕ) (at j : ℕ) (last : StepLine) (store : Li
           count = length-append (b .steps) (s ∷ []) ∙ omega arith;
           last-step = Last-snoc (b .steps) j s;
           stored = rw (b .stored)
-              (storeOf-step h (b .actions) (b .steps) s j (b .action-places) (b .count) (omega arith));
+              (storeOf-withStep h (b .actions) (b .steps) s j (b .action-places) (b .count) (omega arith));
           rest = b .rest ∙ rw steps-suc
               (onLine-line text at e (b .place) found (2 + h .actions + j) _ l
               ∙ orFault-good (2 + h .actions + j) _ _ s r ∙ rw c);
@@ -120,16 +120,6 @@ after-steps h text at j last store b c =
     }
 
 -- ---- the end
-
-same?-other : (s : List ℕ) (c : ℕ) → (length s ≡ 1 → ⊥) → same? s (c ∷ []) ≡ false
-unfolding same?
-same?-other [] c h = refl
-same?-other (x ∷ []) c h = absurd (h refl)
-same?-other (x ∷ y ∷ s) c h = both (eqb x c)
-  where
-    both : (t : Bool) → t && false ≡ false
-    both true = refl
-    both false = refl
 
 same?-first : (s : List ℕ) (c : ℕ) → length s ≡ 1 → (getD s 0 0 ≡ c → ⊥) → same? s (c ∷ []) ≡ false
 unfolding same?
@@ -178,7 +168,8 @@ module _ (h : Head) (text : List ℕ) (at : ℕ) (store : List ℕ) (b : AfterSt
     end-long n =
         let f = found-le lineEnd text at e (b .place) found in
         let m = line-length in
-        end-line false (same?-other (take (e - at) (drop at text)) 69 (λ y. n (omega (arith, y))))
+        let long : length (take (e - at) (drop at text)) ≡ 1 → ⊥ = λ y. n (omega (arith, y)) in
+        end-line false (same?-length (take (e - at) (drop at text)) (69 ∷ []) long)
 
     module _ (one : e ≡ at + 1) where
       line-one : length (take (e - at) (drop at text)) ≡ 1

@@ -1,20 +1,17 @@
 -- The store of a well-formed model: its length, its numbers, and where each action and step of the model stands.
 -- Document 01, "The model store". Assumes nothing.
 use mathlib.Core.List.{List, [], _++_, append-assoc}
-use mathlib.Core.Logic.{inl, inr}
 use mathlib.Core.Path.{_≡_, refl, ap, _∙_}
-use Prim.Native.Nat.{ℕ, _+_, _-_, _*_, _<_}
+use Prim.Native.Nat.{ℕ, _+_, _-_, _*_, _≤_, _<_}
 use native.Mathlib.Omega.{arith}
-use lib.Dec.{T, lit<}
+use lib.Dec.{lit<}
 use lib.ListN.{length, getD, drop, replicate, length-append}
 use lib.Seq.{drop-append-add}
 use Rattle.model.specs.declared.StepLine.{StepLine}
 use Rattle.model.specs.Limits.{actionLimit, stepLimit, nameLimit, storeLength, actionPlace, stepPlace}
-use Rattle.model.specs.BytesLaws.{digit-within, smallLetter-within}
 use Rattle.model.specs.All.{All}
 use Rattle.model.specs.AllLaws.{all-intro, all-of-all, all-append}
 use Rattle.model.specs.Model.{ActionLine, Model}
-use Rattle.model.specs.Lines.{name?}
 use Rattle.model.specs.Store.{padded, actionNumbers, actionsNumbers, stepsNumbers, headPlaces, storeOf}
 use Rattle.model.specs.WellFormed.{EachAfter, ActionFits, StepFits, WellFormed}
 use Rattle.model.specs.EachLaws.{all-of-each}
@@ -23,17 +20,19 @@ use Rattle.model.specs.BlocksLaws.{blocks-drop}
 use Rattle.model.specs.Ranges.{HeadRanges, Storable}
 use Rattle.model.specs.RangesLaws.{headFits?→HeadRanges, stepFits?→StepRanges}
 use Rattle.model.specs.LineText.{stepPlaces}
-use Rattle.model.specs.ActionLineLaws.{NameByte, name-bytes, name-length}
+use Rattle.model.specs.ActionLineLaws.{NameByte, name-bytes, nameByte-lt, name-length}
 
 -- ---- lengths
 
-pub actionNumbers-length : (a : ActionLine) → T (name? (a .name)) → length (actionNumbers a) ≡ 14
+pub actionNumbers-length : (a : ActionLine) → length (a .name) ≤ nameLimit → length (actionNumbers a) ≡ 14
 unfolding actionNumbers
-actionNumbers-length a t = let n = name-length (a .name) t in rw (padded-length nameLimit (a .name) (n .1))
+actionNumbers-length a h = rw (padded-length nameLimit (a .name) h)
 
 actions-width : (before acts : List ActionLine) → EachAfter ActionFits before acts
     → All (λ a. length (actionNumbers a) ≡ 14) acts
-actions-width = all-of-each ActionFits (λ a. length (actionNumbers a) ≡ 14) (λ b a f. actionNumbers-length a (f .name))
+actions-width =
+    all-of-each ActionFits (λ a. length (actionNumbers a) ≡ 14)
+    (λ b a f. actionNumbers-length a (name-length (a .name) (f .name) .1))
 
 steps-width : (ss : List StepLine) → All (λ s. length (stepPlaces s) ≡ 3) ss
 steps-width = all-intro (λ s. length (stepPlaces s) ≡ 3) (λ s. refl)
@@ -73,8 +72,7 @@ module _ (m : Model) (w : WellFormed m) where
 -- ---- numbers of 16 bits
 
 nameByte-storable : (b : ℕ) → NameByte b → Storable b
-nameByte-storable b (inl e) = let r = digit-within b e in omega arith
-nameByte-storable b (inr e) = let r = smallLetter-within b e in omega arith
+nameByte-storable b n = let l = nameByte-lt b n in omega arith
 
 actionNumbers-storable : (before : List ActionLine) (a : ActionLine) → ActionFits before a
     → All Storable (actionNumbers a)

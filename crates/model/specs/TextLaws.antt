@@ -74,15 +74,15 @@ join-lines line text nil cons (x ∷ xs) parts h =
     join-cons 10 (line x) (map line xs ++ parts) l
     ∙ rw (join-lines line text nil cons xs parts h, cons) (simp append-assoc)
 
-actionsText-cons : (a : ActionLine) (rest : List ActionLine)
+actionsText-line : (a : ActionLine) (rest : List ActionLine)
     → actionsText (a ∷ rest) ≡ lineOfAction a ++ (10 ∷ []) ++ actionsText rest
 unfolding actionsText
-actionsText-cons a rest = rw (actionText-line a)
+actionsText-line a rest = rw (actionText-line a)
 
-stepsText-cons : (s : StepLine) (rest : List StepLine)
+stepsText-line : (s : StepLine) (rest : List StepLine)
     → stepsText (s ∷ rest) ≡ lineOfStep s ++ (10 ∷ []) ++ stepsText rest
 unfolding stepsText
-stepsText-cons s rest = rw (stepText-line s)
+stepsText-line s rest = rw (stepText-line s)
 
 join-last : join 10 ((69 ∷ []) ∷ [] ∷ []) ≡ 69 ∷ 10 ∷ []
 unfolding join
@@ -99,8 +99,8 @@ textOf-parts m =
     let from-actions : List (List ℕ) = map lineOfAction (m .actions) ++ from-steps in
     let k : 0 < length from-steps = simp length-append (omega arith) in
     let l : 0 < length from-actions = simp length-append (omega arith) in
-    let steps = join-lines lineOfStep stepsText refl stepsText-cons (m .steps) last (omega arith) in
-    let actions = join-lines lineOfAction actionsText refl actionsText-cons (m .actions) from-steps k in
+    let steps = join-lines lineOfStep stepsText refl stepsText-line (m .steps) last (omega arith) in
+    let actions = join-lines lineOfAction actionsText refl actionsText-line (m .actions) from-steps k in
     sym (join-cons 10 (lineOfHead (m .head)) from-actions l
     ∙ rw (actions, steps, join-last, headText-line (m .head))
     (sym (regroup (lineOfHead (m .head)) (actionsText (m .actions)) (stepsText (m .steps)) (69 ∷ 10 ∷ []))))

@@ -1,6 +1,5 @@
 -- A store that holds a model has counts within their limits, names of 1 to 12 bytes, and a text that fits.
 -- Document 01, "The text" and "The model store". Assumes nothing.
-use mathlib.Core.Logic.{inl, inr}
 use mathlib.Core.List.{List}
 use mathlib.Core.Path.{_≡_}
 use Prim.Native.Nat.{ℕ, _+_, _-_, _≤_, _<_}
@@ -8,8 +7,7 @@ use native.Mathlib.Omega.{arith}
 use lib.ListN.{length, getD, take, drop}
 use Rattle.model.specs.All.{All}
 use Rattle.model.specs.AllLaws.{all-of-all}
-use Rattle.model.specs.ActionLineLaws.{NameByte, name-bytes}
-use Rattle.model.specs.BytesLaws.{digit-within, smallLetter-within}
+use Rattle.model.specs.ActionLineLaws.{NameByte, name-bytes, nameByte-lt}
 use Rattle.model.specs.GoodLaws.{Good→GoodPlaces}
 use Rattle.model.specs.Limits.{actionLimit, stepLimit, nameLimit, outLength, actionPlace, namePlace}
 use Rattle.model.specs.ListedLaws.{each-listed}
@@ -23,10 +21,6 @@ use Rattle.model.specs.WellFormed.{ActionFits}
 use Rattle.model.specs.Writable.{Writable}
 
 -- ---- a name
-
-nameByte-lt : (b : ℕ) → NameByte b → b < 256
-nameByte-lt b (inl e) = let w = digit-within b e in omega arith
-nameByte-lt b (inr e) = let w = smallLetter-within b e in omega arith
 
 -- an action, from its level and the part of the store where its name stands
 pub actionAt-part : (s : List ℕ) (i level place len : ℕ) → level ≡ actionAt s i .level → place ≡ namePlace i
@@ -51,9 +45,9 @@ module _ (s : List ℕ) (w : Writable s) where
   unfolding modelAt
   steps-le = headFits?→HeadRanges (headAt s) (good-well-formed s (w .good) .head) .steps
 
-  pub name-at : (i : ℕ) → i < getD s 1 0 → NameBytes s i
+  pub name-bytes-at : (i : ℕ) → i < getD s 1 0 → NameBytes s i
   unfolding modelAt
-  name-at i h =
+  name-bytes-at i h =
       let name = actionAt s i .name in
       let each = good-well-formed s (w .good) .actions in
       let fits = each-listed ActionFits (actionAt s) (getD s 1 0) each i h .name in
