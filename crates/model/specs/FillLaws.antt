@@ -10,11 +10,12 @@ use lib.Seq.{sets, set-at, append-snoc, take-suc, drop-cons, length-take-le}
 use Rattle.model.specs.declared.Head.{Head}
 use Rattle.model.specs.declared.StepLine.{StepLine}
 use Rattle.model.specs.Limits.{actionLimit, stepLimit, nameLimit, storeLength, actionPlace, stepPlace}
-use Rattle.model.specs.Model.{ActionLine, Model}
+use Rattle.model.specs.Model.{ActionLine}
 use Rattle.model.specs.Reading.{headModel}
 use Rattle.model.specs.Store.{padded, actionNumbers, actionsNumbers, stepsNumbers, headPlaces, storeOf}
-use Rattle.model.specs.BlocksLaws.{padded-length}
+use Rattle.model.specs.BlocksLaws.{padded-length, blocks-snoc}
 use Rattle.model.specs.StoreLaws.{actionNumbers-length, stepsNumbers-length}
+use Rattle.model.specs.LineText.{stepPlaces}
 use Rattle.model.specs.ReadSoFar.{Short}
 
 -- ---- numbers over zeros
@@ -72,18 +73,17 @@ storeOf-head h =
 
 -- ---- one more action
 
-pub actionsNumbers-snoc : (actions : List ActionLine) (a : ActionLine)
+actionsNumbers-snoc : (actions : List ActionLine) (a : ActionLine)
     → actionsNumbers (actions ++ (a ∷ [])) ≡ actionsNumbers actions ++ actionNumbers a
 unfolding actionsNumbers
-actionsNumbers-snoc [] a = append-nil (actionNumbers a)
-actionsNumbers-snoc (b ∷ rest) a = rw (actionsNumbers-snoc rest a) (sym (append-assoc (actionNumbers b) (actionsNumbers rest) (actionNumbers a)))
+actionsNumbers-snoc = blocks-snoc actionNumbers actionsNumbers refl (λ a rest. refl)
 
-pub actionsNumbers-length : (actions : List ActionLine) → Short actions → length (actionsNumbers actions) ≡ 14 * length actions
+pub actionsNumbers-length-of-Short : (actions : List ActionLine) → Short actions → length (actionsNumbers actions) ≡ 14 * length actions
 unfolding actionsNumbers Short
-actionsNumbers-length [] s = refl
-actionsNumbers-length (a ∷ rest) s =
+actionsNumbers-length-of-Short [] s = refl
+actionsNumbers-length-of-Short (a ∷ rest) s =
     let m = actionNumbers-length a (s .0) in
-    let n = actionsNumbers-length rest (s .1) in
+    let n = actionsNumbers-length-of-Short rest (s .1) in
     length-append (actionNumbers a) (actionsNumbers rest) ∙ omega arith
 
 pub Short-snoc : (actions : List ActionLine) (a : ActionLine) → Short actions → length (a .name) ≤ nameLimit
@@ -106,7 +106,7 @@ storeOf-withAction h actions a i c l s n =
     let A : List ℕ = actionsNumbers actions in
     let vs : List ℕ = a .level ∷ length (a .name) ∷ a .name in
     let t : List ℕ = zeros 3072 in
-    let la = actionsNumbers-length actions s in
+    let la = actionsNumbers-length-of-Short actions s in
     let m : length (hp ++ A) ≡ 4 + 14 * i = length-append hp A ∙ omega arith in
     let f : length vs ≤ 896 - length A = omega arith in
     let g : (12 - length (a .name)) + (896 - (length A + 14)) ≡ 896 - length A - length vs = omega arith in
@@ -119,11 +119,10 @@ storeOf-withAction h actions a i c l s n =
 
 -- ---- one more step
 
-pub stepsNumbers-snoc : (steps : List StepLine) (s : StepLine)
+stepsNumbers-snoc : (steps : List StepLine) (s : StepLine)
     → stepsNumbers (steps ++ (s ∷ [])) ≡ stepsNumbers steps ++ (s .source .0 ∷ s .action .0 ∷ s .target .0 ∷ [])
 unfolding stepsNumbers
-stepsNumbers-snoc [] s = refl
-stepsNumbers-snoc (t ∷ rest) s = rw (stepsNumbers-snoc rest s)
+stepsNumbers-snoc = blocks-snoc stepPlaces stepsNumbers refl (λ s rest. refl)
 
 pub storeOf-withStep : (h : Head) (actions : List ActionLine) (steps : List StepLine) (s : StepLine) (j : ℕ)
     → length (actionsNumbers actions) ≤ 14 * actionLimit → length steps ≡ j → j < stepLimit
@@ -139,12 +138,3 @@ storeOf-withStep h actions steps s j f c l =
     let ls = stepsNumbers-length steps in
     let lp = length-append (headPlaces h) (padded 896 (actionsNumbers actions)) in
     sets-padded 3072 P S vs (900 + 3 * j) (length-append P S ∙ omega arith) (omega arith) ∙ rw (stepsNumbers-snoc steps s)
-
-pub storeOf-length : (m : Model) → length (actionsNumbers (m .actions)) ≤ 14 * actionLimit → length (m .steps) ≤ stepLimit
-    → length (storeOf m) ≡ storeLength
-unfolding storeOf headPlaces
-storeOf-length m a s =
-    let la = padded-length 896 (actionsNumbers (m .actions)) a in
-    let ls = stepsNumbers-length (m .steps) in
-    let lp = padded-length 3072 (stepsNumbers (m .steps)) (omega arith) in
-    rw (length-append, length-append) (omega arith)

@@ -28,6 +28,13 @@ pub record Model : Type 0 where
   pub actions : List ActionLine
   pub steps : List StepLine
 
+-- what stands past the end of a list
+abbrev pub noAction : ActionLine
+noAction = record { level = 0; name = [] }
+
+abbrev pub noStep : StepLine
+noStep = record { source = record { 0 = 0 }; action = record { 0 = 0 }; target = record { 0 = 0 } }
+
 -- a model with one more action, or one more step, at the end
 abbrev pub withAction : Model → ActionLine → Model
 withAction m a = record { head = m .head; actions = m .actions ++ (a ∷ []); steps = m .steps }

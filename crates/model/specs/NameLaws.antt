@@ -14,7 +14,7 @@ use Rattle.model.specs.declared.Head.{Head}
 use Rattle.model.specs.Limits.{nameLimit, actionPlace}
 use Rattle.model.specs.Split.{same?}
 use Rattle.model.specs.SameLaws.{same?→eq, same?-refl, same?-length}
-use Rattle.model.specs.Model.{ActionLine}
+use Rattle.model.specs.Model.{ActionLine, noAction}
 use Rattle.model.specs.Lines.{good, fieldsOf, actionFields, used?}
 use Rattle.model.specs.Store.{padded, actionNumbers, actionsNumbers, stepsNumbers, storeOf, headPlaces}
 use Rattle.model.specs.ReadSoFar.{ActionStored, ActionsStored, Short, AfterActions}
@@ -115,17 +115,14 @@ ActionsStored-drop store at (suc k) (a ∷ rest) s h =
     let l : k ≤ length rest = omega arith in
     rw z (ActionsStored-drop store (at + 14) k rest (ActionsStored-rest store at a rest s) l)
 
-unnamed : ActionLine
-unnamed = record { level = 0; name = [] }
-
 module _ (store name : List ℕ) (before : List ActionLine) (s : ActionsStored store 4 before) (i : ℕ) (l : i < length before)
     (r : Bool) (tested : (a : ActionLine) → ActionStored store (actionPlace i) a → r ≡ same? (a .name) name) where
   pub used?-drop : used? name (drop i before) ≡ r || used? name (drop (i + 1) before)
   unfolding used?
   used?-drop =
-      let a : ActionLine = getD before i unnamed in
+      let a : ActionLine = getD before i noAction in
       let k : i ≤ length before = omega arith in
-      let c : drop i before ≡ a ∷ drop (suc i) before = drop-cons before i unnamed l in
+      let c : drop i before ≡ a ∷ drop (suc i) before = drop-cons before i noAction l in
       let d = rw c at (ActionsStored-drop store 4 i before s k) in
       let t = tested a (ActionsStored-first store (actionPlace i) a (drop (suc i) before) d) in
       rw (c, add-one, t)

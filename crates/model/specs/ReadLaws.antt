@@ -26,7 +26,8 @@ use Rattle.model.specs.ActionLineLaws.{good-nameFrom, name-length}
 use Rattle.model.specs.Reading.{Reading, faulty, onLine, orFault, readActions, headModel}
 use Rattle.model.specs.Store.{storeOf}
 use Rattle.model.specs.ReadSoFar.{Short, whole, InLimits, AfterHead, AfterActions, Further}
-use Rattle.model.specs.FillLaws.{actionsNumbers-length, Short-snoc, storeOf-withAction, storeOf-length}
+use Rattle.model.specs.StoreLaws.{storeOf-length-of-places}
+use Rattle.model.specs.FillLaws.{actionsNumbers-length-of-Short, Short-snoc, storeOf-withAction}
 
 -- ---- a line, found by its end
 
@@ -118,8 +119,8 @@ pub AfterActions-length : (h : Head) (text : List ℕ) (at i : ℕ) (store : Lis
 AfterActions-length h text at i store b l =
     let n = b .limits .actions in
     let c = b .count in
-    let m = actionsNumbers-length (b .actions) (b .short) in
-    rw (b .stored) (storeOf-length (record { head = h; actions = b .actions; steps = [] }) (omega arith) (omega arith))
+    let m = actionsNumbers-length-of-Short (b .actions) (b .short) in
+    rw (b .stored) (storeOf-length-of-places (record { head = h; actions = b .actions; steps = [] }) (omega arith) (omega arith))
 
 module _ (h : Head) (text : List ℕ) (at i : ℕ) (store : List ℕ) (b : AfterActions h text at i store) (lt : i < h .actions)
     (e : ℕ) (found : e ≡ at + indexOf lineEnd (drop at text)) where

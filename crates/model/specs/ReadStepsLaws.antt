@@ -22,7 +22,8 @@ use Rattle.model.specs.Lines.{good, bad, stepOf}
 use Rattle.model.specs.LineAnswers.{Last}
 use Rattle.model.specs.Reading.{done, faulty, readNothing, readEnd, readSteps, readActions}
 use Rattle.model.specs.ReadSoFar.{whole, AfterActions, AfterStep, AfterSteps, AfterEnd}
-use Rattle.model.specs.FillLaws.{actionsNumbers-length, storeOf-withStep, storeOf-length}
+use Rattle.model.specs.StoreLaws.{storeOf-length-of-places}
+use Rattle.model.specs.FillLaws.{actionsNumbers-length-of-Short, storeOf-withStep}
 use Rattle.model.specs.ReadLaws.{onLine-absent, onLine-line, orFault-bad, orFault-good}
 
 -- ---- the steps
@@ -47,7 +48,7 @@ after-actions h text at store last b =
     let z : h .actions - h .actions ≡ 0 = omega arith in
     let y : h .steps - 0 ≡ h .steps = omega arith in
     let x : 2 + h .actions + 0 ≡ 2 + h .actions = omega arith in
-    let n = actionsNumbers-length (b .actions) (b .short) in
+    let n = actionsNumbers-length-of-Short (b .actions) (b .short) in
     let m = b .limits .actions in
     record {
       limits = b .limits;
@@ -105,7 +106,7 @@ AfterStep-length h text at j last store b l =
     let n = b .limits .steps in
     let c = b .count in
     rw (b .stored)
-    (storeOf-length (record { head = h; actions = b .actions; steps = b .steps }) (b .action-places) (omega arith))
+    (storeOf-length-of-places (record { head = h; actions = b .actions; steps = b .steps }) (b .action-places) (omega arith))
 
 pub after-steps : (h : Head) (text : List ℕ) (at j : ℕ) (last : StepLine) (store : List ℕ)
     → AfterStep h text at j last store → j ≡ h .steps → AfterSteps h text at store

@@ -47,27 +47,31 @@ pub stepsNumbers-length : (ss : List StepLine) → length (stepsNumbers ss) ≡ 
 unfolding stepsNumbers
 stepsNumbers-length ss = blocks-length stepPlaces stepsNumbers 3 refl (λ s rest. refl) ss (steps-width ss)
 
+pub storeOf-length-of-places : (m : Model) → length (actionsNumbers (m .actions)) ≤ 14 * actionLimit
+    → length (m .steps) ≤ stepLimit → length (storeOf m) ≡ storeLength
+unfolding storeOf headPlaces
+storeOf-length-of-places m a s =
+    let la = padded-length 896 (actionsNumbers (m .actions)) a in
+    let ls = stepsNumbers-length (m .steps) in
+    let lp = padded-length 3072 (stepsNumbers (m .steps)) (omega arith) in
+    simp length-append (omega arith)
+
 module _ (m : Model) (w : WellFormed m) where
-  pub actions-padded-length : length (padded (14 * actionLimit) (actionsNumbers (m .actions))) ≡ 896
-  actions-padded-length =
+  actions-places : length (actionsNumbers (m .actions)) ≤ 14 * actionLimit
+  actions-places =
       let r = headFits?→HeadRanges (m .head) (w .head) in
       let l = actionsNumbers-length [] (m .actions) (w .actions) in
       let c = w .action-count in
-      padded-length (14 * actionLimit) (actionsNumbers (m .actions)) (omega arith)
+      omega arith
 
-  pub steps-padded-length : length (padded (3 * stepLimit) (stepsNumbers (m .steps))) ≡ 3072
-  steps-padded-length =
-      let r = headFits?→HeadRanges (m .head) (w .head) in
-      let l = stepsNumbers-length (m .steps) in
-      let c = w .step-count in
-      padded-length (3 * stepLimit) (stepsNumbers (m .steps)) (omega arith)
+  pub actions-padded-length : length (padded (14 * actionLimit) (actionsNumbers (m .actions))) ≡ 896
+  actions-padded-length = padded-length (14 * actionLimit) (actionsNumbers (m .actions)) actions-places
 
   pub storeOf-length : length (storeOf m) ≡ storeLength
-  unfolding storeOf headPlaces
   storeOf-length =
-      let a = actions-padded-length in
-      let s = steps-padded-length in
-      simp length-append (omega arith)
+      let r = headFits?→HeadRanges (m .head) (w .head) in
+      let c = w .step-count in
+      storeOf-length-of-places m actions-places (omega arith)
 
 -- ---- numbers of 16 bits
 
