@@ -9,7 +9,7 @@ use native.Mathlib.Omega.{arith}
 use native.Mathlib.Nat.{pow-suc, pow-le-pow-right, lt-of-lt-of-le}
 use lib.Dec.{leb, eqb, lit<}
 use lib.ListN.{length, getD, length-append, List·getD-append}
-use borrow.Author.Tests.{leb-true, eqb-true, eqb-false, lt-ltb, le-ltb, le-leb, eq-eqb, ne-eqb}
+use borrow.Author.Tests.{leb-true, eqb-true, eqb-false, lt-ltb, le-ltb, ne-eqb}
 use Rattle.lts.specs.TestsLaws.{lt-or-le}
 use Rattle.model.specs.declared.number.Number.the-variants.{Value, Bad}
 use Rattle.model.specs.Bytes.{digit, kindOf}

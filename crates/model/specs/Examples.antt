@@ -2,7 +2,7 @@
 use mathlib.Core.List.{List, [], _∷_}
 use mathlib.Core.Path.{_≡_, refl}
 use Prim.Native.Nat.{ℕ}
-use Rattle.model.specs.declared.Fault.the-variants.{Absent, Shape, Digits, Range, Repeated, Order}
+use Rattle.model.specs.declared.Fault.the-variants.{Absent}
 use Rattle.model.specs.declared.StepLine.{StepLine}
 use Rattle.model.specs.Bytes.{kindOf}
 use Rattle.model.specs.Numbers.{digitsValue, numberShape?, numberOf, digitsUpTo, digits}

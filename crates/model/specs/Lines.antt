@@ -16,7 +16,7 @@ use Rattle.model.specs.Bytes.{digit, smallLetter, comma, between?, kindO
 use Rattle.model.specs.Numbers.{numberOf}
 use Rattle.model.specs.Split.{split, same?}
 use Rattle.model.specs.Limits.{stateLimit, actionLimit, stepLimit, nameLimit}
-use Rattle.model.specs.Model.{low, release, high, ActionLine, Model, aboveLast?}
+use Rattle.model.specs.Model.{low, release, high, ActionLine, aboveLast?}
 
 -- what a line, or a part of it, states; or its fault
 pub data Line (A : Type 0) : Type 0 where

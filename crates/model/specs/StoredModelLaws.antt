@@ -1,6 +1,6 @@
 -- A store that holds a well-formed model shows it: each accessor gives its part, so the model is the only one.
 -- Document 01, "The model store". Assumes nothing.
-use mathlib.Core.List.{List, [], _++_}
+use mathlib.Core.List.{List, _++_}
 use mathlib.Core.Logic.{_↔_}
 use mathlib.Core.Path.{_≡_, refl, sym, ap, _∙_, subst}
 use Prim.Native.Nat.{ℕ, zero, suc, _+_, _≤_, _<_}
