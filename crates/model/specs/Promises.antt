@@ -18,7 +18,8 @@ use Rattle.model.specs.Store.{storeOf, Good}
 
 -- "Tested in rising order": a list that is too short, then a store that is not good, "All unchanged"; else what the
 -- operation does on a good store
-pub record OnStore (lists : Option ℕ) (store : List ℕ) (told : Told) (Unchanged : Type 0) (Done : Good store → Type 0) : Type 0 where
+pub record OnStore (lists : Option ℕ) (store : List ℕ) (told : Told) (Unchanged : Type 0)
+    (Done : Good store → Type 0) : Type 0 where
   pub short : (k : ℕ) → lists ≡ some k → (told ≡ refuses 21 k) × Unchanged
   pub not-good : lists ≡ none → ¬ (Good store) → (told ≡ refuses 22 0) × Unchanged
   pub good : lists ≡ none → (g : Good store) → Done g

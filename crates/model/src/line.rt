@@ -278,7 +278,8 @@ pub fn is_above(a: StepLine, b: StepLine) -> bool
 
 // `S,source,action,target`: the line of step j, where `last` is the step before it.
 pub fn step_line(line: &[u8], head: Head, j: usize, last: StepLine) -> StepRead
-    ensures { λ r. ⌜ ((before : List StepLine) → Last before j last → stepOf head before (now (line .entry)) ≡ stepRead r) ⌝ }
+    ensures { λ r. ⌜ ((before : List StepLine) → Last before j last
+        → stepOf head before (now (line .entry)) ≡ stepRead r) ⌝ }
 {
     let mut ns = [0u32; 3];
     if let RowRead::Bad(fault) = row(line, b'S', &mut ns) {
