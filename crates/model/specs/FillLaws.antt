@@ -57,7 +57,8 @@ pub copy-suc : (from to : List ℕ) (i : ℕ) → i < length from → i < length
 copy-suc from to i h l =
     let k : i ≤ length from = omega arith in
     let n = length-take-le i from k in
-    rw (add-one, take-suc from i 0 h, drop-cons to i 0 l, set-at (take i from) (getD to i 0) (drop (suc i) to) (getD from i 0) i n)
+    let at = set-at (take i from) (getD to i 0) (drop (suc i) to) (getD from i 0) i n in
+    rw (add-one, take-suc from i 0 h, drop-cons to i 0 l, at)
     (sym (append-snoc (take i from) (getD from i 0) (drop (suc i) to)))
 
 -- ---- the first line
@@ -78,7 +79,8 @@ actionsNumbers-snoc : (actions : List ActionLine) (a : ActionLine)
 unfolding actionsNumbers
 actionsNumbers-snoc = blocks-snoc actionNumbers actionsNumbers refl (λ a rest. refl)
 
-pub actionsNumbers-length-of-Short : (actions : List ActionLine) → Short actions → length (actionsNumbers actions) ≡ 14 * length actions
+pub actionsNumbers-length-of-Short : (actions : List ActionLine) → Short actions
+    → length (actionsNumbers actions) ≡ 14 * length actions
 unfolding actionsNumbers Short
 actionsNumbers-length-of-Short [] s = refl
 actionsNumbers-length-of-Short (a ∷ rest) s =
@@ -95,7 +97,8 @@ Short-snoc (b ∷ rest) a s h = (s .0, Short-snoc rest a (s .1) h)
 regroup : (h a v y z t : List ℕ) → h ++ a ++ (v ++ (y ++ z ++ t)) ≡ h ++ (a ++ (v ++ y) ++ z) ++ t
 regroup h a v y z t = simp append-assoc
 
-pub storeOf-withAction : (h : Head) (actions : List ActionLine) (a : ActionLine) (i : ℕ) → length actions ≡ i → i < actionLimit
+pub storeOf-withAction : (h : Head) (actions : List ActionLine) (a : ActionLine) (i : ℕ) → length actions ≡ i
+    → i < actionLimit
     → Short actions → length (a .name) ≤ nameLimit
     → sets (storeOf (record { head = h; actions = actions; steps = [] })) (actionPlace i)
     (a .level ∷ length (a .name) ∷ a .name)
@@ -110,11 +113,12 @@ storeOf-withAction h actions a i c l s n =
     let m : length (hp ++ A) ≡ 4 + 14 * i = length-append hp A ∙ omega arith in
     let f : length vs ≤ 896 - length A = omega arith in
     let g : (12 - length (a .name)) + (896 - (length A + 14)) ≡ 896 - length A - length vs = omega arith in
-    let k : length (A ++ (vs ++ zeros (12 - length (a .name)))) ≡ length A + 14 = rw (length-append A, length-append vs, length-replicate) (omega arith) in
+    let k : length (A ++ (vs ++ zeros (12 - length (a .name)))) ≡ length A + 14 =
+    rw (length-append A, length-append vs, length-replicate) (omega arith) in
     let b : hp ++ (A ++ zeros (896 - length A)) ++ t ≡ hp ++ A ++ (zeros (896 - length A) ++ t) = simp append-assoc in
     ap (λ (x : List ℕ). sets x (4 + 14 * i) vs) b
     ∙ sets-zeros (hp ++ A) vs t (896 - length A) (4 + 14 * i) m f
-    ∙ rw (zeros-split (12 - length (a .name)) (896 - (length A + 14)) (896 - length A - length vs) g, actionsNumbers-snoc actions a, k)
+    ∙ rw (zeros-split _ _ (896 - length A - length vs) g, actionsNumbers-snoc actions a, k)
     (regroup hp A vs (zeros (12 - length (a .name))) (zeros (896 - (length A + 14))) t)
 
 -- ---- one more step
@@ -137,4 +141,5 @@ storeOf-withStep h actions steps s j f c l =
     let la = padded-length 896 (actionsNumbers actions) f in
     let ls = stepsNumbers-length steps in
     let lp = length-append (headPlaces h) (padded 896 (actionsNumbers actions)) in
-    sets-padded 3072 P S vs (900 + 3 * j) (length-append P S ∙ omega arith) (omega arith) ∙ rw (stepsNumbers-snoc steps s)
+    sets-padded 3072 P S vs (900 + 3 * j) (length-append P S ∙ omega arith) (omega arith)
+    ∙ rw (stepsNumbers-snoc steps s)

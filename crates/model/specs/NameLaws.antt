@@ -71,12 +71,14 @@ module _ (store : List ℕ) (at : ℕ) (a : ActionLine) (s : ActionStored store 
   named-length h = sym (same?-length (a .name) name (λ e. h (stored-length ∙ e)))
 
   module _ (l : getD store (at + 1) 0 ≡ length name) where
-    pub named-differ : (i : ℕ) → i < length name → (getD store (at + 2 + i) 0 ≡ getD name i 0 → ⊥) → false ≡ same? (a .name) name
+    pub named-differ : (i : ℕ) → i < length name → (getD store (at + 2 + i) 0 ≡ getD name i 0 → ⊥)
+        → false ≡ same? (a .name) name
     named-differ i h d =
         let n = stored-length in
         sym (same?-differ (a .name) name i (λ e. d (stored-byte i (omega arith) ∙ e)))
 
-    pub named-same : ((i : ℕ) → i < length name → getD store (at + 2 + i) 0 ≡ getD name i 0) → true ≡ same? (a .name) name
+    pub named-same : ((i : ℕ) → i < length name → getD store (at + 2 + i) 0 ≡ getD name i 0)
+        → true ≡ same? (a .name) name
     named-same h =
         let n : length (a .name) ≡ length name = sym stored-length ∙ l in
         let e : a .name ≡ name = ext-getD 0 (a .name) name n (λ i k. sym (stored-byte i k) ∙ h i (rw n at k)) in
@@ -84,7 +86,8 @@ module _ (store : List ℕ) (at : ℕ) (a : ActionLine) (s : ActionStored store 
 
 -- ---- the names of all actions so far
 
-ActionsStored-first : (store : List ℕ) (at : ℕ) (a : ActionLine) (rest : List ActionLine) → ActionsStored store at (a ∷ rest)
+ActionsStored-first : (store : List ℕ) (at : ℕ) (a : ActionLine) (rest : List ActionLine)
+    → ActionsStored store at (a ∷ rest)
     → ActionStored store at a
 unfolding actionsNumbers Short
 ActionsStored-first store at a rest s =
@@ -94,7 +97,8 @@ ActionsStored-first store at a rest s =
       short = s .short .0;
     }
 
-ActionsStored-rest : (store : List ℕ) (at : ℕ) (a : ActionLine) (rest : List ActionLine) → ActionsStored store at (a ∷ rest)
+ActionsStored-rest : (store : List ℕ) (at : ℕ) (a : ActionLine) (rest : List ActionLine)
+    → ActionsStored store at (a ∷ rest)
     → ActionsStored store (at + 14) rest
 unfolding Short ActionsStored-first actionsNumbers
 ActionsStored-rest store at a rest s =
@@ -115,8 +119,9 @@ ActionsStored-drop store at (suc k) (a ∷ rest) s h =
     let l : k ≤ length rest = omega arith in
     rw z (ActionsStored-drop store (at + 14) k rest (ActionsStored-rest store at a rest s) l)
 
-module _ (store name : List ℕ) (before : List ActionLine) (s : ActionsStored store 4 before) (i : ℕ) (l : i < length before)
-    (r : Bool) (tested : (a : ActionLine) → ActionStored store (actionPlace i) a → r ≡ same? (a .name) name) where
+module _ (store name : List ℕ) (before : List ActionLine) (s : ActionsStored store 4 before) (i : ℕ)
+    (l : i < length before) (r : Bool)
+    (tested : (a : ActionLine) → ActionStored store (actionPlace i) a → r ≡ same? (a .name) name) where
   pub used?-drop : used? name (drop i before) ≡ r || used? name (drop (i + 1) before)
   unfolding used?
   used?-drop =
@@ -127,7 +132,8 @@ module _ (store name : List ℕ) (before : List ActionLine) (s : ActionsStored s
       let t = tested a (ActionsStored-first store (actionPlace i) a (drop (suc i) before) d) in
       rw (c, add-one, t)
 
-pub used?-none : (name : List ℕ) (before : List ActionLine) (i : ℕ) → i ≡ length before → used? name (drop i before) ≡ false
+pub used?-none : (name : List ℕ) (before : List ActionLine) (i : ℕ) → i ≡ length before
+    → used? name (drop i before) ≡ false
 unfolding used?
 used?-none name before i e = rw (e, drop-length before)
 

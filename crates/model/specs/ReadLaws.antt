@@ -1,4 +1,5 @@
--- The reading of a text goes on line by line: what a line that is missing, bad or good makes of what has been read so far.
+-- The reading of a text goes on line by line: what a line that is missing, bad or good makes of what has been read
+-- so far.
 -- Document 01, "The text" and "Refused because of the input". Assumes nothing.
 use mathlib.Core.Bool.{true, false}
 use mathlib.Core.List.{List, [], _∷_, _++_}
@@ -17,7 +18,7 @@ use Rattle.model.specs.Limits.{nameLimit, storeLength, actionPlace}
 use Rattle.model.specs.Bytes.{lineEnd}
 use Rattle.model.specs.Split.{split, indexOf}
 use Rattle.model.specs.SplitLaws.{split-first, split-part, split-last}
-use Rattle.model.specs.Model.{ActionLine}
+use Rattle.model.specs.Model.{ActionLine, Model}
 use Rattle.model.specs.Lines.{Line, good, bad, headFits?, headFrom, headOf, headNumbers, numbersLine, levelOf}
 use Rattle.model.specs.Lines.{actionFields, fieldsOf, used?, actionFrom, actionOf}
 use Rattle.model.specs.RangesLaws.{headFits?→HeadRanges}
@@ -38,7 +39,8 @@ module _ (text : List ℕ) (at e : ℕ) (le : at ≤ length text) (found : e ≡
   onLine-absent l = rw (split-last lineEnd text at e le found l)
 
   pub onLine-line : e < length text
-      → onLine k (split lineEnd (drop at text)) read ≡ read (take (e - at) (drop at text)) (split lineEnd (drop (e + 1) text))
+      → onLine k (split lineEnd (drop at text)) read
+      ≡ read (take (e - at) (drop at text)) (split lineEnd (drop (e + 1) text))
   unfolding onLine
   onLine-line l =
       let w = split-first lineEnd (drop (e + 1) text) in rw (split-part lineEnd text at e le found l, w .2)
@@ -48,19 +50,22 @@ pub orFault-bad : {A : Type 0} (k : ℕ) (l : Line A) (read : A → Reading) (fa
 unfolding orFault
 orFault-bad k l read fault e = rw e
 
-pub orFault-good : {A : Type 0} (k : ℕ) (l : Line A) (read : A → Reading) (a : A) → l ≡ good a → orFault k l read ≡ read a
+pub orFault-good : {A : Type 0} (k : ℕ) (l : Line A) (read : A → Reading) (a : A) → l ≡ good a
+    → orFault k l read ≡ read a
 unfolding orFault
 orFault-good k l read a e = rw e
 
 -- ---- what some lines came to
 
-pub Further-faulty : (P Q : ℕ → Type 0) (text : List ℕ) (r : LinesRead) (fault : Fault) (line : ℕ) → r ≡ Faulty fault line
+pub Further-faulty : (P Q : ℕ → Type 0) (text : List ℕ) (r : LinesRead) (fault : Fault) (line : ℕ)
+    → r ≡ Faulty fault line
     → Further P text r → Further Q text r
 unfolding Further
 Further-faulty P Q text (Next at) fault line e h = let z : _≡_ {A = ℕ} 0 1 = cc in absurd (omega arith)
 Further-faulty P Q text (Faulty f k) fault line e h = h
 
-pub Further-refused : (P : ℕ → Type 0) (text : List ℕ) (r : LinesRead) (fault : Fault) (line : ℕ) → r ≡ Faulty fault line
+pub Further-refused : (P : ℕ → Type 0) (text : List ℕ) (r : LinesRead) (fault : Fault) (line : ℕ)
+    → r ≡ Faulty fault line
     → Further P text r → whole text ≡ faulty fault line
 unfolding Further
 Further-refused P text r fault line e h = rw e at h
@@ -96,7 +101,8 @@ actionFields-length (bad fault) a e = let z : _≡_ {A = ℕ} 0 1 = cc in absurd
 
 -- ---- the actions
 
-pub after-head : (h : Head) (text : List ℕ) (at : ℕ) → AfterHead h text at → AfterActions h text at 0 (storeOf (headModel h))
+pub after-head : (h : Head) (text : List ℕ) (at : ℕ) → AfterHead h text at
+    → AfterActions h text at 0 (storeOf (headModel h))
 unfolding Short
 after-head h text at b =
     let z : h .actions - 0 ≡ h .actions = omega arith in
@@ -110,20 +116,23 @@ after-head h text at b =
       rest = b .rest ∙ rw z;
     }
 
-pub AfterActions-count : (h : Head) (text : List ℕ) (at i k : ℕ) (store : List ℕ) → i ≡ k → AfterActions h text at i store
+pub AfterActions-count : (h : Head) (text : List ℕ) (at i k : ℕ) (store : List ℕ) → i ≡ k
+    → AfterActions h text at i store
     → AfterActions h text at k store
 AfterActions-count h text at i k store e b = rw e at b
 
-pub AfterActions-length : (h : Head) (text : List ℕ) (at i : ℕ) (store : List ℕ) → AfterActions h text at i store → i ≤ h .actions
+pub AfterActions-length : (h : Head) (text : List ℕ) (at i : ℕ) (store : List ℕ) → AfterActions h text at i store
+    → i ≤ h .actions
     → length store ≡ storeLength
 AfterActions-length h text at i store b l =
     let n = b .limits .actions in
     let c = b .count in
     let m = actionsNumbers-length-of-Short (b .actions) (b .short) in
-    rw (b .stored) (storeOf-length-of-places (record { head = h; actions = b .actions; steps = [] }) (omega arith) (omega arith))
+    let model : Model = record { head = h; actions = b .actions; steps = [] } in
+    rw (b .stored) (storeOf-length-of-places model (omega arith) (omega arith))
 
-module _ (h : Head) (text : List ℕ) (at i : ℕ) (store : List ℕ) (b : AfterActions h text at i store) (lt : i < h .actions)
-    (e : ℕ) (found : e ≡ at + indexOf lineEnd (drop at text)) where
+module _ (h : Head) (text : List ℕ) (at i : ℕ) (store : List ℕ) (b : AfterActions h text at i store)
+    (lt : i < h .actions) (e : ℕ) (found : e ≡ at + indexOf lineEnd (drop at text)) where
   actions-suc : h .actions - i ≡ suc (h .actions - (i + 1))
   actions-suc = omega arith
 
@@ -135,12 +144,15 @@ module _ (h : Head) (text : List ℕ) (at i : ℕ) (store : List ℕ) (b : After
     line : List ℕ
     line = take (e - at) (drop at text)
 
-    pub action-bad : (fault : Fault) → actionOf (b .actions) (take (e - at) (drop at text)) ≡ bad fault → whole text ≡ faulty fault (2 + i)
+    pub action-bad : (fault : Fault) → actionOf (b .actions) (take (e - at) (drop at text)) ≡ bad fault
+        → whole text ≡ faulty fault (2 + i)
     unfolding readActions
     action-bad fault a =
-        b .rest ∙ rw (actions-suc) (onLine-line text at e (b .place) found (2 + i) _ l ∙ orFault-bad (2 + i) _ _ fault a)
+        b .rest ∙ rw (actions-suc)
+        (onLine-line text at e (b .place) found (2 + i) _ l ∙ orFault-bad (2 + i) _ _ fault a)
 
-    pub action-next : (a : ActionLine) → actionOf (b .actions) (take (e - at) (drop at text)) ≡ good a → length (a .name) ≤ nameLimit
+    pub action-next : (a : ActionLine) → actionOf (b .actions) (take (e - at) (drop at text)) ≡ good a
+        → length (a .name) ≤ nameLimit
         → AfterActions h text (e + 1) (i + 1) (sets store (actionPlace i) (a .level ∷ length (a .name) ∷ a .name))
     unfolding readActions
     action-next a r n =
@@ -158,17 +170,20 @@ module _ (h : Head) (text : List ℕ) (at i : ℕ) (store : List ℕ) (b : After
         }
 
 -- an action's line by its fields and the names used before
-pub actionOf-bad : (before : List ActionLine) (line : List ℕ) (fault : Fault) → actionFields (fieldsOf 65 2 line) ≡ bad fault
+pub actionOf-bad : (before : List ActionLine) (line : List ℕ) (fault : Fault)
+    → actionFields (fieldsOf 65 2 line) ≡ bad fault
     → actionOf before line ≡ bad fault
 unfolding actionOf actionFrom
 actionOf-bad before line fault e = rw (e, actionFrom)
 
-pub actionOf-used : (before : List ActionLine) (line : List ℕ) (a : ActionLine) → actionFields (fieldsOf 65 2 line) ≡ good a
+pub actionOf-used : (before : List ActionLine) (line : List ℕ) (a : ActionLine)
+    → actionFields (fieldsOf 65 2 line) ≡ good a
     → used? (a .name) before ≡ true → actionOf before line ≡ bad Repeated
 unfolding actionOf actionFrom
 actionOf-used before line a e u = rw (e, actionFrom, u)
 
-pub actionOf-good : (before : List ActionLine) (line : List ℕ) (a : ActionLine) → actionFields (fieldsOf 65 2 line) ≡ good a
+pub actionOf-good : (before : List ActionLine) (line : List ℕ) (a : ActionLine)
+    → actionFields (fieldsOf 65 2 line) ≡ good a
     → used? (a .name) before ≡ false → actionOf before line ≡ good a
 unfolding actionOf actionFrom
 actionOf-good before line a e u = rw (e, actionFrom, u)

@@ -80,7 +80,8 @@ module _ (h : Head) (text : List ℕ) (at j : ℕ) (last : StepLine) (store : Li
         (onLine-line text at e (b .place) found (2 + h .actions + j) _ l ∙ orFault-bad (2 + h .actions + j) _ _ fault a)
 
     pub step-next : (s : StepLine) → stepOf h (b .steps) (take (e - at) (drop at text)) ≡ good s
-        → AfterStep h text (e + 1) (j + 1) s (sets store (stepPlace j) (s .source .0 ∷ s .action .0 ∷ s .target .0 ∷ []))
+        → AfterStep h text (e + 1) (j + 1) s
+        (sets store (stepPlace j) (s .source .0 ∷ s .action .0 ∷ s .target .0 ∷ []))
     unfolding readSteps
     step-next s r =
         let c : suc (2 + h .actions + j) ≡ 2 + h .actions + (j + 1) = omega arith in
@@ -100,13 +101,14 @@ module _ (h : Head) (text : List ℕ) (at j : ℕ) (last : StepLine) (store : Li
               ∙ orFault-good (2 + h .actions + j) _ _ s r ∙ rw c);
         }
 
-pub AfterStep-length : (h : Head) (text : List ℕ) (at j : ℕ) (last : StepLine) (store : List ℕ) → AfterStep h text at j last store
+pub AfterStep-length : (h : Head) (text : List ℕ) (at j : ℕ) (last : StepLine) (store : List ℕ)
+    → AfterStep h text at j last store
     → j ≤ h .steps → length store ≡ storeLength
 AfterStep-length h text at j last store b l =
     let n = b .limits .steps in
     let c = b .count in
-    rw (b .stored)
-    (storeOf-length-of-places (record { head = h; actions = b .actions; steps = b .steps }) (b .action-places) (omega arith))
+    let model : Model = record { head = h; actions = b .actions; steps = b .steps } in
+    rw (b .stored) (storeOf-length-of-places model (b .action-places) (omega arith))
 
 pub after-steps : (h : Head) (text : List ℕ) (at j : ℕ) (last : StepLine) (store : List ℕ)
     → AfterStep h text at j last store → j ≡ h .steps → AfterSteps h text at store
@@ -157,7 +159,8 @@ module _ (h : Head) (text : List ℕ) (at : ℕ) (store : List ℕ) (b : AfterSt
 
   module _ (l : e < length text) where
     end-line : (t : Bool) → same? (take (e - at) (drop at text)) (69 ∷ []) ≡ t
-        → whole text ≡ cond t (readNothing (suc (2 + h .actions + h .steps)) (b .model) (split lineEnd (drop (e + 1) text)))
+        → whole text ≡ cond t
+        (readNothing (suc (2 + h .actions + h .steps)) (b .model) (split lineEnd (drop (e + 1) text)))
         (faulty Shape (2 + h .actions + h .steps))
     unfolding readSteps readEnd
     end-line t s = b .rest ∙ onLine-line text at e (b .place) found (2 + h .actions + h .steps) _ l ∙ rw s
@@ -186,7 +189,8 @@ module _ (h : Head) (text : List ℕ) (at : ℕ) (store : List ℕ) (b : AfterSt
       end-other n = end-line false (same?-first (take (e - at) (drop at text)) 69 line-one (λ y. n (sym line-byte ∙ y)))
 
       module _ (letter : getD text at 0 ≡ 69) where
-        end-letter : whole text ≡ readNothing (suc (2 + h .actions + h .steps)) (b .model) (split lineEnd (drop (e + 1) text))
+        end-letter : whole text
+            ≡ readNothing (suc (2 + h .actions + h .steps)) (b .model) (split lineEnd (drop (e + 1) text))
         end-letter = end-line true (same?-letter (take (e - at) (drop at text)) 69 line-one (line-byte ∙ letter))
 
         pub end-more : (e + 1 ≡ length text → ⊥) → whole text ≡ faulty Absent (2 + h .actions + h .steps + 1)
@@ -205,5 +209,6 @@ module _ (h : Head) (text : List ℕ) (at : ℕ) (store : List ℕ) (b : AfterSt
             record {
               model = b .model;
               stored = b .stored;
-              reads = end-letter ∙ readNothing-nil (suc (2 + h .actions + h .steps)) (b .model) (drop (e + 1) text) (omega arith);
+              reads = end-letter
+                  ∙ readNothing-nil (suc (2 + h .actions + h .steps)) (b .model) (drop (e + 1) text) (omega arith);
             }

@@ -29,4 +29,6 @@ follows-from rule i (x ∷ xs) h (suc k) l =
 
 pub table-rule : (rule : ℕ → ℕ) (table : List ℕ) → follows? rule 0 table ≡ true
     → (k : ℕ) → k < length table → getD table k 0 ≡ rule k
-table-rule rule table h k l = let e : 0 + k ≡ k = omega arith in follows-from rule 0 table (subst T (sym h) tt) k l ∙ ap rule e
+table-rule rule table h k l =
+    let e : 0 + k ≡ k = omega arith in
+    follows-from rule 0 table (subst T (sym h) tt) k l ∙ ap rule e

@@ -124,7 +124,8 @@ fn numbers(line: &[u8], from: usize, out: &mut [u32]) -> RowRead
 // Stores the numbers of a line of a letter and out.len() numbers.
 fn row(line: &[u8], letter: u8, out: &mut [u32]) -> RowRead
     requires { ⌜ (kindOf letter ≡ capital) × (0 < length (now out)) ⌝ }
-    ensures { λ r. ⌜ numbersLine letter (length (now (out .entry))) (now (line .entry)) ≡ rowRead r (now (out .exit)) ⌝ }
+    ensures { λ r. ⌜ numbersLine letter (length (now (out .entry))) (now (line .entry))
+        ≡ rowRead r (now (out .exit)) ⌝ }
 {
     if !fields(line, letter, out.len()) {
         return RowRead::Bad(Fault::Shape);

@@ -31,7 +31,8 @@ fn put_step(out: &mut [u16], at: usize, s: StepLine)
 // The lines of the steps, into a store that holds the first line and the actions.
 pub fn steps(text: &[u8], at: usize, head: Head, out: &mut [u16]) -> LinesRead
     requires { ⌜ AfterActions head (now text) at (head .actions) (now out) ⌝ }
-    ensures { λ r. ⌜ Further (λ next. AfterSteps head (now (text .entry)) next (now (out .exit))) (now (text .entry)) r ⌝ }
+    ensures { λ r. ⌜ Further (λ next. AfterSteps head (now (text .entry)) next (now (out .exit)))
+        (now (text .entry)) r ⌝ }
 {
     let count = head.steps as usize;
     let first = 2 + head.actions as usize;
