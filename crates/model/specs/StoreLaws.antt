@@ -17,7 +17,7 @@ use Rattle.model.specs.WellFormed.{EachAfter, ActionFits, StepFits, Well
 use Rattle.model.specs.EachLaws.{all-of-each}
 use Rattle.model.specs.BlocksLaws.{padded-append, padded-length, padded-all, blocks-length, blocks-all}
 use Rattle.model.specs.BlocksLaws.{blocks-drop}
-use Rattle.model.specs.Ranges.{HeadRanges, Storable}
+use Rattle.model.specs.Ranges.{Storable}
 use Rattle.model.specs.RangesLaws.{headFits?→HeadRanges, stepFits?→StepRanges}
 use Rattle.model.specs.LineText.{stepPlaces}
 use Rattle.model.specs.ActionLineLaws.{NameByte, name-bytes, nameByte-lt, name-length}
