@@ -23,7 +23,7 @@ use Rattle.model.specs.Lines.{Line, good, bad, fieldsOf, levelOf, allOf,
 use Rattle.model.specs.Lines.{actionFields, actionFrom, actionOf}
 use Rattle.model.specs.Text.{levelByte}
 use Rattle.model.specs.WellFormed.{ActionFits}
-use Rattle.model.specs.LineText.{lineOf, lineOfAction}
+use Rattle.model.specs.LineText.{lineOf, lineOfAction, NameByte}
 use Rattle.model.specs.JoinedFieldsLaws.{checked-good, good-checked, fieldsOf-line, line-of-fieldsOf}
 
 -- ---- levels
@@ -50,10 +50,6 @@ byte-of-levelOf f level h =
     by-test false a false b false c q = let z : _≡_ {A = ℕ} 0 1 = cc in absurd (omega arith)
 
 -- ---- names
-
--- a byte of a name is a digit or a small letter
-abbrev pub NameByte : ℕ → Type 0
-NameByte b = (kindOf b ≡ digit) ⊎ (kindOf b ≡ smallLetter)
 
 allOf-name : (f : List ℕ) → T (allOf nameByte? f) → All NameByte f
 unfolding allOf nameByte?

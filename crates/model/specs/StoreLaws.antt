@@ -19,8 +19,8 @@ use Rattle.model.specs.BlocksLaws.{padded-append, padded-length, padded-
 use Rattle.model.specs.BlocksLaws.{blocks-drop}
 use Rattle.model.specs.Ranges.{Storable}
 use Rattle.model.specs.RangesLaws.{headFits?→HeadRanges, stepFits?→StepRanges}
-use Rattle.model.specs.LineText.{stepPlaces}
-use Rattle.model.specs.ActionLineLaws.{NameByte, name-bytes, nameByte-lt, name-length}
+use Rattle.model.specs.LineText.{stepPlaces, NameByte}
+use Rattle.model.specs.ActionLineLaws.{name-bytes, nameByte-lt, name-length}
 
 -- ---- lengths
 

@@ -1,7 +1,7 @@
 -- A rule of a table, shown at all of its places by one test over the table, holds at each place that is looked up.
 -- Document 01, "The text": "a constant table of 256 numbers [..], whose rule is shown once over the table".
 -- Assumes nothing.
-use mathlib.Core.Bool.{Bool, true, _&&_}
+use mathlib.Core.Bool.{true}
 use mathlib.Core.List.{List, [], _∷_}
 use mathlib.Core.Path.{_≡_, sym, ap, _∙_, subst}
 use Prim.Native.Nat.{ℕ, zero, suc, _+_, _<_}
@@ -9,11 +9,7 @@ use native.Mathlib.Omega.{arith}
 use lib.Dec.{T, eqb, eqb→eq}
 use lib.ListN.{length, getD}
 use Rattle.lts.specs.TestsLaws.{and-left, and-right}
-
--- each number of the table is the rule's at its place, where the first stands at place i
-abbrev pub follows? : (ℕ → ℕ) → ℕ → List ℕ → Bool
-follows? rule i [] = true
-follows? rule i (x ∷ xs) = eqb x (rule i) && follows? rule (suc i) xs
+use Rattle.model.specs.Table.{follows?}
 
 follows-from : (rule : ℕ → ℕ) (i : ℕ) (table : List ℕ) → T (follows? rule i table)
     → (k : ℕ) → k < length table → getD table k 0 ≡ rule (i + k)

@@ -24,8 +24,9 @@ use Rattle.model.specs.Text.{headText, levelByte, actionText, stepText, 
 use Rattle.model.specs.Store.{headPlaces}
 use Rattle.model.specs.WellFormed.{ActionFits, StepFits, WellFormed}
 use Rattle.model.specs.EachLaws.{all-of-each}
-use Rattle.model.specs.LineText.{LineByte, lineOf, lineOfHead, lineOfAction, stepPlaces, lineOfStep, partsOf}
-use Rattle.model.specs.ActionLineLaws.{NameByte, name-bytes, levelByte-capital, line-of-actionOf}
+use Rattle.model.specs.LineText.{NameByte, LineByte, lineOf, lineOfHead, lineOfAction, stepPlaces}
+use Rattle.model.specs.LineText.{lineOfStep, partsOf}
+use Rattle.model.specs.ActionLineLaws.{name-bytes, levelByte-capital, line-of-actionOf}
 use Rattle.model.specs.LineTextLaws.{line-of-headOf, line-of-stepOf}
 
 -- ---- a line's text is the line and its end

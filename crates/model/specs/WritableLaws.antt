@@ -5,11 +5,11 @@ use mathlib.Core.Path.{_≡_}
 use Prim.Native.Nat.{ℕ, _+_, _-_, _≤_, _<_}
 use native.Mathlib.Omega.{arith}
 use lib.ListN.{length, getD, take, drop}
-use Rattle.model.specs.All.{All}
 use Rattle.model.specs.AllLaws.{all-of-all}
-use Rattle.model.specs.ActionLineLaws.{NameByte, name-bytes, nameByte-lt}
+use Rattle.model.specs.LineText.{NameByte}
+use Rattle.model.specs.ActionLineLaws.{name-bytes, nameByte-lt}
 use Rattle.model.specs.GoodLaws.{Good→GoodPlaces}
-use Rattle.model.specs.Limits.{actionLimit, stepLimit, nameLimit, outLength, actionPlace, namePlace}
+use Rattle.model.specs.Limits.{actionLimit, stepLimit, outLength, actionPlace, namePlace}
 use Rattle.model.specs.ListedLaws.{each-listed}
 use Rattle.model.specs.Model.{ActionLine}
 use Rattle.model.specs.RangesLaws.{headFits?→HeadRanges}
@@ -18,7 +18,7 @@ use Rattle.model.specs.StoredModelLaws.{good-well-formed}
 use Rattle.model.specs.Text.{textOf}
 use Rattle.model.specs.TextLengthLaws.{textOf-length-le}
 use Rattle.model.specs.WellFormed.{ActionFits}
-use Rattle.model.specs.Writable.{Writable}
+use Rattle.model.specs.Writable.{Writable, NameBytes}
 
 -- ---- a name
 
@@ -28,11 +28,6 @@ pub actionAt-part : (s : List ℕ) (i level place len : ℕ) → level ≡ actio
     → _≡_ {A = ActionLine} (record { level = level; name = take (place + len - place) (drop place s) }) (actionAt s i)
 actionAt-part s i level place len l p n =
     let e : place + len - place ≡ len = omega arith in rw (e, l, p, n)
-
--- the name of action i: its length, and its bytes
-pub record NameBytes (s : List ℕ) (i : ℕ) : Type 0 where
-  pub short : getD s (actionPlace i + 1) 0 ≤ nameLimit
-  pub bytes : All (λ (b : ℕ). b < 256) (actionAt s i .name)
 
 -- ---- a store that holds a model
 
