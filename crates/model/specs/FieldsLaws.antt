@@ -76,7 +76,7 @@ pub same?-other : (b x : ℕ) → (b ≡ x → ⊥) → same? (b ∷ []) (x ∷ 
 unfolding same?
 same?-other b x h = rw (ne-eqb b x h)
 
-take-one : (l : List ℕ) → 0 < length l → take 1 l ≡ getD l 0 0 ∷ []
+pub take-one : (l : List ℕ) → 0 < length l → take 1 l ≡ getD l 0 0 ∷ []
 take-one [] h = absurd (omega arith)
 take-one (x ∷ xs) h = refl
 

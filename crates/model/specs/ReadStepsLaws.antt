@@ -2,12 +2,11 @@
 -- Document 01, "The text" and "Refused because of the input". Assumes nothing.
 use mathlib.Core.Bool.{Bool, true, false, cond}
 use mathlib.Core.List.{List, [], _∷_, _++_}
-use mathlib.Core.Path.{_≡_, refl, sym, _∙_}
+use mathlib.Core.Path.{_≡_, refl, _∙_}
 use Prim.Native.Nat.{ℕ, suc, _+_, _-_, _≤_, _<_}
 use native.Mathlib.Omega.{arith}
 use lib.ListN.{length, take, drop, getD, length-append, length-drop}
-use lib.Seq.{sets, length-take-le, getD-take, getD-drop}
-use borrow.Author.Tests.{eq-eqb, ne-eqb}
+use lib.Seq.{sets, length-take-le, getD-drop}
 use Rattle.model.specs.declared.Fault.{Fault}
 use Rattle.model.specs.declared.Fault.the-variants.{Absent, Shape}
 use Rattle.model.specs.declared.Head.{Head}
@@ -17,6 +16,7 @@ use Rattle.model.specs.Bytes.{lineEnd, kindOf}
 use Rattle.model.specs.Split.{consFirst, split, indexOf, same?}
 use Rattle.model.specs.SplitLaws.{Is, same, other, is, split-nil, split-end, split-cons, split-first, found-le}
 use Rattle.model.specs.SameLaws.{same?-length}
+use Rattle.model.specs.FieldsLaws.{same?-byte, same?-other, take-one}
 use Rattle.model.specs.Model.{Model, above?, aboveLast?}
 use Rattle.model.specs.Lines.{good, bad, stepOf}
 use Rattle.model.specs.LineAnswers.{Last}
@@ -124,17 +124,6 @@ after-steps h text at j last store b c =
 
 -- ---- the end
 
-same?-first : (s : List ℕ) (c : ℕ) → length s ≡ 1 → (getD s 0 0 ≡ c → ⊥) → same? s (c ∷ []) ≡ false
-unfolding same?
-same?-first [] c l h = absurd (omega arith)
-same?-first (x ∷ s) c l h = rw (ne-eqb x c h)
-
-same?-letter : (s : List ℕ) (c : ℕ) → length s ≡ 1 → getD s 0 0 ≡ c → same? s (c ∷ []) ≡ true
-unfolding same?
-same?-letter [] c l h = absurd (omega arith)
-same?-letter (x ∷ []) c l h = rw (eq-eqb x c h)
-same?-letter (x ∷ y ∷ s) c l h = absurd (omega arith)
-
 -- bytes after the end
 readNothing-more : (k : ℕ) (m : Model) (s : List ℕ) → 0 < length s → readNothing k m (split lineEnd s) ≡ faulty Absent k
 unfolding readNothing consFirst
@@ -176,22 +165,21 @@ module _ (h : Head) (text : List ℕ) (at : ℕ) (store : List ℕ) (b : AfterSt
         end-line false (same?-length (take (e - at) (drop at text)) (69 ∷ []) long)
 
     module _ (one : e ≡ at + 1) where
-      line-one : length (take (e - at) (drop at text)) ≡ 1
-      line-one = let m = line-length in omega arith
-
-      line-byte : getD (take (e - at) (drop at text)) 0 0 ≡ getD text at 0
+      line-byte : take (e - at) (drop at text) ≡ getD text at 0 ∷ []
       line-byte =
-          let p : 0 < e - at = omega arith in
+          let d = length-drop at text in
+          let k : e - at ≡ 1 = omega arith in
+          let n : 0 < length (drop at text) = omega arith in
           let z : at + 0 ≡ at = omega arith in
-          getD-take (e - at) (drop at text) 0 0 p ∙ getD-drop at text 0 0 ∙ rw z
+          rw (k, take-one (drop at text) n, getD-drop, z)
 
       pub end-other : (getD text at 0 ≡ 69 → ⊥) → whole text ≡ faulty Shape (2 + h .actions + h .steps)
-      end-other n = end-line false (same?-first (take (e - at) (drop at text)) 69 line-one (λ y. n (sym line-byte ∙ y)))
+      end-other n = end-line false (rw line-byte (same?-other (getD text at 0) 69 n))
 
       module _ (letter : getD text at 0 ≡ 69) where
         end-letter : whole text
             ≡ readNothing (suc (2 + h .actions + h .steps)) (b .model) (split lineEnd (drop (e + 1) text))
-        end-letter = end-line true (same?-letter (take (e - at) (drop at text)) 69 line-one (line-byte ∙ letter))
+        end-letter = end-line true (rw line-byte (same?-byte (getD text at 0) 69 letter))
 
         pub end-more : (e + 1 ≡ length text → ⊥) → whole text ≡ faulty Absent (2 + h .actions + h .steps + 1)
         end-more n =
