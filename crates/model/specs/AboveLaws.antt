@@ -4,7 +4,7 @@ use mathlib.Core.Bool.{Bool, _&&_, _||_}
 use mathlib.Core.List.{List, [], _∷_, _++_, append-nil}
 use mathlib.Core.Logic.{_⊎_, inl, inr}
 use mathlib.Core.Path.{_≡_, refl, sym, subst, _∙_}
-use Prim.Native.Nat.{ℕ, suc, _+_, _≤_, _<_}
+use Prim.Native.Nat.{ℕ, suc, _≤_, _<_}
 use native.Mathlib.Omega.{arith}
 use lib.Dec.{T, ltb, eqb, ltb→lt, lt→ltb, eqb→eq, eqb-refl}
 use lib.ListN.{length, getD, take, drop, length-append, length-take, length-drop}
@@ -13,9 +13,8 @@ use Rattle.lts.specs.TestsLaws.{and-left, and-right, and-intro, or-left, or-rig
 use Rattle.model.specs.declared.Head.{Head}
 use Rattle.model.specs.declared.StepLine.{StepLine}
 use Rattle.model.specs.Model.{Model, above?, aboveLast?}
-use Rattle.model.specs.Lines.{headFits?, stepFits?}
+use Rattle.model.specs.Lines.{stepFits?}
 use Rattle.model.specs.Above.{Above, withoutStep}
-use Rattle.model.specs.Ranges.{HeadRanges}
 use Rattle.model.specs.RangesLaws.{headFits?→HeadRanges, HeadRanges→headFits?}
 use Rattle.model.specs.WellFormed.{EachAfter, StepFits, WellFormed}
 use Rattle.model.specs.EachLaws.{each-append, append-each, cons-each, each-of-each, each-without}

@@ -4,7 +4,7 @@ use mathlib.Core.Bool.{Bool, true, false, cond, not}
 use mathlib.Core.List.{List, [], _∷_}
 use mathlib.Core.Logic.{_⊎_, inl, inr}
 use mathlib.Core.Path.{_≡_, refl, ap, _∙_, subst}
-use Prim.Native.Nat.{ℕ, zero, suc, _≤_}
+use Prim.Native.Nat.{ℕ, zero, suc, _≤_, _<_}
 use native.Mathlib.Omega.{arith}
 use lib.Dec.{T, eqb, eqb→eq}
 use lib.ListN.{length, getD}
@@ -13,7 +13,7 @@ use Rattle.lts.specs.TestsLaws.{and-left, and-right, or-cases, not-T→false}
 use Rattle.model.specs.declared.Fault.the-variants.{Shape, Repeated}
 use Rattle.model.specs.Bytes.{kindOf, between?, digit, smallLetter, capital, comma}
 use Rattle.model.specs.Limits.{nameLimit}
-use Rattle.model.specs.RangesLaws.{between?→le}
+use Rattle.model.specs.BytesLaws.{between?→le, digit-within, smallLetter-within}
 use Rattle.model.specs.Split.{same?}
 use Rattle.model.specs.SameLaws.{same?→eq}
 use Rattle.model.specs.All.{All}
@@ -23,17 +23,17 @@ use Rattle.model.specs.Lines.{Line, good, bad, fieldsOf, levelOf, allOf,
 use Rattle.model.specs.Lines.{actionFields, actionFrom, actionOf}
 use Rattle.model.specs.Text.{levelByte}
 use Rattle.model.specs.WellFormed.{ActionFits}
-use Rattle.model.specs.LineText.{lineOf, lineOfAction}
+use Rattle.model.specs.LineText.{lineOf, lineOfAction, NameByte}
 use Rattle.model.specs.JoinedFieldsLaws.{checked-good, good-checked, fieldsOf-line, line-of-fieldsOf}
 
 -- ---- levels
 
-pub levelOf-byte : (level : ℕ) → level ≤ high → levelOf (levelByte level ∷ []) ≡ good level
+pub levelOf-levelByte : (level : ℕ) → level ≤ high → levelOf (levelByte level ∷ []) ≡ good level
 unfolding levelOf levelByte same?
-levelOf-byte zero h = refl
-levelOf-byte (suc zero) h = refl
-levelOf-byte (suc (suc zero)) h = refl
-levelOf-byte (suc (suc (suc n))) h = absurd (omega arith)
+levelOf-levelByte zero h = refl
+levelOf-levelByte (suc zero) h = refl
+levelOf-levelByte (suc (suc zero)) h = refl
+levelOf-levelByte (suc (suc (suc n))) h = absurd (omega arith)
 
 pub byte-of-levelOf : (f : List ℕ) (level : ℕ) → levelOf f ≡ good level → (f ≡ levelByte level ∷ []) × (level ≤ high)
 unfolding levelOf levelByte
@@ -50,10 +50,6 @@ byte-of-levelOf f level h =
     by-test false a false b false c q = let z : _≡_ {A = ℕ} 0 1 = cc in absurd (omega arith)
 
 -- ---- names
-
--- a byte of a name is a digit or a small letter
-abbrev pub NameByte : ℕ → Type 0
-NameByte b = (kindOf b ≡ digit) ⊎ (kindOf b ≡ smallLetter)
 
 allOf-name : (f : List ℕ) → T (allOf nameByte? f) → All NameByte f
 unfolding allOf nameByte?
@@ -76,6 +72,10 @@ pub name-length : (f : List ℕ) → T (name? f) → (1 ≤ length f) × (length
 unfolding name?
 name-length f t = between?→le 1 nameLimit (length f) (and-left (between? 1 nameLimit (length f)) (allOf nameByte? f) t)
 
+pub nameByte-lt : (b : ℕ) → NameByte b → b < 256
+nameByte-lt b (inl e) = let w = digit-within b e in omega arith
+nameByte-lt b (inr e) = let w = smallLetter-within b e in omega arith
+
 nameByte-without : (b : ℕ) → NameByte b → kindOf b ≡ comma → ⊥
 nameByte-without b (inl e) h = omega arith
 nameByte-without b (inr e) h = omega arith
@@ -97,7 +97,7 @@ fields-two (f ∷ []) h = absurd (omega arith)
 fields-two (f ∷ g ∷ []) h = refl
 fields-two (f ∷ g ∷ k ∷ fs) h = absurd (omega arith)
 
-good-nameFrom : (l : Line ℕ) (f : List ℕ) (a : ActionLine) → nameFrom l f ≡ good a
+pub good-nameFrom : (l : Line ℕ) (f : List ℕ) (a : ActionLine) → nameFrom l f ≡ good a
     → (l ≡ good (a .level)) × (f ≡ a .name) × T (name? (a .name))
 unfolding nameFrom
 good-nameFrom (good level) f a h =
@@ -131,7 +131,7 @@ module _ (before : List ActionLine) where
       let e = fieldsOf-line 65 fs (λ z. eqb-false 3 4 refl z) ((level, tt), (name, tt)) in
       let n = checked-good Shape (name? (a .name)) a (f .name) in
       let u = not-T→false (used? (a .name) before) (f .fresh) in
-      rw (e, actionFields, levelOf-byte (a .level) (f .level), nameFrom, n, actionFrom, u)
+      rw (e, actionFields, levelOf-levelByte (a .level) (f .level), nameFrom, n, actionFrom, u)
 
   pub line-of-actionOf : (line : List ℕ) (a : ActionLine) → actionOf before line ≡ good a
       → (line ≡ lineOfAction a) × ActionFits before a

@@ -1,6 +1,6 @@
 -- Lists made of blocks of one width, with zeros behind them: their lengths, and the block at a place.
 -- Document 01, "The model store". Assumes nothing.
-use mathlib.Core.List.{List, [], _∷_, _++_, append-assoc}
+use mathlib.Core.List.{List, [], _∷_, _++_, append-assoc, append-nil}
 use mathlib.Core.Path.{_≡_, sym, ap, _∙_}
 use Prim.Native.Nat.{ℕ, zero, suc, _+_, _-_, _*_, _≤_, _<_}
 use native.Mathlib.Omega.{arith}
@@ -26,6 +26,15 @@ unfolding padded
 padded-all P p n l a = all-append P l (replicate (n - length l) 0) a (all-replicate P (n - length l) 0 p)
 
 -- ---- blocks
+
+-- one more, of whatever width
+pub blocks-snoc : {A : Type 0} (block : A → List ℕ) (blocks : List A → List ℕ) → blocks [] ≡ []
+    → ((x : A) (xs : List A) → blocks (x ∷ xs) ≡ block x ++ blocks xs)
+    → (xs : List A) (x : A) → blocks (xs ++ (x ∷ [])) ≡ blocks xs ++ block x
+blocks-snoc block blocks nil cons [] x = rw (cons x [], nil, append-nil)
+blocks-snoc block blocks nil cons (y ∷ ys) x =
+    cons y (ys ++ (x ∷ [])) ∙ ap (λ (l : List ℕ). block y ++ l) (blocks-snoc block blocks nil cons ys x)
+    ∙ sym (append-assoc (block y) (blocks ys) (block x)) ∙ ap (λ (l : List ℕ). l ++ block x) (sym (cons y ys))
 
 module _ {A : Type 0} (block : A → List ℕ) (blocks : List A → List ℕ) (width : ℕ) (nil : blocks [] ≡ [])
     (cons : (x : A) (xs : List A) → blocks (x ∷ xs) ≡ block x ++ blocks xs) where

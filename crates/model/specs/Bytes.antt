@@ -1,5 +1,6 @@
 -- The kinds of bytes.
--- Document 01, "The text": "the kind of each byte [..] (0 other, 1 digit, 2 small letter, 3 capital, 4 comma, 5 line end)".
+-- Document 01, "The text":
+-- "the kind of each byte [..] (0 other, 1 digit, 2 small letter, 3 capital, 4 comma, 5 line end)".
 use mathlib.Core.Bool.{Bool, cond, _&&_}
 use Prim.Native.Nat.{ℕ}
 use lib.Dec.{leb, eqb}

@@ -1,25 +1,22 @@
 -- Which bytes are of which kind, and that a comma and a line end are one byte each.
 -- Document 01, "The text". Assumes nothing.
-use mathlib.Core.Bool.{Bool, true, false, cond, _&&_}
+use mathlib.Core.Bool.{Bool, true, false, cond}
 use mathlib.Core.List.{[], _∷_}
-use mathlib.Core.Path.{_≡_, refl, sym}
+use mathlib.Core.Path.{_≡_, sym, subst}
 use Prim.Native.Nat.{ℕ, suc, _≤_}
 use native.Mathlib.Omega.{arith}
-use lib.Dec.{leb, eqb}
+use lib.Dec.{T, leb, eqb, leb→le, le→leb}
 use lib.ListN.{getD}
-use borrow.Author.Tests.{leb-true, eqb-true, le-leb}
+use borrow.Author.Tests.{eqb-true, le-leb}
+use Rattle.lts.specs.TestsLaws.{and-left, and-right, and-intro}
 use Rattle.model.specs.Bytes.{between?, kindOf, digit, smallLetter, capital, comma, lineEnd}
 
-pub and-true : (s t : Bool) → s && t ≡ true → (s ≡ true) × (t ≡ true)
-and-true true t h = (refl, h)
-and-true false t h = let z : true ≡ false = sym h in (h, cc)
+pub between?→le : (least most x : ℕ) → T (between? least most x) → (least ≤ x) × (x ≤ most)
+between?→le least most x t =
+    (leb→le least x (and-left (leb least x) (leb x most) t), leb→le x most (and-right (leb least x) (leb x most) t))
 
-pub between?-true : (least most x : ℕ) → between? least most x ≡ true → (least ≤ x) × (x ≤ most)
-between?-true least most x h =
-    let both = and-true (leb least x) (leb x most) h in (leb-true least x (both .0), leb-true x most (both .1))
-
-pub between?-le : (least most x : ℕ) → least ≤ x → x ≤ most → between? least most x ≡ true
-between?-le least most x h l = rw (le-leb least x h, le-leb x most l)
+pub le→between? : (least most x : ℕ) → least ≤ x → x ≤ most → T (between? least most x)
+le→between? least most x h l = and-intro (leb least x) (leb x most) (le→leb least x h) (le→leb x most l)
 
 -- ---- the kind of a byte, by the first of five tests that it passes
 
@@ -42,15 +39,18 @@ module _ (b : ℕ) where
   unfolding kindOf tests
   passed k h = tests-passed (between? 48 57 b) (between? 97 122 b) (between? 65 90 b) (eqb b 44) (eqb b 10) k h
 
+  within : (least most : ℕ) → between? least most b ≡ true → (least ≤ b) × (b ≤ most)
+  within least most e = between?→le least most b (subst T (sym e) tt)
+
   -- the digits are bytes 48 to 57, the small letters 97 to 122, the capitals 65 to 90
   pub digit-within : kindOf b ≡ digit → (48 ≤ b) × (b ≤ 57)
-  digit-within h = between?-true 48 57 b (passed 0 h)
+  digit-within h = within 48 57 (passed 0 h)
 
   pub smallLetter-within : kindOf b ≡ smallLetter → (97 ≤ b) × (b ≤ 122)
-  smallLetter-within h = between?-true 97 122 b (passed 1 h)
+  smallLetter-within h = within 97 122 (passed 1 h)
 
   pub capital-within : kindOf b ≡ capital → (65 ≤ b) × (b ≤ 90)
-  capital-within h = between?-true 65 90 b (passed 2 h)
+  capital-within h = within 65 90 (passed 2 h)
 
   -- the comma is byte 44 alone, and the line end is byte 10 alone
   pub comma-only : kindOf b ≡ comma → b ≡ 44

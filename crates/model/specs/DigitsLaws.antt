@@ -9,12 +9,13 @@ use native.Mathlib.Omega.{arith}
 use native.Mathlib.Nat.{pow-suc, pow-le-pow-right, lt-of-lt-of-le}
 use lib.Dec.{leb, eqb, lit<}
 use lib.ListN.{length, getD, length-append, List·getD-append}
-use borrow.Author.Tests.{leb-true, eqb-true, eqb-false, lt-ltb, le-ltb, le-leb, eq-eqb, ne-eqb}
+use borrow.Author.Tests.{leb-true, eqb-true, eqb-false, lt-ltb, le-ltb, ne-eqb}
 use Rattle.lts.specs.TestsLaws.{lt-or-le}
 use Rattle.model.specs.declared.number.Number.the-variants.{Value, Bad}
 use Rattle.model.specs.Bytes.{digit, kindOf}
 use Rattle.model.specs.BytesLaws.{digit-within, digit-kind}
 use Rattle.model.specs.Numbers.{digitsValue, numberShape?, numberOf, digitsUpTo, digits}
+use Rattle.model.specs.NumbersLaws.{digitsValue-nil, digitsValue-cons, numberOf-one, numberOf-some}
 use Rattle.model.specs.All.{All}
 use Rattle.model.specs.AllLaws.{all-append}
 
@@ -32,14 +33,6 @@ pub digitsUpTo-le : (k n : ℕ) → 10 ≤ n → digitsUpTo (suc k) n ≡ digits
 unfolding digitsUpTo
 digitsUpTo-le k n h = rw (le-ltb n 10 h)
 
-value-nil : (v : ℕ) → digitsValue v [] ≡ Value v
-unfolding digitsValue
-value-nil v = refl
-
-value-cons : (v b : ℕ) (bs : List ℕ) → kindOf b ≡ digit → digitsValue v (b ∷ bs) ≡ digitsValue (v * 10 + (b - 48)) bs
-unfolding digitsValue
-value-cons v b bs h = rw (eq-eqb (kindOf b) digit h)
-
 -- the first byte of what has a value is a digit
 value-digit : (v b : ℕ) (bs : List ℕ) (n : ℕ) → digitsValue v (b ∷ bs) ≡ Value n → kindOf b ≡ digit
 unfolding digitsValue
@@ -52,15 +45,15 @@ value-digit v b bs n h = by-test (eqb (kindOf b) digit) refl
 
 -- a value goes on into the digits after it
 value-append : (xs ys : List ℕ) (v w : ℕ) → digitsValue v xs ≡ Value w → digitsValue v (xs ++ ys) ≡ digitsValue w ys
-value-append [] ys v w h = let e : v ≡ w = cc (value-nil v) in ap (λ (z : ℕ). digitsValue z ys) e
+value-append [] ys v w h = let e : v ≡ w = cc (digitsValue-nil v) in ap (λ (z : ℕ). digitsValue z ys) e
 value-append (x ∷ xs) ys v w h =
     let k = value-digit v x xs w h in
-    value-cons v x (xs ++ ys) k ∙ value-append xs ys (v * 10 + (x - 48)) w (sym (value-cons v x xs k) ∙ h)
+    digitsValue-cons v x (xs ++ ys) k ∙ value-append xs ys (v * 10 + (x - 48)) w (sym (digitsValue-cons v x xs k) ∙ h)
 
 value-one : (v d : ℕ) → d < 10 → digitsValue v ((48 + d) ∷ []) ≡ Value (v * 10 + d)
 value-one v d h =
     let e : v * 10 + (48 + d - 48) ≡ v * 10 + d = omega arith in
-    value-cons v (48 + d) [] (digit-kind (48 + d) (omega arith) (omega arith)) ∙ value-nil _ ∙ ap Value e
+    digitsValue-cons v (48 + d) [] (digit-kind (48 + d) (omega arith) (omega arith)) ∙ digitsValue-nil _ ∙ ap Value e
 
 -- ---- the digits of a number below a power of ten
 
@@ -149,20 +142,6 @@ digits-digit n = digitsUpTo-digit 5 n
 pub digits-length-le : (k n : ℕ) → n < 10 ^ k → 0 < k → k ≤ 5 → length (digits n) ≤ k
 digits-length-le k n h p l = rw (digits-digitsUpTo (5 - k) k n h p (omega arith)) (digitsUpTo-length-le k n)
 
--- a field of one byte, and one of several bytes, by their values
-numberOf-one : (f : List ℕ) → length f ≡ 1 → numberOf f ≡ digitsValue 0 f
-unfolding numberOf numberShape?
-numberOf-one [] h = absurd (omega arith)
-numberOf-one (b ∷ []) h = refl
-numberOf-one (b ∷ c ∷ bs) h = absurd (omega arith)
-
-numberOf-several : (f : List ℕ) → 1 < length f → length f ≤ 5 → (getD f 0 0 ≡ 48 → ⊥) → numberOf f ≡ digitsValue 0 f
-unfolding numberOf numberShape?
-numberOf-several [] h l z = absurd (omega arith)
-numberOf-several (b ∷ []) h l z = absurd (omega arith)
-numberOf-several (b ∷ c ∷ bs) h l z =
-    let m : length bs ≤ 3 = omega arith in rw (le-leb (length bs) 3 m, ne-eqb b 48 z)
-
 -- what is written reads back
 pub numberOf-digits : (n : ℕ) → n < 100000 → numberOf (digits n) ≡ Value n
 unfolding digits
@@ -176,7 +155,7 @@ numberOf-digits n h = go (lt-or-le n 10)
         let e = length-append (digitsUpTo 4 (n / 10)) ((48 + n % 10) ∷ []) in
         let s : 1 < length (digitsUpTo 5 n) = rw (digitsUpTo-le 4 n g) (omega arith) in
         let w = digitsUpTo-led 5 n h (lit< tt) (omega arith) in
-        numberOf-several (digitsUpTo 5 n) s (digitsUpTo-length-le 5 n) (w .first) ∙ digitsUpTo-value 5 n h (lit< tt)
+        numberOf-some (digitsUpTo 5 n) s (digitsUpTo-length-le 5 n) (w .first) ∙ digitsUpTo-value 5 n h (lit< tt)
 
 -- ---- what reads was written so
 
@@ -190,7 +169,7 @@ digitsUpTo-cons k v d p h =
 digitsUpTo-of-value : (ds : List ℕ) (v k n : ℕ) → 0 < v → v < 10 ^ k → digitsValue v ds ≡ Value n
     → (digitsUpTo (k + length ds) n ≡ digitsUpTo k v ++ ds) × (n < 10 ^ (k + length ds))
 digitsUpTo-of-value [] v k n p l h =
-    let e : v ≡ n = cc (value-nil v) in
+    let e : v ≡ n = cc (digitsValue-nil v) in
     let z : k + 0 ≡ k = omega arith in
     (rw (append-nil, z, e), rw (z, ← e) l)
 digitsUpTo-of-value (d ∷ ds) v k n p l h =
@@ -199,7 +178,7 @@ digitsUpTo-of-value (d ∷ ds) v k n p l h =
     let m : 48 + (d - 48) ≡ d = omega arith in
     let z : k + suc (length ds) ≡ suc k + length ds = omega arith in
     let e = pow-suc 10 k in
-    let u = sym (value-cons v d ds q) ∙ h in
+    let u = sym (digitsValue-cons v d ds q) ∙ h in
     let i = digitsUpTo-of-value ds (v * 10 + (d - 48)) (suc k) n (omega arith) (omega arith) u in
     (rw (z, i .0, digitsUpTo-cons k v (d - 48) p (omega arith), m, append-assoc), rw z (i .1))
 
@@ -209,7 +188,7 @@ digits-of-value : (b : ℕ) (ds : List ℕ) (n : ℕ) → length ds ≤ 4 → (0
 digits-of-value b [] n l z h =
     let q = value-digit 0 b [] n h in
     let r = digit-within b q in
-    let e : 0 * 10 + (b - 48) ≡ n = cc (value-cons 0 b [] q, value-nil (0 * 10 + (b - 48))) in
+    let e : 0 * 10 + (b - 48) ≡ n = cc (digitsValue-cons 0 b [] q, digitsValue-nil (0 * 10 + (b - 48))) in
     let m : 48 + n ≡ b = omega arith in
     let u : n < 10 = omega arith in
     (sym (digits-digitsUpTo 4 1 n u (lit< tt) refl ∙ digitsUpTo-lt 0 n u ∙ ap (λ (x : ℕ). x ∷ []) m), omega arith)
@@ -218,7 +197,7 @@ digits-of-value b (d ∷ ds) n l z h =
     let q = value-digit 0 b (d ∷ ds) n h in
     let r = digit-within b q in
     let v : ℕ = 0 * 10 + (b - 48) in
-    let u = sym (value-cons 0 b (d ∷ ds) q) ∙ h in
+    let u = sym (digitsValue-cons 0 b (d ∷ ds) q) ∙ h in
     let m : 48 + v ≡ b = omega arith in
     let k : ℕ = 1 + suc (length ds) in
     let w = digitsUpTo-of-value (d ∷ ds) v 1 n (omega arith) (omega arith) u in

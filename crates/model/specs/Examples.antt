@@ -1,15 +1,19 @@
--- The worked example of document 01, "The page", reads and writes by evaluation, and each of its damaged forms is refused.
+-- The worked example of document 01, "The page", reads and writes by evaluation, and each of its damaged forms is
+-- refused.
 use mathlib.Core.List.{List, [], _∷_}
 use mathlib.Core.Path.{_≡_, refl}
 use Prim.Native.Nat.{ℕ}
-use Rattle.model.specs.declared.Fault.the-variants.{Absent, Shape, Digits, Range, Repeated, Order}
+use Rattle.model.specs.declared.Fault.the-variants.{Absent}
 use Rattle.model.specs.declared.StepLine.{StepLine}
 use Rattle.model.specs.Bytes.{kindOf}
 use Rattle.model.specs.Numbers.{digitsValue, numberShape?, numberOf, digitsUpTo, digits}
 use Rattle.model.specs.Split.{consFirst, split, same?}
 use Rattle.model.specs.Model.{Model, above?, aboveLast?}
-use Rattle.model.specs.Lines.{checked, fieldsFrom, fieldsOf, consNumber, numbersOf, numbersFrom, numbersLine, headFits?, headFrom, headOf, levelOf, allOf, nameByte?, name?, nameFrom, actionFields, used?, actionFrom, actionOf, stepFits?, rising, stepFrom, stepOf}
-use Rattle.model.specs.Reading.{done, faulty, onLine, orFault, readNothing, readEnd, readSteps, readActions, readModel, readText}
+use Rattle.model.specs.Lines.{checked, fieldsFrom, fieldsOf, consNumber, numbersOf, numbersFrom, numbersLine}
+use Rattle.model.specs.Lines.{headFits?, headFrom, headOf, levelOf, allOf, nameByte?, name?, nameFrom}
+use Rattle.model.specs.Lines.{actionFields, used?, actionFrom, actionOf, stepFits?, rising, stepFrom, stepOf}
+use Rattle.model.specs.Reading.{done, faulty, onLine, orFault, readNothing, readEnd, readSteps, readActions}
+use Rattle.model.specs.Reading.{readModel, readText}
 use Rattle.model.specs.Text.{headText, levelByte, actionText, stepText, actionsText, stepsText, textOf}
 
 abbrev step : ℕ → ℕ → ℕ → StepLine
@@ -42,7 +46,10 @@ text =
     ∷ []
 
 reads : readText text ≡ done worked
-unfolding readText readModel readActions readSteps readEnd readNothing orFault onLine stepOf stepFrom rising stepFits? actionOf actionFrom used? actionFields nameFrom name? nameByte? allOf levelOf headOf headFrom headFits? numbersLine numbersFrom numbersOf consNumber fieldsOf fieldsFrom checked above? aboveLast? same? split consFirst digitsValue numberShape? numberOf kindOf text worked
+unfolding readText readModel readActions readSteps readEnd readNothing orFault onLine stepOf stepFrom rising stepFits?
+    actionOf actionFrom used? actionFields nameFrom name? nameByte? allOf levelOf headOf headFrom headFits?
+    numbersLine numbersFrom numbersOf consNumber fieldsOf fieldsFrom checked above? aboveLast? same? split consFirst
+    digitsValue numberShape? numberOf kindOf text worked
 reads = refl
 
 writes : textOf worked ≡ text

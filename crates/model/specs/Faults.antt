@@ -14,7 +14,8 @@ pub data Told : Type 0 where
   refuses : (number place : ℕ) → Told
 
 -- The number of each fault of a line:
--- "2: wrong letter, field count, digit form, level or name; a line that is missing or has no line end; bytes after `E`",
+-- "2: wrong letter, field count, digit form, level or name; a line that is missing or has no line end; bytes after
+-- `E`",
 -- "3: a number outside its range", "4: a name used before", "5: a step not above the one before it".
 abbrev pub faultNumber : Fault → ℕ
 faultNumber Absent = 2

@@ -3,11 +3,11 @@
 use mathlib.Core.Bool.{Bool, true, false, _&&_}
 use mathlib.Core.List.{List, [], _∷_}
 use mathlib.Core.Path.{_≡_, refl, sym, ap, _∙_}
-use Prim.Native.Nat.{ℕ, zero, suc, _+_, _-_, _≤_, _<_}
+use Prim.Native.Nat.{ℕ, suc, _+_, _-_, _≤_, _<_}
 use native.Mathlib.Omega.{arith}
 use lib.Dec.{ltb, eqb}
 use lib.ListN.{length, take, drop, getD, length-drop}
-use lib.Seq.{getD-drop}
+use lib.Seq.{getD-drop, length-take-le}
 use borrow.Author.Tests.{ltb-true, ltb-false, eq-eqb, ne-eqb}
 use Rattle.model.specs.declared.Fault.{Fault}
 use Rattle.model.specs.declared.Fault.the-variants.{Shape}
@@ -15,6 +15,7 @@ use Rattle.model.specs.Bytes.{comma, kindOf}
 use Rattle.model.specs.Split.{consFirst, split, indexOf, same?}
 use Rattle.model.specs.SplitLaws.{split-end, split-cons, split-first, split-part, split-last, split-none}
 use Rattle.model.specs.SplitLaws.{split-found, found-le}
+use Rattle.model.specs.SameLaws.{and-false, same?-length}
 use Rattle.model.specs.Lines.{good, bad, checked, fieldsFrom, fieldsOf, numbersOf, numbersFrom, numbersLine}
 use Rattle.model.specs.PartAnswers.{Fields}
 
@@ -67,19 +68,6 @@ module _ (kind : ℕ) (s : List ℕ) (at e : ℕ) (le : at ≤ length s) (found 
 
 -- ---- a field of one byte
 
-and-nil : (t : Bool) → t && false ≡ false
-and-nil true = refl
-and-nil false = refl
-
--- a part that is not one byte long is no letter
-same?-take : (k : ℕ) (l : List ℕ) (x : ℕ) → k ≤ length l → (k ≡ 1 → ⊥) → same? (take k l) (x ∷ []) ≡ false
-unfolding same?
-same?-take zero l x le h = refl
-same?-take (suc zero) l x le h = absurd (h refl)
-same?-take (suc (suc k)) [] x le h = absurd (omega arith)
-same?-take (suc (suc k)) (a ∷ []) x le h = absurd (omega arith)
-same?-take (suc (suc k)) (a ∷ b ∷ l) x le h = and-nil (eqb a x)
-
 pub same?-byte : (b x : ℕ) → b ≡ x → same? (b ∷ []) (x ∷ []) ≡ true
 unfolding same?
 same?-byte b x h = rw (eq-eqb b x h)
@@ -88,7 +76,7 @@ pub same?-other : (b x : ℕ) → (b ≡ x → ⊥) → same? (b ∷ []) (x ∷ 
 unfolding same?
 same?-other b x h = rw (ne-eqb b x h)
 
-take-one : (l : List ℕ) → 0 < length l → take 1 l ≡ getD l 0 0 ∷ []
+pub take-one : (l : List ℕ) → 0 < length l → take 1 l ≡ getD l 0 0 ∷ []
 take-one [] h = absurd (omega arith)
 take-one (x ∷ xs) h = refl
 
@@ -113,7 +101,10 @@ module _ (line : List ℕ) (at e : ℕ) (le : at ≤ length line) (found : e ≡
       let b = found-le comma line at e le found in
       let d = length-drop at line in
       let l : e - at ≤ length (drop at line) = omega arith in
-      (take (e - at) (drop at line), w .0, w .1, λ x. same?-take (e - at) (drop at line) x l (λ z. other (omega arith)))
+      let part : List ℕ = take (e - at) (drop at line) in
+      let n : length part ≡ e - at = length-take-le (e - at) (drop at line) l in
+      let long : length part ≡ 1 → ⊥ = λ z. other (omega arith) in
+      (part, w .0, w .1, λ x. same?-length part (x ∷ []) long)
 
 -- ---- the fields after a letter
 
@@ -132,7 +123,7 @@ module _ (letter n : ℕ) (line f : List ℕ) (fs : List (List ℕ)) (parts : sp
   unfolding checked
   fields-count h =
       test false
-      (ap (λ (t : Bool). same? f (letter ∷ []) && t) (ne-eqb (length fs) n h) ∙ and-nil (same? f (letter ∷ [])))
+      (ap (λ (t : Bool). same? f (letter ∷ []) && t) (ne-eqb (length fs) n h) ∙ and-false (same? f (letter ∷ [])))
 
   pub fields-good : same? f (letter ∷ []) ≡ true → length fs ≡ n → fieldsOf letter n line ≡ good fs
   unfolding checked

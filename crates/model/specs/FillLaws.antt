@@ -10,9 +10,12 @@ use lib.Seq.{sets, set-at, append-snoc, take-suc, drop-cons, length-take-le}
 use Rattle.model.specs.declared.Head.{Head}
 use Rattle.model.specs.declared.StepLine.{StepLine}
 use Rattle.model.specs.Limits.{actionLimit, stepLimit, nameLimit, storeLength, actionPlace, stepPlace}
-use Rattle.model.specs.Model.{ActionLine, Model}
+use Rattle.model.specs.Model.{ActionLine}
 use Rattle.model.specs.Reading.{headModel}
 use Rattle.model.specs.Store.{padded, actionNumbers, actionsNumbers, stepsNumbers, headPlaces, storeOf}
+use Rattle.model.specs.BlocksLaws.{padded-length, blocks-snoc}
+use Rattle.model.specs.StoreLaws.{actionNumbers-length, stepsNumbers-length}
+use Rattle.model.specs.LineText.{stepPlaces}
 use Rattle.model.specs.ReadSoFar.{Short}
 
 -- ---- numbers over zeros
@@ -37,15 +40,11 @@ sets-zeros p (v ∷ vs) r (suc m) i e h =
 zeros-split : (m n k : ℕ) → m + n ≡ k → zeros k ≡ zeros m ++ zeros n
 zeros-split m n k e = sym (replicate-append-replicate m n 0 ∙ ap zeros e)
 
-padded-length : (n : ℕ) (l : List ℕ) → length l ≤ n → length (padded n l) ≡ n
-unfolding padded
-padded-length n l h = rw (length-append, length-replicate) (omega arith)
-
 -- numbers behind those that are there, over zeros
-padded-append : (n : ℕ) (p q vs : List ℕ) (i : ℕ) → length (p ++ q) ≡ i → length q + length vs ≤ n
+sets-padded : (n : ℕ) (p q vs : List ℕ) (i : ℕ) → length (p ++ q) ≡ i → length q + length vs ≤ n
     → sets (p ++ padded n q) i vs ≡ p ++ padded n (q ++ vs)
 unfolding padded
-padded-append n p q vs i e h =
+sets-padded n p q vs i e h =
     let k : n - length q - length vs ≡ n - length (q ++ vs) = rw length-append (omega arith) in
     let f : length vs ≤ n - length q = omega arith in
     ap (λ (x : List ℕ). sets x i vs) (simp (append-assoc, append-nil))
@@ -58,7 +57,8 @@ pub copy-suc : (from to : List ℕ) (i : ℕ) → i < length from → i < length
 copy-suc from to i h l =
     let k : i ≤ length from = omega arith in
     let n = length-take-le i from k in
-    rw (add-one, take-suc from i 0 h, drop-cons to i 0 l, set-at (take i from) (getD to i 0) (drop (suc i) to) (getD from i 0) i n)
+    let at = set-at (take i from) (getD to i 0) (drop (suc i) to) (getD from i 0) i n in
+    rw (add-one, take-suc from i 0 h, drop-cons to i 0 l, at)
     (sym (append-snoc (take i from) (getD from i 0) (drop (suc i) to)))
 
 -- ---- the first line
@@ -74,22 +74,18 @@ storeOf-head h =
 
 -- ---- one more action
 
-pub actionsNumbers-snoc : (actions : List ActionLine) (a : ActionLine)
+actionsNumbers-snoc : (actions : List ActionLine) (a : ActionLine)
     → actionsNumbers (actions ++ (a ∷ [])) ≡ actionsNumbers actions ++ actionNumbers a
 unfolding actionsNumbers
-actionsNumbers-snoc [] a = append-nil (actionNumbers a)
-actionsNumbers-snoc (b ∷ rest) a = rw (actionsNumbers-snoc rest a) (sym (append-assoc (actionNumbers b) (actionsNumbers rest) (actionNumbers a)))
+actionsNumbers-snoc = blocks-snoc actionNumbers actionsNumbers refl (λ a rest. refl)
 
-pub actionNumbers-length : (a : ActionLine) → length (a .name) ≤ nameLimit → length (actionNumbers a) ≡ 14
-unfolding actionNumbers
-actionNumbers-length a h = let l = padded-length nameLimit (a .name) h in omega arith
-
-pub actionsNumbers-length : (actions : List ActionLine) → Short actions → length (actionsNumbers actions) ≡ 14 * length actions
+pub actionsNumbers-length-of-Short : (actions : List ActionLine) → Short actions
+    → length (actionsNumbers actions) ≡ 14 * length actions
 unfolding actionsNumbers Short
-actionsNumbers-length [] s = refl
-actionsNumbers-length (a ∷ rest) s =
+actionsNumbers-length-of-Short [] s = refl
+actionsNumbers-length-of-Short (a ∷ rest) s =
     let m = actionNumbers-length a (s .0) in
-    let n = actionsNumbers-length rest (s .1) in
+    let n = actionsNumbers-length-of-Short rest (s .1) in
     length-append (actionNumbers a) (actionsNumbers rest) ∙ omega arith
 
 pub Short-snoc : (actions : List ActionLine) (a : ActionLine) → Short actions → length (a .name) ≤ nameLimit
@@ -101,61 +97,49 @@ Short-snoc (b ∷ rest) a s h = (s .0, Short-snoc rest a (s .1) h)
 regroup : (h a v y z t : List ℕ) → h ++ a ++ (v ++ (y ++ z ++ t)) ≡ h ++ (a ++ (v ++ y) ++ z) ++ t
 regroup h a v y z t = simp append-assoc
 
-pub storeOf-action : (h : Head) (actions : List ActionLine) (a : ActionLine) (i : ℕ) → length actions ≡ i → i < actionLimit
+pub storeOf-withAction : (h : Head) (actions : List ActionLine) (a : ActionLine) (i : ℕ) → length actions ≡ i
+    → i < actionLimit
     → Short actions → length (a .name) ≤ nameLimit
     → sets (storeOf (record { head = h; actions = actions; steps = [] })) (actionPlace i)
     (a .level ∷ length (a .name) ∷ a .name)
     ≡ storeOf (record { head = h; actions = actions ++ (a ∷ []); steps = [] })
 unfolding storeOf padded headPlaces stepsNumbers actionNumbers
-storeOf-action h actions a i c l s n =
+storeOf-withAction h actions a i c l s n =
     let hp : List ℕ = headPlaces h in
     let A : List ℕ = actionsNumbers actions in
     let vs : List ℕ = a .level ∷ length (a .name) ∷ a .name in
     let t : List ℕ = zeros 3072 in
-    let la = actionsNumbers-length actions s in
+    let la = actionsNumbers-length-of-Short actions s in
     let m : length (hp ++ A) ≡ 4 + 14 * i = length-append hp A ∙ omega arith in
     let f : length vs ≤ 896 - length A = omega arith in
     let g : (12 - length (a .name)) + (896 - (length A + 14)) ≡ 896 - length A - length vs = omega arith in
-    let k : length (A ++ (vs ++ zeros (12 - length (a .name)))) ≡ length A + 14 = rw (length-append A, length-append vs, length-replicate) (omega arith) in
+    let k : length (A ++ (vs ++ zeros (12 - length (a .name)))) ≡ length A + 14 =
+    rw (length-append A, length-append vs, length-replicate) (omega arith) in
     let b : hp ++ (A ++ zeros (896 - length A)) ++ t ≡ hp ++ A ++ (zeros (896 - length A) ++ t) = simp append-assoc in
     ap (λ (x : List ℕ). sets x (4 + 14 * i) vs) b
     ∙ sets-zeros (hp ++ A) vs t (896 - length A) (4 + 14 * i) m f
-    ∙ rw (zeros-split (12 - length (a .name)) (896 - (length A + 14)) (896 - length A - length vs) g, actionsNumbers-snoc actions a, k)
+    ∙ rw (zeros-split _ _ (896 - length A - length vs) g, actionsNumbers-snoc actions a, k)
     (regroup hp A vs (zeros (12 - length (a .name))) (zeros (896 - (length A + 14))) t)
 
 -- ---- one more step
 
-pub stepsNumbers-snoc : (steps : List StepLine) (s : StepLine)
+stepsNumbers-snoc : (steps : List StepLine) (s : StepLine)
     → stepsNumbers (steps ++ (s ∷ [])) ≡ stepsNumbers steps ++ (s .source .0 ∷ s .action .0 ∷ s .target .0 ∷ [])
 unfolding stepsNumbers
-stepsNumbers-snoc [] s = refl
-stepsNumbers-snoc (t ∷ rest) s = rw (stepsNumbers-snoc rest s)
+stepsNumbers-snoc = blocks-snoc stepPlaces stepsNumbers refl (λ s rest. refl)
 
-pub stepsNumbers-length : (steps : List StepLine) → length (stepsNumbers steps) ≡ 3 * length steps
-unfolding stepsNumbers
-stepsNumbers-length [] = refl
-stepsNumbers-length (t ∷ rest) = let e = stepsNumbers-length rest in omega arith
-
-pub storeOf-step : (h : Head) (actions : List ActionLine) (steps : List StepLine) (s : StepLine) (j : ℕ)
+pub storeOf-withStep : (h : Head) (actions : List ActionLine) (steps : List StepLine) (s : StepLine) (j : ℕ)
     → length (actionsNumbers actions) ≤ 14 * actionLimit → length steps ≡ j → j < stepLimit
     → sets (storeOf (record { head = h; actions = actions; steps = steps })) (stepPlace j)
     (s .source .0 ∷ s .action .0 ∷ s .target .0 ∷ [])
     ≡ storeOf (record { head = h; actions = actions; steps = steps ++ (s ∷ []) })
 unfolding storeOf headPlaces
-storeOf-step h actions steps s j f c l =
+storeOf-withStep h actions steps s j f c l =
     let P : List ℕ = headPlaces h ++ padded 896 (actionsNumbers actions) in
     let S : List ℕ = stepsNumbers steps in
     let vs : List ℕ = s .source .0 ∷ s .action .0 ∷ s .target .0 ∷ [] in
     let la = padded-length 896 (actionsNumbers actions) f in
     let ls = stepsNumbers-length steps in
     let lp = length-append (headPlaces h) (padded 896 (actionsNumbers actions)) in
-    padded-append 3072 P S vs (900 + 3 * j) (length-append P S ∙ omega arith) (omega arith) ∙ rw (stepsNumbers-snoc steps s)
-
-pub storeOf-length : (m : Model) → length (actionsNumbers (m .actions)) ≤ 14 * actionLimit → length (m .steps) ≤ stepLimit
-    → length (storeOf m) ≡ storeLength
-unfolding storeOf headPlaces
-storeOf-length m a s =
-    let la = padded-length 896 (actionsNumbers (m .actions)) a in
-    let ls = stepsNumbers-length (m .steps) in
-    let lp = padded-length 3072 (stepsNumbers (m .steps)) (omega arith) in
-    rw (length-append, length-append) (omega arith)
+    sets-padded 3072 P S vs (900 + 3 * j) (length-append P S ∙ omega arith) (omega arith)
+    ∙ rw (stepsNumbers-snoc steps s)

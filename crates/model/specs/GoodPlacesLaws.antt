@@ -17,9 +17,10 @@ use Rattle.model.specs.LineText.{stepPlaces}
 use Rattle.model.specs.WellFormed.{ActionFits, StepFits, WellFormed}
 use Rattle.model.specs.StoredModel.{headAt, actionAt, stepAt, listed, modelAt, Holds}
 use Rattle.model.specs.Ranges.{HeadRanges}
-use Rattle.model.specs.RangesLaws.{le→between?, headFits?→HeadRanges}
+use Rattle.model.specs.BytesLaws.{le→between?}
+use Rattle.model.specs.RangesLaws.{headFits?→HeadRanges}
 use Rattle.model.specs.StoredModelLaws.{listed-length}
-use Rattle.model.specs.GoodPlaces.{SameName, nameLengthAt, GoodAction, GoodPlaces}
+use Rattle.model.specs.GoodPlaces.{nameLengthAt, GoodAction, GoodPlaces}
 use Rattle.model.specs.PlacesLaws.{part-length, part-cons, padded-part, getD→allOf}
 use Rattle.model.specs.ListedLaws.{listed-each, used?-listed, blocks-listed}
 use Rattle.model.specs.AboveLaws.{aboveLast?-append}

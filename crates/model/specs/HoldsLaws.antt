@@ -1,7 +1,7 @@
 -- A store that holds the model that it shows has good places.
 -- Document 01, "The model store". Assumes nothing.
 use mathlib.Core.List.{List, [], _∷_, _++_, append-assoc}
-use mathlib.Core.Logic.{_⊎_, ⊎-elim}
+use mathlib.Core.Logic.{⊎-elim}
 use mathlib.Core.Path.{_≡_, sym, ap, _∙_, subst}
 use Prim.Native.Nat.{ℕ, zero, suc, _+_, _-_, _*_, _≤_, _<_}
 use native.Mathlib.Omega.{arith}
@@ -21,8 +21,8 @@ use Rattle.model.specs.RangesLaws.{headFits?→HeadRanges}
 use Rattle.model.specs.ActionLineLaws.{name-length}
 use Rattle.model.specs.StoreLaws.{actionsNumbers-length, stepsNumbers-length}
 use Rattle.model.specs.StoreLaws.{actions-padded-length, storeOf-action}
-use Rattle.model.specs.StoredModelLaws.{listed-length, holds-store, actionAt-holds, Holds→Good}
-use Rattle.model.specs.GoodPlaces.{SameName, nameLengthAt, GoodAction, GoodStep, GoodPlaces}
+use Rattle.model.specs.StoredModelLaws.{listed-length, holds-store, actionAt-holds}
+use Rattle.model.specs.GoodPlaces.{nameLengthAt, GoodAction, GoodStep, GoodPlaces}
 use Rattle.model.specs.PlacesLaws.{padded-zero, allOf→getD}
 use Rattle.model.specs.ListedLaws.{each-listed, listed-used?}
 use Rattle.model.specs.AboveLaws.{aboveLast?-append}

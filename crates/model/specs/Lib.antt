@@ -5,6 +5,7 @@ pub mod EachFrom
 pub mod EachFromLaws
 pub mod Bytes
 pub mod BytesLaws
+pub mod Table
 pub mod TableLaws
 pub mod Numbers
 pub mod All
@@ -62,6 +63,7 @@ pub mod PartAnswers
 pub mod FieldsLaws
 pub mod LinesLaws
 pub mod ActionLaws
+pub mod Row
 pub mod RowLaws
 pub mod Promises
 pub mod PromisesLaws

@@ -1,7 +1,6 @@
 -- What the functions that read one line answer, in the terms of `Lines`. Only the contracts of inner functions cite it.
 use mathlib.Core.List.{List, []}
 use mathlib.Core.Path.{_≡_}
-use mathlib.Core.Bool.{Bool}
 use Prim.Native.Nat.{ℕ, _<_}
 use lib.ListN.{drop}
 use Rattle.model.specs.declared.Head.{Head}

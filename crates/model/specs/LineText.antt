@@ -1,11 +1,12 @@
 -- The lines of a model's text without their ends, as fields joined by commas.
 -- Document 01, "The text".
 use mathlib.Core.List.{List, [], _∷_, _++_, map}
+use mathlib.Core.Logic.{_⊎_}
 use mathlib.Core.Path.{_≡_}
 use Prim.Native.Nat.{ℕ, _<_}
 use Rattle.model.specs.declared.Head.{Head}
 use Rattle.model.specs.declared.StepLine.{StepLine}
-use Rattle.model.specs.Bytes.{kindOf, lineEnd}
+use Rattle.model.specs.Bytes.{kindOf, digit, smallLetter, lineEnd}
 use Rattle.model.specs.Numbers.{digits}
 use Rattle.model.specs.Join.{join}
 use Rattle.model.specs.Model.{ActionLine, Model}
@@ -33,6 +34,10 @@ abbrev pub partsOf : Model → List (List ℕ)
 partsOf m =
     lineOfHead (m .head)
     ∷ (map lineOfAction (m .actions) ++ (map lineOfStep (m .steps) ++ ((69 ∷ []) ∷ [] ∷ [])))
+
+-- a byte of a name is a digit or a small letter
+abbrev pub NameByte : ℕ → Type 0
+NameByte b = (kindOf b ≡ digit) ⊎ (kindOf b ≡ smallLetter)
 
 -- a byte that may stand in a line
 abbrev pub LineByte : ℕ → Type 0

@@ -1,6 +1,7 @@
 -- What one line of a text states, or its fault.
--- Document 01, "The text"; the tests of a line stand in the order of "Refused because of the input": "in a line 2 is tested
--- before 3, and 3 before 4 or 5". Of what 2 stands for, letter and field count are tested before the fields' digits.
+-- Document 01, "The text"; the tests of a line stand in the order of "Refused because of the input":
+-- "in a line 2 is tested before 3, and 3 before 4 or 5".
+-- Of what 2 stands for, letter and field count are tested before the fields' digits.
 use mathlib.Core.Bool.{Bool, true, false, cond, _&&_, _||_}
 use mathlib.Core.List.{List, [], _∷_}
 use Prim.Native.Nat.{ℕ}
@@ -16,7 +17,7 @@ use Rattle.model.specs.Bytes.{digit, smallLetter, comma, between?, kindO
 use Rattle.model.specs.Numbers.{numberOf}
 use Rattle.model.specs.Split.{split, same?}
 use Rattle.model.specs.Limits.{stateLimit, actionLimit, stepLimit, nameLimit}
-use Rattle.model.specs.Model.{low, release, high, ActionLine, Model, aboveLast?}
+use Rattle.model.specs.Model.{low, release, high, ActionLine, aboveLast?}
 
 -- what a line, or a part of it, states; or its fault
 pub data Line (A : Type 0) : Type 0 where

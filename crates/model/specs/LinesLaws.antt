@@ -6,13 +6,12 @@ use mathlib.Core.Path.{_≡_, refl, ap, _∙_}
 use Prim.Native.Nat.{ℕ, _≤_, _<_}
 use native.Mathlib.Omega.{arith}
 use lib.Dec.{leb, ltb, eqb}
-use borrow.Author.Tests.{ltb-true, leb-true, lt-ltb, le-ltb, eq-eqb, ne-eqb}
+use borrow.Author.Tests.{lt-ltb, le-ltb, eq-eqb, ne-eqb}
 use Rattle.model.specs.declared.Fault.{Fault}
 use Rattle.model.specs.declared.Fault.the-variants.{Range, Order}
 use Rattle.model.specs.declared.Head.{Head}
 use Rattle.model.specs.declared.StepLine.{StepLine}
 use Rattle.model.specs.Bytes.{between?}
-use Rattle.model.specs.BytesLaws.{and-true, between?-true}
 use Rattle.model.specs.Limits.{stateLimit, actionLimit, stepLimit}
 use Rattle.model.specs.Model.{above?, aboveLast?}
 use Rattle.model.specs.Lines.{good, bad, checked, numbersLine, headFits?, headNumbers, headFrom, headOf}
@@ -26,36 +25,6 @@ pub headFits-tests : (h : Head) {s a n l : Bool} → between? 1 stateLimit (h .s
     → leb (h .steps) stepLimit ≡ n → ltb (h .start .0) (h .states) ≡ l → headFits? h ≡ s && a && n && l
 unfolding headFits?
 headFits-tests h e f g k = rw (← e, ← f, ← g, ← k)
-
--- what line 1 may state
-pub record HeadRange (h : Head) : Type 0 where
-  pub states-pos : 1 ≤ h .states
-  pub states-le : h .states ≤ stateLimit
-  pub actions-pos : 1 ≤ h .actions
-  pub actions-le : h .actions ≤ actionLimit
-  pub steps-le : h .steps ≤ stepLimit
-  pub start-lt : h .start .0 < h .states
-
-pub headFits?→HeadRange : (h : Head) → headFits? h ≡ true → HeadRange h
-unfolding headFits?
-headFits?→HeadRange h e =
-    let s = between? 1 stateLimit (h .states) in
-    let a = between? 1 actionLimit (h .actions) in
-    let n = leb (h .steps) stepLimit in
-    let l = ltb (h .start .0) (h .states) in
-    let three = and-true (s && a && n) l e in
-    let two = and-true (s && a) n (three .0) in
-    let one = and-true s a (two .0) in
-    let states = between?-true 1 stateLimit (h .states) (one .0) in
-    let actions = between?-true 1 actionLimit (h .actions) (one .1) in
-    record {
-      states-pos = states .0;
-      states-le = states .1;
-      actions-pos = actions .0;
-      actions-le = actions .1;
-      steps-le = leb-true (h .steps) stepLimit (two .1);
-      start-lt = ltb-true (h .start .0) (h .states) (three .1);
-    }
 
 module _ (line : List ℕ) where
   pub headOf-bad : {fault : Fault} → numbersLine 77 4 line ≡ bad fault → headOf line ≡ bad fault
@@ -73,26 +42,6 @@ pub stepFits-tests : (h : Head) (s : StepLine) {p a q : Bool} → ltb (s .source
     → ltb (s .action .0) (h .actions) ≡ a → ltb (s .target .0) (h .states) ≡ q → stepFits? h s ≡ p && a && q
 unfolding stepFits?
 stepFits-tests h s e f g = rw (← e, ← f, ← g)
-
--- the states and the action of a step are there
-pub record StepRange (h : Head) (s : StepLine) : Type 0 where
-  pub source-lt : s .source .0 < h .states
-  pub action-lt : s .action .0 < h .actions
-  pub target-lt : s .target .0 < h .states
-
-pub stepFits?→StepRange : (h : Head) (s : StepLine) → stepFits? h s ≡ true → StepRange h s
-unfolding stepFits?
-stepFits?→StepRange h s e =
-    let p = ltb (s .source .0) (h .states) in
-    let a = ltb (s .action .0) (h .actions) in
-    let q = ltb (s .target .0) (h .states) in
-    let two = and-true (p && a) q e in
-    let one = and-true p a (two .0) in
-    record {
-      source-lt = ltb-true (s .source .0) (h .states) (one .0);
-      action-lt = ltb-true (s .action .0) (h .actions) (one .1);
-      target-lt = ltb-true (s .target .0) (h .states) (two .1);
-    }
 
 -- source, then action, then target
 module _ (s t : StepLine) where

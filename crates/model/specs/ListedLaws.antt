@@ -2,8 +2,8 @@
 -- numbers that they are stored as.
 -- Assumes nothing.
 use mathlib.Core.Bool.{Bool, true, false, _||_}
-use mathlib.Core.List.{List, [], _∷_, _++_, append-assoc, append-nil}
-use mathlib.Core.Logic.{_⊎_, ⊎-elim}
+use mathlib.Core.List.{List, [], _∷_, _++_}
+use mathlib.Core.Logic.{⊎-elim}
 use mathlib.Core.Path.{_≡_, refl, sym, ap, _∙_, subst}
 use Prim.Native.Nat.{ℕ, zero, suc, _+_, _*_, _<_}
 use native.Mathlib.Nat.{mul-suc, mul-zero}
@@ -17,6 +17,7 @@ use Rattle.model.specs.SameLaws.{same?→eq, eq→same?}
 use Rattle.model.specs.Model.{ActionLine}
 use Rattle.model.specs.Lines.{used?}
 use Rattle.model.specs.WellFormed.{EachAfter}
+use Rattle.model.specs.BlocksLaws.{blocks-snoc}
 use Rattle.model.specs.EachLaws.{each-nil, each-snoc, snoc-each}
 use Rattle.model.specs.StoredModel.{listed}
 
@@ -84,12 +85,6 @@ module _ (name : List ℕ) (f : ℕ → ActionLine) where
 
 module _ {A : Type 0} (block : A → List ℕ) (blocks : List A → List ℕ) (width : ℕ) (nil : blocks [] ≡ [])
     (cons : (x : A) (xs : List A) → blocks (x ∷ xs) ≡ block x ++ blocks xs) where
-  blocks-snoc : (xs : List A) (x : A) → blocks (xs ++ (x ∷ [])) ≡ blocks xs ++ block x
-  blocks-snoc [] x = rw (cons x [], nil, append-nil)
-  blocks-snoc (y ∷ ys) x =
-      cons y (ys ++ (x ∷ [])) ∙ ap (λ (l : List ℕ). block y ++ l) (blocks-snoc ys x)
-      ∙ sym (append-assoc (block y) (blocks ys) (block x)) ∙ ap (λ (l : List ℕ). l ++ block x) (sym (cons y ys))
-
   -- elements that stand block after block from place p of a list on
   pub blocks-listed : (s : List ℕ) (p : ℕ) (f : ℕ → A) (n : ℕ)
       → ((i : ℕ) → i < n → block (f i) ≡ take width (drop (p + width * i) s))
@@ -101,4 +96,5 @@ module _ {A : Type 0} (block : A → List ℕ) (blocks : List A → List ℕ) (w
       let k : width * suc n ≡ width * n + width = omega arith in
       let t : take (width * suc n) (drop p s) ≡ take (width * n) (drop p s) ++ take width (drop (p + width * n) s) =
       ap (λ (x : ℕ). take x (drop p s)) k ∙ take-add (width * n) width (drop p s) ∙ rw drop-drop in
-      rw (blocks-snoc (listed n f) (f n), blocks-listed s p f n (λ i l. h i (omega arith)), h n (omega arith), t)
+      let snoc = blocks-snoc block blocks nil cons (listed n f) (f n) in
+      rw (snoc, blocks-listed s p f n (λ i l. h i (omega arith)), h n (omega arith), t)

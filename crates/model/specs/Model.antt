@@ -1,10 +1,9 @@
 -- A model as its text states it: the numbers of line 1, then what each `A` line and each `S` line states.
 -- Document 01, "The text".
-use mathlib.Core.Bool.{Bool, true, false, cond, _&&_, _||_}
+use mathlib.Core.Bool.{Bool, true, _&&_, _||_}
 use mathlib.Core.List.{List, [], _∷_, _++_}
 use Prim.Native.Nat.{ℕ}
 use lib.Dec.{ltb, eqb}
-use lib.ListN.{length}
 use Rattle.model.specs.declared.Head.{Head}
 use Rattle.model.specs.declared.StepLine.{StepLine}
 
@@ -27,6 +26,13 @@ pub record Model : Type 0 where
   pub head : Head
   pub actions : List ActionLine
   pub steps : List StepLine
+
+-- what stands past the end of a list
+abbrev pub noAction : ActionLine
+noAction = record { level = 0; name = [] }
+
+abbrev pub noStep : StepLine
+noStep = record { source = record { 0 = 0 }; action = record { 0 = 0 }; target = record { 0 = 0 } }
 
 -- a model with one more action, or one more step, at the end
 abbrev pub withAction : Model → ActionLine → Model

@@ -1,24 +1,25 @@
 -- The names of actions as they stand in the store, and the test whether one was used before.
 -- Document 01, "The text" and "The model store". Assumes nothing.
-use mathlib.Core.Bool.{Bool, true, false, _&&_, _||_}
+use mathlib.Core.Bool.{Bool, true, false, _||_}
 use mathlib.Core.List.{List, [], _∷_, _++_, append-assoc}
-use mathlib.Core.Path.{_≡_, refl, sym, ap, _∙_}
+use mathlib.Core.Path.{_≡_, refl, sym, ap, _∙_, subst}
 use Prim.Native.Nat.{ℕ, zero, suc, _+_, _-_, _*_, _≤_, _<_}
 use native.Mathlib.Omega.{arith}
 use native.Mathlib.Numerals.{add-one}
-use lib.Dec.{eqb}
+use lib.Dec.{T}
 use lib.ListN.{length, take, drop, getD, replicate, length-drop, List·getD-append}
 use lib.Seq.{drop-cons, drop-drop, drop-at, getD-drop, drop-nil, take-nil, ext-getD, drop-length, length-take-le}
-use borrow.Author.Tests.{eqb-true, eq-eqb}
+use Rattle.lts.specs.TestsLaws.{T→true}
 use Rattle.model.specs.declared.Head.{Head}
 use Rattle.model.specs.Limits.{nameLimit, actionPlace}
 use Rattle.model.specs.Split.{same?}
-use Rattle.model.specs.Model.{ActionLine}
+use Rattle.model.specs.SameLaws.{same?→eq, same?-refl, same?-length}
+use Rattle.model.specs.Model.{ActionLine, noAction}
 use Rattle.model.specs.Lines.{good, fieldsOf, actionFields, used?}
 use Rattle.model.specs.Store.{padded, actionNumbers, actionsNumbers, stepsNumbers, storeOf, headPlaces}
 use Rattle.model.specs.ReadSoFar.{ActionStored, ActionsStored, Short, AfterActions}
-use Rattle.model.specs.FillLaws.{actionNumbers-length}
-use Rattle.model.specs.ReadLaws.{and-left, and-right, actionFields-length}
+use Rattle.model.specs.StoreLaws.{actionNumbers-length}
+use Rattle.model.specs.ReadLaws.{actionFields-length}
 
 -- a part of a part
 pub drop-take : (n m : ℕ) (l : List ℕ) → drop n (take m l) ≡ take (m - n) (drop n l)
@@ -46,37 +47,11 @@ name-part text at e level h l r =
 
 -- ---- one name
 
-same?-length : (s t : List ℕ) → (length s ≡ length t → ⊥) → same? s t ≡ false
-unfolding same?
-same?-length [] [] h = absurd (h refl)
-same?-length [] (y ∷ t) h = refl
-same?-length (x ∷ s) [] h = refl
-same?-length (x ∷ s) (y ∷ t) h = rw (same?-length s t (λ e. h (ap suc e))) (both (eqb x y))
-  where
-    both : (b : Bool) → b && false ≡ false
-    both true = refl
-    both false = refl
-
-pub same?-refl : (s : List ℕ) → same? s s ≡ true
-unfolding same?
-same?-refl [] = refl
-same?-refl (x ∷ s) = rw (eq-eqb x x refl, same?-refl s)
-
-same?-true : (s t : List ℕ) → same? s t ≡ true → s ≡ t
-unfolding same?
-same?-true [] [] h = refl
-same?-true [] (y ∷ t) h = let z : true ≡ false = sym h in cc
-same?-true (x ∷ s) [] h = let z : true ≡ false = sym h in cc
-same?-true (x ∷ s) (y ∷ t) h =
-    let e = eqb-true x y (and-left (eqb x y) (same? s t) h) in
-    let f = same?-true s t (and-right (eqb x y) (same? s t) h) in
-    cc
-
 pub same?-differ : (s t : List ℕ) (i : ℕ) → (getD s i 0 ≡ getD t i 0 → ⊥) → same? s t ≡ false
 same?-differ s t i h = go (same? s t) refl
   where
     go : (b : Bool) → same? s t ≡ b → same? s t ≡ false
-    go true e = absurd (h (ap (λ (l : List ℕ). getD l i 0) (same?-true s t e)))
+    go true e = absurd (h (ap (λ (l : List ℕ). getD l i 0) (same?→eq s t (subst T (sym e) tt))))
     go false e = e
 
 module _ (store : List ℕ) (at : ℕ) (a : ActionLine) (s : ActionStored store at a) (name : List ℕ) where
@@ -96,20 +71,23 @@ module _ (store : List ℕ) (at : ℕ) (a : ActionLine) (s : ActionStored store 
   named-length h = sym (same?-length (a .name) name (λ e. h (stored-length ∙ e)))
 
   module _ (l : getD store (at + 1) 0 ≡ length name) where
-    pub named-differ : (i : ℕ) → i < length name → (getD store (at + 2 + i) 0 ≡ getD name i 0 → ⊥) → false ≡ same? (a .name) name
+    pub named-differ : (i : ℕ) → i < length name → (getD store (at + 2 + i) 0 ≡ getD name i 0 → ⊥)
+        → false ≡ same? (a .name) name
     named-differ i h d =
         let n = stored-length in
         sym (same?-differ (a .name) name i (λ e. d (stored-byte i (omega arith) ∙ e)))
 
-    pub named-same : ((i : ℕ) → i < length name → getD store (at + 2 + i) 0 ≡ getD name i 0) → true ≡ same? (a .name) name
+    pub named-same : ((i : ℕ) → i < length name → getD store (at + 2 + i) 0 ≡ getD name i 0)
+        → true ≡ same? (a .name) name
     named-same h =
         let n : length (a .name) ≡ length name = sym stored-length ∙ l in
         let e : a .name ≡ name = ext-getD 0 (a .name) name n (λ i k. sym (stored-byte i k) ∙ h i (rw n at k)) in
-        rw e (sym (same?-refl name))
+        rw e (sym (T→true (same? name name) (same?-refl name)))
 
 -- ---- the names of all actions so far
 
-ActionsStored-first : (store : List ℕ) (at : ℕ) (a : ActionLine) (rest : List ActionLine) → ActionsStored store at (a ∷ rest)
+ActionsStored-first : (store : List ℕ) (at : ℕ) (a : ActionLine) (rest : List ActionLine)
+    → ActionsStored store at (a ∷ rest)
     → ActionStored store at a
 unfolding actionsNumbers Short
 ActionsStored-first store at a rest s =
@@ -119,7 +97,8 @@ ActionsStored-first store at a rest s =
       short = s .short .0;
     }
 
-ActionsStored-rest : (store : List ℕ) (at : ℕ) (a : ActionLine) (rest : List ActionLine) → ActionsStored store at (a ∷ rest)
+ActionsStored-rest : (store : List ℕ) (at : ℕ) (a : ActionLine) (rest : List ActionLine)
+    → ActionsStored store at (a ∷ rest)
     → ActionsStored store (at + 14) rest
 unfolding Short ActionsStored-first actionsNumbers
 ActionsStored-rest store at a rest s =
@@ -140,22 +119,21 @@ ActionsStored-drop store at (suc k) (a ∷ rest) s h =
     let l : k ≤ length rest = omega arith in
     rw z (ActionsStored-drop store (at + 14) k rest (ActionsStored-rest store at a rest s) l)
 
-unnamed : ActionLine
-unnamed = record { level = 0; name = [] }
-
-module _ (store name : List ℕ) (before : List ActionLine) (s : ActionsStored store 4 before) (i : ℕ) (l : i < length before)
-    (r : Bool) (tested : (a : ActionLine) → ActionStored store (actionPlace i) a → r ≡ same? (a .name) name) where
+module _ (store name : List ℕ) (before : List ActionLine) (s : ActionsStored store 4 before) (i : ℕ)
+    (l : i < length before) (r : Bool)
+    (tested : (a : ActionLine) → ActionStored store (actionPlace i) a → r ≡ same? (a .name) name) where
   pub used?-drop : used? name (drop i before) ≡ r || used? name (drop (i + 1) before)
   unfolding used?
   used?-drop =
-      let a : ActionLine = getD before i unnamed in
+      let a : ActionLine = getD before i noAction in
       let k : i ≤ length before = omega arith in
-      let c : drop i before ≡ a ∷ drop (suc i) before = drop-cons before i unnamed l in
+      let c : drop i before ≡ a ∷ drop (suc i) before = drop-cons before i noAction l in
       let d = rw c at (ActionsStored-drop store 4 i before s k) in
       let t = tested a (ActionsStored-first store (actionPlace i) a (drop (suc i) before) d) in
       rw (c, add-one, t)
 
-pub used?-none : (name : List ℕ) (before : List ActionLine) (i : ℕ) → i ≡ length before → used? name (drop i before) ≡ false
+pub used?-none : (name : List ℕ) (before : List ActionLine) (i : ℕ) → i ≡ length before
+    → used? name (drop i before) ≡ false
 unfolding used?
 used?-none name before i e = rw (e, drop-length before)
 

@@ -1,7 +1,7 @@
 -- Two actions have one name exactly if its length and its twelve places are the same.
 -- Document 01, "The model store". Assumes nothing.
 use mathlib.Core.List.{List}
-use mathlib.Core.Logic.{_⊎_, ⊎-elim}
+use mathlib.Core.Logic.{⊎-elim}
 use mathlib.Core.Path.{_≡_, sym, ap, _∙_}
 use Prim.Native.Nat.{ℕ, zero, suc, _+_, _≤_, _<_}
 use native.Mathlib.Omega.{arith}
@@ -15,8 +15,8 @@ use Rattle.model.specs.PlacesLaws.{part-length, part-same}
 
 module _ (s : List ℕ) (fits : storeLength ≤ length s) where
   -- the same places by other sums
-  same-at : {u v : ℕ} (x y : ℕ) → getD s u 0 ≡ getD s v 0 → x ≡ u → y ≡ v → getD s x 0 ≡ getD s y 0
-  same-at x y e f g = rw (f, g) e
+  getD-same : {u v : ℕ} (x y : ℕ) → getD s u 0 ≡ getD s v 0 → x ≡ u → y ≡ v → getD s x 0 ≡ getD s y 0
+  getD-same x y e f g = rw (f, g) e
 
   pub name-at : (i k : ℕ) → k < nameLengthAt s i → getD (actionAt s i .name) k 0 ≡ getD s (namePlace i + k) 0
   name-at i k h = rw (getD-take (nameLengthAt s i) (drop (namePlace i) s) k 0 h, getD-drop)
@@ -25,12 +25,12 @@ module _ (s : List ℕ) (fits : storeLength ≤ length s) where
       → actionAt s h .name ≡ actionAt s i .name
   SameName→eq h i k l f same =
       let n : nameLengthAt s h ≡ nameLengthAt s i =
-      same-at (actionPlace h + 1) (actionPlace i + 1) (same .at 0 (omega arith) (omega arith)) (omega arith)
+      getD-same (actionPlace h + 1) (actionPlace i + 1) (same .at 0 (omega arith) (omega arith)) (omega arith)
       (omega arith) in
       rw n
       (part-same s (namePlace h) (nameLengthAt s i) (omega arith) (namePlace i) (omega arith)
       (λ j m.
-      same-at (namePlace h + j) (namePlace i + j) (same .at (1 + j) (omega arith) (omega arith)) (omega arith)
+      getD-same (namePlace h + j) (namePlace i + j) (same .at (1 + j) (omega arith) (omega arith)) (omega arith)
       (omega arith)))
 
   pub eq→SameName : (h i : ℕ) → h < actionLimit → i < actionLimit → GoodAction s h → GoodAction s i
@@ -54,7 +54,7 @@ module _ (s : List ℕ) (fits : storeLength ≤ length s) where
           (lt-or-le j (nameLengthAt s h))
 
       at : (j : ℕ) → j < nameLimit + 1 → SameAt s (actionPlace h + 1) (actionPlace i + 1) j
-      at zero m = same-at (actionPlace h + 1 + 0) (actionPlace i + 1 + 0) n (omega arith) (omega arith)
+      at zero m = getD-same (actionPlace h + 1 + 0) (actionPlace i + 1 + 0) n (omega arith) (omega arith)
       at (suc j) m =
-          same-at (actionPlace h + 1 + suc j) (actionPlace i + 1 + suc j) (in-name j (omega arith)) (omega arith)
+          getD-same (actionPlace h + 1 + suc j) (actionPlace i + 1 + suc j) (in-name j (omega arith)) (omega arith)
           (omega arith)

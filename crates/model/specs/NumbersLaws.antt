@@ -1,6 +1,5 @@
 -- The value of digits, byte by byte, and the number of a field, by the field's shape.
 -- Document 01, "The text": "Numbers have 1 to 5 digits and no leading zero, except `0` itself." Assumes nothing.
-use mathlib.Core.Bool.{Bool, true, false, cond, _&&_}
 use mathlib.Core.List.{List, [], _∷_}
 use mathlib.Core.Path.{_≡_, refl}
 use Prim.Native.Nat.{ℕ, _+_, _-_, _*_, _^_, _≤_, _<_}
@@ -13,6 +12,7 @@ use borrow.Author.Tests.{le-leb, lt-leb, eq-eqb, ne-eqb}
 use Rattle.model.specs.declared.number.Number.the-variants.{Value, Bad}
 use Rattle.model.specs.Bytes.{digit, kindOf}
 use Rattle.model.specs.Numbers.{digitsValue, numberShape?, numberOf}
+use Rattle.model.specs.SameLaws.{and-false}
 
 pub pow-next : (i : ℕ) → 10 ^ (i + 1) ≡ 10 * 10 ^ i
 pow-next i = rw (add-one, pow-suc) (omega arith)
@@ -52,11 +52,7 @@ pub numberOf-zero : (f : List ℕ) → 1 < length f → getD f 0 0 ≡ 48 → nu
 unfolding numberOf numberShape?
 numberOf-zero [] h z = absurd (omega arith)
 numberOf-zero (b ∷ []) h z = absurd (omega arith)
-numberOf-zero (b ∷ c ∷ bs) h z = rw (eq-eqb b 48 z) (go (leb (length bs) 3))
-  where
-    go : (t : Bool) → cond (t && false) (digitsValue 0 (b ∷ c ∷ bs)) Bad ≡ Bad
-    go true = refl
-    go false = refl
+numberOf-zero (b ∷ c ∷ bs) h z = rw (eq-eqb b 48 z, and-false (leb (length bs) 3))
 
 pub numberOf-some : (f : List ℕ) → 1 < length f → length f ≤ 5 → (getD f 0 0 ≡ 48 → ⊥) → numberOf f ≡ digitsValue 0 f
 unfolding numberOf numberShape?

@@ -1,18 +1,16 @@
 -- The promises of Read and Write.
 -- Document 01, "The operations, in the order of the work", 1 and 8, and both sections on refusals.
-use mathlib.Core.Bool.{cond}
 use mathlib.Core.List.{List, [], _∷_, _++_}
 use mathlib.Core.Option.{Option, none, some}
 use mathlib.Core.Path.{_≡_}
 use Prim.Native.Nat.{ℕ}
-use lib.ListN.{length, take, drop}
+use lib.ListN.{length, drop}
 use Rattle.model.specs.declared.read.ReadAnswer.{ReadAnswer}
 use Rattle.model.specs.declared.read.ReadAnswer.the-variants.{Done, ShortList, TooLong, Faulty}
 use Rattle.model.specs.declared.write.WriteAnswer.{WriteAnswer}
 use Rattle.model.specs.declared.write.WriteAnswer.the-variants as write-answer
 use Rattle.model.specs.Limits.{storeLength, outLength}
 use Rattle.model.specs.Faults.{Told, answers, refuses, faultNumber, firstShort}
-use Rattle.model.specs.Model.{Model}
 use Rattle.model.specs.Reading.{Reading, done, tooLong, faulty, readText}
 use Rattle.model.specs.Store.{storeOf, Good}
 
@@ -20,7 +18,8 @@ use Rattle.model.specs.Store.{storeOf, Good}
 
 -- "Tested in rising order": a list that is too short, then a store that is not good, "All unchanged"; else what the
 -- operation does on a good store
-pub record OnStore (lists : Option ℕ) (store : List ℕ) (told : Told) (Unchanged : Type 0) (Done : Good store → Type 0) : Type 0 where
+pub record OnStore (lists : Option ℕ) (store : List ℕ) (told : Told) (Unchanged : Type 0)
+    (Done : Good store → Type 0) : Type 0 where
   pub short : (k : ℕ) → lists ≡ some k → (told ≡ refuses 21 k) × Unchanged
   pub not-good : lists ≡ none → ¬ (Good store) → (told ≡ refuses 22 0) × Unchanged
   pub good : lists ≡ none → (g : Good store) → Done g

@@ -1,22 +1,15 @@
 -- The tests of ranges decide them.
 -- Document 01, "The text". Assumes nothing.
 use mathlib.Core.Bool.{Bool, _&&_}
-use Prim.Native.Nat.{ℕ, _≤_}
 use lib.Dec.{T, leb, ltb, leb→le, le→leb, ltb→lt, lt→ltb}
 use Rattle.lts.specs.TestsLaws.{and-left, and-right, and-intro}
 use Rattle.model.specs.declared.Head.{Head}
 use Rattle.model.specs.declared.StepLine.{StepLine}
 use Rattle.model.specs.Bytes.{between?}
+use Rattle.model.specs.BytesLaws.{between?→le, le→between?}
 use Rattle.model.specs.Limits.{stateLimit, actionLimit, stepLimit}
 use Rattle.model.specs.Lines.{headFits?, stepFits?}
 use Rattle.model.specs.Ranges.{HeadRanges, StepRanges}
-
-pub between?→le : (least most x : ℕ) → T (between? least most x) → (least ≤ x) × (x ≤ most)
-between?→le least most x t =
-    (leb→le least x (and-left (leb least x) (leb x most) t), leb→le x most (and-right (leb least x) (leb x most) t))
-
-pub le→between? : (least most x : ℕ) → least ≤ x → x ≤ most → T (between? least most x)
-le→between? least most x h l = and-intro (leb least x) (leb x most) (le→leb least x h) (le→leb x most l)
 
 module _ (h : Head) where
   abbrev states? : Bool

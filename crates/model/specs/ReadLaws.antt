@@ -1,30 +1,34 @@
--- The reading of a text goes on line by line: what a line that is missing, bad or good makes of what has been read so far.
+-- The reading of a text goes on line by line: what a line that is missing, bad or good makes of what has been read
+-- so far.
 -- Document 01, "The text" and "Refused because of the input". Assumes nothing.
-use mathlib.Core.Bool.{Bool, true, false, _&&_}
+use mathlib.Core.Bool.{true, false}
 use mathlib.Core.List.{List, [], _∷_, _++_}
-use mathlib.Core.Path.{_≡_, refl, sym, ap, _∙_}
+use mathlib.Core.Path.{_≡_, refl, subst, _∙_}
 use Prim.Native.Nat.{ℕ, suc, _+_, _-_, _≤_, _<_}
 use native.Mathlib.Omega.{arith}
-use lib.Dec.{leb, ltb}
+use lib.Dec.{T}
 use lib.ListN.{length, take, drop, getD, length-append}
 use lib.Seq.{sets}
-use borrow.Author.Tests.{leb-true}
 use Rattle.model.specs.declared.Fault.{Fault}
-use Rattle.model.specs.declared.Fault.the-variants.{Absent, Shape, Repeated, Range}
+use Rattle.model.specs.declared.Fault.the-variants.{Absent, Repeated, Range}
 use Rattle.model.specs.declared.Head.{Head}
 use Rattle.model.specs.declared.body.LinesRead.{LinesRead}
 use Rattle.model.specs.declared.body.LinesRead.the-variants.{Next, Faulty}
-use Rattle.model.specs.Limits.{stateLimit, actionLimit, stepLimit, nameLimit, storeLength, actionPlace}
-use Rattle.model.specs.Bytes.{between?, lineEnd}
-use Rattle.model.specs.BytesLaws.{between?-true}
+use Rattle.model.specs.Limits.{nameLimit, storeLength, actionPlace}
+use Rattle.model.specs.Bytes.{lineEnd}
 use Rattle.model.specs.Split.{split, indexOf}
-use Rattle.model.specs.SplitLaws.{is, split-first, split-part, split-last}
-use Rattle.model.specs.Model.{ActionLine}
-use Rattle.model.specs.Lines.{Line, good, bad, checked, headFits?, headFrom, headOf, headNumbers, numbersLine, levelOf, allOf, nameByte?, name?, nameFrom, actionFields, fieldsOf, used?, actionFrom, actionOf}
+use Rattle.model.specs.SplitLaws.{split-first, split-part, split-last}
+use Rattle.model.specs.Model.{ActionLine, Model}
+use Rattle.model.specs.Lines.{Line, good, bad, headFits?, headFrom, headOf, headNumbers, numbersLine, levelOf}
+use Rattle.model.specs.Lines.{actionFields, fieldsOf, used?, actionFrom, actionOf}
+use Rattle.model.specs.RangesLaws.{headFits?→HeadRanges}
+use Rattle.model.specs.JoinedFieldsLaws.{good-checked}
+use Rattle.model.specs.ActionLineLaws.{good-nameFrom, name-length}
 use Rattle.model.specs.Reading.{Reading, faulty, onLine, orFault, readActions, headModel}
 use Rattle.model.specs.Store.{storeOf}
 use Rattle.model.specs.ReadSoFar.{Short, whole, InLimits, AfterHead, AfterActions, Further}
-use Rattle.model.specs.FillLaws.{actionsNumbers-length, Short-snoc, storeOf-action, storeOf-length}
+use Rattle.model.specs.StoreLaws.{storeOf-length-of-places}
+use Rattle.model.specs.FillLaws.{actionsNumbers-length-of-Short, Short-snoc, storeOf-withAction}
 
 -- ---- a line, found by its end
 
@@ -35,7 +39,8 @@ module _ (text : List ℕ) (at e : ℕ) (le : at ≤ length text) (found : e ≡
   onLine-absent l = rw (split-last lineEnd text at e le found l)
 
   pub onLine-line : e < length text
-      → onLine k (split lineEnd (drop at text)) read ≡ read (take (e - at) (drop at text)) (split lineEnd (drop (e + 1) text))
+      → onLine k (split lineEnd (drop at text)) read
+      ≡ read (take (e - at) (drop at text)) (split lineEnd (drop (e + 1) text))
   unfolding onLine
   onLine-line l =
       let w = split-first lineEnd (drop (e + 1) text) in rw (split-part lineEnd text at e le found l, w .2)
@@ -45,19 +50,22 @@ pub orFault-bad : {A : Type 0} (k : ℕ) (l : Line A) (read : A → Reading) (fa
 unfolding orFault
 orFault-bad k l read fault e = rw e
 
-pub orFault-good : {A : Type 0} (k : ℕ) (l : Line A) (read : A → Reading) (a : A) → l ≡ good a → orFault k l read ≡ read a
+pub orFault-good : {A : Type 0} (k : ℕ) (l : Line A) (read : A → Reading) (a : A) → l ≡ good a
+    → orFault k l read ≡ read a
 unfolding orFault
 orFault-good k l read a e = rw e
 
 -- ---- what some lines came to
 
-pub Further-faulty : (P Q : ℕ → Type 0) (text : List ℕ) (r : LinesRead) (fault : Fault) (line : ℕ) → r ≡ Faulty fault line
+pub Further-faulty : (P Q : ℕ → Type 0) (text : List ℕ) (r : LinesRead) (fault : Fault) (line : ℕ)
+    → r ≡ Faulty fault line
     → Further P text r → Further Q text r
 unfolding Further
 Further-faulty P Q text (Next at) fault line e h = let z : _≡_ {A = ℕ} 0 1 = cc in absurd (omega arith)
 Further-faulty P Q text (Faulty f k) fault line e h = h
 
-pub Further-refused : (P : ℕ → Type 0) (text : List ℕ) (r : LinesRead) (fault : Fault) (line : ℕ) → r ≡ Faulty fault line
+pub Further-refused : (P : ℕ → Type 0) (text : List ℕ) (r : LinesRead) (fault : Fault) (line : ℕ)
+    → r ≡ Faulty fault line
     → Further P text r → whole text ≡ faulty fault line
 unfolding Further
 Further-refused P text r fault line e h = rw e at h
@@ -68,61 +76,33 @@ Further-next P text r at e h = rw e at h
 
 -- ---- what a good line keeps
 
-checked-good : {A : Type 0} (fault : Fault) (t : Bool) (a b : A) → checked fault t a ≡ good b → (t ≡ true) × (a ≡ b)
-unfolding checked
-checked-good fault true a b h = (refl, cc)
-checked-good fault false a b h = let z : _≡_ {A = ℕ} 0 1 = cc in absurd (omega arith)
-
-pub and-left : (s t : Bool) → s && t ≡ true → s ≡ true
-and-left true t h = refl
-and-left false t h = h
-
-pub and-right : (s t : Bool) → s && t ≡ true → t ≡ true
-and-right true t h = h
-and-right false t h = let z : true ≡ false = sym h in cc
-
-headFits?-limits : (h : Head) → headFits? h ≡ true → InLimits h
-unfolding headFits?
-headFits?-limits h e =
-    let a = and-left (between? 1 stateLimit (h .states) && between? 1 actionLimit (h .actions) && leb (h .steps) stepLimit) (ltb (h .start .0) (h .states)) e in
-    let b = and-left (between? 1 stateLimit (h .states) && between? 1 actionLimit (h .actions)) (leb (h .steps) stepLimit) a in
-    record {
-      states = between?-true 1 stateLimit (h .states) (and-left _ (between? 1 actionLimit (h .actions)) b) .1;
-      actions = between?-true 1 actionLimit (h .actions) (and-right (between? 1 stateLimit (h .states)) _ b) .1;
-      steps = leb-true (h .steps) stepLimit
-          (and-right (between? 1 stateLimit (h .states) && between? 1 actionLimit (h .actions)) _ a);
-    }
+headFits?-limits : (h : Head) → T (headFits? h) → InLimits h
+headFits?-limits h t =
+    let r = headFits?→HeadRanges h t in record { states = r .states; actions = r .actions; steps = r .steps }
 
 headFrom-limits : (l : Line (List ℕ)) (h : Head) → headFrom l ≡ good h → InLimits h
 unfolding headFrom
 headFrom-limits (good ns) h e =
-    let c = checked-good Range (headFits? (headNumbers ns)) (headNumbers ns) h e in
-    headFits?-limits h (ap headFits? (sym (c .1)) ∙ c .0)
+    let c = good-checked Range (headFits? (headNumbers ns)) (headNumbers ns) h e in
+    headFits?-limits h (subst (λ (x : Head). T (headFits? x)) (c .1) (c .0))
 headFrom-limits (bad fault) h e = let z : _≡_ {A = ℕ} 0 1 = cc in absurd (omega arith)
 
 pub headOf-limits : (line : List ℕ) (h : Head) → headOf line ≡ good h → InLimits h
 unfolding headOf
 headOf-limits line h e = headFrom-limits (numbersLine 77 4 line) h e
 
-nameFrom-length : (l : Line ℕ) (f : List ℕ) (a : ActionLine) → nameFrom l f ≡ good a
-    → (1 ≤ length (a .name)) × (length (a .name) ≤ nameLimit)
-unfolding nameFrom name?
-nameFrom-length (good level) f a e =
-    let c = checked-good Shape (name? f) (record { level = level; name = f }) a e in
-    let n : f ≡ a .name = cc in
-    rw (← n) (between?-true 1 nameLimit (length f) (and-left _ (allOf nameByte? f) (c .0)))
-nameFrom-length (bad fault) f a e = let z : _≡_ {A = ℕ} 0 1 = cc in absurd (omega arith)
-
 -- a name that was read has 1 to 12 bytes
 pub actionFields-length : (l : Line (List (List ℕ))) (a : ActionLine) → actionFields l ≡ good a
     → (1 ≤ length (a .name)) × (length (a .name) ≤ nameLimit)
 unfolding actionFields
-actionFields-length (good fs) a e = nameFrom-length (levelOf (getD fs 0 [])) (getD fs 1 []) a e
+actionFields-length (good fs) a e =
+    let n = good-nameFrom (levelOf (getD fs 0 [])) (getD fs 1 []) a e in name-length (a .name) (n .2)
 actionFields-length (bad fault) a e = let z : _≡_ {A = ℕ} 0 1 = cc in absurd (omega arith)
 
 -- ---- the actions
 
-pub after-head : (h : Head) (text : List ℕ) (at : ℕ) → AfterHead h text at → AfterActions h text at 0 (storeOf (headModel h))
+pub after-head : (h : Head) (text : List ℕ) (at : ℕ) → AfterHead h text at
+    → AfterActions h text at 0 (storeOf (headModel h))
 unfolding Short
 after-head h text at b =
     let z : h .actions - 0 ≡ h .actions = omega arith in
@@ -136,20 +116,23 @@ after-head h text at b =
       rest = b .rest ∙ rw z;
     }
 
-pub AfterActions-count : (h : Head) (text : List ℕ) (at i k : ℕ) (store : List ℕ) → i ≡ k → AfterActions h text at i store
+pub AfterActions-count : (h : Head) (text : List ℕ) (at i k : ℕ) (store : List ℕ) → i ≡ k
+    → AfterActions h text at i store
     → AfterActions h text at k store
 AfterActions-count h text at i k store e b = rw e at b
 
-pub AfterActions-length : (h : Head) (text : List ℕ) (at i : ℕ) (store : List ℕ) → AfterActions h text at i store → i ≤ h .actions
+pub AfterActions-length : (h : Head) (text : List ℕ) (at i : ℕ) (store : List ℕ) → AfterActions h text at i store
+    → i ≤ h .actions
     → length store ≡ storeLength
 AfterActions-length h text at i store b l =
     let n = b .limits .actions in
     let c = b .count in
-    let m = actionsNumbers-length (b .actions) (b .short) in
-    rw (b .stored) (storeOf-length (record { head = h; actions = b .actions; steps = [] }) (omega arith) (omega arith))
+    let m = actionsNumbers-length-of-Short (b .actions) (b .short) in
+    let model : Model = record { head = h; actions = b .actions; steps = [] } in
+    rw (b .stored) (storeOf-length-of-places model (omega arith) (omega arith))
 
-module _ (h : Head) (text : List ℕ) (at i : ℕ) (store : List ℕ) (b : AfterActions h text at i store) (lt : i < h .actions)
-    (e : ℕ) (found : e ≡ at + indexOf lineEnd (drop at text)) where
+module _ (h : Head) (text : List ℕ) (at i : ℕ) (store : List ℕ) (b : AfterActions h text at i store)
+    (lt : i < h .actions) (e : ℕ) (found : e ≡ at + indexOf lineEnd (drop at text)) where
   actions-suc : h .actions - i ≡ suc (h .actions - (i + 1))
   actions-suc = omega arith
 
@@ -161,12 +144,15 @@ module _ (h : Head) (text : List ℕ) (at i : ℕ) (store : List ℕ) (b : After
     line : List ℕ
     line = take (e - at) (drop at text)
 
-    pub action-bad : (fault : Fault) → actionOf (b .actions) (take (e - at) (drop at text)) ≡ bad fault → whole text ≡ faulty fault (2 + i)
+    pub action-bad : (fault : Fault) → actionOf (b .actions) (take (e - at) (drop at text)) ≡ bad fault
+        → whole text ≡ faulty fault (2 + i)
     unfolding readActions
     action-bad fault a =
-        b .rest ∙ rw (actions-suc) (onLine-line text at e (b .place) found (2 + i) _ l ∙ orFault-bad (2 + i) _ _ fault a)
+        b .rest ∙ rw (actions-suc)
+        (onLine-line text at e (b .place) found (2 + i) _ l ∙ orFault-bad (2 + i) _ _ fault a)
 
-    pub action-next : (a : ActionLine) → actionOf (b .actions) (take (e - at) (drop at text)) ≡ good a → length (a .name) ≤ nameLimit
+    pub action-next : (a : ActionLine) → actionOf (b .actions) (take (e - at) (drop at text)) ≡ good a
+        → length (a .name) ≤ nameLimit
         → AfterActions h text (e + 1) (i + 1) (sets store (actionPlace i) (a .level ∷ length (a .name) ∷ a .name))
     unfolding readActions
     action-next a r n =
@@ -178,23 +164,26 @@ module _ (h : Head) (text : List ℕ) (at i : ℕ) (store : List ℕ) (b : After
           actions = b .actions ++ (a ∷ []);
           count = length-append (b .actions) (a ∷ []) ∙ omega arith;
           short = Short-snoc (b .actions) a (b .short) n;
-          stored = rw (b .stored) (storeOf-action h (b .actions) a i (b .count) (omega arith) (b .short) n);
+          stored = rw (b .stored) (storeOf-withAction h (b .actions) a i (b .count) (omega arith) (b .short) n);
           rest = b .rest ∙ rw (actions-suc)
               (onLine-line text at e (b .place) found (2 + i) _ l ∙ orFault-good (2 + i) _ _ a r ∙ rw c);
         }
 
 -- an action's line by its fields and the names used before
-pub actionOf-bad : (before : List ActionLine) (line : List ℕ) (fault : Fault) → actionFields (fieldsOf 65 2 line) ≡ bad fault
+pub actionOf-bad : (before : List ActionLine) (line : List ℕ) (fault : Fault)
+    → actionFields (fieldsOf 65 2 line) ≡ bad fault
     → actionOf before line ≡ bad fault
 unfolding actionOf actionFrom
 actionOf-bad before line fault e = rw (e, actionFrom)
 
-pub actionOf-used : (before : List ActionLine) (line : List ℕ) (a : ActionLine) → actionFields (fieldsOf 65 2 line) ≡ good a
+pub actionOf-used : (before : List ActionLine) (line : List ℕ) (a : ActionLine)
+    → actionFields (fieldsOf 65 2 line) ≡ good a
     → used? (a .name) before ≡ true → actionOf before line ≡ bad Repeated
 unfolding actionOf actionFrom
 actionOf-used before line a e u = rw (e, actionFrom, u)
 
-pub actionOf-good : (before : List ActionLine) (line : List ℕ) (a : ActionLine) → actionFields (fieldsOf 65 2 line) ≡ good a
+pub actionOf-good : (before : List ActionLine) (line : List ℕ) (a : ActionLine)
+    → actionFields (fieldsOf 65 2 line) ≡ good a
     → used? (a .name) before ≡ false → actionOf before line ≡ good a
 unfolding actionOf actionFrom
 actionOf-good before line a e u = rw (e, actionFrom, u)

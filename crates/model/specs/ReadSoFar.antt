@@ -1,4 +1,5 @@
--- How far a text has been read: what the store holds after some of its lines, and that what remains reads as the whole does.
+-- How far a text has been read: what the store holds after some of its lines, and that what remains reads as the
+-- whole does.
 -- Only the contracts of inner functions cite it. Document 01, "The text" and "The model store".
 use mathlib.Core.List.{List, [], _∷_, _++_}
 use mathlib.Core.Path.{_≡_}
@@ -68,7 +69,8 @@ pub record AfterActions (h : Head) (text : List ℕ) (at i : ℕ) (store : List 
   pub short : Short actions
   pub stored : store ≡ storeOf (record { head = h; actions = actions; steps = [] })
   pub rest : whole text
-      ≡ readActions (h .actions - i) (2 + i) (record { head = h; actions = actions; steps = [] }) (split lineEnd (drop at text))
+      ≡ readActions (h .actions - i) (2 + i) (record { head = h; actions = actions; steps = [] })
+      (split lineEnd (drop at text))
 
 -- after all actions and j steps, of which `last` is the last
 pub record AfterStep (h : Head) (text : List ℕ) (at j : ℕ) (last : StepLine) (store : List ℕ) : Type 0 where

@@ -1,14 +1,12 @@
 -- The reading of a text goes on through its steps to its end, and what it then comes to.
 -- Document 01, "The text" and "Refused because of the input". Assumes nothing.
-use mathlib.Core.Bool.{Bool, true, false, cond, _&&_}
+use mathlib.Core.Bool.{Bool, true, false, cond}
 use mathlib.Core.List.{List, [], _∷_, _++_}
-use mathlib.Core.Path.{_≡_, refl, sym, _∙_}
+use mathlib.Core.Path.{_≡_, refl, _∙_}
 use Prim.Native.Nat.{ℕ, suc, _+_, _-_, _≤_, _<_}
 use native.Mathlib.Omega.{arith}
-use lib.Dec.{eqb}
 use lib.ListN.{length, take, drop, getD, length-append, length-drop}
-use lib.Seq.{sets, length-take-le, getD-take, getD-drop}
-use borrow.Author.Tests.{eq-eqb, ne-eqb}
+use lib.Seq.{sets, length-take-le, getD-drop}
 use Rattle.model.specs.declared.Fault.{Fault}
 use Rattle.model.specs.declared.Fault.the-variants.{Absent, Shape}
 use Rattle.model.specs.declared.Head.{Head}
@@ -17,12 +15,15 @@ use Rattle.model.specs.Limits.{storeLength, stepPlace}
 use Rattle.model.specs.Bytes.{lineEnd, kindOf}
 use Rattle.model.specs.Split.{consFirst, split, indexOf, same?}
 use Rattle.model.specs.SplitLaws.{Is, same, other, is, split-nil, split-end, split-cons, split-first, found-le}
+use Rattle.model.specs.SameLaws.{same?-length}
+use Rattle.model.specs.FieldsLaws.{same?-byte, same?-other, take-one}
 use Rattle.model.specs.Model.{Model, above?, aboveLast?}
 use Rattle.model.specs.Lines.{good, bad, stepOf}
 use Rattle.model.specs.LineAnswers.{Last}
 use Rattle.model.specs.Reading.{done, faulty, readNothing, readEnd, readSteps, readActions}
 use Rattle.model.specs.ReadSoFar.{whole, AfterActions, AfterStep, AfterSteps, AfterEnd}
-use Rattle.model.specs.FillLaws.{actionsNumbers-length, storeOf-step, storeOf-length}
+use Rattle.model.specs.StoreLaws.{storeOf-length-of-places}
+use Rattle.model.specs.FillLaws.{actionsNumbers-length-of-Short, storeOf-withStep}
 use Rattle.model.specs.ReadLaws.{onLine-absent, onLine-line, orFault-bad, orFault-good}
 
 -- ---- the steps
@@ -47,7 +48,7 @@ after-actions h text at store last b =
     let z : h .actions - h .actions ≡ 0 = omega arith in
     let y : h .steps - 0 ≡ h .steps = omega arith in
     let x : 2 + h .actions + 0 ≡ 2 + h .actions = omega arith in
-    let n = actionsNumbers-length (b .actions) (b .short) in
+    let n = actionsNumbers-length-of-Short (b .actions) (b .short) in
     let m = b .limits .actions in
     record {
       limits = b .limits;
@@ -79,7 +80,8 @@ module _ (h : Head) (text : List ℕ) (at j : ℕ) (last : StepLine) (store : Li
         (onLine-line text at e (b .place) found (2 + h .actions + j) _ l ∙ orFault-bad (2 + h .actions + j) _ _ fault a)
 
     pub step-next : (s : StepLine) → stepOf h (b .steps) (take (e - at) (drop at text)) ≡ good s
-        → AfterStep h text (e + 1) (j + 1) s (sets store (stepPlace j) (s .source .0 ∷ s .action .0 ∷ s .target .0 ∷ []))
+        → AfterStep h text (e + 1) (j + 1) s
+        (sets store (stepPlace j) (s .source .0 ∷ s .action .0 ∷ s .target .0 ∷ []))
     unfolding readSteps
     step-next s r =
         let c : suc (2 + h .actions + j) ≡ 2 + h .actions + (j + 1) = omega arith in
@@ -93,19 +95,20 @@ module _ (h : Head) (text : List ℕ) (at j : ℕ) (last : StepLine) (store : Li
           count = length-append (b .steps) (s ∷ []) ∙ omega arith;
           last-step = Last-snoc (b .steps) j s;
           stored = rw (b .stored)
-              (storeOf-step h (b .actions) (b .steps) s j (b .action-places) (b .count) (omega arith));
+              (storeOf-withStep h (b .actions) (b .steps) s j (b .action-places) (b .count) (omega arith));
           rest = b .rest ∙ rw steps-suc
               (onLine-line text at e (b .place) found (2 + h .actions + j) _ l
               ∙ orFault-good (2 + h .actions + j) _ _ s r ∙ rw c);
         }
 
-pub AfterStep-length : (h : Head) (text : List ℕ) (at j : ℕ) (last : StepLine) (store : List ℕ) → AfterStep h text at j last store
+pub AfterStep-length : (h : Head) (text : List ℕ) (at j : ℕ) (last : StepLine) (store : List ℕ)
+    → AfterStep h text at j last store
     → j ≤ h .steps → length store ≡ storeLength
 AfterStep-length h text at j last store b l =
     let n = b .limits .steps in
     let c = b .count in
-    rw (b .stored)
-    (storeOf-length (record { head = h; actions = b .actions; steps = b .steps }) (b .action-places) (omega arith))
+    let model : Model = record { head = h; actions = b .actions; steps = b .steps } in
+    rw (b .stored) (storeOf-length-of-places model (b .action-places) (omega arith))
 
 pub after-steps : (h : Head) (text : List ℕ) (at j : ℕ) (last : StepLine) (store : List ℕ)
     → AfterStep h text at j last store → j ≡ h .steps → AfterSteps h text at store
@@ -120,27 +123,6 @@ after-steps h text at j last store b c =
     }
 
 -- ---- the end
-
-same?-other : (s : List ℕ) (c : ℕ) → (length s ≡ 1 → ⊥) → same? s (c ∷ []) ≡ false
-unfolding same?
-same?-other [] c h = refl
-same?-other (x ∷ []) c h = absurd (h refl)
-same?-other (x ∷ y ∷ s) c h = both (eqb x c)
-  where
-    both : (t : Bool) → t && false ≡ false
-    both true = refl
-    both false = refl
-
-same?-first : (s : List ℕ) (c : ℕ) → length s ≡ 1 → (getD s 0 0 ≡ c → ⊥) → same? s (c ∷ []) ≡ false
-unfolding same?
-same?-first [] c l h = absurd (omega arith)
-same?-first (x ∷ s) c l h = rw (ne-eqb x c h)
-
-same?-letter : (s : List ℕ) (c : ℕ) → length s ≡ 1 → getD s 0 0 ≡ c → same? s (c ∷ []) ≡ true
-unfolding same?
-same?-letter [] c l h = absurd (omega arith)
-same?-letter (x ∷ []) c l h = rw (eq-eqb x c h)
-same?-letter (x ∷ y ∷ s) c l h = absurd (omega arith)
 
 -- bytes after the end
 readNothing-more : (k : ℕ) (m : Model) (s : List ℕ) → 0 < length s → readNothing k m (split lineEnd s) ≡ faulty Absent k
@@ -166,7 +148,8 @@ module _ (h : Head) (text : List ℕ) (at : ℕ) (store : List ℕ) (b : AfterSt
 
   module _ (l : e < length text) where
     end-line : (t : Bool) → same? (take (e - at) (drop at text)) (69 ∷ []) ≡ t
-        → whole text ≡ cond t (readNothing (suc (2 + h .actions + h .steps)) (b .model) (split lineEnd (drop (e + 1) text)))
+        → whole text ≡ cond t
+        (readNothing (suc (2 + h .actions + h .steps)) (b .model) (split lineEnd (drop (e + 1) text)))
         (faulty Shape (2 + h .actions + h .steps))
     unfolding readSteps readEnd
     end-line t s = b .rest ∙ onLine-line text at e (b .place) found (2 + h .actions + h .steps) _ l ∙ rw s
@@ -178,24 +161,25 @@ module _ (h : Head) (text : List ℕ) (at : ℕ) (store : List ℕ) (b : AfterSt
     end-long n =
         let f = found-le lineEnd text at e (b .place) found in
         let m = line-length in
-        end-line false (same?-other (take (e - at) (drop at text)) 69 (λ y. n (omega (arith, y))))
+        let long : length (take (e - at) (drop at text)) ≡ 1 → ⊥ = λ y. n (omega (arith, y)) in
+        end-line false (same?-length (take (e - at) (drop at text)) (69 ∷ []) long)
 
     module _ (one : e ≡ at + 1) where
-      line-one : length (take (e - at) (drop at text)) ≡ 1
-      line-one = let m = line-length in omega arith
-
-      line-byte : getD (take (e - at) (drop at text)) 0 0 ≡ getD text at 0
+      line-byte : take (e - at) (drop at text) ≡ getD text at 0 ∷ []
       line-byte =
-          let p : 0 < e - at = omega arith in
+          let d = length-drop at text in
+          let k : e - at ≡ 1 = omega arith in
+          let n : 0 < length (drop at text) = omega arith in
           let z : at + 0 ≡ at = omega arith in
-          getD-take (e - at) (drop at text) 0 0 p ∙ getD-drop at text 0 0 ∙ rw z
+          rw (k, take-one (drop at text) n, getD-drop, z)
 
       pub end-other : (getD text at 0 ≡ 69 → ⊥) → whole text ≡ faulty Shape (2 + h .actions + h .steps)
-      end-other n = end-line false (same?-first (take (e - at) (drop at text)) 69 line-one (λ y. n (sym line-byte ∙ y)))
+      end-other n = end-line false (rw line-byte (same?-other (getD text at 0) 69 n))
 
       module _ (letter : getD text at 0 ≡ 69) where
-        end-letter : whole text ≡ readNothing (suc (2 + h .actions + h .steps)) (b .model) (split lineEnd (drop (e + 1) text))
-        end-letter = end-line true (same?-letter (take (e - at) (drop at text)) 69 line-one (line-byte ∙ letter))
+        end-letter : whole text
+            ≡ readNothing (suc (2 + h .actions + h .steps)) (b .model) (split lineEnd (drop (e + 1) text))
+        end-letter = end-line true (rw line-byte (same?-byte (getD text at 0) 69 letter))
 
         pub end-more : (e + 1 ≡ length text → ⊥) → whole text ≡ faulty Absent (2 + h .actions + h .steps + 1)
         end-more n =
@@ -213,5 +197,6 @@ module _ (h : Head) (text : List ℕ) (at : ℕ) (store : List ℕ) (b : AfterSt
             record {
               model = b .model;
               stored = b .stored;
-              reads = end-letter ∙ readNothing-nil (suc (2 + h .actions + h .steps)) (b .model) (drop (e + 1) text) (omega arith);
+              reads = end-letter
+                  ∙ readNothing-nil (suc (2 + h .actions + h .steps)) (b .model) (drop (e + 1) text) (omega arith);
             }

@@ -20,7 +20,8 @@ pub data Reading : Type 0 where
   tooLong : Reading
   faulty : Fault → (line : ℕ) → Reading
 
--- The parts of a text between its line ends: each but the last is a line, and the last is what follows the last line end.
+-- The parts of a text between its line ends: each but the last is a line, and the last is what follows the last
+-- line end.
 -- Line k is the first part: what is read of it and of the parts after it, if it is there with its end.
 unfoldable pub onLine : ℕ → List (List ℕ) → (List ℕ → List (List ℕ) → Reading) → Reading
 onLine k [] read = faulty Absent k

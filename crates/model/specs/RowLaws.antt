@@ -19,11 +19,7 @@ use Rattle.model.specs.SplitLaws.{split-first, split-part, split-last}
 use Rattle.model.specs.FieldsLaws.{split-take}
 use Rattle.model.specs.Lines.{Line, good, bad, consNumber, numbersOf}
 use Rattle.model.specs.PartAnswers.{rowRead}
-
--- numbers in front of those that are read after them
-abbrev pub prepend : List ℕ → Line (List ℕ) → Line (List ℕ)
-prepend ns (good ms) = good (ns ++ ms)
-prepend ns (bad fault) = bad fault
+use Rattle.model.specs.Row.{prepend, Stored}
 
 prepend-nil : (l : Line (List ℕ)) → prepend [] l ≡ l
 prepend-nil (good ms) = refl
@@ -47,12 +43,6 @@ numbersOf-cons f fs v h = rw h
 numbersOf-bad : (f : List ℕ) (fs : List (List ℕ)) → numberOf f ≡ Bad → numbersOf (f ∷ fs) ≡ bad Digits
 unfolding numbersOf consNumber
 numbersOf-bad f fs h = rw h
-
--- i numbers of the fields from place `from` on are stored, and the next field begins at place `at`
-pub record Stored (line : List ℕ) (from : ℕ) (out : List ℕ) (at i : ℕ) : Type 0 where
-  pub at-le : at ≤ length line
-  pub count : i + length (split comma (drop at line)) ≡ length out
-  pub numbers : numbersOf (split comma (drop from line)) ≡ prepend (take i out) (numbersOf (split comma (drop at line)))
 
 pub stored-first : (line : List ℕ) (from : ℕ) (out : List ℕ) → from ≤ length line
     → length (split comma (drop from line)) ≡ length out → Stored line from out from 0

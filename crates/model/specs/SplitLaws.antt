@@ -95,7 +95,8 @@ unfolding consFirst
 split-none kind [] h = split-nil kind
 split-none kind (b ∷ bs) h = go (is (kindOf b) kind) (split-none kind bs)
   where
-    go : Is (kindOf b) kind → (length bs ≤ indexOf kind bs → split kind bs ≡ bs ∷ []) → split kind (b ∷ bs) ≡ (b ∷ bs) ∷ []
+    go : Is (kindOf b) kind → (length bs ≤ indexOf kind bs → split kind bs ≡ bs ∷ [])
+        → split kind (b ∷ bs) ≡ (b ∷ bs) ∷ []
     go (same e) ih = let i = indexOf-end kind b bs e in absurd (omega arith)
     go (other e) ih = let i = indexOf-cons kind b bs e in rw (split-cons kind b bs e, ih (omega arith))
 

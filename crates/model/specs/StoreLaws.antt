@@ -1,39 +1,38 @@
 -- The store of a well-formed model: its length, its numbers, and where each action and step of the model stands.
 -- Document 01, "The model store". Assumes nothing.
 use mathlib.Core.List.{List, [], _++_, append-assoc}
-use mathlib.Core.Logic.{inl, inr}
 use mathlib.Core.Path.{_≡_, refl, ap, _∙_}
-use Prim.Native.Nat.{ℕ, _+_, _-_, _*_, _<_}
+use Prim.Native.Nat.{ℕ, _+_, _-_, _*_, _≤_, _<_}
 use native.Mathlib.Omega.{arith}
-use lib.Dec.{T, lit<}
+use lib.Dec.{lit<}
 use lib.ListN.{length, getD, drop, replicate, length-append}
 use lib.Seq.{drop-append-add}
 use Rattle.model.specs.declared.StepLine.{StepLine}
 use Rattle.model.specs.Limits.{actionLimit, stepLimit, nameLimit, storeLength, actionPlace, stepPlace}
-use Rattle.model.specs.BytesLaws.{digit-within, smallLetter-within}
 use Rattle.model.specs.All.{All}
 use Rattle.model.specs.AllLaws.{all-intro, all-of-all, all-append}
 use Rattle.model.specs.Model.{ActionLine, Model}
-use Rattle.model.specs.Lines.{name?}
 use Rattle.model.specs.Store.{padded, actionNumbers, actionsNumbers, stepsNumbers, headPlaces, storeOf}
 use Rattle.model.specs.WellFormed.{EachAfter, ActionFits, StepFits, WellFormed}
 use Rattle.model.specs.EachLaws.{all-of-each}
 use Rattle.model.specs.BlocksLaws.{padded-append, padded-length, padded-all, blocks-length, blocks-all}
 use Rattle.model.specs.BlocksLaws.{blocks-drop}
-use Rattle.model.specs.Ranges.{HeadRanges, Storable}
+use Rattle.model.specs.Ranges.{Storable}
 use Rattle.model.specs.RangesLaws.{headFits?→HeadRanges, stepFits?→StepRanges}
-use Rattle.model.specs.LineText.{stepPlaces}
-use Rattle.model.specs.ActionLineLaws.{NameByte, name-bytes, name-length}
+use Rattle.model.specs.LineText.{stepPlaces, NameByte}
+use Rattle.model.specs.ActionLineLaws.{name-bytes, nameByte-lt, name-length}
 
 -- ---- lengths
 
-pub actionNumbers-length : (a : ActionLine) → T (name? (a .name)) → length (actionNumbers a) ≡ 14
+pub actionNumbers-length : (a : ActionLine) → length (a .name) ≤ nameLimit → length (actionNumbers a) ≡ 14
 unfolding actionNumbers
-actionNumbers-length a t = let n = name-length (a .name) t in rw (padded-length nameLimit (a .name) (n .1))
+actionNumbers-length a h = rw (padded-length nameLimit (a .name) h)
 
 actions-width : (before acts : List ActionLine) → EachAfter ActionFits before acts
     → All (λ a. length (actionNumbers a) ≡ 14) acts
-actions-width = all-of-each ActionFits (λ a. length (actionNumbers a) ≡ 14) (λ b a f. actionNumbers-length a (f .name))
+actions-width =
+    all-of-each ActionFits (λ a. length (actionNumbers a) ≡ 14)
+    (λ b a f. actionNumbers-length a (name-length (a .name) (f .name) .1))
 
 steps-width : (ss : List StepLine) → All (λ s. length (stepPlaces s) ≡ 3) ss
 steps-width = all-intro (λ s. length (stepPlaces s) ≡ 3) (λ s. refl)
@@ -48,33 +47,36 @@ pub stepsNumbers-length : (ss : List StepLine) → length (stepsNumbers ss) ≡ 
 unfolding stepsNumbers
 stepsNumbers-length ss = blocks-length stepPlaces stepsNumbers 3 refl (λ s rest. refl) ss (steps-width ss)
 
+pub storeOf-length-of-places : (m : Model) → length (actionsNumbers (m .actions)) ≤ 14 * actionLimit
+    → length (m .steps) ≤ stepLimit → length (storeOf m) ≡ storeLength
+unfolding storeOf headPlaces
+storeOf-length-of-places m a s =
+    let la = padded-length 896 (actionsNumbers (m .actions)) a in
+    let ls = stepsNumbers-length (m .steps) in
+    let lp = padded-length 3072 (stepsNumbers (m .steps)) (omega arith) in
+    simp length-append (omega arith)
+
 module _ (m : Model) (w : WellFormed m) where
-  pub actions-padded-length : length (padded (14 * actionLimit) (actionsNumbers (m .actions))) ≡ 896
-  actions-padded-length =
+  actions-places : length (actionsNumbers (m .actions)) ≤ 14 * actionLimit
+  actions-places =
       let r = headFits?→HeadRanges (m .head) (w .head) in
       let l = actionsNumbers-length [] (m .actions) (w .actions) in
       let c = w .action-count in
-      padded-length (14 * actionLimit) (actionsNumbers (m .actions)) (omega arith)
+      omega arith
 
-  pub steps-padded-length : length (padded (3 * stepLimit) (stepsNumbers (m .steps))) ≡ 3072
-  steps-padded-length =
-      let r = headFits?→HeadRanges (m .head) (w .head) in
-      let l = stepsNumbers-length (m .steps) in
-      let c = w .step-count in
-      padded-length (3 * stepLimit) (stepsNumbers (m .steps)) (omega arith)
+  pub actions-padded-length : length (padded (14 * actionLimit) (actionsNumbers (m .actions))) ≡ 896
+  actions-padded-length = padded-length (14 * actionLimit) (actionsNumbers (m .actions)) actions-places
 
   pub storeOf-length : length (storeOf m) ≡ storeLength
-  unfolding storeOf headPlaces
   storeOf-length =
-      let a = actions-padded-length in
-      let s = steps-padded-length in
-      simp length-append (omega arith)
+      let r = headFits?→HeadRanges (m .head) (w .head) in
+      let c = w .step-count in
+      storeOf-length-of-places m actions-places (omega arith)
 
 -- ---- numbers of 16 bits
 
 nameByte-storable : (b : ℕ) → NameByte b → Storable b
-nameByte-storable b (inl e) = let r = digit-within b e in omega arith
-nameByte-storable b (inr e) = let r = smallLetter-within b e in omega arith
+nameByte-storable b n = let l = nameByte-lt b n in omega arith
 
 actionNumbers-storable : (before : List ActionLine) (a : ActionLine) → ActionFits before a
     → All Storable (actionNumbers a)

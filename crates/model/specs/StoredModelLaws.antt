@@ -1,6 +1,6 @@
 -- A store that holds a well-formed model shows it: each accessor gives its part, so the model is the only one.
 -- Document 01, "The model store". Assumes nothing.
-use mathlib.Core.List.{List, [], _++_}
+use mathlib.Core.List.{List, _++_}
 use mathlib.Core.Logic.{_↔_}
 use mathlib.Core.Path.{_≡_, refl, sym, ap, _∙_, subst}
 use Prim.Native.Nat.{ℕ, zero, suc, _+_, _≤_, _<_}
@@ -11,7 +11,7 @@ use lib.Seq.{take-suc, take-length, take-at, getD-drop, drop-drop}
 use Rattle.model.specs.declared.Head.{Head}
 use Rattle.model.specs.declared.StepLine.{StepLine}
 use Rattle.model.specs.Limits.{nameLimit, storeLength, actionPlace, namePlace, stepPlace}
-use Rattle.model.specs.Model.{ActionLine, Model}
+use Rattle.model.specs.Model.{ActionLine, Model, noAction, noStep}
 use Rattle.model.specs.ReadingLaws.{readText-textOf, textOf-of-readText}
 use Rattle.model.specs.Text.{textOf}
 use Rattle.model.specs.Store.{actionNumbers, headPlaces, storeOf, Good}
@@ -72,13 +72,6 @@ step-at s j t more e =
 model-of-parts : (h : Head) (actions : List ActionLine) (steps : List StepLine) (m : Model) → h ≡ m .head
     → actions ≡ m .actions → steps ≡ m .steps → record { head = h; actions = actions; steps = steps } ≡ m
 model-of-parts h actions steps m p q r = rw (p, q, r)
-
--- what stands past the end of a list
-abbrev noAction : ActionLine
-noAction = record { level = 0; name = [] }
-
-abbrev noStep : StepLine
-noStep = record { source = record { 0 = 0 }; action = record { 0 = 0 }; target = record { 0 = 0 } }
 
 module _ (s : List ℕ) (m : Model) (h : Holds s m) where
   pub holds-store : s ≡ storeOf m ++ drop storeLength s

@@ -8,7 +8,7 @@ use lib.ListN.{length, getD}
 use Rattle.lts.specs.Alike.{Moves}
 use Rattle.lts.specs.Noninterference.{Levels, LowMove}
 use Rattle.model.specs.declared.StepLine.{StepLine}
-use Rattle.model.specs.Model.{low, release, high, ActionLine, Model}
+use Rattle.model.specs.Model.{low, release, high, Model}
 
 -- What step j states. Past the last step it says nothing of the model: `Steps` counts the steps alone.
 abbrev pub step : Model → ℕ → StepLine

@@ -3,7 +3,7 @@
 use mathlib.Core.List.{List, [], _∷_, _++_, map, append-assoc}
 use mathlib.Core.Logic.{inl, inr}
 use mathlib.Core.Path.{_≡_, refl, sym, ap, _∙_}
-use Prim.Native.Nat.{ℕ, _+_, _<_}
+use Prim.Native.Nat.{ℕ, _<_}
 use native.Mathlib.Omega.{arith}
 use lib.Dec.{T, lit<}
 use lib.ListN.{length, length-append}
@@ -24,8 +24,9 @@ use Rattle.model.specs.Text.{headText, levelByte, actionText, stepText, 
 use Rattle.model.specs.Store.{headPlaces}
 use Rattle.model.specs.WellFormed.{ActionFits, StepFits, WellFormed}
 use Rattle.model.specs.EachLaws.{all-of-each}
-use Rattle.model.specs.LineText.{LineByte, lineOf, lineOfHead, lineOfAction, stepPlaces, lineOfStep, partsOf}
-use Rattle.model.specs.ActionLineLaws.{NameByte, name-bytes, levelByte-capital, line-of-actionOf}
+use Rattle.model.specs.LineText.{NameByte, LineByte, lineOf, lineOfHead, lineOfAction, stepPlaces}
+use Rattle.model.specs.LineText.{lineOfStep, partsOf}
+use Rattle.model.specs.ActionLineLaws.{name-bytes, levelByte-capital, line-of-actionOf}
 use Rattle.model.specs.LineTextLaws.{line-of-headOf, line-of-stepOf}
 
 -- ---- a line's text is the line and its end
@@ -74,15 +75,15 @@ join-lines line text nil cons (x ∷ xs) parts h =
     join-cons 10 (line x) (map line xs ++ parts) l
     ∙ rw (join-lines line text nil cons xs parts h, cons) (simp append-assoc)
 
-actionsText-cons : (a : ActionLine) (rest : List ActionLine)
+actionsText-line : (a : ActionLine) (rest : List ActionLine)
     → actionsText (a ∷ rest) ≡ lineOfAction a ++ (10 ∷ []) ++ actionsText rest
 unfolding actionsText
-actionsText-cons a rest = rw (actionText-line a)
+actionsText-line a rest = rw (actionText-line a)
 
-stepsText-cons : (s : StepLine) (rest : List StepLine)
+stepsText-line : (s : StepLine) (rest : List StepLine)
     → stepsText (s ∷ rest) ≡ lineOfStep s ++ (10 ∷ []) ++ stepsText rest
 unfolding stepsText
-stepsText-cons s rest = rw (stepText-line s)
+stepsText-line s rest = rw (stepText-line s)
 
 join-last : join 10 ((69 ∷ []) ∷ [] ∷ []) ≡ 69 ∷ 10 ∷ []
 unfolding join
@@ -99,8 +100,8 @@ textOf-parts m =
     let from-actions : List (List ℕ) = map lineOfAction (m .actions) ++ from-steps in
     let k : 0 < length from-steps = simp length-append (omega arith) in
     let l : 0 < length from-actions = simp length-append (omega arith) in
-    let steps = join-lines lineOfStep stepsText refl stepsText-cons (m .steps) last (omega arith) in
-    let actions = join-lines lineOfAction actionsText refl actionsText-cons (m .actions) from-steps k in
+    let steps = join-lines lineOfStep stepsText refl stepsText-line (m .steps) last (omega arith) in
+    let actions = join-lines lineOfAction actionsText refl actionsText-line (m .actions) from-steps k in
     sym (join-cons 10 (lineOfHead (m .head)) from-actions l
     ∙ rw (actions, steps, join-last, headText-line (m .head))
     (sym (regroup (lineOfHead (m .head)) (actionsText (m .actions)) (stepsText (m .steps)) (69 ∷ 10 ∷ []))))

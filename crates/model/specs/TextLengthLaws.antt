@@ -1,7 +1,7 @@
 -- The lengths of a model's lines, and of its text: at most the 14,420 bytes that Write's list has.
 -- Document 01, "The operations, in the order of the work", 8. Assumes nothing.
 use mathlib.Core.List.{List, [], _∷_, _++_}
-use Prim.Native.Nat.{_+_, _*_, _≤_}
+use Prim.Native.Nat.{_*_, _≤_}
 use native.Mathlib.Omega.{arith}
 use lib.Dec.{T}
 use lib.ListN.{length, length-append}

@@ -1,17 +1,15 @@
 -- A store that holds a model has counts within their limits, names of 1 to 12 bytes, and a text that fits.
 -- Document 01, "The text" and "The model store". Assumes nothing.
-use mathlib.Core.Logic.{inl, inr}
 use mathlib.Core.List.{List}
 use mathlib.Core.Path.{_≡_}
 use Prim.Native.Nat.{ℕ, _+_, _-_, _≤_, _<_}
 use native.Mathlib.Omega.{arith}
 use lib.ListN.{length, getD, take, drop}
-use Rattle.model.specs.All.{All}
 use Rattle.model.specs.AllLaws.{all-of-all}
-use Rattle.model.specs.ActionLineLaws.{NameByte, name-bytes}
-use Rattle.model.specs.BytesLaws.{digit-within, smallLetter-within}
+use Rattle.model.specs.LineText.{NameByte}
+use Rattle.model.specs.ActionLineLaws.{name-bytes, nameByte-lt}
 use Rattle.model.specs.GoodLaws.{Good→GoodPlaces}
-use Rattle.model.specs.Limits.{actionLimit, stepLimit, nameLimit, outLength, actionPlace, namePlace}
+use Rattle.model.specs.Limits.{actionLimit, stepLimit, outLength, actionPlace, namePlace}
 use Rattle.model.specs.ListedLaws.{each-listed}
 use Rattle.model.specs.Model.{ActionLine}
 use Rattle.model.specs.RangesLaws.{headFits?→HeadRanges}
@@ -20,13 +18,9 @@ use Rattle.model.specs.StoredModelLaws.{good-well-formed}
 use Rattle.model.specs.Text.{textOf}
 use Rattle.model.specs.TextLengthLaws.{textOf-length-le}
 use Rattle.model.specs.WellFormed.{ActionFits}
-use Rattle.model.specs.Writable.{Writable}
+use Rattle.model.specs.Writable.{Writable, NameBytes}
 
 -- ---- a name
-
-nameByte-lt : (b : ℕ) → NameByte b → b < 256
-nameByte-lt b (inl e) = let w = digit-within b e in omega arith
-nameByte-lt b (inr e) = let w = smallLetter-within b e in omega arith
 
 -- an action, from its level and the part of the store where its name stands
 pub actionAt-part : (s : List ℕ) (i level place len : ℕ) → level ≡ actionAt s i .level → place ≡ namePlace i
@@ -34,11 +28,6 @@ pub actionAt-part : (s : List ℕ) (i level place len : ℕ) → level ≡ actio
     → _≡_ {A = ActionLine} (record { level = level; name = take (place + len - place) (drop place s) }) (actionAt s i)
 actionAt-part s i level place len l p n =
     let e : place + len - place ≡ len = omega arith in rw (e, l, p, n)
-
--- the name of action i: its length, and its bytes
-pub record NameBytes (s : List ℕ) (i : ℕ) : Type 0 where
-  pub short : getD s (actionPlace i + 1) 0 ≤ nameLimit
-  pub bytes : All (λ (b : ℕ). b < 256) (actionAt s i .name)
 
 -- ---- a store that holds a model
 
@@ -51,9 +40,9 @@ module _ (s : List ℕ) (w : Writable s) where
   unfolding modelAt
   steps-le = headFits?→HeadRanges (headAt s) (good-well-formed s (w .good) .head) .steps
 
-  pub name-at : (i : ℕ) → i < getD s 1 0 → NameBytes s i
+  pub name-bytes-at : (i : ℕ) → i < getD s 1 0 → NameBytes s i
   unfolding modelAt
-  name-at i h =
+  name-bytes-at i h =
       let name = actionAt s i .name in
       let each = good-well-formed s (w .good) .actions in
       let fits = each-listed ActionFits (actionAt s) (getD s 1 0) each i h .name in

@@ -1,7 +1,7 @@
 -- The lengths of lines, and the texts of listed lines: one more, and room for one more.
 -- Document 01, "The text". Assumes nothing.
-use mathlib.Core.Path.{_≡_, refl, sym, _∙_}
-use mathlib.Core.List.{List, [], _∷_, _++_, append-assoc, append-nil}
+use mathlib.Core.Path.{_≡_, refl, sym}
+use mathlib.Core.List.{List, [], _∷_, _++_}
 use Prim.Native.Nat.{ℕ, zero, suc, _+_, _-_, _≤_, _<_}
 use native.Mathlib.Omega.{arith}
 use native.Mathlib.Nat.{suc-add, zero-add}
@@ -10,6 +10,7 @@ use lib.ListN.{length, length-append}
 use Rattle.model.specs.declared.Head.{Head}
 use Rattle.model.specs.declared.StepLine.{StepLine}
 use Rattle.model.specs.Model.{ActionLine, Model}
+use Rattle.model.specs.BlocksLaws.{blocks-snoc}
 use Rattle.model.specs.Numbers.{digits}
 use Rattle.model.specs.StoredModel.{listed}
 use Rattle.model.specs.Text.{headText, actionText, stepText, actionsText, stepsText, textOf}
@@ -38,13 +39,9 @@ stepText-length s = simp length-append (omega arith)
 
 module _ {A : Type 0} (line : A → List ℕ) (text : List A → List ℕ) (nil : text [] ≡ [])
     (cons : (x : A) (xs : List A) → text (x ∷ xs) ≡ line x ++ text xs) where
-  text-append : (xs ys : List A) → text (xs ++ ys) ≡ text xs ++ text ys
-  text-append [] ys = rw nil
-  text-append (x ∷ xs) ys = cons x (xs ++ ys) ∙ rw (cons x xs, text-append xs ys) (simp append-assoc)
-
   text-suc : (f : ℕ → A) (n : ℕ) → text (listed (suc n) f) ≡ text (listed n f) ++ line (f n)
   unfolding listed
-  text-suc f n = text-append (listed n f) (f n ∷ []) ∙ rw (cons (f n) [], nil, append-nil)
+  text-suc f n = blocks-snoc line text nil cons (listed n f) (f n)
 
   -- more lines are no shorter
   text-le : (f : ℕ → A) (i k : ℕ) → length (text (listed i f)) ≤ length (text (listed (k + i) f))

@@ -8,21 +8,22 @@ use crate::line::action_line;
 use crate::line::find;
 use crate::store::ACTION_SIZE;
 use crate::store::ACTIONS_AT;
-ghost use mathlib.Core.List.{List, [], _∷_};
+ghost use mathlib.Core.List.{List, _∷_};
 ghost use mathlib.Core.Path.{_≡_};
-ghost use Prim.Native.Nat.{ℕ, _+_, _*_, _≤_, _<_};
+ghost use Prim.Native.Nat.{_+_, _*_, _≤_, _<_};
 ghost use lib.ListN.{length};
 ghost use lib.Seq.{sets};
-ghost use Rattle.model.specs.Limits.{nameLimit, actionLimit, actionPlace, storeLength};
+ghost use Rattle.model.specs.Limits.{nameLimit, actionLimit, storeLength};
 ghost use Rattle.model.specs.Model.{ActionLine};
 ghost use Rattle.model.specs.Split.{same?};
 ghost use Rattle.model.specs.Lines.{used?};
-ghost use Rattle.model.specs.ReadSoFar.{ActionStored, ActionsStored, AfterActions, AfterSteps, Further};
+ghost use Rattle.model.specs.ReadSoFar.{ActionStored, ActionsStored, AfterActions, Further};
 
 // Whether the action that stands at a place of the store has a name.
 fn named(store: &[u16], at: usize, name: &[u8]) -> bool
     requires { ⌜ (at + 14 ≤ length (now store)) × (length (now name) ≤ nameLimit) ⌝ }
-    ensures { λ r. ⌜ ((a : ActionLine) → ActionStored (now (store .entry)) at a → r ≡ same? (a .name) (now (name .entry))) ⌝ }
+    ensures { λ r. ⌜ ((a : ActionLine) → ActionStored (now (store .entry)) at a
+        → r ≡ same? (a .name) (now (name .entry))) ⌝ }
 {
     if store[at + 1] as usize != name.len() {
         return false;
@@ -40,7 +41,8 @@ fn named(store: &[u16], at: usize, name: &[u8]) -> bool
 // Whether one of the first actions in the store has a name.
 fn used(store: &[u16], count: usize, name: &[u8]) -> bool
     requires { ⌜ (count ≤ actionLimit) × (storeLength ≤ length (now store)) × (length (now name) ≤ nameLimit) ⌝ }
-    ensures { λ r. ⌜ ((before : List ActionLine) → ActionsStored (now (store .entry)) 4 before → length before ≡ count → r ≡ used? (now (name .entry)) before) ⌝ }
+    ensures { λ r. ⌜ ((before : List ActionLine) → ActionsStored (now (store .entry)) 4 before → length before ≡ count
+        → r ≡ used? (now (name .entry)) before) ⌝ }
 {
     let mut i = 0;
     while i < count {
@@ -67,7 +69,8 @@ fn put_name(out: &mut [u16], at: usize, name: &[u8])
 // Stores an action in places that hold zeros.
 fn put_action(out: &mut [u16], at: usize, level: u16, name: &[u8])
     requires { ⌜ (at + 14 ≤ length (now out)) × (length (now name) ≤ nameLimit) ⌝ }
-    ensures { λ _. ⌜ now (out .exit) ≡ sets (now (out .entry)) at (level ∷ length (now (name .entry)) ∷ now (name .entry)) ⌝ }
+    ensures { λ _. ⌜ now (out .exit)
+        ≡ sets (now (out .entry)) at (level ∷ length (now (name .entry)) ∷ now (name .entry)) ⌝ }
 {
     out[at] = level;
     out[at + 1] = name.len() as u16;
@@ -77,7 +80,8 @@ fn put_action(out: &mut [u16], at: usize, level: u16, name: &[u8])
 // The line of action i.
 fn action(text: &[u8], at: usize, head: Head, i: usize, out: &mut [u16]) -> LinesRead
     requires { ⌜ AfterActions head (now text) at i (now out) × (i < head .actions) ⌝ }
-    ensures { λ r. ⌜ Further (λ next. AfterActions head (now (text .entry)) next (i + 1) (now (out .exit))) (now (text .entry)) r ⌝ }
+    ensures { λ r. ⌜ Further (λ next. AfterActions head (now (text .entry)) next (i + 1) (now (out .exit)))
+        (now (text .entry)) r ⌝ }
 {
     let line = 2 + i;
     let e = find(text, at, LINE_END);
@@ -107,7 +111,8 @@ fn action(text: &[u8], at: usize, head: Head, i: usize, out: &mut [u16]) -> Line
 // The lines of the actions, into a store that holds what the first line states.
 pub fn actions(text: &[u8], at: usize, head: Head, out: &mut [u16]) -> LinesRead
     requires { ⌜ AfterActions head (now text) at 0 (now out) ⌝ }
-    ensures { λ r. ⌜ Further (λ next. AfterActions head (now (text .entry)) next (head .actions) (now (out .exit))) (now (text .entry)) r ⌝ }
+    ensures { λ r. ⌜ Further (λ next. AfterActions head (now (text .entry)) next (head .actions) (now (out .exit)))
+        (now (text .entry)) r ⌝ }
 {
     let count = head.actions as usize;
     let mut from = at;

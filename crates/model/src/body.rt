@@ -1,5 +1,5 @@
-// The text behind its first line: actions, steps and the end, read into a store of zeros that is copied out where all is
-// well.
+// The text behind its first line: actions, steps and the end, read into a store of zeros that is copied out where
+// all is well.
 use crate::Fault;
 use crate::Head;
 use crate::actions::actions;
@@ -20,7 +20,8 @@ ghost use Rattle.model.specs.Split.{split};
 ghost use Rattle.model.specs.Limits.{storeLength};
 ghost use Rattle.model.specs.Store.{headPlaces};
 ghost use Rattle.model.specs.LineAnswers.{headRead};
-ghost use Rattle.model.specs.ReadSoFar.{AfterHead, AfterActions, AfterSteps, AfterEnd, Further, ReadOut, AfterLine, firstLine, AfterFirst};
+ghost use Rattle.model.specs.ReadSoFar.{AfterHead, AfterActions, AfterSteps, AfterEnd, Further, ReadOut};
+ghost use Rattle.model.specs.ReadSoFar.{AfterLine, firstLine, AfterFirst};
 
 // What reading some of the lines comes to: the place after them, or the first bad line.
 pub enum LinesRead {

@@ -124,7 +124,8 @@ fn numbers(line: &[u8], from: usize, out: &mut [u32]) -> RowRead
 // Stores the numbers of a line of a letter and out.len() numbers.
 fn row(line: &[u8], letter: u8, out: &mut [u32]) -> RowRead
     requires { ⌜ (kindOf letter ≡ capital) × (0 < length (now out)) ⌝ }
-    ensures { λ r. ⌜ numbersLine letter (length (now (out .entry))) (now (line .entry)) ≡ rowRead r (now (out .exit)) ⌝ }
+    ensures { λ r. ⌜ numbersLine letter (length (now (out .entry))) (now (line .entry))
+        ≡ rowRead r (now (out .exit)) ⌝ }
 {
     if !fields(line, letter, out.len()) {
         return RowRead::Bad(Fault::Shape);
@@ -278,7 +279,8 @@ pub fn is_above(a: StepLine, b: StepLine) -> bool
 
 // `S,source,action,target`: the line of step j, where `last` is the step before it.
 pub fn step_line(line: &[u8], head: Head, j: usize, last: StepLine) -> StepRead
-    ensures { λ r. ⌜ ((before : List StepLine) → Last before j last → stepOf head before (now (line .entry)) ≡ stepRead r) ⌝ }
+    ensures { λ r. ⌜ ((before : List StepLine) → Last before j last
+        → stepOf head before (now (line .entry)) ≡ stepRead r) ⌝ }
 {
     let mut ns = [0u32; 3];
     if let RowRead::Bad(fault) = row(line, b'S', &mut ns) {

@@ -1,5 +1,5 @@
-// The reader: a text, and how far it has been read. Each function takes it apart, and leaves the work to a function on a
-// slice and a number.
+// The reader: a text, and how far it has been read. Each function takes it apart, and leaves the work to a function
+// on a slice and a number.
 use crate::body::after_line;
 use crate::body::body;
 use crate::body::first_line;

@@ -11,13 +11,12 @@ use crate::line::find;
 use crate::line::step_line;
 use crate::store::STEP_SIZE;
 use crate::store::STEPS_AT;
-ghost use mathlib.Core.List.{List, [], _∷_};
+ghost use mathlib.Core.List.{[], _∷_};
 ghost use mathlib.Core.Path.{_≡_};
-ghost use Prim.Native.Nat.{ℕ, _+_, _*_, _≤_, _<_};
+ghost use Prim.Native.Nat.{_+_, _*_, _≤_, _<_};
 ghost use lib.ListN.{length};
 ghost use lib.Seq.{sets};
-ghost use Rattle.model.specs.Limits.{stepPlace};
-ghost use Rattle.model.specs.ReadSoFar.{AfterActions, AfterSteps, Further, AfterStep};
+ghost use Rattle.model.specs.ReadSoFar.{AfterActions, AfterSteps, Further};
 
 // Stores a step.
 fn put_step(out: &mut [u16], at: usize, s: StepLine)
@@ -32,7 +31,8 @@ fn put_step(out: &mut [u16], at: usize, s: StepLine)
 // The lines of the steps, into a store that holds the first line and the actions.
 pub fn steps(text: &[u8], at: usize, head: Head, out: &mut [u16]) -> LinesRead
     requires { ⌜ AfterActions head (now text) at (head .actions) (now out) ⌝ }
-    ensures { λ r. ⌜ Further (λ next. AfterSteps head (now (text .entry)) next (now (out .exit))) (now (text .entry)) r ⌝ }
+    ensures { λ r. ⌜ Further (λ next. AfterSteps head (now (text .entry)) next (now (out .exit)))
+        (now (text .entry)) r ⌝ }
 {
     let count = head.steps as usize;
     let first = 2 + head.actions as usize;

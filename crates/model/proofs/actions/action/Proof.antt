@@ -1,4 +1,5 @@
--- Each return by what led to it: `ReadLaws` says what the line then makes of the whole text, `NameLaws` where its name stands.
+-- Each return by what led to it: `ReadLaws` says what the line then makes of the whole text, `NameLaws` where its
+-- name stands.
 use borrow.Author.Needs.{needs}
 use native.Mathlib.Omega.{arith}
 use Prim.Native.Nat.{_+_, _-_, _≤_, _<_}
@@ -10,7 +11,8 @@ use Rattle.model.specs.SplitLaws.{found-le}
 use Rattle.model.specs.Lines.{good, fieldsOf, actionFields}
 use Rattle.model.specs.LineAnswers.{actionRead}
 use Rattle.model.specs.ReadSoFar.{Further}
-use Rattle.model.specs.ReadLaws.{action-absent, action-bad, action-next, AfterActions-length, actionOf-bad, actionOf-used, actionOf-good}
+use Rattle.model.specs.ReadLaws.{action-absent, action-bad, action-next, AfterActions-length}
+use Rattle.model.specs.ReadLaws.{actionOf-bad, actionOf-used, actionOf-good}
 use Rattle.model.specs.NameLaws.{name-part, ActionsStored-so-far}
 use Rattle.model.proofs.actions.action.Statement.{statement}
 use Rattle.model.proofs.actions.action.Tie as tie
@@ -165,7 +167,8 @@ returns-4 c =
     let e = k .before .before .before .before .before in
     let s = e .before .before .before .before in
     let b = s .pre .0 in
-    let t = sym (u .used .ensures (b .actions) (ActionsStored-so-far _ _ _ _ _ b) (b .count)) ∙ p .before .before .before .if2 .left in
+    let t = sym (u .used .ensures (b .actions) (ActionsStored-so-far _ _ _ _ _ b) (b .count))
+    ∙ p .before .before .before .if2 .left in
     rw (p .put-action .ensures)
     (action-next _ _ _ (s .args .i) _ b (s .pre .1) _ (e .before .find .ensures) (inside e .0) _
     (actionOf-good (b .actions) _ _ (named k .2) t) (named k .1))

@@ -30,7 +30,8 @@ enum-told c = search needs
 
 same-length : tie.Need-same-length Inv-loop μ-loop
 same-length c =
-    let a = c .before .before .before .before in a .action .kept .1 .1 .1 .1 .0 ∙ a .before .before .before .loop .inv .1
+    let a = c .before .before .before .before in
+    a .action .kept .1 .1 .1 .1 .0 ∙ a .before .before .before .loop .inv .1
 
 returns : tie.Need-returns Inv-loop μ-loop
 returns c = Further-faulty _ _ _ _ _ _ (c .enum-told .given .1) (c .before .before .before .before .action .ensures)
@@ -48,7 +49,8 @@ loop-again : tie.Need-loop-again Inv-loop μ-loop
 loop-again c =
     let a = c .before .before .before .before .before in
     let l = a .before .before .before in
-    (omega arith, a .action .kept .1 .1 .1 .1 .0 ∙ l .loop .inv .1, Further-next _ _ _ _ (c .before .read .given .1) (a .action .ensures))
+    let next = Further-next _ _ _ _ (c .before .read .given .1) (a .action .ensures) in
+    (omega arith, a .action .kept .1 .1 .1 .1 .0 ∙ l .loop .inv .1, next)
 
 same-length-2 : tie.Need-same-length-2 Inv-loop μ-loop
 same-length-2 c = c .before .loop .inv .1

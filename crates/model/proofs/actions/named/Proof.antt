@@ -1,4 +1,5 @@
--- Each byte passed is the name's, and the stored length is the name's. `NameLaws` says what that makes of the stored name.
+-- Each byte passed is the name's, and the stored length is the name's. `NameLaws` says what that makes of the stored
+-- name.
 use borrow.Author.Needs.{needs}
 use borrow.Author.Count.{below-more}
 use native.Mathlib.Omega.{arith}
@@ -55,7 +56,8 @@ cast-if2 c = omega (arith, c .shared-slice-known3 .given (c .before .before .bef
 
 returns-2 : tie.Need-returns-2 Inv-loop μ-loop
 returns-2 c a s =
-    let l = c .before .before .before .before in named-differ _ _ a s _ (l .loop .inv .1) (l .loop .i) (omega arith) (c .if2 .taken)
+    let l = c .before .before .before .before in
+    named-differ _ _ a s _ (l .loop .inv .1) (l .loop .i) (omega arith) (c .if2 .taken)
 
 add-i : tie.Need-add-i Inv-loop μ-loop
 add-i c = search needs

@@ -59,7 +59,8 @@ returns c =
     let l = c .before in
     let a = l .before .args in
     let e : l .loop .i ≡ length (a .name .now) = omega arith in
-    l .loop .inv .2 ∙ rw (e, take-length (a .name .now)) (sym (sets-eq (a .name .now) (a .out .now) (a .at) (l .before .pre)))
+    l .loop .inv .2
+    ∙ rw (e, take-length (a .name .now)) (sym (sets-eq (a .name .now) (a .out .now) (a .at) (l .before .pre)))
 
 pub put-name-spec : {M : Type 1} → statement M
 put-name-spec =

@@ -43,7 +43,8 @@ loop-again c =
     let a = l .before .args in
     let h : l .loop .i < length (a .from .now) = omega arith in
     let d : l .loop .i < length (a .to .now) = omega arith in
-    (omega arith, simp length-set (l .loop .inv .1), rw (l .loop .inv .2) (copy-suc (a .from .now) (a .to .now) (l .loop .i) h d))
+    let next = copy-suc (a .from .now) (a .to .now) (l .loop .i) h d in
+    (omega arith, simp length-set (l .loop .inv .1), rw (l .loop .inv .2) next)
 
 same-length : tie.Need-same-length Inv-loop μ-loop
 same-length c = search needs

@@ -11,10 +11,12 @@ use Rattle.model.proofs.body.end.Statement.{statement}
 use Rattle.model.proofs.body.end.Tie as tie
 
 -- the contexts of the search and of the place behind it, where the line has an end
-abbrev start : (f : tie.After-find) → AfterSteps (f .before .before .before .before .before .args .head) (f .before .before .before .before .before .args .text .now) (f .before .before .before .before .before .args .at) (f .before .before .before .before .before .args .out .now)
+abbrev start : (f : tie.After-find) → let a = f .before .before .before .before .before .args in
+    AfterSteps (a .head) (a .text .now) (a .at) (a .out .now)
 start f = f .before .before .before .before .before .pre
 
-inside : (c : tie.Else1) → c .before .find .result < length (c .before .before .before .before .before .before .args .text .now)
+inside : (c : tie.Else1)
+    → c .before .find .result < length (c .before .before .before .before .before .before .args .text .now)
 inside c =
     let f = c .before in
     let n = found-le lineEnd _ _ _ (start f .place) (f .find .ensures) in
@@ -37,7 +39,7 @@ find-requires c κs = search needs
 
 returns : tie.Need-returns
 unfolding Further
-returns c = let f = c .before in end-absent _ _ _ _ (f .before .before .before .before .before .pre) _ (f .find .ensures) (omega arith)
+returns c = let f = c .before in end-absent _ _ _ _ (start f) _ (f .find .ensures) (omega arith)
 
 add-if2 : tie.Need-add-if2
 add-if2 c = search needs
@@ -55,7 +57,8 @@ returns-3 : tie.Need-returns-3
 unfolding Further
 returns-3 c =
     let f = c .before .before .before .before in
-    end-other _ _ _ _ (start f) _ (f .find .ensures) (inside (c .before .before .before)) (c .before .before .if2 .left) (c .if3 .taken)
+    end-other _ _ _ _ (start f) _ (f .find .ensures) (inside (c .before .before .before))
+    (c .before .before .if2 .left) (c .if3 .taken)
 
 add-if4 : tie.Need-add-if4
 add-if4 c = let i = inside (c .before .before .before) in omega arith
@@ -67,8 +70,8 @@ returns-4 : tie.Need-returns-4
 unfolding Further
 returns-4 c =
     let f = c .before .before .before .before .before in
-    end-more _ _ _ _ (start f) _ (f .find .ensures) (inside (c .before .before .before .before)) (c .before .before .before .if2 .left) (c .before .if3 .left)
-    (c .if4 .taken)
+    end-more _ _ _ _ (start f) _ (f .find .ensures) (inside (c .before .before .before .before))
+    (c .before .before .before .if2 .left) (c .before .if3 .left) (c .if4 .taken)
 
 add-t9 : tie.Need-add-t9
 add-t9 c = search needs
@@ -77,8 +80,8 @@ returns-5 : tie.Need-returns-5
 unfolding Further
 returns-5 c =
     let f = c .before .before .before .before .before in
-    end-done _ _ _ _ (start f) _ (f .find .ensures) (inside (c .before .before .before .before)) (c .before .before .before .if2 .left) (c .before .if3 .left)
-    (c .if4 .left)
+    end-done _ _ _ _ (start f) _ (f .find .ensures) (inside (c .before .before .before .before))
+    (c .before .before .before .if2 .left) (c .before .if3 .left) (c .if4 .left)
 
 pub end-spec : {M : Type 1} → statement M
 end-spec =

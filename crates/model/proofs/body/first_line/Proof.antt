@@ -27,7 +27,9 @@ part-head-line-start : tie.Need-part-head-line-start
 part-head-line-start c = search needs
 
 part-head-line-end : tie.Need-part-head-line-end
-part-head-line-end c = let f = c .before in omega (arith, found-le lineEnd _ _ _ (f .before .if1 .left) (f .find .ensures))
+part-head-line-end c =
+    let f = c .before in
+    omega (arith, found-le lineEnd _ _ _ (f .before .if1 .left) (f .find .ensures))
 
 head-line-requires : tie.Need-head-line-requires
 head-line-requires c κs = search needs

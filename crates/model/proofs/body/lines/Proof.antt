@@ -15,7 +15,8 @@ enum-known-acted c = search needs
 
 steps-requires : tie.Need-steps-requires
 steps-requires c κs =
-    let k = c .before .before in Further-next _ _ _ _ (k .acted .given .1) (k .before .before .before .before .actions .ensures)
+    let k = c .before .before in
+    Further-next _ _ _ _ (k .acted .given .1) (k .before .before .before .before .actions .ensures)
 
 enum-told-2 : tie.Need-enum-told-2
 enum-told-2 c = search needs
@@ -25,7 +26,8 @@ enum-known-stepped c = search needs
 
 end-requires : tie.Need-end-requires
 end-requires c κs =
-    let k = c .before .before in Further-next _ _ _ _ (k .stepped .given .1) (k .before .before .before .before .steps .ensures)
+    let k = c .before .before in
+    Further-next _ _ _ _ (k .stepped .given .1) (k .before .before .before .before .steps .ensures)
 
 same-length : tie.Need-same-length
 same-length c = search needs

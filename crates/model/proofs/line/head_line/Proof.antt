@@ -1,14 +1,17 @@
 -- `head_line` tests the line's shape and digits, then the numbers' ranges.
 use mathlib.Core.List.{List}
-use mathlib.Core.Path.{_≡_, sym, _∙_}
+use mathlib.Core.Path.{_≡_, sym, _∙_, subst}
 use Prim.Native.Nat.{ℕ}
 use native.Mathlib.Omega.{arith}
+use lib.Dec.{T}
 use borrow.Author.Needs.{needs}
 use borrow.Author.Tests.{not-true, not-false}
 use Rattle.model.specs.Bytes.{kindOf}
 use Rattle.model.specs.Lines.{good, checked, numbersLine, headNumbers}
 use Rattle.model.specs.LineAnswers.{headRead}
-use Rattle.model.specs.LinesLaws.{HeadRange, headFits?→HeadRange, headOf-bad, headOf-numbers}
+use Rattle.model.specs.LinesLaws.{headOf-bad, headOf-numbers}
+use Rattle.model.specs.Ranges.{HeadRanges}
+use Rattle.model.specs.RangesLaws.{headFits?→HeadRanges}
 use Rattle.model.specs.RowLaws.{row-bad, row-good}
 use Rattle.model.proofs.line.head_line.Statement.{statement}
 use Rattle.model.proofs.line.head_line.Tie as tie
@@ -22,8 +25,8 @@ read : (c : tie.After-enum-told) → let r = c .before .before .before in
     numbersLine 77 4 (r .before .before .before .args .line .now) ≡ good (stored r)
 read c = let r = c .before .before .before in row-good _ _ _ (r .row .ensures) (c .enum-told .given .1)
 
-range : (c : tie.Else1) → HeadRange (headNumbers (stored (c .before .before .before .before .before)))
-range c = headFits?→HeadRange _ (sym (c .before .head-fits .ensures) ∙ not-false _ (c .if1 .left))
+range : (c : tie.Else1) → HeadRanges (headNumbers (stored (c .before .before .before .before .before)))
+range c = headFits?→HeadRanges _ (subst T (sym (not-false _ (c .if1 .left)) ∙ c .before .head-fits .ensures) tt)
 
 slice-aggregate-row : tie.Need-slice-aggregate-row
 slice-aggregate-row c = search needs
@@ -66,16 +69,16 @@ returns-2 c =
     headOf-numbers _ (read (f .before)) (sym (f .head-fits .ensures) ∙ not-true _ (c .if1 .taken))
 
 cast-t23 : tie.Need-cast-t23
-cast-t23 c = omega (arith, range c .states-le)
+cast-t23 c = omega (arith, range c .states)
 
 cast-t24 : tie.Need-cast-t24
-cast-t24 c = omega (arith, range c .actions-le)
+cast-t24 c = omega (arith, range c .actions)
 
 cast-t25 : tie.Need-cast-t25
-cast-t25 c = omega (arith, range c .steps-le)
+cast-t25 c = omega (arith, range c .steps)
 
 cast-t26 : tie.Need-cast-t26
-cast-t26 c = omega (arith, range c .states-le, range c .start-lt)
+cast-t26 c = omega (arith, range c .states, range c .start)
 
 returns-3 : tie.Need-returns-3
 unfolding headRead checked

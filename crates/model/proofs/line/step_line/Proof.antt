@@ -1,16 +1,19 @@
 -- `step_line` tests the line's shape and digits, then the numbers' ranges, then the order.
 use mathlib.Core.List.{List}
 use mathlib.Core.Bool.{true}
-use mathlib.Core.Path.{_≡_, sym, _∙_}
+use mathlib.Core.Path.{_≡_, sym, _∙_, subst}
 use Prim.Native.Nat.{ℕ}
 use native.Mathlib.Omega.{arith}
+use lib.Dec.{T}
 use borrow.Author.Needs.{needs}
 use borrow.Author.Tests.{not-true, not-false}
 use Rattle.model.specs.Bytes.{kindOf}
 use Rattle.model.specs.Lines.{good, checked, numbersLine, stepFits?, stepNumbers}
 use Rattle.model.specs.LineAnswers.{stepRead}
-use Rattle.model.specs.LinesLaws.{StepRange, stepFits?→StepRange, stepOf-bad, stepOf-range, stepOf-order}
+use Rattle.model.specs.LinesLaws.{stepOf-bad, stepOf-range, stepOf-order}
 use Rattle.model.specs.LinesLaws.{last-nil, last-cons}
+use Rattle.model.specs.Ranges.{StepRanges}
+use Rattle.model.specs.RangesLaws.{stepFits?→StepRanges}
 use Rattle.model.specs.RowLaws.{row-bad, row-good}
 use Rattle.model.proofs.line.step_line.Statement.{statement}
 use Rattle.model.proofs.line.step_line.Tie as tie
@@ -30,8 +33,8 @@ fits : (c : tie.Else1) → let r = c .before .before .before .before .before in
 fits c = sym (c .before .step-fits .ensures) ∙ not-false _ (c .if1 .left)
 
 range : (c : tie.Else1) → let r = c .before .before .before .before .before in
-    StepRange (r .before .before .before .args .head) (stepNumbers (stored r))
-range c = stepFits?→StepRange _ _ (fits c)
+    StepRanges (r .before .before .before .args .head) (stepNumbers (stored r))
+range c = stepFits?→StepRanges _ _ (subst T (sym (fits c)) tt)
 
 slice-aggregate-row : tie.Need-slice-aggregate-row
 slice-aggregate-row c = search needs
@@ -71,13 +74,13 @@ returns-2 c before last =
     stepOf-range _ before _ _ (read (f .before)) (sym (f .step-fits .ensures) ∙ not-true _ (c .if1 .taken))
 
 cast-t24 : tie.Need-cast-t24
-cast-t24 c = omega (arith, range c .source-lt)
+cast-t24 c = omega (arith, range c .source)
 
 cast-t26 : tie.Need-cast-t26
-cast-t26 c = omega (arith, range c .action-lt)
+cast-t26 c = omega (arith, range c .action)
 
 cast-t28 : tie.Need-cast-t28
-cast-t28 c = omega (arith, range c .target-lt)
+cast-t28 c = omega (arith, range c .target)
 
 returns-3 : tie.Need-returns-3
 unfolding stepRead checked

@@ -1,4 +1,5 @@
--- After j lines the store holds j steps, and what remains reads as the whole does: `ReadStepsLaws` takes that past a line.
+-- After j lines the store holds j steps, and what remains reads as the whole does: `ReadStepsLaws` takes that past a
+-- line.
 use borrow.Author.Needs.{needs}
 use native.Mathlib.Omega.{arith}
 use Prim.Native.Nat.{_-_, _≤_, _<_}
@@ -8,7 +9,8 @@ use Rattle.model.specs.Bytes.{lineEnd}
 use Rattle.model.specs.SplitLaws.{found-le}
 use Rattle.model.specs.LineAnswers.{stepRead}
 use Rattle.model.specs.ReadSoFar.{AfterStep, Further}
-use Rattle.model.specs.ReadStepsLaws.{after-actions, step-absent, step-bad, step-next, AfterStep-length, after-steps}
+use Rattle.model.specs.ReadStepsLaws.{after-actions, step-absent, step-bad, step-next}
+use Rattle.model.specs.ReadStepsLaws.{AfterStep-length, after-steps}
 use Rattle.model.proofs.steps.steps.Statement.{statement}
 use Rattle.model.proofs.steps.steps.Tie as tie
 
@@ -21,7 +23,8 @@ abbrev μ-loop : tie.MeasureT-loop
 
 -- where the line has an end
 inside : (c : tie.Else1 Inv-loop μ-loop)
-    → (c .before .find .result < length (c .before .before .before .before .before .before .before .before .args .text .now))
+    → (c .before .find .result
+    < length (c .before .before .before .before .before .before .before .before .args .text .now))
     × (c .before .before .before .loop .from ≤ c .before .find .result)
 inside c =
     let f = c .before in

@@ -9,7 +9,7 @@ use Rattle.model.specs.All.{All}
 use Rattle.model.specs.Model.{ActionLine}
 use Rattle.model.specs.StoredModel.{actionAt}
 use Rattle.model.specs.WritingLaws.{actionText-length}
-use Rattle.model.specs.WritableLaws.{actions-le, name-at, actionAt-part}
+use Rattle.model.specs.WritableLaws.{actions-le, name-bytes-at, actionAt-part}
 use Rattle.model.proofs.position.Position.action_at.Statement.{statement}
 use Rattle.model.proofs.position.Position.action_at.Tie as tie
 
@@ -51,7 +51,7 @@ part-action-line-end : tie.Need-part-action-line-end
 part-action-line-end c =
     let s = c .before .before .before .before .before .before in
     let l = actions-le (now (s .args .store)) (s .pre .0) in
-    let n = name-at (now (s .args .store)) (s .pre .0) (s .args .a .0) (s .pre .1 .0) in
+    let n = name-bytes-at (now (s .args .store)) (s .pre .0) (s .args .a .0) (s .pre .1 .0) in
     let place = c .before .before in
     omega (arith, s .pre .0 .long, s .pre .1 .0, place .name-place .ensures, c .before .name-length .ensures)
 
@@ -64,7 +64,7 @@ action-line-requires c κs =
     (place .name-place .ensures) (c .before .before .name-length .ensures)
     in
     let l = ap (λ (a : ActionLine). length (a .name)) e in
-    let n = name-at (now (s .args .store)) (s .pre .0) (s .args .a .0) (s .pre .1 .0) in (
+    let n = name-bytes-at (now (s .args .store)) (s .pre .0) (s .args .a .0) (s .pre .1 .0) in (
       omega (arith, s .pre .1 .1, actionText-length (actionAt (now (s .args .store)) (s .args .a .0))),
       subst (λ (a : ActionLine). All (λ (b : ℕ). b < 256) (a .name)) (sym e) (n .bytes),
     )
