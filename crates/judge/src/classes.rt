@@ -9,11 +9,11 @@ ghost use Rattle.model.specs.Decides.{Decides};
 ghost use Rattle.model.specs.Limits.{stateLimit};
 ghost use Rattle.judge.specs.Lists.{tableLength};
 ghost use Rattle.judge.specs.Table.{Ranked};
-ghost use Rattle.judge.specs.MoveList.{Listed, MoveList};
-ghost use Rattle.judge.specs.ClassList.{Same, Refinable, Lowest, Refined, Joins, Moved};
-ghost use Rattle.judge.specs.Marks.{marksLength, moveMark, Reaches, Marked, AllMarked, Unmarked, Bounded, MoveAt};
-ghost use Rattle.judge.specs.TableWrites.{Written, PairWritten, RowWritten, RowsWritten};
-ghost use Rattle.judge.specs.TableWrites.{RanksUpTo, Cleared, Finished};
+ghost use Rattle.judge.specs.Inner.MoveList.{Listed, MoveList};
+ghost use Rattle.judge.specs.Inner.ClassList.{Same, Refinable, Lowest, Refined, Joins, Moved};
+ghost use Rattle.judge.specs.Inner.Marks.{marksLength, moveMark, Reaches, Marked, AllMarked, Unmarked, Bounded, MoveAt};
+ghost use Rattle.judge.specs.Inner.TableWrites.{Written, PairWritten, RowWritten, RowsWritten};
+ghost use Rattle.judge.specs.Inner.TableWrites.{RanksUpTo, Cleared, Finished};
 
 fn wide(x: u16) -> usize
     ensures { λ r. ⌜ r ≡ x ⌝ }

@@ -6,9 +6,9 @@ ghost use Prim.Native.Nat.{_+_, _≤_, _<_};
 ghost use lib.ListN.{length};
 ghost use Rattle.model.specs.StoredModel.{modelAt};
 ghost use Rattle.model.specs.System.{levels};
-ghost use Rattle.judge.specs.Stored.{Stored};
-ghost use Rattle.judge.specs.Index.{Begins, Index};
-ghost use Rattle.judge.specs.Roles.{Roles};
+ghost use Rattle.judge.specs.Inner.Stored.{Stored};
+ghost use Rattle.judge.specs.Inner.Index.{Begins, Index};
+ghost use Rattle.judge.specs.Inner.Roles.{Roles};
 
 // Where the steps of q end, which begin at `from`.
 fn end_of(store: &[u16], q: State, from: u16) -> u16

@@ -6,11 +6,11 @@ ghost use lib.ListN.{length, getD};
 ghost use Rattle.model.specs.Limits.{stepLimit};
 ghost use Rattle.model.specs.StoredModel.{modelAt};
 ghost use Rattle.model.specs.System.{levels, LowStep};
-ghost use Rattle.judge.specs.Stored.{Stored};
-ghost use Rattle.judge.specs.Index.{Index};
-ghost use Rattle.judge.specs.Roles.{Roles};
-ghost use Rattle.judge.specs.MoveList.{Lists};
-ghost use Rattle.judge.specs.Listing.{Appended, LowAmong};
+ghost use Rattle.judge.specs.Inner.Stored.{Stored};
+ghost use Rattle.judge.specs.Inner.Index.{Index};
+ghost use Rattle.judge.specs.Inner.Roles.{Roles};
+ghost use Rattle.judge.specs.Inner.MoveList.{Lists};
+ghost use Rattle.judge.specs.Inner.Listing.{Appended, LowAmong};
 
 // Appends a step to the lists at place `at` if it is low, and yields the next free place.
 fn list_step(

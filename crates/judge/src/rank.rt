@@ -4,11 +4,11 @@ ghost use lib.ListN.{length};
 ghost use Rattle.model.specs.StoredModel.{modelAt};
 ghost use Rattle.model.specs.System.{levels, LowStep};
 ghost use Rattle.judge.specs.Lists.{tableLength};
-ghost use Rattle.judge.specs.Stored.{Stored};
-ghost use Rattle.judge.specs.Index.{Index};
-ghost use Rattle.judge.specs.Roles.{Roles};
+ghost use Rattle.judge.specs.Inner.Stored.{Stored};
+ghost use Rattle.judge.specs.Inner.Index.{Index};
+ghost use Rattle.judge.specs.Inner.Roles.{Roles};
 ghost use Rattle.judge.specs.Table.{Ranked};
-ghost use Rattle.judge.specs.Promises.{toldRank, RankPromise};
+ghost use Rattle.judge.specs.Promises.{rankOutcome, RankPromise};
 
 pub const TABLE_LENGTH: usize = 16384;
 
@@ -41,7 +41,7 @@ pub fn fill_table(store: &[u16], begins: &[u16], roles: &[u16], table: &mut [u8]
 
 // Fills the table with the ranks, and answers the last round that separated two states.
 pub fn rank(store: &[u16], table: &mut [u8]) -> RankAnswer
-    ensures { λ r. ⌜ RankPromise (now (store .entry)) (now (table .entry)) (toldRank r) (now (table .exit)) ⌝ }
+    ensures { λ r. ⌜ RankPromise (now (store .entry)) (now (table .entry)) (rankOutcome r) (now (table .exit)) ⌝ }
 {
     if store.len() < model::store::STORE_LENGTH {
         return RankAnswer::ShortList(1);

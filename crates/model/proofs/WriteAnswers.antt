@@ -9,17 +9,17 @@ use borrow.Author.Tests.{lt-ltb, le-ltb}
 use Rattle.model.specs.declared.write.WriteAnswer.the-variants.{Written, ShortList, NotGood}
 use Rattle.model.specs.Faults.{answers, firstShort}
 use Rattle.model.specs.Limits.{storeLength, outLength}
-use Rattle.model.specs.OnStoreLaws.{onStore-short, onStore-not-good, onStore-good}
-use Rattle.model.specs.Promises.{toldWrite, writeLists, WritePromise}
-use Rattle.model.specs.PromisesLaws.{writeLists-none}
+use Rattle.model.specs.Laws.OnStoreLaws.{onStore-short, onStore-not-good, onStore-good}
+use Rattle.model.specs.Promises.{writeOutcome, writeLists, WritePromise}
+use Rattle.model.specs.Laws.PromisesLaws.{writeLists-none}
 use Rattle.model.specs.Store.{Good}
 use Rattle.model.specs.StoredModel.{modelAt}
-use Rattle.model.specs.StoredModelLaws.{good-text}
+use Rattle.model.specs.Laws.Store.StoredModelLaws.{good-text}
 use Rattle.model.specs.Text.{textOf}
-use Rattle.model.specs.Writable.{Writable}
-use Rattle.model.specs.WritableLaws.{text-le}
+use Rattle.model.specs.Inner.Writable.{Writable}
+use Rattle.model.specs.Laws.Write.WritableLaws.{text-le}
 use Rattle.model.specs.Wrote.{Wrote}
-use Rattle.model.specs.WroteLaws.{wrote-start}
+use Rattle.model.specs.Laws.Write.WroteLaws.{wrote-start}
 
 module _ (store out : List ℕ) where
   store-short : length store < storeLength → writeLists store out ≡ some 1
@@ -30,24 +30,24 @@ module _ (store out : List ℕ) where
   unfolding firstShort
   out-short h l = rw (le-ltb (length store) storeLength h, lt-ltb (length out) outLength l)
 
-  pub short-store-promised : length store < storeLength → WritePromise store out (toldWrite (ShortList 1)) out
-  unfolding toldWrite
+  pub short-store-promised : length store < storeLength → WritePromise store out (writeOutcome (ShortList 1)) out
+  unfolding writeOutcome
   short-store-promised h = onStore-short (store-short h) refl refl
 
   pub short-out-promised : storeLength ≤ length store → length out < outLength
-      → WritePromise store out (toldWrite (ShortList 2)) out
-  unfolding toldWrite
+      → WritePromise store out (writeOutcome (ShortList 2)) out
+  unfolding writeOutcome
   short-out-promised h l = onStore-short (out-short h l) refl refl
 
   pub not-good-promised : storeLength ≤ length store → outLength ≤ length out → ¬ (Good store)
-      → WritePromise store out (toldWrite NotGood) out
-  unfolding toldWrite
+      → WritePromise store out (writeOutcome NotGood) out
+  unfolding writeOutcome
   not-good-promised h l n = onStore-not-good (writeLists-none store out h l) n refl refl
 
   -- whatever text reads to a good store, it is the one that was written
   pub written-promised : (exit : List ℕ) (next : ℕ) → Writable store → outLength ≤ length out
-      → Wrote out 0 (textOf (modelAt store)) exit next → WritePromise store out (toldWrite (Written next)) exit
-  unfolding toldWrite
+      → Wrote out 0 (textOf (modelAt store)) exit next → WritePromise store out (writeOutcome (Written next)) exit
+  unfolding writeOutcome
   written-promised exit next w l wrote =
       let fits = text-le store w in
       let done = wrote-start wrote (omega arith) in

@@ -9,9 +9,9 @@ use Rattle.model.specs.declared.Fault.{Fault}
 use Rattle.model.specs.declared.Fault.the-variants.{Absent, Shape, Digits, Range, Repeated, Order}
 
 -- the values of an answer, or the number and the place of a refusal
-pub data Told : Type 0 where
-  answers : List ℕ → Told
-  refuses : (number place : ℕ) → Told
+pub data Outcome : Type 0 where
+  answers : List ℕ → Outcome
+  refuses : (number place : ℕ) → Outcome
 
 -- The number of each fault of a line:
 -- "2: wrong letter, field count, digit form, level or name; a line that is missing or has no line end; bytes after

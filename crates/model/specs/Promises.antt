@@ -10,7 +10,7 @@ use Rattle.model.specs.declared.read.ReadAnswer.the-variants.{Done, Shor
 use Rattle.model.specs.declared.write.WriteAnswer.{WriteAnswer}
 use Rattle.model.specs.declared.write.WriteAnswer.the-variants as write-answer
 use Rattle.model.specs.Limits.{storeLength, outLength}
-use Rattle.model.specs.Faults.{Told, answers, refuses, faultNumber, firstShort}
+use Rattle.model.specs.Faults.{Outcome, answers, refuses, faultNumber, firstShort}
 use Rattle.model.specs.Reading.{Reading, done, tooLong, faulty, readText}
 use Rattle.model.specs.Store.{storeOf, Good}
 
@@ -18,26 +18,26 @@ use Rattle.model.specs.Store.{storeOf, Good}
 
 -- "Tested in rising order": a list that is too short, then a store that is not good, "All unchanged"; else what the
 -- operation does on a good store
-pub record OnStore (lists : Option ℕ) (store : List ℕ) (told : Told) (Unchanged : Type 0)
+pub record OnStore (lists : Option ℕ) (store : List ℕ) (outcome : Outcome) (Unchanged : Type 0)
     (Done : Good store → Type 0) : Type 0 where
-  pub short : (k : ℕ) → lists ≡ some k → (told ≡ refuses 21 k) × Unchanged
-  pub not-good : lists ≡ none → ¬ (Good store) → (told ≡ refuses 22 0) × Unchanged
+  pub short : (k : ℕ) → lists ≡ some k → (outcome ≡ refuses 21 k) × Unchanged
+  pub not-good : lists ≡ none → ¬ (Good store) → (outcome ≡ refuses 22 0) × Unchanged
   pub good : lists ≡ none → (g : Good store) → Done g
 
 -- ---- Read: text (no least length), store
 
 -- "Read [..] answer[s] only that [it] succeeded"; else the document's number and place
-unfoldable pub toldRead : ReadAnswer → Told
-toldRead Done = answers []
-toldRead (ShortList place) = refuses 21 place
-toldRead TooLong = refuses 1 0
-toldRead (Faulty fault line) = refuses (faultNumber fault) line
+unfoldable pub readOutcome : ReadAnswer → Outcome
+readOutcome Done = answers []
+readOutcome (ShortList place) = refuses 21 place
+readOutcome TooLong = refuses 1 0
+readOutcome (Faulty fault line) = refuses (faultNumber fault) line
 
 -- the same of a reading: "tested before any line, place 0"; "The place is the line, counted from 1"
-unfoldable pub toldReading : Reading → Told
-toldReading (done m) = answers []
-toldReading tooLong = refuses 1 0
-toldReading (faulty fault line) = refuses (faultNumber fault) line
+unfoldable pub readingOutcome : Reading → Outcome
+readingOutcome (done m) = answers []
+readingOutcome tooLong = refuses 1 0
+readingOutcome (faulty fault line) = refuses (faultNumber fault) line
 
 -- the store after a reading: "Fills the store", or "All lists keep their contents"
 unfoldable pub readingStore : Reading → List ℕ → List ℕ
@@ -55,9 +55,9 @@ abbrev pub readLists : List ℕ → List ℕ → Option ℕ
 readLists text store = firstShort 1 (length text ∷ length store ∷ []) (0 ∷ storeLength ∷ [])
 
 -- A refusal leaves the store as it was; the text is only read. On success 3,972 places are filled, and the rest stays.
-pub record ReadPromise (text store : List ℕ) (told : Told) (exit : List ℕ) : Type 0 where
-  pub short : (k : ℕ) → readLists text store ≡ some k → (told ≡ refuses 21 k) × (exit ≡ store)
-  pub answer : readLists text store ≡ none → told ≡ toldReading (readText text)
+pub record ReadPromise (text store : List ℕ) (outcome : Outcome) (exit : List ℕ) : Type 0 where
+  pub short : (k : ℕ) → readLists text store ≡ some k → (outcome ≡ refuses 21 k) × (exit ≡ store)
+  pub answer : readLists text store ≡ none → outcome ≡ readingOutcome (readText text)
   pub filled : readLists text store ≡ none → exit ≡ readingStore (readText text) store
 
 -- Read answers with the cause that the reading finds.
@@ -67,16 +67,16 @@ pub record ReadCause (text store : List ℕ) (r : ReadAnswer) : Type 0 where
 -- ---- Write: store, out
 
 -- "Answers its length"; else the document's number and place
-unfoldable pub toldWrite : WriteAnswer → Told
-toldWrite (write-answer.Written length) = answers (length ∷ [])
-toldWrite (write-answer.ShortList place) = refuses 21 place
-toldWrite write-answer.NotGood = refuses 22 0
+unfoldable pub writeOutcome : WriteAnswer → Outcome
+writeOutcome (write-answer.Written length) = answers (length ∷ [])
+writeOutcome (write-answer.ShortList place) = refuses 21 place
+writeOutcome write-answer.NotGood = refuses 22 0
 
 abbrev pub writeLists : List ℕ → List ℕ → Option ℕ
 writeLists store out = firstShort 1 (length store ∷ length out ∷ []) (storeLength ∷ outLength ∷ [])
 
 -- "The text that reads to the store": whichever text reads to it
-abbrev pub WritePromise : List ℕ → List ℕ → Told → List ℕ → Type 0
-WritePromise store out told exit =
-    OnStore (writeLists store out) store told (exit ≡ out)
-    (λ g. (told ≡ answers (length (g .text) ∷ [])) × (exit ≡ g .text ++ drop (length (g .text)) out))
+abbrev pub WritePromise : List ℕ → List ℕ → Outcome → List ℕ → Type 0
+WritePromise store out outcome exit =
+    OnStore (writeLists store out) store outcome (exit ≡ out)
+    (λ g. (outcome ≡ answers (length (g .text) ∷ [])) × (exit ≡ g .text ++ drop (length (g .text)) out))

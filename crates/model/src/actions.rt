@@ -17,7 +17,7 @@ ghost use Rattle.model.specs.Limits.{nameLimit, actionLimit, storeLength
 ghost use Rattle.model.specs.Model.{ActionLine};
 ghost use Rattle.model.specs.Split.{same?};
 ghost use Rattle.model.specs.Lines.{used?};
-ghost use Rattle.model.specs.ReadSoFar.{ActionStored, ActionsStored, AfterActions, Further};
+ghost use Rattle.model.specs.Inner.ReadSoFar.{ActionStored, ActionsStored, AfterActions, Further};
 
 // Whether the action that stands at a place of the store has a name.
 fn named(store: &[u16], at: usize, name: &[u8]) -> bool

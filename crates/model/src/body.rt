@@ -19,9 +19,9 @@ ghost use Rattle.model.specs.Bytes.{lineEnd};
 ghost use Rattle.model.specs.Split.{split};
 ghost use Rattle.model.specs.Limits.{storeLength};
 ghost use Rattle.model.specs.Store.{headPlaces};
-ghost use Rattle.model.specs.LineAnswers.{headRead};
-ghost use Rattle.model.specs.ReadSoFar.{AfterHead, AfterActions, AfterSteps, AfterEnd, Further, ReadOut};
-ghost use Rattle.model.specs.ReadSoFar.{AfterLine, firstLine, AfterFirst};
+ghost use Rattle.model.specs.Inner.LineAnswers.{headRead};
+ghost use Rattle.model.specs.Inner.ReadSoFar.{AfterHead, AfterActions, AfterSteps, AfterEnd, Further, ReadOut};
+ghost use Rattle.model.specs.Inner.ReadSoFar.{AfterLine, firstLine, AfterFirst};
 
 // What reading some of the lines comes to: the place after them, or the first bad line.
 pub enum LinesRead {

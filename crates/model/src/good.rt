@@ -26,9 +26,9 @@ ghost use Rattle.model.specs.Limits.{actionLimit, stepLimit, storeLength
 ghost use Rattle.model.specs.Decides.{Decides};
 ghost use Rattle.model.specs.Lines.{headFits?, nameByte?, stepFits?};
 ghost use Rattle.model.specs.Store.{Good};
-ghost use Rattle.model.specs.EachFrom.{EachFrom};
-ghost use Rattle.model.specs.GoodPlaces.{ZeroAt, NameByteAt, SameAt, SameName, OtherName};
-ghost use Rattle.model.specs.GoodPlaces.{GoodAction, GoodStep, GoodPlaces};
+ghost use Rattle.model.specs.Inner.EachFrom.{EachFrom};
+ghost use Rattle.model.specs.Inner.GoodPlaces.{ZeroAt, NameByteAt, SameAt, SameName, OtherName};
+ghost use Rattle.model.specs.Inner.GoodPlaces.{GoodAction, GoodStep, GoodPlaces};
 
 // Whether the places from `from` on and below `to` hold 0.
 fn zeros(store: &[u16], from: usize, to: usize) -> bool

@@ -21,8 +21,8 @@ ghost use Rattle.model.specs.Split.{split, indexOf};
 ghost use Rattle.model.specs.Model.{above?};
 ghost use Rattle.model.specs.Lines.{fieldsOf, numbersOf, numbersLine, headFits?, headOf, name?, actionFields};
 ghost use Rattle.model.specs.Lines.{stepFits?, stepOf};
-ghost use Rattle.model.specs.LineAnswers.{headRead, actionRead, stepRead, Last};
-ghost use Rattle.model.specs.PartAnswers.{rowRead, Fields, levelNumber, headOfNumbers, stepOfNumbers};
+ghost use Rattle.model.specs.Inner.LineAnswers.{headRead, actionRead, stepRead, Last};
+ghost use Rattle.model.specs.Inner.PartAnswers.{rowRead, Fields, levelNumber, headOfNumbers, stepOfNumbers};
 
 // Line 1: its numbers, or its fault.
 pub enum HeadRead {

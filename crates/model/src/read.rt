@@ -2,7 +2,7 @@
 use crate::Fault;
 use crate::reader::read_lines;
 use crate::store::STORE_LENGTH;
-ghost use Rattle.model.specs.Promises.{toldRead, ReadPromise, ReadCause};
+ghost use Rattle.model.specs.Promises.{readOutcome, ReadPromise, ReadCause};
 
 // A text has at most so many bytes.
 pub const TEXT_LIMIT: usize = 16384;
@@ -17,7 +17,7 @@ pub enum ReadAnswer {
 
 // Reads a text into a store. A refusal leaves the store as it was.
 pub fn read(text: &[u8], store: &mut [u16]) -> ReadAnswer
-    ensures { λ r. ⌜ ReadPromise (now (text .entry)) (now (store .entry)) (toldRead r) (now (store .exit)) ⌝ }
+    ensures { λ r. ⌜ ReadPromise (now (text .entry)) (now (store .entry)) (readOutcome r) (now (store .exit)) ⌝ }
     ensures { λ r. ⌜ ReadCause (now (text .entry)) (now (store .entry)) r ⌝ }
 {
     if store.len() < STORE_LENGTH {

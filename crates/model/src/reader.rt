@@ -11,8 +11,8 @@ ghost use lib.ListN.{length, drop};
 ghost use Rattle.model.specs.Limits.{storeLength};
 ghost use Rattle.model.specs.Bytes.{lineEnd};
 ghost use Rattle.model.specs.Split.{split};
-ghost use Rattle.model.specs.LineAnswers.{headRead};
-ghost use Rattle.model.specs.ReadSoFar.{ReadOut, AfterLine, AfterFirst, firstLine};
+ghost use Rattle.model.specs.Inner.LineAnswers.{headRead};
+ghost use Rattle.model.specs.Inner.ReadSoFar.{ReadOut, AfterLine, AfterFirst, firstLine};
 
 pub struct Reader<'a> {
     pub text: &'a [u8],

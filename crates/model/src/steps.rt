@@ -16,7 +16,7 @@ ghost use mathlib.Core.Path.{_≡_};
 ghost use Prim.Native.Nat.{_+_, _*_, _≤_, _<_};
 ghost use lib.ListN.{length};
 ghost use lib.Seq.{sets};
-ghost use Rattle.model.specs.ReadSoFar.{AfterActions, AfterSteps, Further};
+ghost use Rattle.model.specs.Inner.ReadSoFar.{AfterActions, AfterSteps, Further};
 
 // Stores a step.
 fn put_step(out: &mut [u16], at: usize, s: StepLine)

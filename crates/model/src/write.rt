@@ -10,10 +10,10 @@ ghost use mathlib.Core.Path.{_≡_};
 ghost use Prim.Native.Nat.{ℕ, _+_, _≤_, _<_};
 ghost use lib.ListN.{length, getD};
 ghost use Rattle.model.specs.All.{All};
-ghost use Rattle.model.specs.Promises.{toldWrite, WritePromise};
+ghost use Rattle.model.specs.Promises.{writeOutcome, WritePromise};
 ghost use Rattle.model.specs.StoredModel.{actionAt, modelAt};
 ghost use Rattle.model.specs.Text.{levelByte, headText, actionText, actionsText, stepText, stepsText, textOf};
-ghost use Rattle.model.specs.Writable.{Writable};
+ghost use Rattle.model.specs.Inner.Writable.{Writable};
 ghost use Rattle.model.specs.Wrote.{Wrote};
 
 pub const OUT_LENGTH: usize = 14420;
@@ -145,7 +145,7 @@ impl Position {
 
 // Puts the text that reads to the store at the front of `out`.
 pub fn write(store: &[u16], out: &mut [u8]) -> WriteAnswer
-    ensures { λ r. ⌜ WritePromise (now (store .entry)) (now (out .entry)) (toldWrite r) (now (out .exit)) ⌝ }
+    ensures { λ r. ⌜ WritePromise (now (store .entry)) (now (out .entry)) (writeOutcome r) (now (out .exit)) ⌝ }
 {
     if store.len() < store::STORE_LENGTH {
         return WriteAnswer::ShortList(1);

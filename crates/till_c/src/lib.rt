@@ -6,7 +6,7 @@ ghost use mathlib.Core.Path.{_≡_};
 ghost use mathlib.Core.List.{[], _∷_};
 ghost use Rattle.model.specs.Faults.{answers, refuses, faultNumber};
 ghost use Rattle.model.specs.Promises.{ReadPromise, WritePromise};
-ghost use Rattle.till_c.specs.Answer.{toldAnswer};
+ghost use Rattle.till_c.specs.Answer.{answerOutcome};
 
 // Number 0 with `count` values, or a refusal's number with its place.
 #[repr(C)]
@@ -21,7 +21,7 @@ pub struct TillAnswer {
 // A refusal.
 fn refusal(number: u64, place: usize) -> TillAnswer
     requires { ⌜ (number ≡ 0 → ⊥) ⌝ }
-    ensures { λ r. ⌜ toldAnswer r ≡ refuses number place ⌝ }
+    ensures { λ r. ⌜ answerOutcome r ≡ refuses number place ⌝ }
 {
     TillAnswer {
         number,
@@ -34,7 +34,7 @@ fn refusal(number: u64, place: usize) -> TillAnswer
 
 // A success with one value.
 fn value(first: usize) -> TillAnswer
-    ensures { λ r. ⌜ toldAnswer r ≡ answers (first ∷ []) ⌝ }
+    ensures { λ r. ⌜ answerOutcome r ≡ answers (first ∷ []) ⌝ }
 {
     TillAnswer {
         number: 0,
@@ -47,7 +47,7 @@ fn value(first: usize) -> TillAnswer
 
 // A success with no value.
 fn done() -> TillAnswer
-    ensures { λ r. ⌜ toldAnswer r ≡ answers [] ⌝ }
+    ensures { λ r. ⌜ answerOutcome r ≡ answers [] ⌝ }
 {
     TillAnswer {
         number: 0,
@@ -60,7 +60,7 @@ fn done() -> TillAnswer
 
 // The refusal of a line.
 fn faulty(fault: Fault, line: usize) -> TillAnswer
-    ensures { λ r. ⌜ toldAnswer r ≡ refuses (faultNumber fault) line ⌝ }
+    ensures { λ r. ⌜ answerOutcome r ≡ refuses (faultNumber fault) line ⌝ }
 {
     let number = model::fault_number(fault);
     refusal(number as u64, line)
@@ -68,7 +68,7 @@ fn faulty(fault: Fault, line: usize) -> TillAnswer
 
 #[no_mangle]
 pub extern "C" fn till_read(text: &[u8], store: &mut [u16]) -> TillAnswer
-    ensures { λ r. ⌜ ReadPromise (now (text .entry)) (now (store .entry)) (toldAnswer r) (now (store .exit)) ⌝ }
+    ensures { λ r. ⌜ ReadPromise (now (text .entry)) (now (store .entry)) (answerOutcome r) (now (store .exit)) ⌝ }
 {
     let answer = model::read::read(text, store);
     match answer {
@@ -81,7 +81,7 @@ pub extern "C" fn till_read(text: &[u8], store: &mut [u16]) -> TillAnswer
 
 #[no_mangle]
 pub extern "C" fn till_write(store: &[u16], out: &mut [u8]) -> TillAnswer
-    ensures { λ r. ⌜ WritePromise (now (store .entry)) (now (out .entry)) (toldAnswer r) (now (out .exit)) ⌝ }
+    ensures { λ r. ⌜ WritePromise (now (store .entry)) (now (out .entry)) (answerOutcome r) (now (out .exit)) ⌝ }
 {
     let answer = model::write::write(store, out);
     match answer {

@@ -1,11 +1,11 @@
 -- Number 0 and no value, by computing.
 use mathlib.Core.Path.{refl}
-use Rattle.till_c.specs.Answer.{toldAnswer}
+use Rattle.till_c.specs.Answer.{answerOutcome}
 use Rattle.till_c.proofs.done.Statement.{statement}
 use Rattle.till_c.proofs.done.Tie as tie
 
 returns : tie.Need-returns
-unfolding toldAnswer
+unfolding answerOutcome
 returns c = refl
 
 pub done-spec : {M : Type 1} → statement M

@@ -3,15 +3,15 @@ use mathlib.Core.List.{List}
 use mathlib.Core.Path.{_≡_, refl, sym, ap, subst, _∙_}
 use Prim.Native.Nat.{ℕ}
 use borrow.Author.Tests.{eqb-false}
-use Rattle.model.specs.Faults.{Told}
-use Rattle.model.specs.Promises.{toldRead, ReadPromise}
+use Rattle.model.specs.Faults.{Outcome}
+use Rattle.model.specs.Promises.{readOutcome, ReadPromise}
 use borrow.Author.Needs.{needs}
 use Rattle.till_c.proofs.till_read.Statement.{statement}
 use Rattle.till_c.proofs.till_read.Tie as tie
 
 -- what tells the same keeps the same promise
-promised : {text store exit : List ℕ} {t u : Told} → t ≡ u → ReadPromise text store t exit → ReadPromise text store u exit
-promised {text} {store} {exit} e p = subst (λ (x : Told). ReadPromise text store x exit) e p
+promised : {text store exit : List ℕ} {t u : Outcome} → t ≡ u → ReadPromise text store t exit → ReadPromise text store u exit
+promised {text} {store} {exit} e p = subst (λ (x : Outcome). ReadPromise text store x exit) e p
 
 read-requires : tie.Need-read-requires
 read-requires c κs = search needs
@@ -44,37 +44,37 @@ same-length : tie.Need-same-length
 same-length c = search needs
 
 returns : tie.Need-returns
-unfolding toldRead
+unfolding readOutcome
 returns c =
     let r = c .before .before .before .before .before .read in
-    promised (ap toldRead (c .before .enum-told .given .1) ∙ sym (c .done .ensures)) (r .ensures .0)
+    promised (ap readOutcome (c .before .enum-told .given .1) ∙ sym (c .done .ensures)) (r .ensures .0)
 
 same-length-2 : tie.Need-same-length-2
 same-length-2 c = search needs
 
 returns-2 : tie.Need-returns-2
-unfolding toldRead
+unfolding readOutcome
 returns-2 c =
     let r = c .before .before .before .before .before .before .read in
-    promised (ap toldRead (c .before .before .answer .given .1) ∙ sym (c .refusal .ensures)) (r .ensures .0)
+    promised (ap readOutcome (c .before .before .answer .given .1) ∙ sym (c .refusal .ensures)) (r .ensures .0)
 
 same-length-3 : tie.Need-same-length-3
 same-length-3 c = search needs
 
 returns-3 : tie.Need-returns-3
-unfolding toldRead
+unfolding readOutcome
 returns-3 c =
     let r = c .before .before .before .before .before .read in
-    promised (ap toldRead (c .before .enum-told2 .given .1) ∙ sym (c .refusal2 .ensures)) (r .ensures .0)
+    promised (ap readOutcome (c .before .enum-told2 .given .1) ∙ sym (c .refusal2 .ensures)) (r .ensures .0)
 
 same-length-4 : tie.Need-same-length-4
 same-length-4 c = search needs
 
 returns-4 : tie.Need-returns-4
-unfolding toldRead
+unfolding readOutcome
 returns-4 c =
     let r = c .before .before .before .before .before .before .read in
-    promised (ap toldRead (c .before .before .answer2 .given .1) ∙ sym (c .faulty .ensures)) (r .ensures .0)
+    promised (ap readOutcome (c .before .before .answer2 .given .1) ∙ sym (c .faulty .ensures)) (r .ensures .0)
 
 pub till-read-spec : {M : Type 1} → statement M
 till-read-spec =

@@ -2,8 +2,8 @@
 use mathlib.Core.Path.{_≡_, _∙_}
 use Prim.Native.Nat.{_≤_, _-_}
 use native.Mathlib.Omega.{arith}
-use Rattle.judge.specs.Marks.{ReachesFrom, AllMarked}
-use Rattle.judge.specs.MarksLaws.{allMarked-zero, allMarked-add-one, allMarked-of-from, marked-at, moveAt}
+use Rattle.judge.specs.Inner.Marks.{ReachesFrom, AllMarked}
+use Rattle.judge.specs.Laws.MarksLaws.{allMarked-zero, allMarked-add-one, allMarked-of-from, marked-at, moveAt}
 use borrow.Author.Needs.{needs}
 use Rattle.judge.proofs.classes.all_marked.Statement.{statement}
 use Rattle.judge.proofs.classes.all_marked.Tie as tie

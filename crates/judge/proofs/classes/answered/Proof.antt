@@ -1,8 +1,8 @@
 -- With the moves of q marked, and no others, each move of p is looked up; then the marks are taken away again.
 use mathlib.Core.Path.{_∙_}
 use native.Mathlib.Omega.{arith}
-use Rattle.judge.specs.MoveListLaws.{listed-target-lt}
-use Rattle.judge.specs.MarksLaws.{decides-answered, unmarked-of-marked}
+use Rattle.judge.specs.Laws.MoveListLaws.{listed-target-lt}
+use Rattle.judge.specs.Laws.MarksLaws.{decides-answered, unmarked-of-marked}
 use borrow.Author.Needs.{needs}
 use Rattle.judge.proofs.classes.answered.Statement.{statement}
 use Rattle.judge.proofs.classes.answered.Tie as tie

@@ -1,10 +1,10 @@
 -- Answers is Answered both ways.
 use native.Mathlib.Omega.{arith}
 use Rattle.lts.specs.Alike.{Answered}
-use Rattle.model.specs.DecidesLaws.{decides-true, decides-false, decides-iff}
-use Rattle.judge.specs.MoveList.{Listed}
-use Rattle.judge.specs.ClassList.{Same}
-use Rattle.judge.specs.ClassListLaws.{answers-of-both, answered-back}
+use Rattle.model.specs.Laws.Store.DecidesLaws.{decides-true, decides-false, decides-iff}
+use Rattle.judge.specs.Inner.MoveList.{Listed}
+use Rattle.judge.specs.Inner.ClassList.{Same}
+use Rattle.judge.specs.Laws.ClassListLaws.{answers-of-both, answered-back}
 use borrow.Author.Needs.{needs}
 use Rattle.judge.proofs.classes.answers.Statement.{statement}
 use Rattle.judge.proofs.classes.answers.Tie as tie

@@ -3,8 +3,8 @@ use mathlib.Core.Path.{_≡_, refl}
 use Prim.Native.Nat.{_≤_, _-_}
 use native.Mathlib.Omega.{arith}
 use lib.ListN.{length, length-set}
-use Rattle.judge.specs.TableWrites.{Cleared}
-use Rattle.judge.specs.RoundsLaws.{cleared-zero, cleared-add-one, cleared-at}
+use Rattle.judge.specs.Inner.TableWrites.{Cleared}
+use Rattle.judge.specs.Laws.RoundsLaws.{cleared-zero, cleared-add-one, cleared-at}
 use Rattle.judge.proofs.classes.clear.Statement.{statement}
 use Rattle.judge.proofs.classes.clear.Tie as tie
 

@@ -1,7 +1,7 @@
 -- A state of another old class cannot answer.
 use mathlib.Core.Path.{sym, _∙_}
-use Rattle.model.specs.DecidesLaws.{decides-iff}
-use Rattle.judge.specs.MarksLaws.{bounded-of-refinable}
+use Rattle.model.specs.Laws.Store.DecidesLaws.{decides-iff}
+use Rattle.judge.specs.Laws.MarksLaws.{bounded-of-refinable}
 use borrow.Author.Needs.{needs}
 use Rattle.judge.proofs.classes.joins.Statement.{statement}
 use Rattle.judge.proofs.classes.joins.Tie as tie
@@ -40,8 +40,8 @@ returns-3 c =
     let played = c .before .before .answers in
     let else = c .before .before .before .before .before .before .before .before .before in
     let own = sym (else .before .before .before .class-of .ensures) ∙ else .if1 .left in
-    let told = played .ensures in
-    (decides-iff (played .result) (λ h. record { represents = own; answers = h }) (λ h. h .answers) (told .0), told .1)
+    let outcome = played .ensures in
+    (decides-iff (played .result) (λ h. record { represents = own; answers = h }) (λ h. h .answers) (outcome .0), outcome .1)
 
 pub joins-spec : {M : Type 1} → statement M
 joins-spec =

@@ -4,11 +4,11 @@ use Prim.Native.Nat.{ℕ, _≤_, _<_, _-_}
 use native.Mathlib.Omega.{arith}
 use lib.ListN.{length}
 use Rattle.lts.specs.Alike.{Answers}
-use Rattle.model.specs.DecidesLaws.{decides-true, decides-false}
-use Rattle.judge.specs.MoveList.{Listed}
-use Rattle.judge.specs.ClassList.{Same}
-use Rattle.judge.specs.ClassListLaws.{none-below-class, none-lower-suc, answers-refl}
-use Rattle.judge.specs.Marks.{Unmarked}
+use Rattle.model.specs.Laws.Store.DecidesLaws.{decides-true, decides-false}
+use Rattle.judge.specs.Inner.MoveList.{Listed}
+use Rattle.judge.specs.Inner.ClassList.{Same}
+use Rattle.judge.specs.Laws.ClassListLaws.{none-below-class, none-lower-suc, answers-refl}
+use Rattle.judge.specs.Inner.Marks.{Unmarked}
 use borrow.Author.Needs.{needs}
 use Rattle.judge.proofs.classes.lowest.Statement.{statement}
 use Rattle.judge.proofs.classes.lowest.Tie as tie

@@ -3,8 +3,8 @@ use mathlib.Core.Path.{_≡_, refl, _∙_}
 use Prim.Native.Nat.{_≤_, _-_}
 use native.Mathlib.Omega.{arith}
 use lib.ListN.{length, length-set}
-use Rattle.judge.specs.Marks.{ReachesFrom, Marked}
-use Rattle.judge.specs.MarksLaws.{marked-zero, marked-add-one, marked-of-from, moveAt}
+use Rattle.judge.specs.Inner.Marks.{ReachesFrom, Marked}
+use Rattle.judge.specs.Laws.MarksLaws.{marked-zero, marked-add-one, marked-of-from, moveAt}
 use borrow.Author.Needs.{needs}
 use Rattle.judge.proofs.classes.mark.Statement.{statement}
 use Rattle.judge.proofs.classes.mark.Tie as tie

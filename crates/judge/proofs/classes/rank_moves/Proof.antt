@@ -1,9 +1,9 @@
 -- The cleared table is right for round 0, and what the rounds leave keeps the promise.
 use mathlib.Core.Path.{_∙_}
 use native.Mathlib.Omega.{arith}
-use Rattle.judge.specs.MoveList.{Listed}
-use Rattle.judge.specs.MoveListLaws.{listed-game}
-use Rattle.judge.specs.RoundsLaws.{ranksUpTo-zero, ranked-of-finished}
+use Rattle.judge.specs.Inner.MoveList.{Listed}
+use Rattle.judge.specs.Laws.MoveListLaws.{listed-game}
+use Rattle.judge.specs.Laws.RoundsLaws.{ranksUpTo-zero, ranked-of-finished}
 use borrow.Author.Needs.{needs}
 use Rattle.judge.proofs.classes.rank_moves.Statement.{statement}
 use Rattle.judge.proofs.classes.rank_moves.Tie as tie

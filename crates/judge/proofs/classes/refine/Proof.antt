@@ -3,10 +3,10 @@ use mathlib.Core.Path.{_≡_, refl, _∙_}
 use Prim.Native.Nat.{_≤_, _-_}
 use native.Mathlib.Omega.{arith}
 use lib.ListN.{length, length-set}
-use Rattle.judge.specs.MoveList.{Listed}
-use Rattle.judge.specs.ClassList.{Refined}
-use Rattle.judge.specs.ClassListLaws.{refined-zero, refined-set, refined-le}
-use Rattle.judge.specs.Marks.{Unmarked}
+use Rattle.judge.specs.Inner.MoveList.{Listed}
+use Rattle.judge.specs.Inner.ClassList.{Refined}
+use Rattle.judge.specs.Laws.ClassListLaws.{refined-zero, refined-set, refined-le}
+use Rattle.judge.specs.Inner.Marks.{Unmarked}
 use borrow.Author.Needs.{needs}
 use Rattle.judge.proofs.classes.refine.Statement.{statement}
 use Rattle.judge.proofs.classes.refine.Tie as tie

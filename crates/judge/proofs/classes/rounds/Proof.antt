@@ -4,16 +4,16 @@ use Prim.Native.Nat.{ℕ, zero, _<_, _-_}
 use native.Mathlib.Omega.{arith}
 use lib.ListN.{length, length-replicate}
 use Rattle.lts.specs.Game.{Separates}
-use Rattle.model.specs.DecidesLaws.{decides-true, decides-false}
-use Rattle.judge.specs.MoveList.{Listed}
-use Rattle.judge.specs.MoveListLaws.{listed-target-lt, listed-rounds-lt}
-use Rattle.judge.specs.ClassList.{Classes}
-use Rattle.judge.specs.ClassListLaws.{classes-zero, classes-refinable}
-use Rattle.judge.specs.Marks.{Unmarked}
-use Rattle.judge.specs.MarksLaws.{getD-zeros, unmarked-zeros}
-use Rattle.judge.specs.TableWrites.{RanksUpTo, Outside}
-use Rattle.judge.specs.TableWritesLaws.{outside-refl, outside-trans}
-use Rattle.judge.specs.RoundsLaws.{round-ranks, round-classes, round-separates, round-settled}
+use Rattle.model.specs.Laws.Store.DecidesLaws.{decides-true, decides-false}
+use Rattle.judge.specs.Inner.MoveList.{Listed}
+use Rattle.judge.specs.Laws.MoveListLaws.{listed-target-lt, listed-rounds-lt}
+use Rattle.judge.specs.Inner.ClassList.{Classes}
+use Rattle.judge.specs.Laws.ClassListLaws.{classes-zero, classes-refinable}
+use Rattle.judge.specs.Inner.Marks.{Unmarked}
+use Rattle.judge.specs.Laws.MarksLaws.{getD-zeros, unmarked-zeros}
+use Rattle.judge.specs.Inner.TableWrites.{RanksUpTo, Outside}
+use Rattle.judge.specs.Laws.TableWritesLaws.{outside-refl, outside-trans}
+use Rattle.judge.specs.Laws.RoundsLaws.{round-ranks, round-classes, round-separates, round-settled}
 use borrow.Author.Needs.{needs}
 use Rattle.judge.proofs.classes.rounds.Statement.{statement}
 use Rattle.judge.proofs.classes.rounds.Tie as tie

@@ -4,10 +4,10 @@ use Prim.Native.Nat.{_≤_, _-_}
 use native.Mathlib.Omega.{arith}
 use lib.ListN.{length}
 use Rattle.model.specs.Decides.{Decides}
-use Rattle.judge.specs.ClassList.{Moved}
-use Rattle.judge.specs.ClassListLaws.{moved-at}
-use Rattle.judge.specs.TableWrites.{Written, RowsWritten}
-use Rattle.judge.specs.TableWritesLaws.{written-refl, written-trans, rows-zero, rows-le}
+use Rattle.judge.specs.Inner.ClassList.{Moved}
+use Rattle.judge.specs.Laws.ClassListLaws.{moved-at}
+use Rattle.judge.specs.Inner.TableWrites.{Written, RowsWritten}
+use Rattle.judge.specs.Laws.TableWritesLaws.{written-refl, written-trans, rows-zero, rows-le}
 use borrow.Author.Needs.{needs}
 use Rattle.judge.proofs.classes.separate.Statement.{statement}
 use Rattle.judge.proofs.classes.separate.Tie as tie

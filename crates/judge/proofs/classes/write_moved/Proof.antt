@@ -1,8 +1,8 @@
 -- A state that stays in its class needs no row; one that left it gets its row.
 use mathlib.Core.Path.{sym, _∙_}
 use native.Mathlib.Omega.{arith}
-use Rattle.judge.specs.ClassListLaws.{moved-add-one}
-use Rattle.judge.specs.TableWritesLaws.{written-refl, rows-stay, rows-add-one}
+use Rattle.judge.specs.Laws.ClassListLaws.{moved-add-one}
+use Rattle.judge.specs.Laws.TableWritesLaws.{written-refl, rows-stay, rows-add-one}
 use borrow.Author.Needs.{needs}
 use Rattle.judge.proofs.classes.write_moved.Statement.{statement}
 use Rattle.judge.proofs.classes.write_moved.Tie as tie

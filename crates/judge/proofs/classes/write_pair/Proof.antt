@@ -2,8 +2,8 @@
 use mathlib.Core.Path.{sym, _∙_}
 use native.Mathlib.Omega.{arith}
 use lib.ListN.{length-set}
-use Rattle.judge.specs.TableWrites.{SeparatedBy}
-use Rattle.judge.specs.TableWritesLaws.{written-refl, pair-written, pair-both}
+use Rattle.judge.specs.Inner.TableWrites.{SeparatedBy}
+use Rattle.judge.specs.Laws.TableWritesLaws.{written-refl, pair-written, pair-both}
 use borrow.Author.Needs.{needs}
 use Rattle.judge.proofs.classes.write_pair.Statement.{statement}
 use Rattle.judge.proofs.classes.write_pair.Tie as tie

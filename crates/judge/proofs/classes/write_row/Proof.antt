@@ -3,8 +3,8 @@ use mathlib.Core.Path.{_≡_, refl, _∙_}
 use Prim.Native.Nat.{_≤_, _-_}
 use native.Mathlib.Omega.{arith}
 use lib.ListN.{length}
-use Rattle.judge.specs.TableWrites.{Written, RowWritten}
-use Rattle.judge.specs.TableWritesLaws.{written-refl, written-trans, row-zero, row-add-one, row-le, row-stays}
+use Rattle.judge.specs.Inner.TableWrites.{Written, RowWritten}
+use Rattle.judge.specs.Laws.TableWritesLaws.{written-refl, written-trans, row-zero, row-add-one, row-le, row-stays}
 use borrow.Author.Needs.{needs}
 use Rattle.judge.proofs.classes.write_row.Statement.{statement}
 use Rattle.judge.proofs.classes.write_row.Tie as tie

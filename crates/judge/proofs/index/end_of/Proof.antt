@@ -8,8 +8,8 @@ use borrow.Author.Needs.{needs}
 use Rattle.model.specs.declared.State.{State}
 use Rattle.model.specs.StoredModel.{modelAt}
 use Rattle.model.specs.System.{source}
-use Rattle.judge.specs.StoredLaws.{stored-steps, stored-source}
-use Rattle.judge.specs.IndexLaws.{begins-suc}
+use Rattle.judge.specs.Laws.StoredLaws.{stored-steps, stored-source}
+use Rattle.judge.specs.Laws.IndexLaws.{begins-suc}
 use Rattle.judge.proofs.index.end_of.Statement.{statement}
 use Rattle.judge.proofs.index.end_of.Tie as tie
 

@@ -5,9 +5,9 @@ use native.Mathlib.Omega.{arith}
 use lib.ListN.{length, length-set}
 use borrow.Author.Needs.{needs}
 use Rattle.model.specs.StoredModel.{modelAt}
-use Rattle.judge.specs.Index.{Begins, Index}
-use Rattle.judge.specs.StoredLaws.{stored-states}
-use Rattle.judge.specs.IndexLaws.{begins-zero, index-zero, index-suc, index-le}
+use Rattle.judge.specs.Inner.Index.{Begins, Index}
+use Rattle.judge.specs.Laws.StoredLaws.{stored-states}
+use Rattle.judge.specs.Laws.IndexLaws.{begins-zero, index-zero, index-suc, index-le}
 use Rattle.judge.proofs.index.index.Statement.{statement}
 use Rattle.judge.proofs.index.index.Tie as tie
 

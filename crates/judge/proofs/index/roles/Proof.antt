@@ -6,8 +6,8 @@ use lib.ListN.{length, getD, length-set}
 use borrow.Author.Needs.{needs}
 use Rattle.model.specs.StoredModel.{modelAt}
 use Rattle.model.specs.System.{level}
-use Rattle.judge.specs.StoredLaws.{stored-actions}
-use Rattle.judge.specs.RolesLaws.{roles-of-levels, levels-suc}
+use Rattle.judge.specs.Laws.StoredLaws.{stored-actions}
+use Rattle.judge.specs.Laws.RolesLaws.{roles-of-levels, levels-suc}
 use Rattle.judge.proofs.index.roles.Statement.{statement}
 use Rattle.judge.proofs.index.roles.Tie as tie
 

@@ -2,10 +2,10 @@
 use native.Mathlib.Omega.{arith}
 use borrow.Author.Needs.{needs}
 use Rattle.model.specs.Store.{Good}
-use Rattle.model.specs.DecidesLaws.{decides-passed, decides-refused}
-use Rattle.judge.specs.GoodStoredLaws.{good→Stored}
-use Rattle.judge.specs.JudgeLaws.{judge-first-short, judge-second-short, judge-third-short}
-use Rattle.judge.specs.JudgeLaws.{judge-not-good, judge-done}
+use Rattle.model.specs.Laws.Store.DecidesLaws.{decides-passed, decides-refused}
+use Rattle.judge.specs.Laws.GoodStoredLaws.{good→Stored}
+use Rattle.judge.specs.Laws.JudgeLaws.{judge-first-short, judge-second-short, judge-third-short}
+use Rattle.judge.specs.Laws.JudgeLaws.{judge-not-good, judge-done}
 use Rattle.judge.proofs.judge.judge.Statement.{statement}
 use Rattle.judge.proofs.judge.judge.Tie as tie
 

@@ -5,9 +5,9 @@ use native.Mathlib.Omega.{arith}
 use lib.ListN.{length}
 use borrow.Author.Needs.{needs}
 use Rattle.model.specs.StoredModel.{modelAt}
-use Rattle.judge.specs.Listing.{Appended, LowAmong}
-use Rattle.judge.specs.IndexLaws.{begins-le}
-use Rattle.judge.specs.ListingLaws.{appended-no-step, appended-steps, appended-state}
+use Rattle.judge.specs.Inner.Listing.{Appended, LowAmong}
+use Rattle.judge.specs.Laws.IndexLaws.{begins-le}
+use Rattle.judge.specs.Laws.ListingLaws.{appended-no-step, appended-steps, appended-state}
 use Rattle.judge.proofs.moves.list_state.Statement.{statement}
 use Rattle.judge.proofs.moves.list_state.Tie as tie
 

@@ -1,8 +1,8 @@
 -- Tested in the order of the refusals; a good store has what filling the table requires.
 use native.Mathlib.Omega.{arith}
 use borrow.Author.Needs.{needs}
-use Rattle.model.specs.DecidesLaws.{decides-passed, decides-refused}
-use Rattle.judge.specs.GoodStoredLaws.{passed→Stored}
+use Rattle.model.specs.Laws.Store.DecidesLaws.{decides-passed, decides-refused}
+use Rattle.judge.specs.Laws.GoodStoredLaws.{passed→Stored}
 use Rattle.judge.proofs.RankAnswers.{short-store-promised, short-table-promised, not-good-promised}
 use Rattle.judge.proofs.RankAnswers.{ranked-promised}
 use Rattle.judge.proofs.rank.rank.Statement.{statement}

@@ -1,7 +1,7 @@
 -- Tested in the order of the refusals; the rest is Run on a good store.
 use borrow.Author.Needs.{needs}
-use Rattle.model.specs.DecidesLaws.{decides-passed, decides-refused}
-use Rattle.judge.specs.GoodStoredLaws.{passed→Stored}
+use Rattle.model.specs.Laws.Store.DecidesLaws.{decides-passed, decides-refused}
+use Rattle.judge.specs.Laws.GoodStoredLaws.{passed→Stored}
 use Rattle.judge.proofs.RunAnswers.{short-store-promised, short-distances-promised, short-run-promised}
 use Rattle.judge.proofs.RunAnswers.{not-good-promised, done-promised}
 use Rattle.judge.proofs.run.run.Statement.{statement}

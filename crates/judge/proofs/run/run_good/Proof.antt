@@ -2,8 +2,8 @@
 use mathlib.Core.Path.{_∙_}
 use native.Mathlib.Omega.{arith}
 use borrow.Author.Needs.{needs}
-use Rattle.judge.specs.StoredLaws.{stored-states}
-use Rattle.judge.specs.ReachLaws.{list-reachable}
+use Rattle.judge.specs.Laws.StoredLaws.{stored-states}
+use Rattle.judge.specs.Laws.ReachLaws.{list-reachable}
 use Rattle.judge.proofs.RunAnswers.{no-state-done, unreachable-done, filled-done}
 use Rattle.judge.proofs.run.run_good.Statement.{statement}
 use Rattle.judge.proofs.run.run_good.Tie as tie

@@ -7,13 +7,13 @@ use mathlib.Core.Path.{_≡_, sym, ap, _∙_}
 use lib.ListN.{length, take, drop}
 use Rattle.model.specs.Limits.{nameLimit}
 use Rattle.model.specs.Bytes.{lineEnd}
-use Rattle.model.specs.SplitLaws.{found-le}
+use Rattle.model.specs.Laws.Text.SplitLaws.{found-le}
 use Rattle.model.specs.Lines.{good, fieldsOf, actionFields}
-use Rattle.model.specs.LineAnswers.{actionRead}
-use Rattle.model.specs.ReadSoFar.{Further}
-use Rattle.model.specs.ReadLaws.{action-absent, action-bad, action-next, AfterActions-length}
-use Rattle.model.specs.ReadLaws.{actionOf-bad, actionOf-used, actionOf-good}
-use Rattle.model.specs.NameLaws.{name-part, ActionsStored-so-far}
+use Rattle.model.specs.Inner.LineAnswers.{actionRead}
+use Rattle.model.specs.Inner.ReadSoFar.{Further}
+use Rattle.model.specs.Laws.Read.ReadLaws.{action-absent, action-bad, action-next, AfterActions-length}
+use Rattle.model.specs.Laws.Read.ReadLaws.{actionOf-bad, actionOf-used, actionOf-good}
+use Rattle.model.specs.Laws.Read.NameLaws.{name-part, ActionsStored-so-far}
 use Rattle.model.proofs.actions.action.Statement.{statement}
 use Rattle.model.proofs.actions.action.Tie as tie
 

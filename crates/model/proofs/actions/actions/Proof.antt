@@ -4,8 +4,8 @@ use native.Mathlib.Omega.{arith}
 use Prim.Native.Nat.{_-_, _≤_}
 use mathlib.Core.Path.{_≡_, refl, _∙_}
 use lib.ListN.{length}
-use Rattle.model.specs.ReadSoFar.{AfterActions, Further}
-use Rattle.model.specs.ReadLaws.{AfterActions-count, Further-faulty, Further-next}
+use Rattle.model.specs.Inner.ReadSoFar.{AfterActions, Further}
+use Rattle.model.specs.Laws.Read.ReadLaws.{AfterActions-count, Further-faulty, Further-next}
 use Rattle.model.proofs.actions.actions.Statement.{statement}
 use Rattle.model.proofs.actions.actions.Tie as tie
 

@@ -6,7 +6,7 @@ use native.Mathlib.Omega.{arith}
 use Prim.Native.Nat.{ℕ, _+_, _-_, _≤_, _<_}
 use mathlib.Core.Path.{_≡_}
 use lib.ListN.{length, getD}
-use Rattle.model.specs.NameLaws.{named-length, named-differ, named-same}
+use Rattle.model.specs.Laws.Read.NameLaws.{named-length, named-differ, named-same}
 use Rattle.model.proofs.actions.named.Statement.{statement}
 use Rattle.model.proofs.actions.named.Tie as tie
 

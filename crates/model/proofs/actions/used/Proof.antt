@@ -8,8 +8,8 @@ use mathlib.Core.Path.{_≡_, refl, sym, _∙_}
 use lib.ListN.{length, drop}
 use Rattle.model.specs.Model.{ActionLine}
 use Rattle.model.specs.Lines.{used?}
-use Rattle.model.specs.ReadSoFar.{ActionsStored}
-use Rattle.model.specs.NameLaws.{used?-drop, used?-none}
+use Rattle.model.specs.Inner.ReadSoFar.{ActionsStored}
+use Rattle.model.specs.Laws.Read.NameLaws.{used?-drop, used?-none}
 use Rattle.model.proofs.actions.used.Statement.{statement}
 use Rattle.model.proofs.actions.used.Tie as tie
 

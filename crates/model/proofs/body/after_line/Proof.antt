@@ -2,8 +2,8 @@
 use borrow.Author.Needs.{needs}
 use native.Mathlib.Omega.{arith}
 use Rattle.model.specs.Bytes.{lineEnd}
-use Rattle.model.specs.SplitLaws.{found-le}
-use Rattle.model.specs.ReadAnswerLaws.{AfterLine-past, AfterLine-absent, AfterLine-line}
+use Rattle.model.specs.Laws.Text.SplitLaws.{found-le}
+use Rattle.model.specs.Laws.Read.ReadAnswerLaws.{AfterLine-past, AfterLine-absent, AfterLine-line}
 use Rattle.model.proofs.body.after_line.Statement.{statement}
 use Rattle.model.proofs.body.after_line.Tie as tie
 

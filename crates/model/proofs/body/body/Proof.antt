@@ -1,6 +1,6 @@
 -- By cases on the first line.
 use borrow.Author.Needs.{needs}
-use Rattle.model.specs.ReadAnswerLaws.{AfterFirst-bad, AfterFirst-good, ReadOut-faulty}
+use Rattle.model.specs.Laws.Read.ReadAnswerLaws.{AfterFirst-bad, AfterFirst-good, ReadOut-faulty}
 use Rattle.model.proofs.body.body.Statement.{statement}
 use Rattle.model.proofs.body.body.Tie as tie
 

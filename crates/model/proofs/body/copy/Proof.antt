@@ -6,7 +6,7 @@ use mathlib.Core.List.{_++_}
 use mathlib.Core.Path.{_≡_, _∙_}
 use lib.ListN.{length, take, drop, length-set}
 use lib.Seq.{take-length}
-use Rattle.model.specs.FillLaws.{copy-suc}
+use Rattle.model.specs.Laws.Read.FillLaws.{copy-suc}
 use Rattle.model.proofs.body.copy.Statement.{statement}
 use Rattle.model.proofs.body.copy.Tie as tie
 

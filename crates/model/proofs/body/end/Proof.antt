@@ -4,9 +4,9 @@ use native.Mathlib.Omega.{arith}
 use Prim.Native.Nat.{_<_}
 use lib.ListN.{length}
 use Rattle.model.specs.Bytes.{lineEnd}
-use Rattle.model.specs.SplitLaws.{found-le}
-use Rattle.model.specs.ReadSoFar.{AfterSteps, Further}
-use Rattle.model.specs.ReadStepsLaws.{end-absent, end-long, end-other, end-more, end-done}
+use Rattle.model.specs.Laws.Text.SplitLaws.{found-le}
+use Rattle.model.specs.Inner.ReadSoFar.{AfterSteps, Further}
+use Rattle.model.specs.Laws.Read.ReadStepsLaws.{end-absent, end-long, end-other, end-more, end-done}
 use Rattle.model.proofs.body.end.Statement.{statement}
 use Rattle.model.proofs.body.end.Tie as tie
 

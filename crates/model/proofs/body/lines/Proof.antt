@@ -1,6 +1,6 @@
 -- Each phase begins where the one before it ended, or its refusal is the answer.
 use borrow.Author.Needs.{needs}
-use Rattle.model.specs.ReadLaws.{Further-faulty, Further-next}
+use Rattle.model.specs.Laws.Read.ReadLaws.{Further-faulty, Further-next}
 use Rattle.model.proofs.body.lines.Statement.{statement}
 use Rattle.model.proofs.body.lines.Tie as tie
 

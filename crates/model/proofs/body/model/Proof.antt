@@ -1,9 +1,9 @@
 -- The local store holds the model where the lines are good, and its copy is what the promise asks; else nothing is stored.
 use borrow.Author.Needs.{needs}
 use mathlib.Core.Path.{_∙_}
-use Rattle.model.specs.FillLaws.{storeOf-head}
-use Rattle.model.specs.ReadLaws.{after-head, Further-next, Further-refused}
-use Rattle.model.specs.ReadAnswerLaws.{ReadOut-done, ReadOut-faulty}
+use Rattle.model.specs.Laws.Read.FillLaws.{storeOf-head}
+use Rattle.model.specs.Laws.Read.ReadLaws.{after-head, Further-next, Further-refused}
+use Rattle.model.specs.Laws.Read.ReadAnswerLaws.{ReadOut-done, ReadOut-faulty}
 use Rattle.model.proofs.body.model.Statement.{statement}
 use Rattle.model.proofs.body.model.Tie as tie
 

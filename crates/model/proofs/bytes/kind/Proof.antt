@@ -5,7 +5,7 @@ use Prim.Native.Nat.{ℕ}
 use lib.ListN.{replicate}
 use borrow.Author.Needs.{needs}
 use Rattle.model.specs.Bytes.{kindOf}
-use Rattle.model.specs.TableLaws.{table-rule}
+use Rattle.model.specs.Laws.Text.TableLaws.{table-rule}
 use Rattle.model.proofs.bytes.kind.Statement.{statement}
 use Rattle.model.proofs.bytes.kind.Tie as tie
 

@@ -1,10 +1,10 @@
 -- The loop has passed only good actions; one that is not refutes the range.
 use Prim.Native.Nat.{_-_}
 use native.Mathlib.Omega.{arith}
-use Rattle.model.specs.EachFrom.{EachFrom}
-use Rattle.model.specs.EachFromLaws.{each-from-nil, each-from-snoc, each-from-le}
-use Rattle.model.specs.DecidesLaws.{decides-passed, decides-refused}
-use Rattle.model.specs.GoodPlaces.{GoodAction}
+use Rattle.model.specs.Inner.EachFrom.{EachFrom}
+use Rattle.model.specs.Laws.Store.EachFromLaws.{each-from-nil, each-from-snoc, each-from-le}
+use Rattle.model.specs.Laws.Store.DecidesLaws.{decides-passed, decides-refused}
+use Rattle.model.specs.Inner.GoodPlaces.{GoodAction}
 use borrow.Author.Needs.{needs}
 use Rattle.model.proofs.good.actions_good.Statement.{statement}
 use Rattle.model.proofs.good.actions_good.Tie as tie

@@ -1,6 +1,6 @@
 -- A store is good exactly if its places are.
-use Rattle.model.specs.DecidesLaws.{decides-iff}
-use Rattle.model.specs.GoodLaws.{GoodPlaces→Good, Good→GoodPlaces}
+use Rattle.model.specs.Laws.Store.DecidesLaws.{decides-iff}
+use Rattle.model.specs.Laws.Store.GoodLaws.{GoodPlaces→Good, Good→GoodPlaces}
 use borrow.Author.Needs.{needs}
 use Rattle.model.proofs.good.good.Statement.{statement}
 use Rattle.model.proofs.good.good.Tie as tie

@@ -6,7 +6,7 @@ use lib.Dec.{T, eqb}
 use borrow.Author.Tests.{eq-eqb, ne-eqb}
 use Rattle.lts.specs.TestsLaws.{or-right}
 use Rattle.model.specs.Bytes.{kindOf, digit, smallLetter}
-use Rattle.model.specs.BytesLaws.{digit-within, smallLetter-within}
+use Rattle.model.specs.Laws.Text.BytesLaws.{digit-within, smallLetter-within}
 use Rattle.model.specs.Lines.{nameByte?}
 use mathlib.Core.Path.{sym, _∙_}
 use borrow.Author.Needs.{needs}

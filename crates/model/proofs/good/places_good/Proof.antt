@@ -2,8 +2,8 @@
 use mathlib.Core.Path.{ap}
 use native.Mathlib.Omega.{arith}
 use Rattle.model.specs.declared.Head.{Head}
-use Rattle.model.specs.RangesLaws.{headFits?→HeadRanges}
-use Rattle.model.specs.DecidesLaws.{decides-passed, decides-refused, decides-iff}
+use Rattle.model.specs.Laws.Text.RangesLaws.{headFits?→HeadRanges}
+use Rattle.model.specs.Laws.Store.DecidesLaws.{decides-passed, decides-refused, decides-iff}
 use borrow.Author.Needs.{needs}
 use Rattle.model.proofs.good.places_good.Statement.{statement}
 use Rattle.model.proofs.good.places_good.Tie as tie

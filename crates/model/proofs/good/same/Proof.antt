@@ -1,9 +1,9 @@
 -- The loop has passed only places that hold the same; one that does not refutes the range.
 use Prim.Native.Nat.{_≤_, _-_}
 use native.Mathlib.Omega.{arith}
-use Rattle.model.specs.EachFrom.{EachFrom}
-use Rattle.model.specs.EachFromLaws.{each-from-nil, each-from-snoc, each-from-le}
-use Rattle.model.specs.GoodPlaces.{SameAt}
+use Rattle.model.specs.Inner.EachFrom.{EachFrom}
+use Rattle.model.specs.Laws.Store.EachFromLaws.{each-from-nil, each-from-snoc, each-from-le}
+use Rattle.model.specs.Inner.GoodPlaces.{SameAt}
 use borrow.Author.Needs.{needs}
 use Rattle.model.proofs.good.same.Statement.{statement}
 use Rattle.model.proofs.good.same.Tie as tie

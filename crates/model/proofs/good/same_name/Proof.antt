@@ -4,8 +4,8 @@ use mathlib.Core.List.{List}
 use mathlib.Core.Path.{_≡_, subst}
 use Prim.Native.Nat.{ℕ, _+_}
 use Rattle.model.specs.Decides.{Decides}
-use Rattle.model.specs.EachFrom.{EachFrom}
-use Rattle.model.specs.GoodPlaces.{SameAt}
+use Rattle.model.specs.Inner.EachFrom.{EachFrom}
+use Rattle.model.specs.Inner.GoodPlaces.{SameAt}
 use borrow.Author.Needs.{needs}
 use Rattle.model.proofs.good.same_name.Statement.{statement}
 use Rattle.model.proofs.good.same_name.Tie as tie

@@ -6,7 +6,7 @@ use lib.Dec.{T}
 use Rattle.model.specs.declared.Head.{Head}
 use Rattle.model.specs.declared.StepLine.{StepLine}
 use Rattle.model.specs.Decides.{Decides}
-use Rattle.model.specs.DecidesLaws.{decides-passed, decides-refused, T-of-true, not-T-of-false}
+use Rattle.model.specs.Laws.Store.DecidesLaws.{decides-passed, decides-refused, T-of-true, not-T-of-false}
 use Rattle.model.specs.Model.{above?}
 use Rattle.model.specs.Lines.{stepFits?}
 use borrow.Author.Needs.{needs}

@@ -2,10 +2,10 @@
 use mathlib.Core.Path.{_≡_}
 use Prim.Native.Nat.{_-_}
 use native.Mathlib.Omega.{arith}
-use Rattle.model.specs.EachFrom.{EachFrom}
-use Rattle.model.specs.EachFromLaws.{each-from-nil, each-from-snoc, each-from-le}
-use Rattle.model.specs.DecidesLaws.{decides-passed, decides-refused}
-use Rattle.model.specs.GoodPlaces.{GoodStep}
+use Rattle.model.specs.Inner.EachFrom.{EachFrom}
+use Rattle.model.specs.Laws.Store.EachFromLaws.{each-from-nil, each-from-snoc, each-from-le}
+use Rattle.model.specs.Laws.Store.DecidesLaws.{decides-passed, decides-refused}
+use Rattle.model.specs.Inner.GoodPlaces.{GoodStep}
 use borrow.Author.Needs.{needs}
 use Rattle.model.proofs.good.steps_good.Statement.{statement}
 use Rattle.model.proofs.good.steps_good.Tie as tie

@@ -10,8 +10,8 @@ use borrow.Author.Needs.{needs}
 use borrow.Author.Tests.{not-true, not-false}
 use Rattle.model.specs.Bytes.{kindOf}
 use Rattle.model.specs.Lines.{checked, fieldsOf, levelOf, name?, nameFrom, actionFields}
-use Rattle.model.specs.LineAnswers.{actionRead}
-use Rattle.model.specs.ActionLaws.{action-other-place, action-parts, nameFrom-bad, nameFrom-good}
+use Rattle.model.specs.Inner.LineAnswers.{actionRead}
+use Rattle.model.specs.Laws.Text.ActionLaws.{action-other-place, action-parts, nameFrom-bad, nameFrom-good}
 use Rattle.model.proofs.line.action_line.Statement.{statement}
 use Rattle.model.proofs.line.action_line.Tie as tie
 

@@ -6,9 +6,9 @@ use native.Mathlib.Omega.{arith}
 use lib.ListN.{length, drop, drop-of-length-le}
 use borrow.Author.Needs.{needs}
 use Rattle.model.specs.Split.{split}
-use Rattle.model.specs.SplitLaws.{split-nil}
-use Rattle.model.specs.ListLaws.{drop-next}
-use Rattle.model.specs.FieldsLaws.{count-end, count-cons}
+use Rattle.model.specs.Laws.Text.SplitLaws.{split-nil}
+use Rattle.model.specs.Laws.Text.ListLaws.{drop-next}
+use Rattle.model.specs.Laws.Text.FieldsLaws.{count-end, count-cons}
 use Rattle.model.proofs.line.count.Statement.{statement}
 use Rattle.model.proofs.line.count.Tie as tie
 

@@ -7,8 +7,8 @@ use lib.ListN.{length, drop, getD}
 use borrow.Author.Needs.{needs}
 use Rattle.model.specs.Bytes.{comma, kindOf}
 use Rattle.model.specs.Split.{split}
-use Rattle.model.specs.FieldsLaws.{byte-field}
-use Rattle.model.specs.FieldsLaws.{fields-other-count, fields-other-place, fields-other-letter, fields-yes}
+use Rattle.model.specs.Laws.Text.FieldsLaws.{byte-field}
+use Rattle.model.specs.Laws.Text.FieldsLaws.{fields-other-count, fields-other-place, fields-other-letter, fields-yes}
 use Rattle.model.proofs.line.fields.Statement.{statement}
 use Rattle.model.proofs.line.fields.Tie as tie
 

@@ -5,8 +5,8 @@ use native.Mathlib.Omega.{arith}
 use lib.ListN.{length, drop, drop-of-length-le}
 use borrow.Author.Needs.{needs}
 use Rattle.model.specs.Split.{indexOf}
-use Rattle.model.specs.SplitLaws.{indexOf-nil, indexOf-end, indexOf-cons}
-use Rattle.model.specs.ListLaws.{drop-next}
+use Rattle.model.specs.Laws.Text.SplitLaws.{indexOf-nil, indexOf-end, indexOf-cons}
+use Rattle.model.specs.Laws.Text.ListLaws.{drop-next}
 use Rattle.model.proofs.line.find.Statement.{statement}
 use Rattle.model.proofs.line.find.Tie as tie
 

@@ -2,7 +2,7 @@
 use mathlib.Core.Path.{refl, sym, _∙_}
 use borrow.Author.Needs.{needs}
 use borrow.Author.Tests.{le-leb, lt-leb, not-true, not-false}
-use Rattle.model.specs.LinesLaws.{headFits-tests}
+use Rattle.model.specs.Laws.Text.LinesLaws.{headFits-tests}
 use Rattle.model.proofs.line.head_fits.Statement.{statement}
 use Rattle.model.proofs.line.head_fits.Tie as tie
 

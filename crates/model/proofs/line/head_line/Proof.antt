@@ -8,11 +8,11 @@ use borrow.Author.Needs.{needs}
 use borrow.Author.Tests.{not-true, not-false}
 use Rattle.model.specs.Bytes.{kindOf}
 use Rattle.model.specs.Lines.{good, checked, numbersLine, headNumbers}
-use Rattle.model.specs.LineAnswers.{headRead}
-use Rattle.model.specs.LinesLaws.{headOf-bad, headOf-numbers}
-use Rattle.model.specs.Ranges.{HeadRanges}
-use Rattle.model.specs.RangesLaws.{headFits?→HeadRanges}
-use Rattle.model.specs.RowLaws.{row-bad, row-good}
+use Rattle.model.specs.Inner.LineAnswers.{headRead}
+use Rattle.model.specs.Laws.Text.LinesLaws.{headOf-bad, headOf-numbers}
+use Rattle.model.specs.Inner.Ranges.{HeadRanges}
+use Rattle.model.specs.Laws.Text.RangesLaws.{headFits?→HeadRanges}
+use Rattle.model.specs.Laws.Text.RowLaws.{row-bad, row-good}
 use Rattle.model.proofs.line.head_line.Statement.{statement}
 use Rattle.model.proofs.line.head_line.Tie as tie
 

@@ -1,6 +1,6 @@
 -- `is_above` compares sources, then actions, then targets, as `above?` does.
 use mathlib.Core.Path.{sym}
-use Rattle.model.specs.LinesLaws.{above-source, not-above-source, above-action, not-above-action, above-target}
+use Rattle.model.specs.Laws.Text.LinesLaws.{above-source, not-above-source, above-action, not-above-action, above-target}
 use Rattle.model.proofs.line.is_above.Statement.{statement}
 use Rattle.model.proofs.line.is_above.Tie as tie
 

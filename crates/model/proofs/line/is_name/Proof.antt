@@ -6,8 +6,8 @@ use native.Mathlib.Omega.{arith}
 use lib.ListN.{length, drop, drop-of-length-le}
 use borrow.Author.Needs.{needs}
 use Rattle.model.specs.Lines.{allOf, nameByte?}
-use Rattle.model.specs.ListLaws.{drop-next}
-use Rattle.model.specs.ActionLaws.{allName-nil, allName-cons, allName-bad, name-short, name-long, name-all}
+use Rattle.model.specs.Laws.Text.ListLaws.{drop-next}
+use Rattle.model.specs.Laws.Text.ActionLaws.{allName-nil, allName-cons, allName-bad, name-short, name-long, name-all}
 use Rattle.model.proofs.line.is_name.Statement.{statement}
 use Rattle.model.proofs.line.is_name.Tie as tie
 

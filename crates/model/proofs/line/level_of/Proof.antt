@@ -2,8 +2,8 @@
 use mathlib.Core.Path.{sym, _∙_}
 use borrow.Author.Needs.{needs}
 use borrow.Author.Tests.{eq-eqb, ne-eqb}
-use Rattle.model.specs.PartAnswers.{levelNumber}
-use Rattle.model.specs.ActionLaws.{levelNumber-other}
+use Rattle.model.specs.Inner.PartAnswers.{levelNumber}
+use Rattle.model.specs.Laws.Text.ActionLaws.{levelNumber-other}
 use Rattle.model.proofs.line.level_of.Statement.{statement}
 use Rattle.model.proofs.line.level_of.Tie as tie
 

@@ -5,10 +5,10 @@ use native.Mathlib.Omega.{arith}
 use lib.ListN.{length, length-set}
 use borrow.Author.Needs.{needs}
 use Rattle.model.specs.Bytes.{comma}
-use Rattle.model.specs.SplitLaws.{found-le}
-use Rattle.model.specs.PartAnswers.{rowRead}
-use Rattle.model.specs.Row.{Stored}
-use Rattle.model.specs.RowLaws.{stored-first, stored-lt, stored-bad, stored-next, stored-last}
+use Rattle.model.specs.Laws.Text.SplitLaws.{found-le}
+use Rattle.model.specs.Inner.PartAnswers.{rowRead}
+use Rattle.model.specs.Inner.Row.{Stored}
+use Rattle.model.specs.Laws.Text.RowLaws.{stored-first, stored-lt, stored-bad, stored-next, stored-last}
 use Rattle.model.proofs.line.numbers.Statement.{statement}
 use Rattle.model.proofs.line.numbers.Tie as tie
 

@@ -2,8 +2,8 @@
 use mathlib.Core.Path.{_∙_}
 use borrow.Author.Needs.{needs}
 use borrow.Author.Tests.{not-true, not-false}
-use Rattle.model.specs.PartAnswers.{rowRead}
-use Rattle.model.specs.FieldsLaws.{numbersLine-bad, numbersLine-good}
+use Rattle.model.specs.Inner.PartAnswers.{rowRead}
+use Rattle.model.specs.Laws.Text.FieldsLaws.{numbersLine-bad, numbersLine-good}
 use Rattle.model.proofs.line.row.Statement.{statement}
 use Rattle.model.proofs.line.row.Tie as tie
 

@@ -2,7 +2,7 @@
 use mathlib.Core.Path.{refl, sym}
 use borrow.Author.Needs.{needs}
 use borrow.Author.Tests.{lt-ltb, le-ltb}
-use Rattle.model.specs.LinesLaws.{stepFits-tests}
+use Rattle.model.specs.Laws.Text.LinesLaws.{stepFits-tests}
 use Rattle.model.proofs.line.step_fits.Statement.{statement}
 use Rattle.model.proofs.line.step_fits.Tie as tie
 

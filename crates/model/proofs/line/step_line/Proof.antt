@@ -9,12 +9,12 @@ use borrow.Author.Needs.{needs}
 use borrow.Author.Tests.{not-true, not-false}
 use Rattle.model.specs.Bytes.{kindOf}
 use Rattle.model.specs.Lines.{good, checked, numbersLine, stepFits?, stepNumbers}
-use Rattle.model.specs.LineAnswers.{stepRead}
-use Rattle.model.specs.LinesLaws.{stepOf-bad, stepOf-range, stepOf-order}
-use Rattle.model.specs.LinesLaws.{last-nil, last-cons}
-use Rattle.model.specs.Ranges.{StepRanges}
-use Rattle.model.specs.RangesLaws.{stepFits?→StepRanges}
-use Rattle.model.specs.RowLaws.{row-bad, row-good}
+use Rattle.model.specs.Inner.LineAnswers.{stepRead}
+use Rattle.model.specs.Laws.Text.LinesLaws.{stepOf-bad, stepOf-range, stepOf-order}
+use Rattle.model.specs.Laws.Text.LinesLaws.{last-nil, last-cons}
+use Rattle.model.specs.Inner.Ranges.{StepRanges}
+use Rattle.model.specs.Laws.Text.RangesLaws.{stepFits?→StepRanges}
+use Rattle.model.specs.Laws.Text.RowLaws.{row-bad, row-good}
 use Rattle.model.proofs.line.step_line.Statement.{statement}
 use Rattle.model.proofs.line.step_line.Tie as tie
 

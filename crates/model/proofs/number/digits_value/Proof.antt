@@ -7,10 +7,10 @@ use native.Mathlib.Omega.{arith}
 use lib.Dec.{lit<}
 use lib.ListN.{length, drop, getD, drop-of-length-le}
 use borrow.Author.Needs.{needs}
-use Rattle.model.specs.ListLaws.{drop-next}
-use Rattle.model.specs.BytesLaws.{digit-within}
+use Rattle.model.specs.Laws.Text.ListLaws.{drop-next}
+use Rattle.model.specs.Laws.Text.BytesLaws.{digit-within}
 use Rattle.model.specs.Numbers.{digitsValue}
-use Rattle.model.specs.NumbersLaws.{digitsValue-nil, digitsValue-cons, digitsValue-bad, pow-next}
+use Rattle.model.specs.Laws.Text.NumbersLaws.{digitsValue-nil, digitsValue-cons, digitsValue-bad, pow-next}
 use Rattle.model.proofs.number.digits_value.Statement.{statement}
 use Rattle.model.proofs.number.digits_value.Tie as tie
 

@@ -2,7 +2,7 @@
 use mathlib.Core.Path.{sym, _∙_}
 use native.Mathlib.Omega.{arith}
 use borrow.Author.Needs.{needs}
-use Rattle.model.specs.NumbersLaws.{numberOf-nil, numberOf-long, numberOf-one, numberOf-zero, numberOf-some}
+use Rattle.model.specs.Laws.Text.NumbersLaws.{numberOf-nil, numberOf-long, numberOf-one, numberOf-zero, numberOf-some}
 use Rattle.model.proofs.number.parse_number.Statement.{statement}
 use Rattle.model.proofs.number.parse_number.Tie as tie
 

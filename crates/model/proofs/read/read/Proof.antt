@@ -1,6 +1,6 @@
 -- By the test that led to each return; the lines' promise is the whole one where both tests pass.
 use borrow.Author.Needs.{needs}
-use Rattle.model.specs.ReadAnswerLaws.{
+use Rattle.model.specs.Laws.Read.ReadAnswerLaws.{
   ReadPromise-short,
   ReadPromise-long,
   ReadPromise-lines,

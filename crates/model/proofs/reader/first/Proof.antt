@@ -35,8 +35,8 @@ use denote.Exit.{yes}
 use denote.Triple.Clauses.{ensured, lasts}
 use Rattle.model.specs.Bytes.{lineEnd}
 use Rattle.model.specs.Split as S
-use Rattle.model.specs.LineAnswers.{headRead}
-use Rattle.model.specs.ReadSoFar.{firstLine}
+use Rattle.model.specs.Inner.LineAnswers.{headRead}
+use Rattle.model.specs.Inner.ReadSoFar.{firstLine}
 use Rattle.model.specs.declared.line.HeadRead.{HeadRead}
 use Rattle.model.proofs.line.HeadRead as E
 use Rattle.model.proofs.line.HeadRead.Laws as E′
@@ -93,21 +93,21 @@ module _ {M : Type 1} (𝓤 : URA M) (H : Heap 𝓤) (A : Atoms 𝓤) (W : Given
         use1 W (‵ (Parts 𝓤 H A W κ d) ⊛ ‵ (ReaderOwn κ d)) (hands 𝓤 H A W κ d fits) $ split ! $
         move ! (3 ∷ 0 ∷ []) $ use2 W (raw (FirstLine 𝓤 H A mem run .pre to)) asked $ frame ! $ keep ! (0 ∷ []) $ done !
 
-    abbrev Told : HeadRead → Type 0
-    Told h = headRead h ≡ firstLine (S.split lineEnd (drop (d .at) (now (d .text))))
+    abbrev Outcome : HeadRead → Type 0
+    Outcome h = headRead h ≡ firstLine (S.split lineEnd (drop (d .at) (now (d .text))))
 
     said : (h : HeadRead)
-        → ent 𝓤 (ensured 𝓤 H A first-line.ended (first-line.clauses 𝓤 H A mem run) (κ, tt) (d .text, (d .at, tt)) tt h) (fact 𝓤 (Told h))
-    said h = exE 𝓤 _ (λ ws. snd∗ 𝓤 (sem 𝓤 H A (lasts first-line.ended (κ, tt) (d .text, (d .at, tt)) ws)) (fact 𝓤 (Told h)))
+        → ent 𝓤 (ensured 𝓤 H A first-line.ended (first-line.clauses 𝓤 H A mem run) (κ, tt) (d .text, (d .at, tt)) tt h) (fact 𝓤 (Outcome h))
+    said h = exE 𝓤 _ (λ ws. snd∗ 𝓤 (sem 𝓤 H A (lasts first-line.ended (κ, tt) (d .text, (d .at, tt)) ws)) (fact 𝓤 (Outcome h)))
 
-    exits : (h : HeadRead) (u : Val) → Told h
+    exits : (h : HeadRead) (u : Val) → Outcome h
         → ent 𝓤 (⋆ 𝓤 H A (‵ (E.the-row .own h (u ∷ [])) ∷ (‵ (flft κ q) ⊛ ‵ ftrue) ∷ ‵ (ReaderOwn κ d) ∷ [])) (Post u)
-    exits h u told =
+    exits h u outcome =
         qed W (‵ (E.the-row .own h (u ∷ [])) ∷ (‵ (flft κ q) ⊛ ‵ ftrue) ∷ ‵ (ReaderOwn κ d) ∷ []) ∵
         suffices ! _
         (ends-at 𝓤 H A first.ended stayed (first.clauses 𝓤 H A mem run) W
         (((κ, tt), (q, tt), tt, (d, tt), (machine ∷ [], tt)), tt) u h (tt, tt) (tt, tt)) $
-        says ! told $ move ! (1 ∷ []) $ frame ! $ nothing ! $ move ! (2 ∷ 0 ∷ []) $ fjoin ! $ frame ! $ done !
+        says ! outcome $ move ! (1 ∷ []) $ frame ! $ nothing ! $ move ! (2 ∷ 0 ∷ []) $ fjoin ! $ frame ! $ done !
 
     module _ (C : Calls 𝓤 H) (Λ : Loops 𝓤 H) (fm : FmC 𝓤 H (W .laws) C)
         (known : Triple 𝓤 (C #first-line) (FirstLine 𝓤 H A mem run)) where
@@ -129,13 +129,13 @@ module _ {M : Type 1} (𝓤 : URA M) (H : Heap 𝓤) (A : Atoms 𝓤) (W : Given
           (later (some (λ (h : HeadRead).
           ((‵ (flft κ q) ⊛ ‵ ftrue) ⊛ ‵ (E.the-row .own h (u ∷ [])))
           ⊛ raw (ensured 𝓤 H A first-line.ended (first-line.clauses 𝓤 H A mem run) (κ, tt) (d .text, (d .at, tt)) tt h)))) (id⊢ 𝓤 _) $
-          await ! tt $ pick ! (λ h. split ! $ move ! (1 ∷ []) $ use1 W (raw (fact 𝓤 (Told h))) (said h) $ heard ! (Told h) (λ told.
+          await ! tt $ pick ! (λ h. split ! $ move ! (1 ∷ []) $ use1 W (raw (fact 𝓤 (Outcome h))) (said h) $ heard ! (Outcome h) (λ outcome.
           -- places 0: what h owns, 1: the token, 2: the reader's, 3: _3, 5: _2, 7: _1, 9: _0
           split ! $ move ! (1 ∷ []) $ peeks ! E.the-row (Is E.the-row) (shows 𝓤 H A E.the-row) h (u ∷ []) (λ is.
           land ! (from ! (stop !)) (init ! 9 refl (EL.lawful E.the-type E′.the-laws 𝓤 H A W tt .typed h _ is .0)) $
           returns ! (look ! 9 refl) $ forget ! 3 refl $ forget ! 5 refl $ forget ! 7 refl $ forget ! 9 refl $
           move ! (9 ∷ 10 ∷ []) $ free1 ! $ move ! (7 ∷ 8 ∷ []) $ free1 ! $ move ! (5 ∷ 6 ∷ []) $ free1 ! $
-          move ! (3 ∷ 4 ∷ []) $ free1 ! $ free0 ! $ by ! (exits h u told)))))))))
+          move ! (3 ∷ 4 ∷ []) $ free1 ! $ free0 ! $ by ! (exits h u outcome)))))))))
 
   walks : (C : Calls 𝓤 H) (Λ : Loops 𝓤 H) → FmC 𝓤 H (W .laws) C → Triple 𝓤 (C #first-line) (FirstLine 𝓤 H A mem run)
       → Walks 𝓤 H A first.ended stayed (WpFn 𝓤 H C Λ code.function) (first.clauses 𝓤 H A mem run)

@@ -34,7 +34,7 @@ use denote.Triple.Table.{entered, cited}
 use denote.Triple.Walked.{says, Stays, stay-none, walkOf, goes-none, Walks, ends-at, walked, walk-meets}
 use denote.Exit.{yes}
 use denote.Triple.Clauses.{ensured, lasts}
-use Rattle.model.specs.ReadSoFar.{AfterLine}
+use Rattle.model.specs.Inner.ReadSoFar.{AfterLine}
 use Rattle.model.specs.declared.reader.Reader.{Reader}
 use Rattle.model.proofs.reader.Reader as T
 use Rattle.model.proofs.reader.Reader.Laws as T′
@@ -88,25 +88,25 @@ module _ {M : Type 1} (𝓤 : URA M) (H : Heap 𝓤) (A : Atoms 𝓤) (W : Given
         use1 W (‵ (Parts 𝓤 H A W κ d) ⊛ ‵ (ReaderOwn κ d)) (hands 𝓤 H A W κ d fits) $ split ! $
         move ! (3 ∷ 0 ∷ []) $ use2 W (raw (AfterLine· 𝓤 H A mem run .pre to)) asked $ frame ! $ keep ! (0 ∷ []) $ done !
 
-    abbrev Told : ℕ → Type 0
-    Told n = AfterLine (now (d .text)) (d .at) n
+    abbrev Outcome : ℕ → Type 0
+    Outcome n = AfterLine (now (d .text)) (d .at) n
 
     said : (n : ℕ)
-        → ent 𝓤 (ensured 𝓤 H A after-line.ended (after-line.clauses 𝓤 H A mem run) (κ, tt) (d .text, (d .at, tt)) tt n) (fact 𝓤 (Told n))
-    said n = exE 𝓤 _ (λ ws. snd∗ 𝓤 (sem 𝓤 H A (lasts after-line.ended (κ, tt) (d .text, (d .at, tt)) ws)) (fact 𝓤 (Told n)))
+        → ent 𝓤 (ensured 𝓤 H A after-line.ended (after-line.clauses 𝓤 H A mem run) (κ, tt) (d .text, (d .at, tt)) tt n) (fact 𝓤 (Outcome n))
+    said n = exE 𝓤 _ (λ ws. snd∗ 𝓤 (sem 𝓤 H A (lasts after-line.ended (κ, tt) (d .text, (d .at, tt)) ws)) (fact 𝓤 (Outcome n)))
 
     -- the reader that is handed back
     abbrev moved : ℕ → Reader
     moved n = record { text = d .text; at = n }
 
-    exits : (n : ℕ) → Told n → n < 2 ^ 64
+    exits : (n : ℕ) → Outcome n → n < 2 ^ 64
         → ent 𝓤 (⋆ 𝓤 H A ((‵ (flft κ q) ⊛ ‵ ftrue) ∷ ‵ (ReaderOwn κ d) ∷ [])) (Post (T′.lowered (moved n)))
-    exits n told fits =
+    exits n outcome fits =
         qed W ((‵ (flft κ q) ⊛ ‵ ftrue) ∷ ‵ (ReaderOwn κ d) ∷ []) ∵
         suffices ! _
         (ends-at 𝓤 H A past.ended stayed (past.clauses 𝓤 H A mem run) W
         (((κ, tt), (q, tt), tt, (d, tt), (machine ∷ [], tt)), tt) (T′.lowered (moved n)) (moved n) (tt, tt) (tt, tt)) $
-        says ! (refl, told) $ frame ! $ use1 W (‵ (TextOwn κ (d .text)) ⊛ ‵ (ReaderOwn κ d)) (lends 𝓤 H A W κ d) $ split ! $
+        says ! (refl, outcome) $ frame ! $ use1 W (‵ (TextOwn κ (d .text)) ⊛ ‵ (ReaderOwn κ d)) (lends 𝓤 H A W κ d) $ split ! $
         nothing ! $ move ! (2 ∷ 0 ∷ []) $ fjoin ! $ frame ! $ by ! (makes 𝓤 H A W κ (d .text) n fits)
 
     module _ (C : Calls 𝓤 H) (Λ : Loops 𝓤 H) (fm : FmC 𝓤 H (W .laws) C)
@@ -130,7 +130,7 @@ module _ {M : Type 1} (𝓤 : URA M) (H : Heap 𝓤) (A : Atoms 𝓤) (W : Given
           (later (some (λ (n : ℕ).
           ((‵ (flft κ q) ⊛ ‵ ftrue) ⊛ ‵ (usize .own n (u ∷ [])))
           ⊛ raw (ensured 𝓤 H A after-line.ended (after-line.clauses 𝓤 H A mem run) (κ, tt) (d .text, (d .at, tt)) tt n)))) (id⊢ 𝓤 _) $
-          await ! tt $ pick ! (λ n. split ! $ move ! (1 ∷ []) $ use1 W (raw (fact 𝓤 (Told n))) (said n) $ heard ! (Told n) (λ told.
+          await ! tt $ pick ! (λ n. split ! $ move ! (1 ∷ []) $ use1 W (raw (fact 𝓤 (Outcome n))) (said n) $ heard ! (Outcome n) (λ outcome.
           split ! $ move ! (1 ∷ []) $ facts ! usize (Is usize) (shows 𝓤 H A usize) n (u ∷ []) (λ is.
           -- places 0: the token, 1: the reader's, 2: _5, 4: _4, 6: _3, 8: _2, 10: _1, 12: _0
           land ! (from ! (stop !)) (init ! 8 refl (uint-lawful 𝓤 H A W w64 .typed n _ is .0)) $
@@ -143,7 +143,7 @@ module _ {M : Type 1} (𝓤 : URA M) (H : Heap 𝓤) (A : Atoms 𝓤) (W : Given
           returns ! (look ! 12 refl) $ forget ! 2 refl $ forget ! 4 refl $ forget ! 6 refl $ forget ! 8 refl $ forget ! 10 refl $
           forget ! 12 refl $ move ! (12 ∷ 13 ∷ []) $ free1 ! $ move ! (10 ∷ 11 ∷ []) $ free1 ! $ move ! (8 ∷ 9 ∷ []) $ free1 ! $
           move ! (6 ∷ 7 ∷ []) $ free1 ! $ move ! (4 ∷ 5 ∷ []) $ free1 ! $ move ! (2 ∷ 3 ∷ []) $ free1 ! $ free0 ! $
-          by ! (exits n told (is .1))))))))))))
+          by ! (exits n outcome (is .1))))))))))))
 
   walks : (C : Calls 𝓤 H) (Λ : Loops 𝓤 H) → FmC 𝓤 H (W .laws) C → Triple 𝓤 (C #after-line) (AfterLine· 𝓤 H A mem run)
       → Walks 𝓤 H A past.ended stayed (WpFn 𝓤 H C Λ code.function) (past.clauses 𝓤 H A mem run)

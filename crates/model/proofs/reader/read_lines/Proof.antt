@@ -39,9 +39,9 @@ use denote.Exit.{yes}
 use Rattle.model.specs.Limits.{storeLength}
 use Rattle.model.specs.Bytes.{lineEnd}
 use Rattle.model.specs.Split as S
-use Rattle.model.specs.LineAnswers.{headRead}
-use Rattle.model.specs.ReadSoFar.{AfterFirst, AfterLine, ReadOut, firstLine}
-use Rattle.model.specs.ReadAnswerLaws.{after-first}
+use Rattle.model.specs.Inner.LineAnswers.{headRead}
+use Rattle.model.specs.Inner.ReadSoFar.{AfterFirst, AfterLine, ReadOut, firstLine}
+use Rattle.model.specs.Laws.Read.ReadAnswerLaws.{after-first}
 use Rattle.model.specs.declared.line.HeadRead.{HeadRead}
 use Rattle.model.specs.declared.read.ReadAnswer.{ReadAnswer}
 use Rattle.model.specs.declared.reader.Reader.{Reader}

@@ -38,7 +38,7 @@ use denote.Triple.Table.{entered, cited}
 use denote.Triple.Walked.{says, needs, Stays, stay-dropped, gave-slice, walkOf, goes-dropped, goes-gave-slice, Walks, ends-at, walked, walk-meets}
 use denote.Exit.{yes}
 use Rattle.model.specs.Limits.{storeLength}
-use Rattle.model.specs.ReadSoFar.{AfterFirst, ReadOut}
+use Rattle.model.specs.Inner.ReadSoFar.{AfterFirst, ReadOut}
 use Rattle.model.specs.declared.line.HeadRead.{HeadRead}
 use Rattle.model.specs.declared.read.ReadAnswer.{ReadAnswer}
 use Rattle.model.specs.declared.reader.Reader.{Reader}

@@ -6,11 +6,11 @@ use Prim.Native.Nat.{_-_, _≤_, _<_}
 use mathlib.Core.Path.{_≡_, refl, ap, _∙_}
 use lib.ListN.{length}
 use Rattle.model.specs.Bytes.{lineEnd}
-use Rattle.model.specs.SplitLaws.{found-le}
-use Rattle.model.specs.LineAnswers.{stepRead}
-use Rattle.model.specs.ReadSoFar.{AfterStep, Further}
-use Rattle.model.specs.ReadStepsLaws.{after-actions, step-absent, step-bad, step-next}
-use Rattle.model.specs.ReadStepsLaws.{AfterStep-length, after-steps}
+use Rattle.model.specs.Laws.Text.SplitLaws.{found-le}
+use Rattle.model.specs.Inner.LineAnswers.{stepRead}
+use Rattle.model.specs.Inner.ReadSoFar.{AfterStep, Further}
+use Rattle.model.specs.Laws.Read.ReadStepsLaws.{after-actions, step-absent, step-bad, step-next}
+use Rattle.model.specs.Laws.Read.ReadStepsLaws.{AfterStep-length, after-steps}
 use Rattle.model.proofs.steps.steps.Statement.{statement}
 use Rattle.model.proofs.steps.steps.Tie as tie
 

@@ -3,10 +3,10 @@ use borrow.Author.Needs.{needs}
 use borrow.Author.Tests.{not-true, not-false}
 use native.Mathlib.Omega.{arith}
 use denote.Ref.{now}
-use Rattle.model.specs.DecidesLaws.{decides-true, decides-false}
+use Rattle.model.specs.Laws.Store.DecidesLaws.{decides-true, decides-false}
 use Rattle.model.specs.Store.{Good}
-use Rattle.model.specs.Writable.{Writable}
-use Rattle.model.specs.WritableLaws.{text-le}
+use Rattle.model.specs.Inner.Writable.{Writable}
+use Rattle.model.specs.Laws.Write.WritableLaws.{text-le}
 use Rattle.model.proofs.WriteAnswers.{short-store-promised, short-out-promised}
 use Rattle.model.proofs.WriteAnswers.{not-good-promised, written-promised}
 use Rattle.model.proofs.write.write.Statement.{statement}

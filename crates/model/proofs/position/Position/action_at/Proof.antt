@@ -8,8 +8,8 @@ use Prim.Native.Nat.{ℕ, _<_}
 use Rattle.model.specs.All.{All}
 use Rattle.model.specs.Model.{ActionLine}
 use Rattle.model.specs.StoredModel.{actionAt}
-use Rattle.model.specs.WritingLaws.{actionText-length}
-use Rattle.model.specs.WritableLaws.{actions-le, name-bytes-at, actionAt-part}
+use Rattle.model.specs.Laws.Write.WritingLaws.{actionText-length}
+use Rattle.model.specs.Laws.Write.WritableLaws.{actions-le, name-bytes-at, actionAt-part}
 use Rattle.model.proofs.position.Position.action_at.Statement.{statement}
 use Rattle.model.proofs.position.Position.action_at.Tie as tie
 

@@ -2,7 +2,7 @@
 use borrow.Author.Needs.{needs}
 use native.Mathlib.Omega.{arith}
 use Rattle.model.specs.Text.{actionText}
-use Rattle.model.specs.WroteLaws.{wrote-append}
+use Rattle.model.specs.Laws.Write.WroteLaws.{wrote-append}
 use Rattle.model.proofs.position.Position.action_line.Statement.{statement}
 use Rattle.model.proofs.position.Position.action_line.Tie as tie
 

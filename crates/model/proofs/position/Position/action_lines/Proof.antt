@@ -8,8 +8,8 @@ use denote.Ref.{now}
 use Rattle.model.specs.StoredModel.{listed, actionAt, modelAt}
 use Rattle.model.specs.Text.{actionsText}
 use Rattle.model.specs.Wrote.{Wrote}
-use Rattle.model.specs.WroteLaws.{wrote-nil, wrote-append}
-use Rattle.model.specs.WritingLaws.{actionsText-next, actionsText-room}
+use Rattle.model.specs.Laws.Write.WroteLaws.{wrote-nil, wrote-append}
+use Rattle.model.specs.Laws.Write.WritingLaws.{actionsText-next, actionsText-room}
 use Rattle.model.proofs.position.Position.action_lines.Statement.{statement}
 use Rattle.model.proofs.position.Position.action_lines.Tie as tie
 

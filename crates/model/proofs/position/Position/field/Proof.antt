@@ -1,6 +1,6 @@
 -- A comma, and the digits behind it. Assumes nothing.
 use borrow.Author.Needs.{needs}
-use Rattle.model.specs.WroteLaws.{wrote-append}
+use Rattle.model.specs.Laws.Write.WroteLaws.{wrote-append}
 use Rattle.model.proofs.position.Position.field.Statement.{statement}
 use Rattle.model.proofs.position.Position.field.Tie as tie
 

@@ -3,8 +3,8 @@ use borrow.Author.Needs.{needs}
 use native.Mathlib.Omega.{arith}
 use lib.ListN.{length-append}
 use Rattle.model.specs.Text.{headText}
-use Rattle.model.specs.WroteLaws.{wrote-append, wrote-length}
-use Rattle.model.specs.WritingLaws.{headText-length}
+use Rattle.model.specs.Laws.Write.WroteLaws.{wrote-append, wrote-length}
+use Rattle.model.specs.Laws.Write.WritingLaws.{headText-length}
 use Rattle.model.proofs.position.Position.head_line.Statement.{statement}
 use Rattle.model.proofs.position.Position.head_line.Tie as tie
 

@@ -7,8 +7,8 @@ use denote.Ref.{now}
 use Rattle.model.specs.declared.Head.{Head}
 use Rattle.model.specs.StoredModel.{modelAt}
 use Rattle.model.specs.Text.{headText, textOf}
-use Rattle.model.specs.WroteLaws.{wrote-append, wrote-length}
-use Rattle.model.specs.WritingLaws.{textOf-length}
+use Rattle.model.specs.Laws.Write.WroteLaws.{wrote-append, wrote-length}
+use Rattle.model.specs.Laws.Write.WritingLaws.{textOf-length}
 use Rattle.model.proofs.position.Position.model.Statement.{statement}
 use Rattle.model.proofs.position.Position.model.Tie as tie
 

@@ -6,9 +6,9 @@ use borrow.Author.Needs.{needs}
 use lib.ListN.{length, take}
 use lib.Seq.{take-all}
 use denote.Ref.{now}
-use Rattle.model.specs.AllLaws.{getD-all}
+use Rattle.model.specs.Laws.Text.AllLaws.{getD-all}
 use Rattle.model.specs.Wrote.{Wrote}
-use Rattle.model.specs.WroteLaws.{wrote-nil, wrote-append, take-next}
+use Rattle.model.specs.Laws.Write.WroteLaws.{wrote-nil, wrote-append, take-next}
 use Rattle.model.proofs.position.Position.name.Statement.{statement}
 use Rattle.model.proofs.position.Position.name.Tie as tie
 

@@ -2,8 +2,8 @@
 use borrow.Author.Needs.{needs}
 use native.Mathlib.Omega.{arith}
 use Rattle.model.specs.Text.{stepText}
-use Rattle.model.specs.WroteLaws.{wrote-append}
-use Rattle.model.specs.WritingLaws.{stepText-length}
+use Rattle.model.specs.Laws.Write.WroteLaws.{wrote-append}
+use Rattle.model.specs.Laws.Write.WritingLaws.{stepText-length}
 use Rattle.model.proofs.position.Position.step_line.Statement.{statement}
 use Rattle.model.proofs.position.Position.step_line.Tie as tie
 

@@ -8,9 +8,9 @@ use denote.Ref.{now}
 use Rattle.model.specs.StoredModel.{listed, stepAt, modelAt}
 use Rattle.model.specs.Text.{stepsText}
 use Rattle.model.specs.Wrote.{Wrote}
-use Rattle.model.specs.WroteLaws.{wrote-nil, wrote-append}
-use Rattle.model.specs.WritingLaws.{stepsText-next, stepsText-room}
-use Rattle.model.specs.WritableLaws.{steps-le}
+use Rattle.model.specs.Laws.Write.WroteLaws.{wrote-nil, wrote-append}
+use Rattle.model.specs.Laws.Write.WritingLaws.{stepsText-next, stepsText-room}
+use Rattle.model.specs.Laws.Write.WritableLaws.{steps-le}
 use Rattle.model.proofs.position.Position.step_lines.Statement.{statement}
 use Rattle.model.proofs.position.Position.step_lines.Tie as tie
 

@@ -7,7 +7,7 @@ use lib.ListN.{length, take}
 use lib.Seq.{take-all}
 use denote.Ref.{now}
 use Rattle.model.specs.Wrote.{Wrote}
-use Rattle.model.specs.WroteLaws.{wrote-nil, wrote-append, take-next}
+use Rattle.model.specs.Laws.Write.WroteLaws.{wrote-nil, wrote-append, take-next}
 use Rattle.model.proofs.position.Position.text.Statement.{statement}
 use Rattle.model.proofs.position.Position.text.Tie as tie
 

@@ -1,0 +1,14 @@
+pub mod Stored
+pub mod MoveList
+pub mod Listing
+pub mod Index
+pub mod Roles
+pub mod StepTest
+pub mod Waves
+pub mod RunTail
+pub mod ModelLists
+pub mod LeakSearch
+pub mod Judging
+pub mod ClassList
+pub mod TableWrites
+pub mod Marks

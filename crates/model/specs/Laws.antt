@@ -1,0 +1,6 @@
+pub mod Store
+pub mod Text
+pub mod Write
+pub mod PromisesLaws
+pub mod OnStoreLaws
+pub mod Read

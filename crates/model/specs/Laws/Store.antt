@@ -1,0 +1,15 @@
+pub mod DecidesLaws
+pub mod EachFromLaws
+pub mod EachLaws
+pub mod BlocksLaws
+pub mod StoreLaws
+pub mod StoredModelLaws
+pub mod GoodTestLaws
+pub mod AboveLaws
+pub mod WellFormedLaws
+pub mod PlacesLaws
+pub mod ListedLaws
+pub mod NamePlacesLaws
+pub mod GoodPlacesLaws
+pub mod HoldsLaws
+pub mod GoodLaws

@@ -1,0 +1,169 @@
+-- A store that holds the model that it shows has good places.
+-- Document 01, "The model store". Assumes nothing.
+use mathlib.Core.List.{List, [], _∷_, _++_, append-assoc}
+use mathlib.Core.Logic.{⊎-elim}
+use mathlib.Core.Path.{_≡_, sym, ap, _∙_, subst}
+use Prim.Native.Nat.{ℕ, zero, suc, _+_, _-_, _*_, _≤_, _<_}
+use native.Mathlib.Omega.{arith}
+use lib.Dec.{T, T-not}
+use lib.ListN.{length, getD, drop, length-drop, length-append}
+use lib.Seq.{length-take-le, take-all, getD-drop}
+use Rattle.lts.specs.TestsLaws.{lt-or-le, and-right}
+use Rattle.model.specs.Limits.{actionLimit, stepLimit, nameLimit, storeLength, actionPlace, namePlace, stepPlace}
+use Rattle.model.specs.Bytes.{between?}
+use Rattle.model.specs.Model.{ActionLine, above?, aboveLast?}
+use Rattle.model.specs.Lines.{allOf, nameByte?, name?, used?}
+use Rattle.model.specs.Store.{padded, actionNumbers, actionsNumbers, stepsNumbers, headPlaces, storeOf}
+use Rattle.model.specs.WellFormed.{ActionFits, StepFits}
+use Rattle.model.specs.StoredModel.{headAt, actionAt, stepAt, listed, modelAt, Holds}
+use Rattle.model.specs.Inner.Ranges.{HeadRanges}
+use Rattle.model.specs.Laws.Text.RangesLaws.{headFits?→HeadRanges}
+use Rattle.model.specs.Laws.Text.ActionLineLaws.{name-length}
+use Rattle.model.specs.Laws.Store.StoreLaws.{actionsNumbers-length, stepsNumbers-length}
+use Rattle.model.specs.Laws.Store.StoreLaws.{actions-padded-length, storeOf-action}
+use Rattle.model.specs.Laws.Store.StoredModelLaws.{listed-length, holds-store, actionAt-holds}
+use Rattle.model.specs.Inner.GoodPlaces.{nameLengthAt, GoodAction, GoodStep, GoodPlaces}
+use Rattle.model.specs.Laws.Store.PlacesLaws.{padded-zero, allOf→getD}
+use Rattle.model.specs.Laws.Store.ListedLaws.{each-listed, listed-used?}
+use Rattle.model.specs.Laws.Store.AboveLaws.{aboveLast?-append}
+use Rattle.model.specs.Laws.Store.NamePlacesLaws.{name-at, SameName→eq}
+
+-- the numbers of the actions and of the steps that a store shows
+abbrev storedActions : List ℕ → List ℕ
+storedActions s = actionsNumbers (listed (getD s 1 0) (actionAt s))
+
+abbrev storedSteps : List ℕ → List ℕ
+storedSteps s = stepsNumbers (listed (getD s 2 0) (stepAt s))
+
+module _ (s : List ℕ) (fits : storeLength ≤ length s) where
+  module _ (holds : Holds s (modelAt s)) where
+    head-fits : HeadRanges (headAt s)
+    unfolding modelAt
+    head-fits = headFits?→HeadRanges (headAt s) (holds .well-formed .head)
+
+    listed-fits : (i : ℕ) → i < getD s 1 0 → ActionFits (listed i (actionAt s)) (actionAt s i)
+    unfolding modelAt
+    listed-fits i h = each-listed ActionFits (actionAt s) (getD s 1 0) (holds .well-formed .actions) i h
+
+    -- a name of 12 bytes at most is not cut off by the store's end
+    name-whole : (i : ℕ) → i < actionLimit → length (actionAt s i .name) ≤ nameLimit
+        → length (actionAt s i .name) ≡ nameLengthAt s i
+    name-whole i h f =
+        let d = length-drop (namePlace i) s in
+        ⊎-elim
+        (λ l.
+        let e = take-all (nameLengthAt s i) (drop (namePlace i) s) (omega arith) in absurd (omega (arith, ap length e)))
+        (λ l. length-take-le (nameLengthAt s i) (drop (namePlace i) s) l)
+        (lt-or-le (length (drop (namePlace i) s)) (nameLengthAt s i))
+
+    action-block : (i : ℕ) → i < getD s 1 0
+        → (more : List ℕ) × (drop (actionPlace i) s ≡ actionNumbers (actionAt s i) ++ more)
+    unfolding modelAt
+    action-block i h =
+        let none : ActionLine = record { level = 0; name = [] } in
+        let l : i < length (modelAt s .actions) = omega (arith, listed-length (getD s 1 0) (actionAt s)) in
+        let b = storeOf-action (modelAt s) (holds .well-formed) (drop storeLength s) i none l in (
+          b .0,
+          ap (drop (actionPlace i)) (holds-store s (modelAt s) holds)
+              ∙ b .1
+              ∙ ap (λ (a : ActionLine). actionNumbers a ++ b .0) (sym (actionAt-holds s (modelAt s) holds i none l)),
+        )
+
+    name-zeros : (i : ℕ) → i < getD s 1 0 → (x : ℕ) → length (actionAt s i .name) ≤ x → x < nameLimit
+        → getD s (namePlace i + x) 0 ≡ 0
+    unfolding actionNumbers
+    name-zeros i h x l m =
+        let b = action-block i h in
+        let a : ActionLine = actionAt s i in
+        let e : namePlace i + x ≡ actionPlace i + (2 + x) = omega arith in
+        ap (λ (k : ℕ). getD s k 0) e ∙ sym (getD-drop (actionPlace i) s (2 + x) 0)
+        ∙ ap (λ (l : List ℕ). getD l (2 + x) 0) (b .1)
+        ∙ padded-zero (a .level ∷ length (a .name) ∷ []) (a .name) (b .0) nameLimit x l m
+
+    Holds→GoodAction : (i : ℕ) → i < getD s 1 0 → GoodAction s i
+    unfolding name?
+    Holds→GoodAction i h =
+        let r = head-fits .actions in
+        let a = listed-fits i h in
+        let name : List ℕ = actionAt s i .name in
+        let n = name-length name (a .name) in
+        let f = n .1 in
+        let l : length name ≡ nameLengthAt s i = name-whole i (omega arith) f in
+        record {
+          level = a .level;
+          some = omega (arith, n .0);
+          fits = omega arith;
+          bytes = record {
+            at = λ k u v.
+                let e : k ≡ namePlace i + (k - namePlace i) = omega arith in
+                let all = and-right (between? 1 nameLimit (length name)) (allOf nameByte? name) (a .name) in
+                let b = allOf→getD nameByte? name all (k - namePlace i) (omega arith) in
+                rw e (subst (λ (x : ℕ). T (nameByte? x)) (name-at s fits i (k - namePlace i) (omega arith)) b);
+          };
+          once = record {
+            at = λ g u v same.
+                T-not (used? name (listed i (actionAt s))) (a .fresh)
+                (listed-used? name (actionAt s) i g v
+                (SameName→eq s fits g i (omega arith) (omega arith) (omega arith) same));
+          };
+          unused = record {
+            at = λ k u v.
+                let e : k ≡ namePlace i + (k - namePlace i) = omega arith in
+                rw e (name-zeros i h (k - namePlace i) (omega arith) (omega arith));
+          };
+        }
+
+    Holds→GoodStep : (j : ℕ) → j < getD s 2 0 → GoodStep (headAt s) s j
+    unfolding modelAt listed aboveLast?
+    Holds→GoodStep j h =
+        let f = each-listed (StepFits (headAt s)) (stepAt s) (getD s 2 0) (holds .well-formed .steps) j h in
+        record { in-range = f .in-range; rising = λ p. rising j p (f .rising) }
+      where
+        rising : (k : ℕ) → 0 < k → T (aboveLast? (listed k (stepAt s)) (stepAt s k))
+            → T (above? (stepAt s (k - 1)) (stepAt s k))
+        rising zero p t = absurd (omega arith)
+        rising (suc k) p t =
+            let e : suc k - 1 ≡ k = omega arith in
+            rw e (subst T (aboveLast?-append (listed k (stepAt s)) (stepAt s k) [] (stepAt s (suc k))) t)
+
+    -- the store by its parts, each with what follows it
+    by-parts : s ≡ headPlaces (headAt s)
+        ++ (padded (14 * actionLimit) (storedActions s)
+        ++ (padded (3 * stepLimit) (storedSteps s) ++ drop storeLength s))
+    unfolding modelAt storeOf
+    by-parts = holds-store s (modelAt s) holds ∙ simp append-assoc
+
+    action-zeros : (k : ℕ) → actionPlace (getD s 1 0) ≤ k → k < stepPlace 0 → getD s k 0 ≡ 0
+    unfolding modelAt headPlaces
+    action-zeros k h l =
+        let n = actionsNumbers-length [] (listed (getD s 1 0) (actionAt s)) (holds .well-formed .actions) in
+        let c = listed-length (getD s 1 0) (actionAt s) in
+        let e : k ≡ 4 + (k - 4) = omega arith in
+        let m : length (storedActions s) ≤ k - 4 = omega arith in
+        ap (λ (x : ℕ). getD s x 0) e
+        ∙ ap (λ (x : List ℕ). getD x (4 + (k - 4)) 0) by-parts
+        ∙ padded-zero (headPlaces (headAt s)) (storedActions s) _ (14 * actionLimit) (k - 4) m (omega arith)
+
+    step-zeros : (k : ℕ) → stepPlace (getD s 2 0) ≤ k → k < storeLength → getD s k 0 ≡ 0
+    unfolding modelAt headPlaces
+    step-zeros k h l =
+        let before : List ℕ = headPlaces (headAt s) ++ padded (14 * actionLimit) (storedActions s) in
+        let a = actions-padded-length (modelAt s) (holds .well-formed) in
+        let b : length before ≡ 900 = simp length-append (omega arith) in
+        let n = stepsNumbers-length (listed (getD s 2 0) (stepAt s)) in
+        let c = listed-length (getD s 2 0) (stepAt s) in
+        let e : k ≡ length before + (k - 900) = omega arith in
+        let m : length (storedSteps s) ≤ k - 900 = omega arith in
+        ap (λ (x : ℕ). getD s x 0) e
+        ∙ ap (λ (x : List ℕ). getD x (length before + (k - 900)) 0) by-parts
+        ∙ padded-zero before (storedSteps s) (drop storeLength s) (3 * stepLimit) (k - 900) m (omega arith)
+
+  pub Holds→GoodPlaces : Holds s (modelAt s) → GoodPlaces s
+  unfolding modelAt
+  Holds→GoodPlaces holds = record {
+    head = holds .well-formed .head;
+    actions = record { at = λ i u v. Holds→GoodAction holds i v };
+    steps = record { at = λ j u v. Holds→GoodStep holds j v };
+    unused-actions = record { at = action-zeros holds };
+    unused-steps = record { at = step-zeros holds };
+  }

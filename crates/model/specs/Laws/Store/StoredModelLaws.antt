@@ -1,0 +1,181 @@
+-- A store that holds a well-formed model shows it: each accessor gives its part, so the model is the only one.
+-- Document 01, "The model store". Assumes nothing.
+use mathlib.Core.List.{List, _++_}
+use mathlib.Core.Logic.{_↔_}
+use mathlib.Core.Path.{_≡_, refl, sym, ap, _∙_, subst}
+use Prim.Native.Nat.{ℕ, zero, suc, _+_, _≤_, _<_}
+use native.Mathlib.Omega.{arith}
+use native.Mathlib.Nat.{add-zero}
+use lib.ListN.{length, getD, take, drop, take-append-drop, length-append}
+use lib.Seq.{take-suc, take-length, take-at, getD-drop, drop-drop}
+use Rattle.model.specs.declared.Head.{Head}
+use Rattle.model.specs.declared.StepLine.{StepLine}
+use Rattle.model.specs.Limits.{nameLimit, storeLength, actionPlace, namePlace, stepPlace}
+use Rattle.model.specs.Model.{ActionLine, Model, noAction, noStep}
+use Rattle.model.specs.Laws.Text.ReadingLaws.{readText-textOf, textOf-of-readText}
+use Rattle.model.specs.Text.{textOf}
+use Rattle.model.specs.Store.{actionNumbers, headPlaces, storeOf, Good}
+use Rattle.model.specs.Laws.Store.StoreLaws.{storeOf-length, storeOf-action, storeOf-step}
+use Rattle.model.specs.StoredModel.{headAt, actionAt, stepAt, listed, modelAt, Holds}
+use Rattle.model.specs.System.{source, action, target, level}
+use Rattle.model.specs.WellFormed.{WellFormed}
+use Rattle.model.specs.Laws.Store.BlocksLaws.{padded-append}
+use Rattle.model.specs.Inner.LineText.{stepPlaces}
+
+-- ---- lists by their elements
+
+pub listed-length : {A : Type 0} (n : ℕ) (f : ℕ → A) → length (listed n f) ≡ n
+unfolding listed
+listed-length zero f = refl
+listed-length (suc n) f = let i = listed-length n f in simp length-append (omega arith)
+
+pub listed-take : {A : Type 0} (xs : List A) (d : A) (f : ℕ → A) (n : ℕ) → n ≤ length xs
+    → ((i : ℕ) → i < length xs → f i ≡ getD xs i d) → listed n f ≡ take n xs
+unfolding listed
+listed-take xs d f zero h e = refl
+listed-take xs d f (suc n) h e =
+    rw (listed-take xs d f n (omega arith) e, e n h, take-suc xs n d h)
+
+-- every element shown by f: the list itself
+pub listed-all : {A : Type 0} (xs : List A) (d : A) (f : ℕ → A) (n : ℕ) → n ≡ length xs
+    → ((i : ℕ) → i < length xs → f i ≡ getD xs i d) → listed n f ≡ xs
+listed-all xs d f n l e = ap (λ (k : ℕ). listed k f) l ∙ listed-take xs d f (length xs) (omega arith) e ∙ take-length xs
+
+-- ---- the accessors
+
+-- place p + k of a list, in what is left of it from p on
+getD-of-drop : (s l : List ℕ) (p k : ℕ) → drop p s ≡ l → getD s (p + k) 0 ≡ getD l k 0
+getD-of-drop s l p k e = sym (getD-drop p s k 0) ∙ ap (λ (x : List ℕ). getD x k 0) e
+
+first-of-drop : (s l : List ℕ) (p : ℕ) → drop p s ≡ l → getD s p 0 ≡ getD l 0 0
+first-of-drop s l p e = ap (λ (k : ℕ). getD s k 0) (sym (add-zero p)) ∙ getD-of-drop s l p 0 e
+
+action-at : (s : List ℕ) (i : ℕ) (a : ActionLine) (more : List ℕ) → drop (actionPlace i) s ≡ actionNumbers a ++ more
+    → actionAt s i ≡ a
+unfolding actionNumbers
+action-at s i a more e =
+    let all : List ℕ = actionNumbers a ++ more in
+    let level : getD s (actionPlace i) 0 ≡ a .level = first-of-drop s all (actionPlace i) e in
+    let n : getD s (actionPlace i + 1) 0 ≡ length (a .name) = getD-of-drop s all (actionPlace i) 1 e in
+    let d : drop (namePlace i) s ≡ drop 2 all = sym (drop-drop 2 (actionPlace i) s) ∙ ap (drop 2) e in
+    rw (level, n, d, padded-append nameLimit (a .name) more, take-at (a .name) _ (length (a .name)) refl)
+
+step-at : (s : List ℕ) (j : ℕ) (t : StepLine) (more : List ℕ) → drop (stepPlace j) s ≡ stepPlaces t ++ more
+    → stepAt s j ≡ t
+step-at s j t more e =
+    let all : List ℕ = stepPlaces t ++ more in
+    let source : getD s (stepPlace j) 0 ≡ t .source .0 = first-of-drop s all (stepPlace j) e in
+    let action : getD s (stepPlace j + 1) 0 ≡ t .action .0 = getD-of-drop s all (stepPlace j) 1 e in
+    let target : getD s (stepPlace j + 2) 0 ≡ t .target .0 = getD-of-drop s all (stepPlace j) 2 e in
+    rw (source, action, target)
+
+model-of-parts : (h : Head) (actions : List ActionLine) (steps : List StepLine) (m : Model) → h ≡ m .head
+    → actions ≡ m .actions → steps ≡ m .steps → record { head = h; actions = actions; steps = steps } ≡ m
+model-of-parts h actions steps m p q r = rw (p, q, r)
+
+module _ (s : List ℕ) (m : Model) (h : Holds s m) where
+  pub holds-store : s ≡ storeOf m ++ drop storeLength s
+  holds-store = sym (take-append-drop storeLength s) ∙ ap (λ (l : List ℕ). l ++ drop storeLength s) (sym (h .stored))
+
+  pub headAt-holds : headAt s ≡ m .head
+  unfolding storeOf headPlaces
+  headAt-holds = ap headAt holds-store
+
+  pub actionAt-holds : (i : ℕ) (d : ActionLine) → i < length (m .actions) → actionAt s i ≡ getD (m .actions) i d
+  actionAt-holds i d l =
+      let b = storeOf-action m (h .well-formed) (drop storeLength s) i d l in
+      action-at s i (getD (m .actions) i d) (b .0) (ap (drop (actionPlace i)) holds-store ∙ b .1)
+
+  pub stepAt-holds : (j : ℕ) (d : StepLine) → j < length (m .steps) → stepAt s j ≡ getD (m .steps) j d
+  stepAt-holds j d l =
+      let b = storeOf-step m (h .well-formed) (drop storeLength s) j d l in
+      step-at s j (getD (m .steps) j d) (b .0) (ap (drop (stepPlace j)) holds-store ∙ b .1)
+
+  -- decoding undoes encoding
+  pub modelAt-holds : modelAt s ≡ m
+  unfolding modelAt
+  modelAt-holds =
+      let e = headAt-holds in
+      let a : getD s 1 0 ≡ length (m .actions) = ap (λ (x : Head). x .actions) e ∙ sym (h .well-formed .action-count) in
+      let t : getD s 2 0 ≡ length (m .steps) = ap (λ (x : Head). x .steps) e ∙ sym (h .well-formed .step-count) in
+      model-of-parts (headAt s) (listed (getD s 1 0) (actionAt s)) (listed (getD s 2 0) (stepAt s)) m e
+      (listed-all (m .actions) noAction (actionAt s) (getD s 1 0) a (λ i. actionAt-holds i noAction))
+      (listed-all (m .steps) noStep (stepAt s) (getD s 2 0) t (λ j. stepAt-holds j noStep))
+
+  -- ---- place by place
+
+  pub states-holds : getD s 0 0 ≡ m .head .states
+  states-holds = ap (λ (x : Head). x .states) headAt-holds
+
+  pub actions-holds : getD s 1 0 ≡ m .head .actions
+  actions-holds = ap (λ (x : Head). x .actions) headAt-holds
+
+  pub steps-holds : getD s 2 0 ≡ m .head .steps
+  steps-holds = ap (λ (x : Head). x .steps) headAt-holds
+
+  pub start-holds : getD s 3 0 ≡ m .head .start .0
+  start-holds = ap (λ (x : Head). x .start .0) headAt-holds
+
+  pub level-holds : (a : ℕ) → a < length (m .actions) → getD s (actionPlace a) 0 ≡ level m a
+  level-holds a l = ap (λ (x : ActionLine). x .level) (actionAt-holds a _ l)
+
+  pub source-holds : (j : ℕ) → j < length (m .steps) → getD s (stepPlace j) 0 ≡ source m j
+  source-holds j l = ap (λ (x : StepLine). x .source .0) (stepAt-holds j _ l)
+
+  pub action-holds : (j : ℕ) → j < length (m .steps) → getD s (stepPlace j + 1) 0 ≡ action m j
+  action-holds j l = ap (λ (x : StepLine). x .action .0) (stepAt-holds j _ l)
+
+  pub target-holds : (j : ℕ) → j < length (m .steps) → getD s (stepPlace j + 2) 0 ≡ target m j
+  target-holds j l = ap (λ (x : StepLine). x .target .0) (stepAt-holds j _ l)
+
+-- ---- good stores
+
+-- the store of a well-formed model holds it, whatever follows
+pub holds-storeOf : (m : Model) (rest : List ℕ) → WellFormed m → Holds (storeOf m ++ rest) m
+holds-storeOf m rest w =
+    record { well-formed = w; stored = sym (take-at (storeOf m) rest storeLength (storeOf-length m w)) }
+
+pub modelAt-storeOf : (m : Model) (rest : List ℕ) → WellFormed m → modelAt (storeOf m ++ rest) ≡ m
+modelAt-storeOf m rest w = modelAt-holds (storeOf m ++ rest) m (holds-storeOf m rest w)
+
+-- a store holds one model only
+pub holds-unique : (s : List ℕ) (m n : Model) → Holds s m → Holds s n → m ≡ n
+holds-unique s m n h k = sym (modelAt-holds s m h) ∙ modelAt-holds s n k
+
+pub good-of-holds : (s : List ℕ) (m : Model) → Holds s m → Good s
+good-of-holds s m h =
+    record { text = textOf m; model = m; reads = readText-textOf m (h .well-formed); stored = h .stored }
+
+pub storeOf-good : (m : Model) (rest : List ℕ) → WellFormed m → Good (storeOf m ++ rest)
+storeOf-good m rest w = good-of-holds (storeOf m ++ rest) m (holds-storeOf m rest w)
+
+pub holds-of-good : (s : List ℕ) (g : Good s) → Holds s (g .model)
+holds-of-good s g = record { well-formed = textOf-of-readText (g .text) (g .model) (g .reads) .0; stored = g .stored }
+
+pub Good→Holds : (s : List ℕ) → Good s → Holds s (modelAt s)
+Good→Holds s g =
+    let h = holds-of-good s g in subst (Holds s) (sym (modelAt-holds s (g .model) h)) h
+
+pub Holds→Good : (s : List ℕ) → Holds s (modelAt s) → Good s
+Holds→Good s h = good-of-holds s (modelAt s) h
+
+-- a store is good exactly if it holds the model that it shows
+pub good-iff : (s : List ℕ) → Good s ↔ Holds s (modelAt s)
+good-iff s = (Good→Holds s, Holds→Good s)
+
+-- the model and the text of a good store are those of the model that it shows
+pub good-model : (s : List ℕ) (g : Good s) → g .model ≡ modelAt s
+good-model s g = sym (modelAt-holds s (g .model) (holds-of-good s g))
+
+pub good-text : (s : List ℕ) (g : Good s) → g .text ≡ textOf (modelAt s)
+good-text s g = textOf-of-readText (g .text) (g .model) (g .reads) .1 ∙ ap textOf (good-model s g)
+
+-- whatever text reads to a store that holds m is the text of m
+pub holds-text : (s : List ℕ) (m : Model) → Holds s m → (g : Good s) → g .text ≡ textOf m
+holds-text s m h g = good-text s g ∙ ap textOf (modelAt-holds s m h)
+
+pub good-text-unique : (s : List ℕ) (g k : Good s) → g .text ≡ k .text
+good-text-unique s g k = good-text s g ∙ sym (good-text s k)
+
+pub good-well-formed : (s : List ℕ) → Good s → WellFormed (modelAt s)
+good-well-formed s g = Good→Holds s g .well-formed

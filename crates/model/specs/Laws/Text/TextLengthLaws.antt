@@ -1,0 +1,71 @@
+-- The lengths of a model's lines, and of its text: at most the 14,420 bytes that Write's list has.
+-- Document 01, "The operations, in the order of the work", 8. Assumes nothing.
+use mathlib.Core.List.{List, [], _∷_, _++_}
+use Prim.Native.Nat.{_*_, _≤_}
+use native.Mathlib.Omega.{arith}
+use lib.Dec.{T}
+use lib.ListN.{length, length-append}
+use Rattle.model.specs.declared.Head.{Head}
+use Rattle.model.specs.declared.StepLine.{StepLine}
+use Rattle.model.specs.Limits.{outLength}
+use Rattle.model.specs.Laws.Text.DigitsLaws.{digits-length-le}
+use Rattle.model.specs.Model.{ActionLine, Model}
+use Rattle.model.specs.Lines.{name?}
+use Rattle.model.specs.Text.{headText, actionText, stepText, actionsText, stepsText, textOf}
+use Rattle.model.specs.Inner.Ranges.{HeadRanges, StepRanges}
+use Rattle.model.specs.Laws.Text.RangesLaws.{headFits?→HeadRanges, stepFits?→StepRanges}
+use Rattle.model.specs.WellFormed.{EachAfter, ActionFits, StepFits, WellFormed}
+use Rattle.model.specs.Laws.Text.ActionLineLaws.{name-length}
+
+-- `M,128,64,1024,127` and its end
+pub headText-length-le : (h : Head) → HeadRanges h → length (headText h) ≤ 18
+unfolding headText
+headText-length-le h r =
+    let a = digits-length-le 3 (h .states) (omega arith) (omega arith) (omega arith) in
+    let b = digits-length-le 2 (h .actions) (omega arith) (omega arith) (omega arith) in
+    let c = digits-length-le 4 (h .steps) (omega arith) (omega arith) (omega arith) in
+    let d = digits-length-le 3 (h .start .0) (omega arith) (omega arith) (omega arith) in
+    simp length-append (omega arith)
+
+-- `A,L,` with twelve bytes and the end
+pub actionText-length-le : (a : ActionLine) → T (name? (a .name)) → length (actionText a) ≤ 17
+unfolding actionText
+actionText-length-le a t = let n = name-length (a .name) t in simp length-append (omega arith)
+
+-- `S,127,63,127` and its end
+pub stepText-length-le : (h : Head) (s : StepLine) → HeadRanges h → StepRanges h s → length (stepText s) ≤ 13
+unfolding stepText
+stepText-length-le h s r u =
+    let a = digits-length-le 3 (s .source .0) (omega arith) (omega arith) (omega arith) in
+    let b = digits-length-le 2 (s .action .0) (omega arith) (omega arith) (omega arith) in
+    let c = digits-length-le 3 (s .target .0) (omega arith) (omega arith) (omega arith) in
+    simp length-append (omega arith)
+
+pub actionsText-length-le : (before rest : List ActionLine) → EachAfter ActionFits before rest
+    → length (actionsText rest) ≤ 17 * length rest
+unfolding EachAfter actionsText
+actionsText-length-le before [] e = omega arith
+actionsText-length-le before (a ∷ rest) e =
+    let l = actionText-length-le a (e .0 .name) in
+    let i = actionsText-length-le (before ++ (a ∷ [])) rest (e .1) in
+    simp length-append (omega arith)
+
+pub stepsText-length-le : (h : Head) (before rest : List StepLine) → HeadRanges h → EachAfter (StepFits h) before rest
+    → length (stepsText rest) ≤ 13 * length rest
+unfolding EachAfter stepsText
+stepsText-length-le h before [] r e = omega arith
+stepsText-length-le h before (s ∷ rest) r e =
+    let l = stepText-length-le h s r (stepFits?→StepRanges h s (e .0 .in-range)) in
+    let i = stepsText-length-le h (before ++ (s ∷ [])) rest r (e .1) in
+    simp length-append (omega arith)
+
+pub textOf-length-le : (m : Model) → WellFormed m → length (textOf m) ≤ outLength
+unfolding textOf
+textOf-length-le m w =
+    let r = headFits?→HeadRanges (m .head) (w .head) in
+    let h = headText-length-le (m .head) r in
+    let a = actionsText-length-le [] (m .actions) (w .actions) in
+    let s = stepsText-length-le (m .head) [] (m .steps) r (w .steps) in
+    let ca = w .action-count in
+    let cs = w .step-count in
+    simp length-append (omega arith)
