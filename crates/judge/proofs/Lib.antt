@@ -1,1 +1,3 @@
 pub mod RankAnswers
+pub mod ReachAnswers
+pub mod RunAnswers

@@ -1,4 +1,5 @@
 pub mod Lists
+pub mod ListsLaws
 pub mod FirstShortLaws
 pub mod Stored
 pub mod StoredLaws
@@ -14,9 +15,18 @@ pub mod IndexLaws
 pub mod Roles
 pub mod RolesLaws
 pub mod Distances
+pub mod StepTest
+pub mod StepTestLaws
+pub mod Waves
+pub mod WavesLaws
 pub mod Verdicts
 pub mod Runs
+pub mod RunTail
+pub mod RunTailLaws
 pub mod Promises
+pub mod ReachLaws
+pub mod RunsLaws
+pub mod RunPromiseLaws
 pub mod MoveListLaws
 pub mod ClassList
 pub mod ClassListLaws

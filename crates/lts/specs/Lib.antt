@@ -21,6 +21,7 @@ pub mod AgreeLaws
 pub mod Decided
 pub mod DecidedLaws
 pub mod DistanceLaws
+pub mod WithinLaws
 pub mod Checked
 pub mod CheckedLaws
 pub mod FirstWordExistsLaws
