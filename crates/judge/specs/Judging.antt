@@ -1,0 +1,30 @@
+-- What judging a good store leaves. Only the contracts of inner functions cite it.
+-- Document 01, operation 4.
+use mathlib.Core.List.{List}
+use Prim.Native.Nat.{ℕ, _≤_}
+use lib.ListN.{length}
+use Rattle.model.specs.Limits.{actionLimit}
+use Rattle.model.specs.Model.{Model}
+use Rattle.model.specs.System.{levels}
+use Rattle.judge.specs.declared.judge.Verdict.{Verdict}
+use Rattle.judge.specs.Lists.{distancesLength, tableLength}
+use Rattle.judge.specs.Stored.{Stored}
+use Rattle.judge.specs.Index.{Index}
+use Rattle.judge.specs.Roles.{Roles}
+use Rattle.judge.specs.Verdicts.{Judged}
+use Rattle.judge.specs.Promises.{Filled}
+
+-- A good store, and lists long enough for its index, its roles, its distances and its table.
+pub record Judgeable (m : Model) (store begins roles distances table : List ℕ) : Type 0 where
+  pub stored : Stored store m
+  pub index-length : 129 ≤ length begins
+  pub roles-length : actionLimit ≤ length roles
+  pub distances-length : distancesLength ≤ length distances
+  pub table-length : tableLength ≤ length table
+
+-- The verdict v, and the four lists filled.
+pub record Judging (m : Model) (v : Verdict) (distances table begins′ roles′ distances′ table′ : List ℕ) : Type 0 where
+  pub verdict : Judged m v
+  pub index : Index m (m .head .states) begins′
+  pub roles : Roles (levels m) (m .head .actions) roles′
+  pub filled : Filled m distances table distances′ table′
