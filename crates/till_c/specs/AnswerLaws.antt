@@ -1,9 +1,21 @@
--- A fault's number is none of a success. Assumes nothing.
-use mathlib.Core.Path.{_≡_}
+-- What tells the same keeps the same promise; a fault's number is none of a success. Assumes nothing.
+use mathlib.Core.List.{List}
+use mathlib.Core.Path.{_≡_, subst}
+use Prim.Native.Nat.{ℕ}
 use native.Mathlib.Omega.{arith}
 use Rattle.model.specs.declared.Fault.{Fault}
 use Rattle.model.specs.declared.Fault.the-variants.{Absent, Shape, Digits, Range, Repeated, Order}
-use Rattle.model.specs.Faults.{faultNumber}
+use Rattle.model.specs.Faults.{Outcome, faultNumber}
+
+-- a promise on one list that is lent to be filled
+pub promise-told : (P : List ℕ → List ℕ → Outcome → List ℕ → Type 0) {a b exit : List ℕ} {t u : Outcome}
+    → t ≡ u → P a b t exit → P a b u exit
+promise-told P {a} {b} {exit} e p = subst (λ (x : Outcome). P a b x exit) e p
+
+-- the same on two such lists
+pub promise-told-two : (P : List ℕ → List ℕ → List ℕ → Outcome → List ℕ → List ℕ → Type 0)
+    {a b c exit exit′ : List ℕ} {t u : Outcome} → t ≡ u → P a b c t exit exit′ → P a b c u exit exit′
+promise-told-two P {a} {b} {c} {exit} {exit′} e p = subst (λ (x : Outcome). P a b c x exit exit′) e p
 
 pub faultNumber-not-zero : (fault : Fault) → faultNumber fault ≡ 0 → ⊥
 faultNumber-not-zero Absent e = omega arith

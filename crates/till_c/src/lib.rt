@@ -1,11 +1,18 @@
 // The operations for callers in C and Rust. Each has the promise of the operation that it calls, and adds nothing.
+use judge::judge::JudgeAnswer;
+use judge::judge::Verdict;
+use judge::rank::RankAnswer;
+use judge::reach::ReachAnswer;
+use judge::run::RunAnswer;
 use model::Fault;
+use model::State;
 use model::read::ReadAnswer;
 use model::write::WriteAnswer;
 ghost use mathlib.Core.Path.{_≡_};
 ghost use mathlib.Core.List.{[], _∷_};
 ghost use Rattle.model.specs.Faults.{answers, refuses, faultNumber};
 ghost use Rattle.model.specs.Promises.{ReadPromise, WritePromise};
+ghost use Rattle.judge.specs.Promises.{ReachPromise, RankPromise, JudgePromise, RunPromise, verdictOutcome};
 ghost use Rattle.till_c.specs.Answer.{answerOutcome};
 
 // Number 0 with `count` values, or a refusal's number with its place.
@@ -45,6 +52,19 @@ fn value(first: usize) -> TillAnswer
     }
 }
 
+// A success with two values.
+fn two_values(first: usize, second: usize) -> TillAnswer
+    ensures { λ r. ⌜ answerOutcome r ≡ answers (first ∷ second ∷ []) ⌝ }
+{
+    TillAnswer {
+        number: 0,
+        place: 0,
+        count: 2,
+        first: first as u64,
+        second: second as u64,
+    }
+}
+
 // A success with no value.
 fn done() -> TillAnswer
     ensures { λ r. ⌜ answerOutcome r ≡ answers [] ⌝ }
@@ -64,6 +84,16 @@ fn faulty(fault: Fault, line: usize) -> TillAnswer
 {
     let number = model::fault_number(fault);
     refusal(number as u64, line)
+}
+
+// A verdict: passed has one value, the rank; refused two, step and depth.
+fn judged(v: Verdict) -> TillAnswer
+    ensures { λ r. ⌜ answerOutcome r ≡ verdictOutcome v ⌝ }
+{
+    match v {
+        Verdict::Passed(top) => value(top as usize),
+        Verdict::Refused(step, depth) => two_values(step.0 as usize, depth as usize),
+    }
 }
 
 #[no_mangle]
@@ -88,5 +118,62 @@ pub extern "C" fn till_write(store: &[u16], out: &mut [u8]) -> TillAnswer
         WriteAnswer::Written(length) => value(length),
         WriteAnswer::ShortList(place) => refusal(21, place),
         WriteAnswer::NotGood => refusal(22, 0),
+    }
+}
+
+#[no_mangle]
+pub extern "C" fn till_reach(store: &[u16], distances: &mut [u16]) -> TillAnswer
+    ensures { λ r. ⌜ ReachPromise (now (store .entry)) (now (distances .entry)) (answerOutcome r) (now (distances .exit)) ⌝ }
+{
+    let answer = judge::reach::reach(store, distances);
+    match answer {
+        ReachAnswer::Done => done(),
+        ReachAnswer::ShortList(place) => refusal(21, place),
+        ReachAnswer::NotGood => refusal(22, 0),
+    }
+}
+
+#[no_mangle]
+pub extern "C" fn till_rank(store: &[u16], table: &mut [u8]) -> TillAnswer
+    ensures { λ r. ⌜ RankPromise (now (store .entry)) (now (table .entry)) (answerOutcome r) (now (table .exit)) ⌝ }
+{
+    let answer = judge::rank::rank(store, table);
+    match answer {
+        RankAnswer::Last(last) => value(last as usize),
+        RankAnswer::ShortList(place) => refusal(21, place),
+        RankAnswer::NotGood => refusal(22, 0),
+    }
+}
+
+#[no_mangle]
+pub extern "C" fn till_judge(store: &[u16], distances: &mut [u16], table: &mut [u8]) -> TillAnswer
+    ensures { λ r. ⌜ JudgePromise (now (store .entry)) (now (distances .entry)) (now (table .entry)) (answerOutcome r)
+        (now (distances .exit)) (now (table .exit)) ⌝ }
+{
+    let answer = judge::judge::judge(store, distances, table);
+    match answer {
+        JudgeAnswer::Judged(v) => judged(v),
+        JudgeAnswer::ShortList(place) => refusal(21, place),
+        JudgeAnswer::NotGood => refusal(22, 0),
+    }
+}
+
+#[no_mangle]
+pub extern "C" fn till_run(
+    store: &[u16],
+    distances: &mut [u16],
+    run: &mut [u16],
+    state: u16,
+) -> TillAnswer
+    ensures { λ r. ⌜ RunPromise (now (store .entry)) (now (distances .entry)) (now (run .entry)) state (answerOutcome r)
+        (now (distances .exit)) (now (run .exit)) ⌝ }
+{
+    let answer = judge::run::run(store, distances, run, State(state));
+    match answer {
+        RunAnswer::Filled(length) => value(length),
+        RunAnswer::ShortList(place) => refusal(21, place),
+        RunAnswer::NotGood => refusal(22, 0),
+        RunAnswer::NoState(p) => refusal(25, p.0 as usize),
+        RunAnswer::Unreachable(p) => refusal(26, p.0 as usize),
     }
 }

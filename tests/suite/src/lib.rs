@@ -1,5 +1,5 @@
 //! The proved operations as Rust calls them. A slice passes as a pointer and the number of its elements.
-use second::Refusal;
+use second::{Refusal, Verdict};
 
 /// Number 0 with `count` values, or a refusal's number with its place.
 #[repr(C)]
@@ -15,6 +15,35 @@ extern "C" {
     fn till_read(text: *const u8, text_len: usize, store: *mut u16, store_len: usize)
         -> TillAnswer;
     fn till_write(store: *const u16, store_len: usize, out: *mut u8, out_len: usize) -> TillAnswer;
+    fn till_reach(
+        store: *const u16,
+        store_len: usize,
+        distances: *mut u16,
+        distances_len: usize,
+    ) -> TillAnswer;
+    fn till_rank(
+        store: *const u16,
+        store_len: usize,
+        table: *mut u8,
+        table_len: usize,
+    ) -> TillAnswer;
+    fn till_judge(
+        store: *const u16,
+        store_len: usize,
+        distances: *mut u16,
+        distances_len: usize,
+        table: *mut u8,
+        table_len: usize,
+    ) -> TillAnswer;
+    fn till_run(
+        store: *const u16,
+        store_len: usize,
+        distances: *mut u16,
+        distances_len: usize,
+        run: *mut u16,
+        run_len: usize,
+        state: u16,
+    ) -> TillAnswer;
 }
 
 impl TillAnswer {
@@ -45,4 +74,74 @@ pub fn write(store: &[u16], out: &mut [u8]) -> Result<usize, Refusal> {
     let values = answer.values()?;
     assert_eq!(values.len(), 1, "Write answers its length");
     Ok(usize::try_from(values[0]).expect("a length fits"))
+}
+
+pub fn reach(store: &[u16], distances: &mut [u16]) -> Result<(), Refusal> {
+    let answer = unsafe {
+        till_reach(
+            store.as_ptr(),
+            store.len(),
+            distances.as_mut_ptr(),
+            distances.len(),
+        )
+    };
+    let values = answer.values()?;
+    assert!(values.is_empty(), "Reach answers only that it succeeded");
+    Ok(())
+}
+
+pub fn rank(store: &[u16], table: &mut [u8]) -> Result<u16, Refusal> {
+    let answer =
+        unsafe { till_rank(store.as_ptr(), store.len(), table.as_mut_ptr(), table.len()) };
+    let values = answer.values()?;
+    assert_eq!(values.len(), 1, "Rank answers its last round");
+    Ok(small(values[0]))
+}
+
+pub fn judge(store: &[u16], distances: &mut [u16], table: &mut [u8]) -> Result<Verdict, Refusal> {
+    let answer = unsafe {
+        till_judge(
+            store.as_ptr(),
+            store.len(),
+            distances.as_mut_ptr(),
+            distances.len(),
+            table.as_mut_ptr(),
+            table.len(),
+        )
+    };
+    match answer.values()?[..] {
+        [rank] => Ok(Verdict::Passed { rank: small(rank) }),
+        [step, depth] => Ok(Verdict::Refused {
+            step: small(step),
+            depth: small(depth),
+        }),
+        _ => panic!("Judge answers a rank, or a step and a depth"),
+    }
+}
+
+pub fn run(
+    store: &[u16],
+    distances: &mut [u16],
+    run: &mut [u16],
+    state: u16,
+) -> Result<usize, Refusal> {
+    let answer = unsafe {
+        till_run(
+            store.as_ptr(),
+            store.len(),
+            distances.as_mut_ptr(),
+            distances.len(),
+            run.as_mut_ptr(),
+            run.len(),
+            state,
+        )
+    };
+    let values = answer.values()?;
+    assert_eq!(values.len(), 1, "Run answers its length");
+    Ok(usize::try_from(values[0]).expect("a length fits"))
+}
+
+/// A rank, a depth or a step number.
+fn small(value: u64) -> u16 {
+    u16::try_from(value).expect("a rank, a depth and a step number have 16 bits")
 }

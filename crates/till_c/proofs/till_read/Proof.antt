@@ -1,17 +1,11 @@
 -- Each answer of Read is told by the same number, place and values.
-use mathlib.Core.List.{List}
-use mathlib.Core.Path.{_≡_, refl, sym, ap, subst, _∙_}
-use Prim.Native.Nat.{ℕ}
+use mathlib.Core.Path.{refl, sym, ap, _∙_}
 use borrow.Author.Tests.{eqb-false}
-use Rattle.model.specs.Faults.{Outcome}
 use Rattle.model.specs.Promises.{readOutcome, ReadPromise}
 use borrow.Author.Needs.{needs}
+use Rattle.till_c.specs.AnswerLaws.{promise-told}
 use Rattle.till_c.proofs.till_read.Statement.{statement}
 use Rattle.till_c.proofs.till_read.Tie as tie
-
--- what tells the same keeps the same promise
-promised : {text store exit : List ℕ} {t u : Outcome} → t ≡ u → ReadPromise text store t exit → ReadPromise text store u exit
-promised {text} {store} {exit} e p = subst (λ (x : Outcome). ReadPromise text store x exit) e p
 
 read-requires : tie.Need-read-requires
 read-requires c κs = search needs
@@ -47,7 +41,7 @@ returns : tie.Need-returns
 unfolding readOutcome
 returns c =
     let r = c .before .before .before .before .before .read in
-    promised (ap readOutcome (c .before .enum-told .given .1) ∙ sym (c .done .ensures)) (r .ensures .0)
+    promise-told ReadPromise (ap readOutcome (c .before .enum-told .given .1) ∙ sym (c .done .ensures)) (r .ensures .0)
 
 same-length-2 : tie.Need-same-length-2
 same-length-2 c = search needs
@@ -56,7 +50,9 @@ returns-2 : tie.Need-returns-2
 unfolding readOutcome
 returns-2 c =
     let r = c .before .before .before .before .before .before .read in
-    promised (ap readOutcome (c .before .before .answer .given .1) ∙ sym (c .refusal .ensures)) (r .ensures .0)
+    promise-told ReadPromise
+    (ap readOutcome (c .before .before .answer .given .1) ∙ sym (c .refusal .ensures))
+    (r .ensures .0)
 
 same-length-3 : tie.Need-same-length-3
 same-length-3 c = search needs
@@ -65,7 +61,9 @@ returns-3 : tie.Need-returns-3
 unfolding readOutcome
 returns-3 c =
     let r = c .before .before .before .before .before .read in
-    promised (ap readOutcome (c .before .enum-told2 .given .1) ∙ sym (c .refusal2 .ensures)) (r .ensures .0)
+    promise-told ReadPromise
+    (ap readOutcome (c .before .enum-told2 .given .1) ∙ sym (c .refusal2 .ensures))
+    (r .ensures .0)
 
 same-length-4 : tie.Need-same-length-4
 same-length-4 c = search needs
@@ -74,7 +72,9 @@ returns-4 : tie.Need-returns-4
 unfolding readOutcome
 returns-4 c =
     let r = c .before .before .before .before .before .before .read in
-    promised (ap readOutcome (c .before .before .answer2 .given .1) ∙ sym (c .faulty .ensures)) (r .ensures .0)
+    promise-told ReadPromise
+    (ap readOutcome (c .before .before .answer2 .given .1) ∙ sym (c .faulty .ensures))
+    (r .ensures .0)
 
 pub till-read-spec : {M : Type 1} → statement M
 till-read-spec =

@@ -1,17 +1,11 @@
 -- Each answer of Write is told by the same number, place and values.
-use mathlib.Core.List.{List}
-use mathlib.Core.Path.{_≡_, refl, sym, ap, subst, _∙_}
-use Prim.Native.Nat.{ℕ}
+use mathlib.Core.Path.{refl, sym, ap, _∙_}
 use borrow.Author.Needs.{needs}
 use borrow.Author.Tests.{eqb-false}
-use Rattle.model.specs.Faults.{Outcome}
 use Rattle.model.specs.Promises.{writeOutcome, WritePromise}
+use Rattle.till_c.specs.AnswerLaws.{promise-told}
 use Rattle.till_c.proofs.till_write.Statement.{statement}
 use Rattle.till_c.proofs.till_write.Tie as tie
-
--- what tells the same keeps the same promise
-promised : {store out exit : List ℕ} {t u : Outcome} → t ≡ u → WritePromise store out t exit → WritePromise store out u exit
-promised {store} {out} {exit} e p = subst (λ (x : Outcome). WritePromise store out x exit) e p
 
 write-requires : tie.Need-write-requires
 write-requires c κs = search needs
@@ -41,7 +35,9 @@ returns : tie.Need-returns
 unfolding writeOutcome
 returns c =
     let w = c .before .before .before .before .before .before .write in
-    promised (ap writeOutcome (c .before .before .answer .given .1) ∙ sym (c .value .ensures)) (w .ensures)
+    promise-told WritePromise
+    (ap writeOutcome (c .before .before .answer .given .1) ∙ sym (c .value .ensures))
+    (w .ensures)
 
 same-length-2 : tie.Need-same-length-2
 same-length-2 c = search needs
@@ -50,7 +46,9 @@ returns-2 : tie.Need-returns-2
 unfolding writeOutcome
 returns-2 c =
     let w = c .before .before .before .before .before .before .write in
-    promised (ap writeOutcome (c .before .before .answer2 .given .1) ∙ sym (c .refusal .ensures)) (w .ensures)
+    promise-told WritePromise
+    (ap writeOutcome (c .before .before .answer2 .given .1) ∙ sym (c .refusal .ensures))
+    (w .ensures)
 
 same-length-3 : tie.Need-same-length-3
 same-length-3 c = search needs
@@ -59,7 +57,7 @@ returns-3 : tie.Need-returns-3
 unfolding writeOutcome
 returns-3 c =
     let w = c .before .before .before .before .before .write in
-    promised (ap writeOutcome (c .before .enum-told .given .1) ∙ sym (c .refusal2 .ensures)) (w .ensures)
+    promise-told WritePromise (ap writeOutcome (c .before .enum-told .given .1) ∙ sym (c .refusal2 .ensures)) (w .ensures)
 
 pub till-write-spec : {M : Type 1} → statement M
 till-write-spec =
