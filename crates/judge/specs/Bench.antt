@@ -3,10 +3,11 @@
 use mathlib.Core.List.{List, [], _∷_}
 use mathlib.Core.Path.{_≡_}
 use Prim.Native.Nat.{ℕ}
+use Rattle.lts.specs.Run.{Deterministic}
 use Rattle.lts.specs.Noninterference.{thin, SameLow}
 use Rattle.model.specs.Model.{Model}
 use Rattle.model.specs.Reading.{done, readText}
-use Rattle.model.specs.System.{source, target, levels, Steps}
+use Rattle.model.specs.System.{source, target, levels, Steps, Start}
 use Rattle.judge.specs.declared.judge.Verdict.{Verdict}
 use Rattle.judge.specs.declared.judge.Verdict.the-variants.{Passed, Refused}
 use Rattle.judge.specs.Distances.{ReachableIn}
@@ -36,6 +37,7 @@ pub record JointFact : Type 0 where
   pub close-low-refused : ReadsAndJudged closeLowText closeLow (refusedAt 0 1)
   -- "refused, step 2, depth 2, though both ends allow the same words"
   pub branching-refused : ReadsAndJudged branchingText branching (refusedAt 2 2)
+  pub branching-not-deterministic : ¬ (Deterministic (Steps branching) (Start branching))
   pub branching-same-words : SameLow (levels branching) (Steps branching) (source branching 2) (target branching 2)
   -- "One state, no steps: passed, rank 0." "One state, 0 print 0: passed, rank 0."
   pub no-steps-passed : ReadsAndJudged noStepsText noSteps (Passed 0)

@@ -1,4 +1,4 @@
--- Moves that agree on a closed set of states. Document 01, "Alike"; change request (vii). Assumes nothing.
+-- Moves that agree on a closed set of states. Document 01, "Alike"; document 02, (vii). Assumes nothing.
 use mathlib.Core.Path.{_≡_}
 use mathlib.Core.Logic.{_⊎_}
 use Prim.Native.Nat.{ℕ}

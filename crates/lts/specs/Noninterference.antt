@@ -68,6 +68,6 @@ abbrev pub INI : Levels → Moves → (ℕ → Type 0) → Type 0
 INI L Step Start =
     (s : ℕ) → Start s → (w : List ℕ) (e : ℕ) → Run Step s w e → ThinnedRun L Step (SameLow L Step) s w e
 
--- A run of the thinned sequence of w leads from s to a state bisimilar to e (change request (xii)).
+-- A run of the thinned sequence of w leads from s to a state bisimilar to e (document 02, (xii)).
 abbrev pub ThinnedBisimilar : Levels → Moves → ℕ → List ℕ → ℕ → Type 0
 ThinnedBisimilar L Step s w e = ThinnedRun L Step (Bisimilar (LowMove L Step)) s w e

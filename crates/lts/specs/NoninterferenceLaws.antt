@@ -1,6 +1,6 @@
 -- For a deterministic model, from any set of starts, BNID, NID and INI are equivalent (theorem 4 of source 000, with
 -- definition 22). In a BNID model, deterministic or not, a run has a run of its thinned sequence from the same start
--- that ends in a bisimilar state (change request (xii)). Both are one induction along the run: as long as no release
+-- that ends in a bisimilar state (document 02, (xii)). Both are one induction along the run: as long as no release
 -- follows, a bisimilar state keeps up by the low actions alone. Assumes nothing.
 use mathlib.Core.Path.{_≡_, refl, sym, subst}
 use mathlib.Core.Logic.{_↔_}
@@ -65,7 +65,7 @@ module _ (L : Levels) (Step : Moves) (Start : ℕ → Type 0) (n : ℕ) (B : Bou
           thinned-drop L Step a w q e (T→true (L .high? a) v) g
           (ih (h .0) q e g (onward r (h .1)) (across p a (h .0) q bnid r v (h .1) b) (h .2))
 
-  -- In a BNID model, deterministic or not: change request (xii), first sentence.
+  -- In a BNID model, deterministic or not: document 02, (xii), first sentence.
   pub bnid→ThinnedBisimilar : BNID L Step Start → (w : List ℕ) (p e : ℕ) → Reachable Step Start p → Run Step p w e
       → ThinnedBisimilar L Step p w e
   unfolding Run
@@ -107,11 +107,19 @@ module _ (L : Levels) (Step : Moves) (Start : ℕ → Type 0) (n : ℕ) (B : Bou
         same-low-trans L Step x (f .0) y (f .2)
         (subst (λ (z : ℕ). SameLow L Step z y) (sym c) (same-low-sym L Step y (g .0) (g .2)))
 
-    -- Change request (xii), second sentence.
+    -- Document 02, (xii), second sentence.
     pub same-low-of-same-thin : BNID L Step Start → (s : ℕ) → Start s → (v w : List ℕ) (x y : ℕ) → Run Step s v x
         → Run Step s w y → thin L v ≡ thin L w → SameLow L Step x y
     same-low-of-same-thin bnid s i v w x y h g e =
         meet s i v w x y e (bnid→INI bnid s i v x h) (bnid→INI bnid s i w y g)
+
+    -- The thinned sequence ends in just one state, and it is that one which allows the same low sequences.
+    pub ini-ends : INI L Step Start → (s : ℕ) → Start s → (w : List ℕ) (e e′ : ℕ) → Run Step s w e
+        → Run Step s (thin L w) e′ → SameLow L Step e e′
+    ini-ends ini s i w e e′ h g =
+        let f = ini s i w e h in
+        subst (λ (z : ℕ). SameLow L Step e z) (run-unique Step Start det (thin L w) s (f .0) e′ (begin i) (f .1) g)
+        (f .2)
 
     -- A run and the run with one high step more have the same thinned sequence.
     pub ini→NID : INI L Step Start → NID L Step Start

@@ -29,7 +29,8 @@ use Rattle.model.specs.Laws.Text.ReadingLaws.{textOf-of-readText}
 use Rattle.model.specs.Store.{storeOf}
 use Rattle.model.specs.Laws.Store.StoreLaws.{storeOf-length}
 use Rattle.model.specs.Laws.Store.StoredModelLaws.{holds-storeOf}
-use Rattle.model.specs.System.{levels, Steps, LowStep}
+use Rattle.lts.specs.Run.{Deterministic, begin}
+use Rattle.model.specs.System.{levels, Steps, Start, LowStep}
 use Rattle.judge.specs.declared.judge.Verdict.{Verdict}
 use Rattle.judge.specs.declared.judge.Verdict.the-variants.{Passed}
 use Rattle.judge.specs.Inner.Stored.{Stored}
@@ -41,6 +42,7 @@ use Rattle.judge.specs.Verdicts.{Judged}
 use Rattle.judge.specs.VerdictTest.{greatestBelow, leastBelow, verdictOf}
 use Rattle.judge.specs.Laws.VerdictTestLaws.{verdictOf-judged, Reachable→reachable?}
 use Rattle.judge.specs.BenchModels.{worked, workedText, scannedOnce, scannedOnceText, released, releasedText}
+use Rattle.judge.specs.BenchModels.{scan}
 use Rattle.judge.specs.BenchModels.{closeLow, closeLowText, branching, branchingText, noSteps, noStepsText}
 use Rattle.judge.specs.BenchModels.{printLoop, printLoopText, unreachedPrint, unreachedPrintText}
 use Rattle.judge.specs.Bench.{ReadsAndJudged, refusedAt, JointFact}
@@ -132,6 +134,16 @@ branching-same-words w l = (
     back : ℕ → ℕ → Bool
     back x y = (eqb x 1 && eqb y 0) || ((eqb x 2 && eqb y 2) || eqb x 3)
 
+-- Steps 0 and 1 leave the start with scan, to 2 and to 3.
+branching-not-deterministic : ¬ (Deterministic (Steps branching) (Start branching))
+branching-not-deterministic det =
+    let first : Steps branching 0 scan 2 =
+        record { number = 0; number-lt = omega arith; source-is = refl; action-is = refl; target-is = refl } in
+    let second : Steps branching 0 scan 3 =
+        record { number = 1; number-lt = omega arith; source-is = refl; action-is = refl; target-is = refl } in
+    let e = det 0 scan 2 3 (begin refl) first second in
+    omega arith
+
 print-unreachable : ¬ (ReachableIn unreachedPrint 1)
 unfolding within? all any step?
 print-unreachable r =
@@ -147,6 +159,7 @@ joint-fact = record {
   close-low-refused = judged-of-computed closeLowText closeLow (read .close-low) (refusedAt 0 1) (computed .close-low);
   branching-refused =
       judged-of-computed branchingText branching (read .branching) (refusedAt 2 2) (computed .branching);
+  branching-not-deterministic = branching-not-deterministic;
   branching-same-words = branching-same-words;
   no-steps-passed = judged-of-computed noStepsText noSteps (read .no-steps) (Passed 0) (computed .no-steps);
   print-loop-passed = judged-of-computed printLoopText printLoop (read .print-loop) (Passed 0) (computed .print-loop);
