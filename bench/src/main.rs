@@ -7,9 +7,12 @@ use second::Model;
 use std::hint::black_box;
 use std::time::{Duration, Instant};
 
-/// How long each call is repeated, and how often at least.
-const LONG_ENOUGH: Duration = Duration::from_millis(150);
-const AT_LEAST: usize = 5;
+/// How long each call is repeated at a time, and how often at least.
+const LONG_ENOUGH: Duration = Duration::from_millis(60);
+const AT_LEAST: usize = 3;
+
+/// How often all calls take turns, so that other work on the machine slows none of them alone.
+const TURNS: usize = 6;
 
 const UNREACHABLE: u16 = 65_535;
 
@@ -66,29 +69,45 @@ impl Lists {
     }
 }
 
+/// The best times of Read, Reach, Rank, Judge, Run, the plain ranking and the second checker's.
+fn times(lists: &mut Lists) -> [f64; 7] {
+    let state = lists.furthest();
+    let mut times = [f64::MAX; 7];
+    for _ in 0..TURNS {
+        let Lists {
+            text,
+            store,
+            distances,
+            table,
+            run,
+        } = &mut *lists;
+        let turn = [
+            best(|| suite::read(black_box(text), store)),
+            best(|| suite::reach(black_box(store), distances)),
+            best(|| suite::rank(black_box(store), table)),
+            best(|| suite::judge(black_box(store), distances, table)),
+            best(|| suite::run(black_box(store), distances, run, state)),
+            best(|| plain::rank(black_box(store), table)),
+            best(|| second::rank(black_box(store), table)),
+        ];
+        for (time, new) in times.iter_mut().zip(turn) {
+            *time = time.min(new);
+        }
+    }
+    times
+}
+
 /// One line of the table.
 fn line(name: &str, model: &Model) {
-    let mut lists = Lists::of(model);
-    let state = lists.furthest();
-    let Lists {
-        text,
-        store,
-        distances,
-        table,
-        run,
-    } = &mut lists;
-    let read = best(|| suite::read(black_box(text), store));
-    let store = &store[..];
-    let reach = best(|| suite::reach(black_box(store), distances));
-    let rank = best(|| suite::rank(black_box(store), table));
-    let judge = best(|| suite::judge(black_box(store), distances, table));
-    let walk = best(|| suite::run(black_box(store), distances, run, state));
-    let plain = best(|| plain::rank(black_box(store), table));
-    let second = best(|| second::rank(black_box(store), table));
+    let times = times(&mut Lists::of(model));
+    let [.., plain, second] = times;
+    let rank = times[2];
+    let shown: Vec<String> = times.iter().map(|time| format!("{time:.1}")).collect();
     println!(
-        "| {name} | {} | {} | {read:.1} | {reach:.1} | {rank:.1} | {judge:.1} | {walk:.1} | {plain:.1} | {second:.1} | {:.2} | {:.3} |",
+        "| {name} | {} | {} | {} | {:.2} | {:.3} |",
         model.states,
         model.steps.len(),
+        shown.join(" | "),
         rank / plain,
         rank / second,
     );
