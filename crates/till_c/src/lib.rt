@@ -123,7 +123,8 @@ pub extern "C" fn till_write(store: &[u16], out: &mut [u8]) -> TillAnswer
 
 #[no_mangle]
 pub extern "C" fn till_reach(store: &[u16], distances: &mut [u16]) -> TillAnswer
-    ensures { λ r. ⌜ ReachPromise (now (store .entry)) (now (distances .entry)) (answerOutcome r) (now (distances .exit)) ⌝ }
+    ensures { λ r. ⌜ ReachPromise (now (store .entry)) (now (distances .entry)) (answerOutcome r)
+        (now (distances .exit)) ⌝ }
 {
     let answer = judge::reach::reach(store, distances);
     match answer {

@@ -138,9 +138,9 @@ branching-same-words w l = (
 branching-not-deterministic : ¬ (Deterministic (Steps branching) (Start branching))
 branching-not-deterministic det =
     let first : Steps branching 0 scan 2 =
-        record { number = 0; number-lt = omega arith; source-is = refl; action-is = refl; target-is = refl } in
+    record { number = 0; number-lt = omega arith; source-is = refl; action-is = refl; target-is = refl } in
     let second : Steps branching 0 scan 3 =
-        record { number = 1; number-lt = omega arith; source-is = refl; action-is = refl; target-is = refl } in
+    record { number = 1; number-lt = omega arith; source-is = refl; action-is = refl; target-is = refl } in
     let e = det 0 scan 2 3 (begin refl) first second in
     omega arith
 
