@@ -7,6 +7,7 @@ use crate::bytes::LINE_END;
 use crate::line::HeadRead;
 use crate::line::find;
 use crate::line::head_line;
+use crate::line::is_letter;
 use crate::read::ReadAnswer;
 use crate::steps::steps;
 use crate::store::STORE_LENGTH;
@@ -76,7 +77,7 @@ fn end(text: &[u8], at: usize, head: Head, out: &[u16]) -> LinesRead
             line,
         };
     }
-    if text[at] != b'E' {
+    if !is_letter(text[at], b'E') {
         return LinesRead::Faulty {
             fault: Fault::Shape,
             line,

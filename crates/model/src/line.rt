@@ -16,6 +16,7 @@ ghost use mathlib.Core.Path.{_≡_};
 ghost use Prim.Native.Nat.{_+_, _≤_, _<_};
 ghost use lib.ListN.{length, drop};
 ghost use Rattle.model.specs.declared.StepLine.{StepLine};
+ghost use Rattle.model.specs.Decides.{Decides};
 ghost use Rattle.model.specs.Bytes.{capital, comma, kindOf, between?};
 ghost use Rattle.model.specs.Split.{split, indexOf};
 ghost use Rattle.model.specs.Model.{above?};
@@ -76,6 +77,20 @@ fn count(s: &[u8], k: u8) -> usize
         i += 1;
     }
     n
+}
+
+// Whether a byte is a letter: a capital by its kind, and then this one.
+pub fn is_letter(b: u8, letter: u8) -> bool
+    requires { ⌜ kindOf letter ≡ capital ⌝ }
+    ensures { λ r. ⌜ Decides r (b ≡ letter) ⌝ }
+{
+    if kind(b) != CAPITAL {
+        return false;
+    }
+    if b != letter {
+        return false;
+    }
+    true
 }
 
 // Whether a line has a letter as its first field, and n more fields, which stand from place 2 on.

@@ -3,7 +3,9 @@ use borrow.Author.Needs.{needs}
 use native.Mathlib.Omega.{arith}
 use Prim.Native.Nat.{_<_}
 use lib.ListN.{length}
-use Rattle.model.specs.Bytes.{lineEnd}
+use mathlib.Core.Path.{refl}
+use Rattle.model.specs.Bytes.{lineEnd, kindOf}
+use Rattle.model.specs.Laws.Store.DecidesLaws.{decides-passed, decides-refused}
 use Rattle.model.specs.Laws.Text.SplitLaws.{found-le}
 use Rattle.model.specs.Inner.ReadSoFar.{AfterSteps, Further}
 use Rattle.model.specs.Laws.Read.ReadStepsLaws.{end-absent, end-long, end-other, end-more, end-done}
@@ -50,28 +52,35 @@ returns-2 c =
     let f = c .before .before in
     end-long _ _ _ _ (start f) _ (f .find .ensures) (inside (c .before)) (c .if2 .taken)
 
-shared-slice-read-if3 : tie.Need-shared-slice-read-if3
-shared-slice-read-if3 c = let i = inside (c .before .before) in omega arith
+shared-slice-read-is-letter : tie.Need-shared-slice-read-is-letter
+shared-slice-read-is-letter c = let i = inside (c .before .before) in omega arith
+
+is-letter-requires : tie.Need-is-letter-requires
+unfolding kindOf
+is-letter-requires c κs = refl
 
 returns-3 : tie.Need-returns-3
 unfolding Further
 returns-3 c =
-    let f = c .before .before .before .before in
-    end-other _ _ _ _ (start f) _ (f .find .ensures) (inside (c .before .before .before))
-    (c .before .before .if2 .left) (c .if3 .taken)
+    let l = c .before in
+    let f = l .before .before .before .before in
+    end-other _ _ _ _ (start f) _ (f .find .ensures) (inside (l .before .before .before))
+    (l .before .before .if2 .left) (decides-refused (l .is-letter .result) _ (l .is-letter .ensures) (c .if3 .taken))
 
 add-if4 : tie.Need-add-if4
-add-if4 c = let i = inside (c .before .before .before) in omega arith
+add-if4 c = let i = inside (c .before .before .before .before) in omega arith
 
-add-t17 : tie.Need-add-t17
-add-t17 c = search needs
+add-t18 : tie.Need-add-t18
+add-t18 c = search needs
 
 returns-4 : tie.Need-returns-4
 unfolding Further
 returns-4 c =
-    let f = c .before .before .before .before .before in
-    end-more _ _ _ _ (start f) _ (f .find .ensures) (inside (c .before .before .before .before))
-    (c .before .before .before .if2 .left) (c .before .if3 .left) (c .if4 .taken)
+    let l = c .before .before in
+    let f = l .before .before .before .before in
+    end-more _ _ _ _ (start f) _ (f .find .ensures) (inside (l .before .before .before))
+    (l .before .before .if2 .left)
+    (decides-passed (l .is-letter .result) _ (l .is-letter .ensures) (c .before .if3 .left)) (c .if4 .taken)
 
 add-t9 : tie.Need-add-t9
 add-t9 c = search needs
@@ -79,9 +88,11 @@ add-t9 c = search needs
 returns-5 : tie.Need-returns-5
 unfolding Further
 returns-5 c =
-    let f = c .before .before .before .before .before in
-    end-done _ _ _ _ (start f) _ (f .find .ensures) (inside (c .before .before .before .before))
-    (c .before .before .before .if2 .left) (c .before .if3 .left) (c .if4 .left)
+    let l = c .before .before in
+    let f = l .before .before .before .before in
+    end-done _ _ _ _ (start f) _ (f .find .ensures) (inside (l .before .before .before))
+    (l .before .before .if2 .left)
+    (decides-passed (l .is-letter .result) _ (l .is-letter .ensures) (c .before .if3 .left)) (c .if4 .left)
 
 pub end-spec : {M : Type 1} → statement M
 end-spec =
@@ -95,10 +106,11 @@ end-spec =
     returns
     add-if2
     returns-2
-    shared-slice-read-if3
+    shared-slice-read-is-letter
+    is-letter-requires
     returns-3
     add-if4
-    add-t17
+    add-t18
     returns-4
     add-t9
     returns-5)
