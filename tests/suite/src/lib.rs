@@ -1,4 +1,6 @@
 //! The proved operations as Rust calls them. A slice passes as a pointer and the number of its elements.
+pub mod lists;
+
 use second::{Refusal, Verdict};
 
 /// Number 0 with `count` values, or a refusal's number with its place.
@@ -61,16 +63,14 @@ impl TillAnswer {
 }
 
 pub fn read(text: &[u8], store: &mut [u16]) -> Result<(), Refusal> {
-    let answer =
-        unsafe { till_read(text.as_ptr(), text.len(), store.as_mut_ptr(), store.len()) };
+    let answer = unsafe { till_read(text.as_ptr(), text.len(), store.as_mut_ptr(), store.len()) };
     let values = answer.values()?;
     assert!(values.is_empty(), "Read answers only that it succeeded");
     Ok(())
 }
 
 pub fn write(store: &[u16], out: &mut [u8]) -> Result<usize, Refusal> {
-    let answer =
-        unsafe { till_write(store.as_ptr(), store.len(), out.as_mut_ptr(), out.len()) };
+    let answer = unsafe { till_write(store.as_ptr(), store.len(), out.as_mut_ptr(), out.len()) };
     let values = answer.values()?;
     assert_eq!(values.len(), 1, "Write answers its length");
     Ok(usize::try_from(values[0]).expect("a length fits"))
@@ -91,8 +91,7 @@ pub fn reach(store: &[u16], distances: &mut [u16]) -> Result<(), Refusal> {
 }
 
 pub fn rank(store: &[u16], table: &mut [u8]) -> Result<u16, Refusal> {
-    let answer =
-        unsafe { till_rank(store.as_ptr(), store.len(), table.as_mut_ptr(), table.len()) };
+    let answer = unsafe { till_rank(store.as_ptr(), store.len(), table.as_mut_ptr(), table.len()) };
     let values = answer.values()?;
     assert_eq!(values.len(), 1, "Rank answers its last round");
     Ok(small(values[0]))

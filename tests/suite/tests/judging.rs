@@ -2,6 +2,7 @@
 use second::gen::{self, Rng};
 use second::store::{DISTANCES, RUN, STORE, TABLE};
 use second::{Model, Refusal, Verdict};
+use suite::lists::{anything16, anything8, lengths};
 
 const SEED: u64 = 0x7112;
 
@@ -15,20 +16,6 @@ fn passed(rank: u16) -> Verdict {
 
 fn refused(step: u16, depth: u16) -> Verdict {
     Verdict::Refused { step, depth }
-}
-
-/// A list of some length with anything in it.
-fn anything16(rng: &mut Rng, length: usize) -> Vec<u16> {
-    (0..length).map(|_| rng.below(65_536) as u16).collect()
-}
-
-fn anything8(rng: &mut Rng, length: usize) -> Vec<u8> {
-    (0..length).map(|_| rng.below(256) as u8).collect()
-}
-
-/// Lengths around a least length: none, one short, exact, longer.
-fn lengths(least: usize) -> [usize; 5] {
-    [0, least - 1, least, least + 1, least + 37]
 }
 
 /// The lists that are lent beside the store.
@@ -86,8 +73,14 @@ fn same_run(before: &Lists, store: &[u16], state: u16) -> Result<usize, Refusal>
     let (mut ours, mut theirs) = (before.clone(), before.clone());
     let answer = suite::run(store, &mut ours.distances, &mut ours.run, state);
     let expected = second::run(store, &mut theirs.distances, &mut theirs.run, state);
-    assert_eq!(answer, expected, "Run's answer, state {state}, store {store:?}");
-    assert!(ours == theirs, "Run's lists, state {state}, store {store:?}");
+    assert_eq!(
+        answer, expected,
+        "Run's answer, state {state}, store {store:?}"
+    );
+    assert!(
+        ours == theirs,
+        "Run's lists, state {state}, store {store:?}"
+    );
     answer
 }
 
@@ -163,11 +156,31 @@ fn the_bench_models() {
     let mut rng = Rng::new(SEED);
     println!("seed {SEED}");
     let models: &[(usize, &str, &[(u16, u16, u16)], Verdict)] = &[
-        (4, ACTIONS, &[(0, 0, 1), (0, 1, 2), (1, 0, 1), (2, 0, 3)], refused(1, 2)),
-        (4, ACTIONS, &[(0, 0, 1), (0, 1, 2), (2, 0, 3), (2, 2, 0)], passed(1)),
+        (
+            4,
+            ACTIONS,
+            &[(0, 0, 1), (0, 1, 2), (1, 0, 1), (2, 0, 3)],
+            refused(1, 2),
+        ),
+        (
+            4,
+            ACTIONS,
+            &[(0, 0, 1), (0, 1, 2), (2, 0, 3), (2, 2, 0)],
+            passed(1),
+        ),
         (3, ACTIONS, &[(0, 1, 1), (1, 2, 2), (2, 0, 2)], passed(1)),
-        (3, CLOSE_IS_LOW, &[(0, 1, 1), (1, 2, 2), (2, 0, 2)], refused(0, 1)),
-        (4, ACTIONS, &[(0, 0, 2), (0, 0, 3), (0, 1, 1), (1, 0, 2), (2, 0, 3)], refused(2, 2)),
+        (
+            3,
+            CLOSE_IS_LOW,
+            &[(0, 1, 1), (1, 2, 2), (2, 0, 2)],
+            refused(0, 1),
+        ),
+        (
+            4,
+            ACTIONS,
+            &[(0, 0, 2), (0, 0, 3), (0, 1, 1), (1, 0, 2), (2, 0, 3)],
+            refused(2, 2),
+        ),
         (1, ACTIONS, &[], passed(0)),
         (1, ACTIONS, &[(0, 1, 0)], passed(0)),
         (3, ACTIONS, &[(1, 1, 2), (2, 0, 2)], passed(1)),

@@ -2,25 +2,12 @@
 use second::gen::{self, Rng};
 use second::store::{STORE, WRITTEN};
 use second::Refusal;
+use suite::lists::{anything16, anything8, lengths};
 
 const SEED: u64 = 0x7111;
 
 const WORKED: &[u8] =
     b"M,4,3,4,0\nA,L,scan\nA,H,print\nA,D,close\nS,0,0,1\nS,0,1,2\nS,1,0,1\nS,2,0,3\nE\n";
-
-/// A store list of some length with anything in it.
-fn anything16(rng: &mut Rng, length: usize) -> Vec<u16> {
-    (0..length).map(|_| rng.below(65_536) as u16).collect()
-}
-
-fn anything8(rng: &mut Rng, length: usize) -> Vec<u8> {
-    (0..length).map(|_| rng.below(256) as u8).collect()
-}
-
-/// Lengths around a least length: none, one short, exact, longer.
-fn lengths(least: usize) -> [usize; 5] {
-    [0, least - 1, least, least + 1, least + 37]
-}
 
 fn same_read(rng: &mut Rng, text: &[u8], length: usize) -> Result<(), Refusal> {
     let before = anything16(rng, length);
@@ -28,8 +15,14 @@ fn same_read(rng: &mut Rng, text: &[u8], length: usize) -> Result<(), Refusal> {
     let answer = suite::read(text, &mut ours);
     let expected = second::read(text, &mut theirs);
     let shown = String::from_utf8_lossy(text);
-    assert_eq!(answer, expected, "Read's answer, store of {length}, text:\n{shown}");
-    assert!(ours == theirs, "Read's store, store of {length}, text:\n{shown}");
+    assert_eq!(
+        answer, expected,
+        "Read's answer, store of {length}, text:\n{shown}"
+    );
+    assert!(
+        ours == theirs,
+        "Read's store, store of {length}, text:\n{shown}"
+    );
     answer
 }
 
@@ -38,8 +31,14 @@ fn same_write(rng: &mut Rng, store: &[u16], length: usize) -> Result<usize, Refu
     let (mut ours, mut theirs) = (before.clone(), before);
     let answer = suite::write(store, &mut ours);
     let expected = second::write(store, &mut theirs);
-    assert_eq!(answer, expected, "Write's answer, out of {length}, store {store:?}");
-    assert!(ours == theirs, "Write's out, out of {length}, store {store:?}");
+    assert_eq!(
+        answer, expected,
+        "Write's answer, out of {length}, store {store:?}"
+    );
+    assert!(
+        ours == theirs,
+        "Write's out, out of {length}, store {store:?}"
+    );
     answer
 }
 

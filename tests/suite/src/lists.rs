@@ -1,0 +1,16 @@
+//! Lists as a caller may lend them.
+use second::gen::Rng;
+
+/// A list of some length with anything in it.
+pub fn anything16(rng: &mut Rng, length: usize) -> Vec<u16> {
+    (0..length).map(|_| rng.below(65_536) as u16).collect()
+}
+
+pub fn anything8(rng: &mut Rng, length: usize) -> Vec<u8> {
+    (0..length).map(|_| rng.below(256) as u8).collect()
+}
+
+/// Lengths around a least length: none, one short, exact, longer.
+pub fn lengths(least: usize) -> [usize; 5] {
+    [0, least - 1, least, least + 1, least + 37]
+}
