@@ -12,10 +12,10 @@ use Rattle.model.specs.StoredModel.{modelAt}
 use Rattle.model.specs.Laws.Store.StoredModelLaws.{good-model}
 use Rattle.model.specs.System.{LowStep}
 use Rattle.judge.specs.declared.rank.RankAnswer.the-variants.{Last, ShortList, NotGood}
-use Rattle.judge.specs.Lists.{tableLength}
-use Rattle.judge.specs.Laws.FirstShortLaws.{firstShort-nil, firstShort-lt, firstShort-le}
+use Rattle.model.specs.Lists.{tableLength}
+use Rattle.model.specs.Laws.FirstShortLaws.{firstShort-nil, firstShort-lt, firstShort-le}
 use Rattle.judge.specs.Promises.{rankOutcome, rankLists, RankPromise}
-use Rattle.judge.specs.Table.{Ranked}
+use Rattle.ranking.specs.Table.{Ranked}
 
 module _ (store table : List ℕ) where
   pub short-store-promised : length store < storeLength → RankPromise store table (rankOutcome (ShortList 1)) table

@@ -7,10 +7,9 @@ use Rattle.lts.specs.Run.{Deterministic}
 use Rattle.lts.specs.Noninterference.{thin, SameLow}
 use Rattle.model.specs.Model.{Model}
 use Rattle.model.specs.Reading.{done, readText}
-use Rattle.model.specs.System.{source, target, levels, Steps, Start}
+use Rattle.model.specs.System.{source, target, levels, Steps, Start, ReachableIn}
 use Rattle.judge.specs.declared.judge.Verdict.{Verdict}
 use Rattle.judge.specs.declared.judge.Verdict.the-variants.{Passed, Refused}
-use Rattle.judge.specs.Distances.{ReachableIn}
 use Rattle.judge.specs.Verdicts.{Judged}
 use Rattle.judge.specs.BenchModels.{scan, print, close}
 use Rattle.judge.specs.BenchModels.{worked, workedText, scannedOnce, scannedOnceText, released, releasedText}

@@ -1,5 +1,4 @@
 pub mod Stored
-pub mod MoveList
 pub mod Listing
 pub mod Index
 pub mod Roles
@@ -9,6 +8,3 @@ pub mod RunTail
 pub mod ModelLists
 pub mod LeakSearch
 pub mod Judging
-pub mod ClassList
-pub mod TableWrites
-pub mod Marks

@@ -1,8 +1,5 @@
-pub mod ListsLaws
-pub mod FirstShortLaws
 pub mod StoredLaws
 pub mod GoodStoredLaws
-pub mod RankedLaws
 pub mod ListingLaws
 pub mod StatesListedLaws
 pub mod IndexLaws
@@ -20,9 +17,4 @@ pub mod BenchLaws
 pub mod ReachLaws
 pub mod RunsLaws
 pub mod RunPromiseLaws
-pub mod MoveListLaws
-pub mod ClassListLaws
-pub mod TableWritesLaws
-pub mod RoundsLaws
-pub mod MarksLaws
 pub mod RankPromiseLaws

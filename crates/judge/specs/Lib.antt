@@ -1,7 +1,5 @@
-pub mod Lists
 pub mod Laws
 pub mod Inner
-pub mod Table
 pub mod Distances
 pub mod Verdicts
 pub mod Runs

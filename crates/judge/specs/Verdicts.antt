@@ -1,23 +1,14 @@
 -- What Judge answers.
 -- Document 01, operation 4: "Answers *passed* with the greatest rank in the table, or *refused* with a step and a depth: of
 -- the reachable high steps whose ends have a rank above 0, the least rank, and the lowest step number having it."
-use mathlib.Core.Path.{_≡_}
 use Prim.Native.Nat.{ℕ, _≤_, _<_}
-use lib.ListN.{length}
 use Rattle.lts.specs.Alike.{Rank}
 use Rattle.lts.specs.Noninterference.{BNID}
-use Rattle.model.specs.Model.{high, Model}
-use Rattle.model.specs.System.{source, action, target, level, levels, Steps, Start, LowStep}
+use Rattle.model.specs.Model.{Model}
+use Rattle.model.specs.System.{source, target, levels, Steps, Start, LowStep, HighStep}
 use Rattle.judge.specs.declared.judge.Verdict.{Verdict}
 use Rattle.judge.specs.declared.judge.Verdict.the-variants.{Passed, Refused}
-use Rattle.judge.specs.Table.{Greatest}
-use Rattle.judge.specs.Distances.{ReachableIn}
-
--- Step j is a high step that can be reached: "a step is reachable if its source is".
-pub record HighStep (m : Model) (j : ℕ) : Type 0 where
-  pub number-lt : j < length (m .steps)
-  pub is-high : level m (action m j) ≡ high
-  pub reachable : ReachableIn m (source m j)
+use Rattle.ranking.specs.Table.{Greatest}
 
 -- Step j is a reachable high step whose ends have the rank d, above 0.
 pub record Leak (m : Model) (j d : ℕ) : Type 0 where

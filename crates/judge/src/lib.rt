@@ -1,5 +1,4 @@
 // Reachable states, ranks, the verdict and runs of till models.
-mod classes;
 mod index;
 pub mod judge;
 mod moves;

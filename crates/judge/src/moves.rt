@@ -9,7 +9,7 @@ ghost use Rattle.model.specs.System.{levels, LowStep};
 ghost use Rattle.judge.specs.Inner.Stored.{Stored};
 ghost use Rattle.judge.specs.Inner.Index.{Index};
 ghost use Rattle.judge.specs.Inner.Roles.{Roles};
-ghost use Rattle.judge.specs.Inner.MoveList.{Lists};
+ghost use Rattle.ranking.specs.MoveList.{Lists};
 ghost use Rattle.judge.specs.Inner.Listing.{Appended, LowAmong};
 
 // Appends a step to the lists at place `at` if it is low, and yields the next free place.

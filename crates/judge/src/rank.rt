@@ -3,11 +3,11 @@ ghost use Prim.Native.Nat.{_≤_};
 ghost use lib.ListN.{length};
 ghost use Rattle.model.specs.StoredModel.{modelAt};
 ghost use Rattle.model.specs.System.{levels, LowStep};
-ghost use Rattle.judge.specs.Lists.{tableLength};
+ghost use Rattle.model.specs.Lists.{tableLength};
 ghost use Rattle.judge.specs.Inner.Stored.{Stored};
 ghost use Rattle.judge.specs.Inner.Index.{Index};
 ghost use Rattle.judge.specs.Inner.Roles.{Roles};
-ghost use Rattle.judge.specs.Table.{Ranked};
+ghost use Rattle.ranking.specs.Table.{Ranked};
 ghost use Rattle.judge.specs.Promises.{rankOutcome, RankPromise};
 
 pub const TABLE_LENGTH: usize = 16384;
@@ -36,7 +36,7 @@ pub fn fill_table(store: &[u16], begins: &[u16], roles: &[u16], table: &mut [u8]
     let mut targets = [0u16; 1024];
     crate::moves::list_moves(store, begins, roles, &mut first, &mut actions, &mut targets);
     let n = model::store::states(store);
-    crate::classes::rank_moves(n, &first, &actions, &targets, table)
+    ranking::classes::rank_moves(n, &first, &actions, &targets, table)
 }
 
 // Fills the table with the ranks, and answers the last round that separated two states.

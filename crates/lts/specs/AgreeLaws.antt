@@ -120,3 +120,38 @@ module _ (C Idle : ℕ → Type 0) (M N : Moves) (A : Agree C Idle M N) where
         back (bisimilar b) = bisimilar (bisimilar-agree p q lp lq cp cq .1 b)
         back {r} (separated d x) =
             separated (λ b. d (bisimilar-agree p q lp lq cp cq .0 b)) (separated-agree p q r cp cq .1 x)
+
+-- ---- the same moves
+
+module _ {M N : Moves} (forth : (p a q : ℕ) → M p a q → N p a q) (back : (p a q : ℕ) → N p a q → M p a q) where
+  same-agree : Agree (λ _. Unit {0}) (λ _. ⊥) M N
+  same-agree = record {
+    closed = λ p a q c m. tt;
+    forth = λ p a q c m. forth p a q m;
+    back = λ p a q c m. inl (back p a q m);
+    idle = λ p a c i. absurd i;
+    not-idle = λ p a q c m i. i;
+  }
+
+  pub separated-same : (p q k : ℕ) → Separated M p q k ↔ Separated N p q k
+  separated-same p q k = separated-agree (λ _. Unit {0}) (λ _. ⊥) M N same-agree p q k tt tt
+
+  answered-same : (R : Relation) (p q : ℕ) → Answered M R p q → Answered N R p q
+  answered-same R p q h a p′ m =
+      let x = h a p′ (back p a p′ m) in
+      (x .0, forth q a (x .0) (x .1), x .2)
+
+  pub bisimilar-same : (p q : ℕ) → Bisimilar M p q → Bisimilar N p q
+  bisimilar-same p q b = record {
+    rel = b .rel;
+    bisimulation = λ x y r.
+        let s = b .bisimulation x y r in
+        record { there = answered-same _ x y (s .there); back = answered-same _ y x (s .back) };
+    pairs = b .pairs;
+  }
+
+module _ {M N : Moves} (forth : (p a q : ℕ) → M p a q → N p a q) (back : (p a q : ℕ) → N p a q → M p a q) where
+  pub rank-same : (p q : ℕ) {k : ℕ} → Rank M p q k → Rank N p q k
+  rank-same p q (bisimilar b) = bisimilar (bisimilar-same forth back p q b)
+  rank-same p q {k} (separated d x) =
+      separated (λ b. d (bisimilar-same back forth p q b)) (separated-same forth back p q k .0 x)

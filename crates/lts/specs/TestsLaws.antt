@@ -1,13 +1,13 @@
 -- What the tests over the numbers below n say, with the laws on Bool and on the order that every crate needs.
 -- Assumes nothing.
-use mathlib.Core.Path.{_≡_, refl}
+use mathlib.Core.Path.{_≡_, refl, subst}
 use mathlib.Core.Logic.{_⊎_, inl, inr}
 use mathlib.Core.Bool.{Bool, true, false, not, _&&_, _||_}
 use Prim.Native.Nat.{ℕ, zero, suc, _≤_, _<_}
 use native.Mathlib.Nat.{not-suc-le-zero}
 use native.Mathlib.Omega.{arith}
 use native.Mathlib.Decide.{ℕ-discrete, decLt}
-use lib.Dec.{T, T-not, not-T}
+use lib.Dec.{T, T-not, not-T, eqb, eqb-refl}
 use Rattle.lts.specs.Tests.{Each, Some, all, any, bit, count, Least}
 
 -- ---- Bool
@@ -19,6 +19,9 @@ T-cases false = inr tt
 pub not-not-T : (b : Bool) → T (not (not b)) → T b
 not-not-T true t = tt
 not-not-T false t = t
+
+pub T-eqb : {i j : ℕ} → i ≡ j → T (eqb i j)
+T-eqb {i} {j} e = subst (λ (k : ℕ). T (eqb i k)) e (eqb-refl i)
 
 pub T→true : (b : Bool) → T b → b ≡ true
 T→true true t = refl
@@ -77,6 +80,13 @@ lt-suc-cases {i} {n} h = go (ℕ-discrete i n)
     go : Dec (i ≡ n) → (i ≡ n) ⊎ (i < n)
     go (yes e) = inl e
     go (no c) = inr (omega arith)
+
+pub eq-or-not : (a b : ℕ) → (a ≡ b) ⊎ ¬ (a ≡ b)
+eq-or-not a b = go (ℕ-discrete a b)
+  where
+    go : Dec (a ≡ b) → (a ≡ b) ⊎ ¬ (a ≡ b)
+    go (yes e) = inl e
+    go (no d) = inr d
 
 pub lt-or-le : (i n : ℕ) → (i < n) ⊎ (n ≤ i)
 lt-or-le i n = go (decLt i n)

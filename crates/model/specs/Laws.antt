@@ -4,3 +4,5 @@ pub mod Write
 pub mod PromisesLaws
 pub mod OnStoreLaws
 pub mod Read
+pub mod ListsLaws
+pub mod FirstShortLaws

@@ -1,4 +1,5 @@
 pub mod Limits
+pub mod Lists
 pub mod Decides
 pub mod Laws
 pub mod Inner

@@ -7,6 +7,7 @@ use lib.Dec.{eqb}
 use lib.ListN.{length, getD}
 use Rattle.lts.specs.Alike.{Moves}
 use Rattle.lts.specs.Noninterference.{Levels, LowMove}
+use Rattle.lts.specs.Run.{Reachable, Distance}
 use Rattle.model.specs.declared.StepLine.{StepLine}
 use Rattle.model.specs.Model.{low, release, high, Model}
 
@@ -51,3 +52,23 @@ levels m = record {
 -- The moves that are played: "Release and high steps are never played."
 abbrev pub LowStep : Model → Moves
 LowStep m = LowMove (levels m) (Steps m)
+
+-- "A state is reachable if steps of any level lead to it from the start."
+abbrev pub ReachableIn : Model → ℕ → Type 0
+ReachableIn m p = Reachable (Steps m) (Start m) p
+
+-- d is the "least number of steps from the start" to p.
+abbrev pub DistanceIn : Model → ℕ → ℕ → Type 0
+DistanceIn m p d = Distance (Steps m) (Start m) p d
+
+-- Step j is a high step that can be reached: "a step is reachable if its source is".
+pub record HighStep (m : Model) (j : ℕ) : Type 0 where
+  pub number-lt : j < length (m .steps)
+  pub is-high : level m (action m j) ≡ high
+  pub reachable : ReachableIn m (source m j)
+
+-- "Deterministic: no reachable state has two steps of one action." For the models that texts state this is
+-- `Deterministic` of `lts`, as `deterministic↔Deterministic` shows.
+pub record DeterministicModel (m : Model) : Type 0 where
+  pub one-step : (i j : ℕ) → i < length (m .steps) → j < length (m .steps) → ReachableIn m (source m i)
+      → source m i ≡ source m j → action m i ≡ action m j → i ≡ j

@@ -7,7 +7,7 @@ use Rattle.model.specs.Limits.{actionLimit}
 use Rattle.model.specs.Model.{Model}
 use Rattle.model.specs.System.{levels}
 use Rattle.judge.specs.declared.judge.Verdict.{Verdict}
-use Rattle.judge.specs.Lists.{distancesLength, tableLength}
+use Rattle.model.specs.Lists.{distancesLength, tableLength}
 use Rattle.judge.specs.Inner.Stored.{Stored}
 use Rattle.judge.specs.Inner.Index.{Index}
 use Rattle.judge.specs.Inner.Roles.{Roles}

@@ -7,7 +7,7 @@ use lib.ListN.{getD}
 use Rattle.lts.specs.Alike.{Moves}
 use Rattle.model.specs.Model.{Model}
 use Rattle.model.specs.System.{action, target, levels}
-use Rattle.judge.specs.Inner.MoveList.{Listed}
+use Rattle.ranking.specs.MoveList.{Listed}
 
 -- From place `from` up to place `to` the lists have the actions and targets of Out, each of them; the places before are
 -- as they were.

@@ -30,14 +30,13 @@ use Rattle.model.specs.Store.{storeOf}
 use Rattle.model.specs.Laws.Store.StoreLaws.{storeOf-length}
 use Rattle.model.specs.Laws.Store.StoredModelLaws.{holds-storeOf}
 use Rattle.lts.specs.Run.{Deterministic, begin}
-use Rattle.model.specs.System.{levels, Steps, Start, LowStep}
+use Rattle.model.specs.System.{levels, Steps, Start, LowStep, ReachableIn}
 use Rattle.judge.specs.declared.judge.Verdict.{Verdict}
 use Rattle.judge.specs.declared.judge.Verdict.the-variants.{Passed}
 use Rattle.judge.specs.Inner.Stored.{Stored}
 use Rattle.judge.specs.Laws.GoodStoredLaws.{holds→Stored}
 use Rattle.judge.specs.Inner.StepTest.{step?}
 use Rattle.judge.specs.Laws.StepTestLaws.{decided-steps}
-use Rattle.judge.specs.Distances.{ReachableIn}
 use Rattle.judge.specs.Verdicts.{Judged}
 use Rattle.judge.specs.VerdictTest.{greatestBelow, leastBelow, verdictOf}
 use Rattle.judge.specs.Laws.VerdictTestLaws.{verdictOf-judged, Reachable→reachable?}

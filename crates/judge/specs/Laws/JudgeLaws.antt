@@ -17,10 +17,10 @@ use Rattle.model.specs.Laws.OnStoreLaws.{onStore-short, onStore-not-good, onSto
 use Rattle.model.specs.System.{LowStep}
 use Rattle.judge.specs.declared.judge.Verdict.{Verdict}
 use Rattle.judge.specs.declared.judge.JudgeAnswer.the-variants as judge
-use Rattle.judge.specs.Lists.{distancesLength, tableLength}
-use Rattle.judge.specs.Laws.FirstShortLaws.{firstShort-nil, firstShort-lt, firstShort-le}
+use Rattle.model.specs.Lists.{distancesLength, tableLength}
+use Rattle.model.specs.Laws.FirstShortLaws.{firstShort-nil, firstShort-lt, firstShort-le}
 use Rattle.judge.specs.Inner.Stored.{Stored}
-use Rattle.judge.specs.Laws.RankPromiseLaws.{ranks-unique}
+use Rattle.ranking.specs.Laws.RankedLaws.{ranks-unique}
 use Rattle.judge.specs.Laws.ReachLaws.{distances-unique, good-stored}
 use Rattle.judge.specs.Verdicts.{Judged}
 use Rattle.judge.specs.Laws.VerdictsLaws.{judged-unique}

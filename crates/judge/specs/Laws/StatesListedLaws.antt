@@ -14,7 +14,7 @@ use Rattle.model.specs.Limits.{stepLimit}
 use Rattle.model.specs.Model.{Model}
 use Rattle.model.specs.System.{LowStep}
 use Rattle.judge.specs.Inner.Stored.{Stored}
-use Rattle.judge.specs.Inner.MoveList.{Listed, Lists}
+use Rattle.ranking.specs.MoveList.{Listed, Lists}
 use Rattle.judge.specs.Inner.Listing.{Appended, StatesListed}
 
 -- ---- one state more

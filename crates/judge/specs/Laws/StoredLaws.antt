@@ -8,7 +8,6 @@ use Rattle.model.specs.declared.Head.{Head}
 use Rattle.model.specs.declared.StepLine.{StepLine}
 use Rattle.model.specs.Limits.{stepPlace}
 use Rattle.model.specs.Model.{Model}
-use Rattle.model.specs.StoredModel.{headAt, stepAt}
 use Rattle.model.specs.System.{source, action, target}
 use Rattle.judge.specs.Inner.Stored.{Stored}
 

@@ -16,12 +16,12 @@ use Rattle.lts.specs.TestsLaws.{T-cases, and-intro, and-left, and-right, not-T�
 use Rattle.lts.specs.CheckedLaws.{lowRank→Rank}
 use Rattle.lts.specs.DistanceLaws.{Reachable→within?, within?→Reachable}
 use Rattle.model.specs.Model.{high, Model}
-use Rattle.model.specs.System.{source, action, target, level, levels, Steps, Start, LowStep}
+use Rattle.model.specs.System.{source, action, target, level, levels, Steps, Start, LowStep, ReachableIn}
 use Rattle.judge.specs.Inner.Stored.{Stored}
 use Rattle.judge.specs.Inner.StepTest.{step?, start?}
-use Rattle.judge.specs.Laws.StepTestLaws.{T-eqb, decided-steps, decided-start}
-use Rattle.judge.specs.Table.{Greatest}
-use Rattle.judge.specs.Distances.{ReachableIn}
+use Rattle.lts.specs.TestsLaws.{T-eqb}
+use Rattle.judge.specs.Laws.StepTestLaws.{decided-steps, decided-start}
+use Rattle.ranking.specs.Table.{Greatest}
 use Rattle.judge.specs.Verdicts.{Leak, Judged}
 use Rattle.judge.specs.Laws.VerdictsLaws.{passed-of-no-leak}
 use Rattle.judge.specs.Inner.LeakSearch.{DepthAt, FoundBelow}

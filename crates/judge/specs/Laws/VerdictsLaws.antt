@@ -13,16 +13,16 @@ use Rattle.lts.specs.Noninterference.{BNID}
 use Rattle.lts.specs.Checked.{lowRank}
 use Rattle.lts.specs.CheckedLaws.{lowRank→Rank}
 use Rattle.model.specs.Model.{high, Model}
-use Rattle.model.specs.System.{source, action, target, level, levels, Steps, Start, LowStep}
+use Rattle.model.specs.System.{source, action, target, level, levels, Steps, Start, LowStep, HighStep, ReachableIn}
 use Rattle.judge.specs.declared.judge.Verdict.{Verdict}
 use Rattle.judge.specs.declared.judge.Verdict.the-variants.{Passed, Refused}
 use Rattle.judge.specs.Inner.Stored.{Stored}
 use Rattle.judge.specs.Inner.StepTest.{step?}
-use Rattle.judge.specs.Laws.StepTestLaws.{T-eqb, decided-steps}
-use Rattle.judge.specs.Distances.{ReachableIn}
-use Rattle.judge.specs.Table.{Greatest}
-use Rattle.judge.specs.Laws.RankPromiseLaws.{greatest-unique}
-use Rattle.judge.specs.Verdicts.{HighStep, Leak, PassedWith, RefusedAt, Judged}
+use Rattle.lts.specs.TestsLaws.{T-eqb}
+use Rattle.judge.specs.Laws.StepTestLaws.{decided-steps}
+use Rattle.ranking.specs.Table.{Greatest}
+use Rattle.ranking.specs.Laws.RankedLaws.{greatest-unique}
+use Rattle.judge.specs.Verdicts.{Leak, PassedWith, RefusedAt, Judged}
 
 -- the verdict is passed, or refused, with whatever numbers
 abbrev pub IsPassed : Verdict → Type 0

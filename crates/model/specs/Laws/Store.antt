@@ -13,3 +13,4 @@ pub mod NamePlacesLaws
 pub mod GoodPlacesLaws
 pub mod HoldsLaws
 pub mod GoodLaws
+pub mod SystemLaws

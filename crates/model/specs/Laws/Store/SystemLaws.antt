@@ -1,0 +1,53 @@
+-- For well-formed models, deterministic as document 01 says it (no reachable state has two steps of one action) is
+-- deterministic as `lts` says it (steps of one source and action have one target).
+-- Document 01, "Deterministic" and "The text". Assumes nothing.
+use mathlib.Core.Logic.{_⊎_, inl, inr, _↔_}
+use mathlib.Core.Path.{_≡_, refl, sym, ap, subst, _∙_}
+use Prim.Native.Nat.{ℕ, _≤_, _<_}
+use native.Mathlib.Omega.{arith}
+use lib.ListN.{length}
+use Rattle.lts.specs.Run.{Deterministic}
+use Rattle.lts.specs.TestsLaws.{lt-or-le}
+use Rattle.model.specs.Model.{Model}
+use Rattle.model.specs.System.{source, action, target, Steps, Start, ReachableIn, DeterministicModel}
+use Rattle.model.specs.WellFormed.{WellFormed}
+use Rattle.model.specs.Laws.Store.WellFormedLaws.{step-above}
+
+-- step j, as the step that it is
+pub own-step : (m : Model) (j : ℕ) → j < length (m .steps) → Steps m (source m j) (action m j) (target m j)
+own-step m j l = record { number = j; number-lt = l; source-is = refl; action-is = refl; target-is = refl }
+
+module _ (m : Model) where
+  pub deterministicModel→Deterministic : DeterministicModel m → Deterministic (Steps m) (Start m)
+  deterministicModel→Deterministic d p a q r reach x y =
+      let e : x .number ≡ y .number =
+      d .one-step (x .number) (y .number) (x .number-lt) (y .number-lt)
+      (subst (ReachableIn m) (sym (x .source-is)) reach) (x .source-is ∙ sym (y .source-is))
+      (x .action-is ∙ sym (y .action-is)) in
+      sym (x .target-is) ∙ ap (target m) e ∙ y .target-is
+
+  module _ (w : WellFormed m) where
+    pub Deterministic→deterministicModel : Deterministic (Steps m) (Start m) → DeterministicModel m
+    Deterministic→deterministicModel d = record { one-step = λ i j li lj r s a. go i j li lj r s a (lt-or-le i j) (lt-or-le j i) }
+      where
+        same-target : (i j : ℕ) → i < length (m .steps) → j < length (m .steps) → ReachableIn m (source m i)
+            → source m i ≡ source m j → action m i ≡ action m j → target m i ≡ target m j
+        same-target i j li lj r s a = d (source m j) (action m j) (target m i) (target m j)
+            (subst (ReachableIn m) s r)
+            (record { number = i; number-lt = li; source-is = s; action-is = a; target-is = refl })
+            (own-step m j lj)
+
+        go : (i j : ℕ) → i < length (m .steps) → j < length (m .steps) → ReachableIn m (source m i)
+            → source m i ≡ source m j → action m i ≡ action m j → (i < j) ⊎ (j ≤ i) → (j < i) ⊎ (i ≤ j) → i ≡ j
+        go i j li lj r s a (inl l) k =
+            let e = same-target i j li lj r s a in
+            let u = step-above m w i j l lj .target s a in
+            absurd (omega arith)
+        go i j li lj r s a (inr l) (inl k) =
+            let e = same-target i j li lj r s a in
+            let u = step-above m w j i k li .target (sym s) (sym a) in
+            absurd (omega arith)
+        go i j li lj r s a (inr l) (inr k) = omega arith
+
+    pub deterministic↔Deterministic : DeterministicModel m ↔ Deterministic (Steps m) (Start m)
+    deterministic↔Deterministic = (deterministicModel→Deterministic, Deterministic→deterministicModel)

@@ -1,0 +1,3 @@
+pub mod ClassList
+pub mod TableWrites
+pub mod Marks

@@ -1,0 +1,63 @@
+-- What a round writes into the table, over the class lists before and after it. Only the contracts of inner functions
+-- cite it. Document 01, operation 3.
+use mathlib.Core.List.{List}
+use mathlib.Core.Logic.{_⊎_}
+use mathlib.Core.Path.{_≡_}
+use Prim.Native.Nat.{ℕ, _+_, _≤_, _<_}
+use lib.ListN.{getD}
+use Rattle.lts.specs.Alike.{Moves, Alike, Separated}
+use Rattle.lts.specs.Game.{Settled, Separates}
+use Rattle.model.specs.Limits.{stateLimit}
+use Rattle.model.specs.Lists.{pairPlace}
+use Rattle.ranking.specs.Inner.ClassList.{Same}
+
+-- "Entry 128p + q"
+abbrev pub entryOf : List ℕ → ℕ → ℕ → ℕ
+entryOf table p q = getD table (pairPlace p q) 0
+
+-- p and q are of one class before the round, and of two after it.
+pub record SeparatedBy (class next : List ℕ) (p q : ℕ) : Type 0 where
+  pub same-before : Same class p q
+  pub not-same-after : ¬ (Same next p q)
+
+-- Entries that are not of two of the n states stand as they were.
+pub record Outside (n : ℕ) (entry exit : List ℕ) : Type 0 where
+  pub kept : (p q : ℕ) → q < stateLimit → (n ≤ p) ⊎ (n ≤ q) → entryOf exit p q ≡ entryOf entry p q
+
+-- Only entries of separated pairs of the n states have changed, to the round's number.
+pub record Written (n : ℕ) (class next : List ℕ) (round : ℕ) (entry exit : List ℕ) : Type 0 where
+  pub inside : (p q : ℕ) → p < n → q < n
+      → (entryOf exit p q ≡ entryOf entry p q) ⊎ (SeparatedBy class next p q × (entryOf exit p q ≡ round))
+  pub outside : Outside n entry exit
+
+-- p and q, if they are separated, have the round's number both ways.
+pub record PairWritten (class next : List ℕ) (round : ℕ) (table : List ℕ) (p q : ℕ) : Type 0 where
+  pub both : SeparatedBy class next p q → (entryOf table p q ≡ round) × (entryOf table q p ≡ round)
+
+-- So have p and each of the first m states.
+pub record RowWritten (class next : List ℕ) (round : ℕ) (table : List ℕ) (p m : ℕ) : Type 0 where
+  pub pair : (q : ℕ) → q < m → PairWritten class next round table p q
+
+-- So have those of the first m states that left their class, and each of the n states.
+pub record RowsWritten (class next : List ℕ) (round : ℕ) (table : List ℕ) (m n : ℕ) : Type 0 where
+  pub row : (p : ℕ) → p < m → ¬ (getD class p 0 ≡ getD next p 0) → RowWritten class next round table p n
+
+-- v says what the first k rounds found of p and q: the round that separated them, 0 if none did.
+abbrev pub RankUpTo : Moves → ℕ → ℕ → ℕ → ℕ → Type 0
+RankUpTo Move k p q v = ((v ≡ 0) × Alike Move k p q) ⊎ ((v ≤ k) × Separated Move p q v)
+
+-- The table says so of each two of the n states.
+pub record RanksUpTo (Move : Moves) (n k : ℕ) (table : List ℕ) : Type 0 where
+  pub found : (p q : ℕ) → p < n → q < n → RankUpTo Move k p q (entryOf table p q)
+
+-- The first m entries are 0, and the others as they were.
+pub record Cleared (m : ℕ) (entry exit : List ℕ) : Type 0 where
+  pub zeros : (i : ℕ) → i < m → getD exit i 0 ≡ 0
+  pub kept : (i : ℕ) → m ≤ i → getD exit i 0 ≡ getD entry i 0
+
+-- The table after the rounds: each of the first `last` separated a pair, and the next one none.
+pub record Finished (Move : Moves) (n last : ℕ) (entry exit : List ℕ) : Type 0 where
+  pub ranks : RanksUpTo Move n (last + 1) exit
+  pub separates : (k : ℕ) → k < last → Separates Move n k
+  pub settled : Settled Move n last
+  pub outside : Outside n entry exit

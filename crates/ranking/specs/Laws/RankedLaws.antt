@@ -1,0 +1,124 @@
+-- A ranked table is pinned: each byte of it, and the last separating round. And lists that have just the moves of a
+-- relation have its ranks: what is ranked by the lists is ranked by the relation.
+-- Document 01, "Rank" and operation 3. Assumes nothing.
+use mathlib.Core.List.{List}
+use mathlib.Core.Logic.{_⊎_, inl, inr, ⊎-elim}
+use mathlib.Core.Path.{_≡_, sym, _∙_, subst}
+use Prim.Native.Nat.{ℕ, _/_, _%_, _≤_, _<_}
+use native.Mathlib.Omega.{arith}
+use lib.ListN.{getD}
+use lib.Seq.{ext-getD}
+use Rattle.lts.specs.Alike.{Moves, Rank}
+use Rattle.lts.specs.AlikeLaws.{rank-unique}
+use Rattle.lts.specs.AgreeLaws.{separated-same, rank-same}
+use Rattle.lts.specs.TestsLaws.{lt-or-le}
+use Rattle.model.specs.Limits.{stateLimit}
+use Rattle.model.specs.Lists.{tableLength, pairPlace, Past}
+use Rattle.model.specs.Laws.ListsLaws.{past-getD}
+use Rattle.ranking.specs.MoveList.{Listed, MoveList, Lists}
+use Rattle.ranking.specs.Table.{SomePair, Ranks, LastRound, Greatest, Ranked}
+
+-- ---- one table, one answer
+
+-- each place of the table is the place of a pair
+place-pair : (i : ℕ) → i < tableLength → (p : ℕ) × (q : ℕ) × (p < stateLimit) × (q < stateLimit) × (i ≡ pairPlace p q)
+place-pair i l = (i / 128, i % 128, omega arith, omega arith, omega arith)
+
+module _ (Move : Moves) (n : ℕ) where
+  pub greatest-unique : (top top′ : ℕ) → Greatest Move n top → Greatest Move n top′ → top ≡ top′
+  greatest-unique top top′ g h =
+      let a = g .attained in
+      let b = h .attained in
+      let l = h .bound (a .one) (a .other) top (a .one-lt) (a .other-lt) (a .holds) in
+      let k = g .bound (b .one) (b .other) top′ (b .one-lt) (b .other-lt) (b .holds) in
+      omega arith
+
+  lastRound-le : (last last′ : ℕ) → LastRound Move n last → LastRound Move n last′ → last ≤ last′
+  lastRound-le last last′ r s =
+      ⊎-elim
+      (λ e. omega arith)
+      (λ x. s .none-later (x .one) (x .other) last (x .one-lt) (x .other-lt) (x .holds))
+      (r .separates)
+
+  pub lastRound-unique : (last last′ : ℕ) → LastRound Move n last → LastRound Move n last′ → last ≡ last′
+  lastRound-unique last last′ r s = omega (arith, lastRound-le last last′ r s, lastRound-le last′ last s r)
+
+  ranks-entry : (t u : List ℕ) → Ranks Move n t → Ranks Move n u → (p q : ℕ) → p < stateLimit → q < stateLimit
+      → getD t (pairPlace p q) 0 ≡ getD u (pairPlace p q) 0
+  ranks-entry t u r s p q lp lq = go (lt-or-le p n) (lt-or-le q n)
+    where
+      go : (p < n) ⊎ (n ≤ p) → (q < n) ⊎ (n ≤ q) → getD t (pairPlace p q) 0 ≡ getD u (pairPlace p q) 0
+      go (inl kp) (inl kq) = rank-unique Move p q _ _ (r .ranks p q kp kq) (s .ranks p q kp kq)
+      go (inl kp) (inr kq) = r .outside p q lp lq (inr kq) ∙ sym (s .outside p q lp lq (inr kq))
+      go (inr kp) kq = r .outside p q lp lq (inl kp) ∙ sym (s .outside p q lp lq (inl kp))
+
+  -- the whole list after a ranking
+  pub ranks-unique : (entry t u : List ℕ) → Ranks Move n t → Past tableLength entry t → Ranks Move n u
+      → Past tableLength entry u → t ≡ u
+  ranks-unique entry t u r x s y =
+      ext-getD 0 t u (x .same-length ∙ sym (y .same-length)) (λ i l.
+      ⊎-elim
+      (λ k.
+      let c = place-pair i k in
+      subst (λ (j : ℕ). getD t j 0 ≡ getD u j 0) (sym (c .4)) (ranks-entry t u r s (c .0) (c .1) (c .2) (c .3)))
+      (λ k. past-getD x i k ∙ sym (past-getD y i k))
+      (lt-or-le i tableLength))
+
+  pub ranked-unique : (entry t u : List ℕ) (last last′ : ℕ) → Ranked Move n entry t last → Ranked Move n entry u last′
+      → (last ≡ last′) × (t ≡ u)
+  ranked-unique entry t u last last′ r s = (
+    greatest-unique last last′ (r .greatest) (s .greatest),
+    ranks-unique entry t u (r .table) (r .past) (s .table) (s .past),
+  )
+
+-- ---- the lists and the relation
+
+module _ {Move : Moves} {n : ℕ} {first actions targets : List ℕ} (l : Lists Move n first actions targets) where
+  abbrev Played : Moves
+  Played = Listed n first actions targets
+
+  rank-forth : (p q : ℕ) {k : ℕ} → Rank Played p q k → Rank Move p q k
+  rank-forth = rank-same (l .sound) (l .complete)
+
+  rank-back : (p q : ℕ) {k : ℕ} → Rank Move p q k → Rank Played p q k
+  rank-back = rank-same (l .complete) (l .sound)
+
+  somePair-map : {P Q : ℕ → ℕ → Type 0} → ((p q : ℕ) → P p q → Q p q) → SomePair n P → SomePair n Q
+  somePair-map f x = record {
+    one = x .one;
+    other = x .other;
+    one-lt = x .one-lt;
+    other-lt = x .other-lt;
+    holds = f (x .one) (x .other) (x .holds);
+  }
+
+  ranked-of-played : {entry exit : List ℕ} {last : ℕ} → Ranked Played n entry exit last → Ranked Move n entry exit last
+  ranked-of-played {last = last} r = record {
+    table = record {
+      ranks = λ p q lp lq. rank-forth p q (r .table .ranks p q lp lq);
+      outside = r .table .outside;
+    };
+    past = r .past;
+    last-round = record {
+      separates =
+          ⊎-elim inl
+          (λ x. inr (somePair-map (λ p q. separated-same (l .sound) (l .complete) p q last .0) x))
+          (r .last-round .separates);
+      none-later = λ p q k lp lq x.
+          r .last-round .none-later p q k lp lq (separated-same (l .sound) (l .complete) p q k .1 x);
+    };
+    greatest = record {
+      attained = somePair-map (λ p q. rank-forth p q) (r .greatest .attained);
+      bound = λ p q k lp lq x. r .greatest .bound p q k lp lq (rank-back p q x);
+    };
+  }
+
+  -- the lists, and what is ranked by them, for a number that is n
+  module _ {x : ℕ} (e : x ≡ n) where
+    pub moveList-of-lists : MoveList x first actions targets
+    moveList-of-lists = subst (λ (y : ℕ). MoveList y first actions targets) (sym e) (l .moves)
+
+    pub ranked-of-listed : {entry exit : List ℕ} {last : ℕ}
+        → Ranked (Listed x first actions targets) x entry exit last → Ranked Move n entry exit last
+    ranked-of-listed {entry} {exit} {last} r =
+        ranked-of-played (subst (λ (y : ℕ). Ranked (Listed y first actions targets) y entry exit last) e r)

@@ -1,0 +1,156 @@
+-- The table starts right for round 0, and after the last round it keeps Rank's promise: what no round separated is
+-- bisimilar, and the last separating round is the greatest rank. Document 01, operation 3. Assumes nothing.
+use mathlib.Core.Path.{_≡_, refl, sym, _∙_, subst}
+use mathlib.Core.Logic.{_⊎_, inl, inr}
+use mathlib.Core.Bool.{Bool}
+use mathlib.Core.List.{List}
+use Prim.Native.Nat.{ℕ, zero, suc, _+_, _/_, _%_, _≤_, _<_}
+use native.Mathlib.Numerals.{add-one}
+use native.Mathlib.Omega.{arith}
+use lib.ListN.{length, getD, set, drop, length-drop}
+use lib.Seq.{getD-set-same, getD-set-other, getD-drop, ext-getD}
+use borrow.Author.Count.{below-more}
+use Rattle.lts.specs.Alike.{Moves, Alike, Separated, Rank, bisimilar}
+use Rattle.lts.specs.AlikeLaws.{alike-suc, bisimilar-refl, rank-of-separated}
+use Rattle.lts.specs.Game.{Game, Settled, Separates}
+use Rattle.lts.specs.GameLaws.{separated-of-separates, bisimilar-of-settled, rank-le-settled}
+use Rattle.model.specs.Limits.{stateLimit}
+use Rattle.model.specs.Lists.{tableLength, pairPlace, Past}
+use Rattle.ranking.specs.Table.{SomePair, Ranked}
+use Rattle.ranking.specs.Inner.ClassList.{Classes, Refined, Moved}
+use Rattle.ranking.specs.Laws.ClassListLaws.{classes-suc, separates-of-moved, settled-of-not-moved}
+use Rattle.ranking.specs.Inner.TableWrites.{
+  entryOf,
+  Written,
+  RowsWritten,
+  RankUpTo,
+  RanksUpTo,
+  Cleared,
+  Finished,
+}
+use Rattle.ranking.specs.Laws.TableWritesLaws.{ranksUpTo-suc}
+
+-- ---- the cleared table
+
+pub cleared-zero : (t : List ℕ) → Cleared 0 t t
+cleared-zero t = record { zeros = λ i l. absurd (omega arith); kept = λ i l. refl }
+
+pub cleared-add-one : {m : ℕ} {t u : List ℕ} → Cleared m t u → m < length u → Cleared (m + 1) t (set u m 0)
+cleared-add-one {m} {t} {u} C l = record {
+  zeros = below-more _ m (λ i k. getD-set-other u m i 0 0 (λ e. omega arith) ∙ C .zeros i k) (getD-set-same u m 0 0 l);
+  kept = λ i k. getD-set-other u m i 0 0 (λ e. omega arith) ∙ C .kept i (omega arith);
+}
+
+pub cleared-at : {m n : ℕ} {t u : List ℕ} → m ≡ n → Cleared m t u → Cleared n t u
+cleared-at {t = t} {u = u} e C = subst (λ (x : ℕ). Cleared x t u) e C
+
+pub ranksUpTo-zero : (Move : Moves) {n : ℕ} {t u : List ℕ} → n ≤ stateLimit → Cleared tableLength t u
+    → RanksUpTo Move n 0 u
+unfolding Alike
+ranksUpTo-zero Move l C = record { found = λ p q lp lq. inl (C .zeros (pairPlace p q) (omega arith), tt) }
+
+-- ---- one round
+
+module _ {Move : Moves} {n : ℕ} (target-lt : (p a q : ℕ) → Move p a q → q < n) {class next : List ℕ} {k : ℕ}
+    (C : Classes Move n k class) (R : Refined Move class next n) where
+  D : Classes Move n (suc k) next
+  D = classes-suc target-lt C R
+
+  pub round-classes : Classes Move n (k + 1) next
+  round-classes = subst (λ (j : ℕ). Classes Move n j next) (sym (add-one k)) D
+
+  pub round-ranks : {t u : List ℕ} → Written n class next (k + 1) t u → RowsWritten class next (k + 1) u n n
+      → RanksUpTo Move n k t → RanksUpTo Move n (k + 1) u
+  round-ranks {t} {u} W rows U = subst (λ (j : ℕ). RanksUpTo Move n j u) (sym (add-one k))
+      (ranksUpTo-suc target-lt C D (subst (λ (j : ℕ). Written n class next j t u) (add-one k) W)
+      (subst (λ (j : ℕ). RowsWritten class next j u n n) (add-one k) rows) U)
+
+  pub round-separates : ((j : ℕ) → j < k → Separates Move n j) → Moved class next n → (j : ℕ) → j < k + 1
+      → Separates Move n j
+  round-separates h m = below-more _ k h (separates-of-moved target-lt C D m)
+
+  pub round-settled : ¬ (Moved class next n) → Settled Move n k
+  round-settled m = settled-of-not-moved target-lt C D m
+
+-- ---- after the last round
+
+module _ {Move : Moves} {n : ℕ} {round : (ℕ → ℕ → Bool) → ℕ → ℕ → Bool} (G : Game Move n round) (some : 0 < n)
+    {last : ℕ} {t u w : List ℕ} (limit : n ≤ stateLimit) (C : Cleared tableLength t u) (F : Finished Move n last u w)
+    (same-length : length w ≡ length t) where
+  -- A pair that round `last` separated, if there is such a round.
+  LastPair : ℕ → Type 0
+  LastPair k = (k ≡ 0) ⊎ SomePair n (λ p q. Separated Move p q k)
+
+  last-pair : LastPair last
+  unfolding LastPair
+  last-pair = go last refl
+    where
+      go : (k : ℕ) → last ≡ k → LastPair k
+      go zero e = inl refl
+      go (suc k) e =
+          let s = F .separates k (omega arith) in
+          inr (record {
+            one = s .one;
+            other = s .other;
+            one-lt = s .one-lt;
+            other-lt = s .other-lt;
+            holds = separated-of-separates Move n k s;
+          })
+
+  rank-le-last : (p q r : ℕ) → p < n → q < n → Rank Move p q r → r ≤ last
+  rank-le-last p q r lp lq x = rank-le-settled Move n round G last p q r (F .settled) lp lq x
+
+  rank-of-found : (p q v : ℕ) → p < n → q < n → RankUpTo Move (last + 1) p q v → Rank Move p q v
+  rank-of-found p q v lp lq (inl (z, h)) =
+      let g : Alike Move last p q = alike-suc Move last p q (subst (λ (k : ℕ). Alike Move k p q) (add-one last) h) in
+      let b = bisimilar-of-settled Move n round G last p q (F .settled) lp lq g in
+      subst (Rank Move p q) (sym z) (bisimilar b)
+  rank-of-found p q v lp lq (inr (l, x)) = rank-of-separated Move p q v x
+
+  attained : LastPair last → SomePair n (λ p q. Rank Move p q last)
+  unfolding LastPair
+  attained (inl e) = record {
+    one = 0;
+    other = 0;
+    one-lt = some;
+    other-lt = some;
+    holds = subst (Rank Move 0 0) (sym e) (bisimilar (bisimilar-refl Move 0));
+  }
+  attained (inr s) = record {
+    one = s .one;
+    other = s .other;
+    one-lt = s .one-lt;
+    other-lt = s .other-lt;
+    holds = rank-of-separated Move (s .one) (s .other) last (s .holds);
+  }
+
+  -- A place past the least length is that of a row past the states.
+  past-kept : (i : ℕ) → getD w (tableLength + i) 0 ≡ getD t (tableLength + i) 0
+  past-kept i =
+      let p = (tableLength + i) / 128 in
+      let q = (tableLength + i) % 128 in
+      let e : pairPlace p q ≡ tableLength + i = omega arith in
+      let k : entryOf w p q ≡ entryOf u p q = F .outside .kept p q (omega arith) (inl (omega arith)) in
+      subst (λ (x : ℕ). getD w x 0 ≡ getD u x 0) e k ∙ C .kept (tableLength + i) (omega arith)
+
+  past : Past tableLength t w
+  past = record {
+    same-length = same-length;
+    kept = ext-getD 0 (drop tableLength w) (drop tableLength t) (simp length-drop (omega arith))
+        (λ i l. getD-drop tableLength w i 0 ∙ past-kept i ∙ sym (getD-drop tableLength t i 0));
+  }
+
+  pub ranked-of-finished : Ranked Move n t w last
+  unfolding LastPair
+  ranked-of-finished = record {
+    table = record {
+      ranks = λ p q lp lq. rank-of-found p q (entryOf w p q) lp lq (F .ranks .found p q lp lq);
+      outside = λ p q lp lq d. F .outside .kept p q lq d ∙ C .zeros (pairPlace p q) (omega arith);
+    };
+    past = past;
+    last-round = record {
+      separates = last-pair;
+      none-later = λ p q k lp lq x. rank-le-last p q k lp lq (rank-of-separated Move p q k x);
+    };
+    greatest = record { attained = attained last-pair; bound = rank-le-last };
+  }

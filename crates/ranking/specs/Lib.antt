@@ -1,0 +1,4 @@
+pub mod Laws
+pub mod Inner
+pub mod MoveList
+pub mod Table

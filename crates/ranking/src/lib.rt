@@ -1,0 +1,2 @@
+// Ranks of states by classes, over moves given as lists.
+pub mod classes;
