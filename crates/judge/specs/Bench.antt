@@ -5,7 +5,7 @@ use mathlib.Core.Path.{_≡_}
 use Prim.Native.Nat.{ℕ}
 use Rattle.lts.specs.Run.{Deterministic}
 use Rattle.lts.specs.Noninterference.{thin, SameLow}
-use Rattle.model.specs.Model.{Model}
+use Rattle.text.specs.Model.{Model}
 use Rattle.model.specs.Reading.{done, readText}
 use Rattle.model.specs.System.{source, target, levels, Steps, Start, ReachableIn}
 use Rattle.judge.specs.declared.judge.Verdict.{Verdict}

@@ -3,8 +3,8 @@
 -- last."
 use mathlib.Core.List.{List, [], _∷_, _++_}
 use Prim.Native.Nat.{ℕ, _+_}
-use Rattle.model.specs.declared.StepLine.{StepLine}
-use Rattle.model.specs.Model.{low, release, high, Model}
+use Rattle.text.specs.declared.StepLine.{StepLine}
+use Rattle.text.specs.Model.{low, release, high, Model}
 
 -- ---- lines of the texts; each number has one digit
 

@@ -6,7 +6,7 @@ use lib.Dec.{eqb, ltb}
 use lib.ListN.{length}
 use Rattle.lts.specs.Decided.{within?}
 use Rattle.lts.specs.Checked.{lowRank}
-use Rattle.model.specs.Model.{high, Model}
+use Rattle.text.specs.Model.{high, Model}
 use Rattle.model.specs.System.{source, action, target, level, levels}
 use Rattle.judge.specs.declared.judge.Verdict.{Verdict}
 use Rattle.judge.specs.declared.judge.Verdict.the-variants.{Passed, Refused}

@@ -1,7 +1,7 @@
 // Where the steps of each state begin, and the role of each action: found once, and handed to all that need them.
-use model::Action;
-use model::State;
-use model::Step;
+use text::Action;
+use text::State;
+use text::Step;
 ghost use Prim.Native.Nat.{_+_, _≤_, _<_};
 ghost use lib.ListN.{length};
 ghost use Rattle.model.specs.StoredModel.{modelAt};

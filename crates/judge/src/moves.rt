@@ -1,9 +1,9 @@
 // The moves that are played, as lists: the low steps of each state. No other module knows what a move is.
-use model::State;
-use model::Step;
+use text::State;
+use text::Step;
 ghost use Prim.Native.Nat.{_+_, _≤_, _<_};
 ghost use lib.ListN.{length, getD};
-ghost use Rattle.model.specs.Limits.{stepLimit};
+ghost use Rattle.text.specs.Limits.{stepLimit};
 ghost use Rattle.model.specs.StoredModel.{modelAt};
 ghost use Rattle.model.specs.System.{levels, LowStep};
 ghost use Rattle.judge.specs.Inner.Stored.{Stored};

@@ -7,8 +7,8 @@ use native.Mathlib.Omega.{arith}
 use lib.ListN.{length}
 use borrow.Author.Tests.{lt-ltb, le-ltb}
 use Rattle.model.specs.declared.write.WriteAnswer.the-variants.{Written, ShortList, NotGood}
-use Rattle.model.specs.Faults.{answers, firstShort}
-use Rattle.model.specs.Limits.{storeLength, outLength}
+use Rattle.text.specs.Faults.{answers, firstShort}
+use Rattle.text.specs.Limits.{storeLength, outLength}
 use Rattle.model.specs.Laws.OnStoreLaws.{onStore-short, onStore-not-good, onStore-good}
 use Rattle.model.specs.Promises.{writeOutcome, writeLists, WritePromise}
 use Rattle.model.specs.Laws.PromisesLaws.{writeLists-none}

@@ -5,7 +5,7 @@ use mathlib.Core.Path.{_≡_}
 use Prim.Native.Nat.{ℕ, _+_, _≤_, _<_}
 use lib.ListN.{getD}
 use Rattle.lts.specs.Alike.{Moves}
-use Rattle.model.specs.Limits.{stateLimit, actionLimit, stepLimit}
+use Rattle.text.specs.Limits.{stateLimit, actionLimit, stepLimit}
 
 -- The lists have a move from p with the action a to q.
 pub record Listed (n : ℕ) (first actions targets : List ℕ) (p a q : ℕ) : Type 0 where

@@ -1,12 +1,12 @@
 // Ranks by classes, over moves given as lists: entry p of a class list is the lowest state of the class of p, and each
 // round compares states by the classes of the round before.
-use model::State;
+use text::State;
 ghost use mathlib.Core.Path.{_≡_};
 ghost use Prim.Native.Nat.{ℕ, _+_, _≤_, _<_};
 ghost use lib.ListN.{length, getD};
 ghost use Rattle.lts.specs.Alike.{Answered, Answers};
-ghost use Rattle.model.specs.Decides.{Decides};
-ghost use Rattle.model.specs.Limits.{stateLimit};
+ghost use Rattle.text.specs.Decides.{Decides};
+ghost use Rattle.text.specs.Limits.{stateLimit};
 ghost use Rattle.model.specs.Lists.{tableLength};
 ghost use Rattle.ranking.specs.Table.{Ranked};
 ghost use Rattle.ranking.specs.MoveList.{Listed, MoveList};

@@ -3,9 +3,9 @@ use mathlib.Core.List.{List}
 use mathlib.Core.Path.{_≡_, subst}
 use Prim.Native.Nat.{ℕ}
 use native.Mathlib.Omega.{arith}
-use Rattle.model.specs.declared.Fault.{Fault}
-use Rattle.model.specs.declared.Fault.the-variants.{Absent, Shape, Digits, Range, Repeated, Order}
-use Rattle.model.specs.Faults.{Outcome, faultNumber}
+use Rattle.text.specs.declared.Fault.{Fault}
+use Rattle.text.specs.declared.Fault.the-variants.{Absent, Shape, Digits, Range, Repeated, Order}
+use Rattle.text.specs.Faults.{Outcome, faultNumber}
 
 -- a promise on one list that is lent to be filled
 pub promise-told : (P : List ℕ → List ℕ → Outcome → List ℕ → Type 0) {a b exit : List ℕ} {t u : Outcome}

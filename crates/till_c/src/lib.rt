@@ -4,13 +4,13 @@ use judge::judge::Verdict;
 use judge::rank::RankAnswer;
 use judge::reach::ReachAnswer;
 use judge::run::RunAnswer;
-use model::Fault;
-use model::State;
 use model::read::ReadAnswer;
 use model::write::WriteAnswer;
+use text::Fault;
+use text::State;
 ghost use mathlib.Core.Path.{_≡_};
 ghost use mathlib.Core.List.{[], _∷_};
-ghost use Rattle.model.specs.Faults.{answers, refuses, faultNumber};
+ghost use Rattle.text.specs.Faults.{answers, refuses, faultNumber};
 ghost use Rattle.model.specs.Promises.{ReadPromise, WritePromise};
 ghost use Rattle.judge.specs.Promises.{ReachPromise, RankPromise, JudgePromise, RunPromise, verdictOutcome};
 ghost use Rattle.till_c.specs.Answer.{answerOutcome};
@@ -82,7 +82,7 @@ fn done() -> TillAnswer
 fn faulty(fault: Fault, line: usize) -> TillAnswer
     ensures { λ r. ⌜ answerOutcome r ≡ refuses (faultNumber fault) line ⌝ }
 {
-    let number = model::fault_number(fault);
+    let number = text::fault_number(fault);
     refusal(number as u64, line)
 }
 

@@ -3,8 +3,8 @@
 use mathlib.Core.List.{List}
 use Prim.Native.Nat.{ℕ, _≤_}
 use lib.ListN.{length}
-use Rattle.model.specs.Limits.{actionLimit}
-use Rattle.model.specs.Model.{Model}
+use Rattle.text.specs.Limits.{actionLimit}
+use Rattle.text.specs.Model.{Model}
 use Rattle.model.specs.System.{levels}
 use Rattle.judge.specs.declared.judge.Verdict.{Verdict}
 use Rattle.model.specs.Lists.{distancesLength, tableLength}

@@ -15,14 +15,14 @@ use Rattle.lts.specs.Decided.{Decided, answered?, answers?, simulation?, within
 use Rattle.lts.specs.DecidedLaws.{simulation?→Answered}
 use Rattle.lts.specs.Checked.{lowMove?}
 use Rattle.lts.specs.CheckedLaws.{decided-low}
-use Rattle.model.specs.Limits.{storeLength}
-use Rattle.model.specs.Bytes.{kindOf}
-use Rattle.model.specs.Numbers.{digitsValue, numberShape?, numberOf}
-use Rattle.model.specs.Split.{consFirst, split, same?}
-use Rattle.model.specs.Model.{Model, above?, aboveLast?}
-use Rattle.model.specs.Lines.{checked, fieldsFrom, fieldsOf, consNumber, numbersOf, numbersFrom, numbersLine}
-use Rattle.model.specs.Lines.{headFits?, headFrom, headOf, levelOf, allOf, nameByte?, name?, nameFrom, actionFields}
-use Rattle.model.specs.Lines.{used?, actionFrom, actionOf, stepFits?, rising, stepFrom, stepOf}
+use Rattle.text.specs.Limits.{storeLength}
+use Rattle.text.specs.Bytes.{kindOf}
+use Rattle.text.specs.Numbers.{digitsValue, numberShape?, numberOf}
+use Rattle.text.specs.Split.{consFirst, split, same?}
+use Rattle.text.specs.Model.{Model, above?, aboveLast?}
+use Rattle.text.specs.Lines.{checked, fieldsFrom, fieldsOf, consNumber, numbersOf, numbersFrom, numbersLine}
+use Rattle.text.specs.Lines.{headFits?, headFrom, headOf, levelOf, allOf, nameByte?, name?, nameFrom, actionFields}
+use Rattle.text.specs.Lines.{used?, actionFrom, actionOf, stepFits?, rising, stepFrom, stepOf}
 use Rattle.model.specs.Reading.{done, onLine, orFault, readNothing, readEnd, readSteps, readActions}
 use Rattle.model.specs.Reading.{readModel, readText}
 use Rattle.model.specs.Laws.Text.ReadingLaws.{textOf-of-readText}

@@ -8,7 +8,7 @@ use native.Mathlib.Omega.{arith}
 use lib.ListN.{length, getD, set}
 use lib.Seq.{getD-set-same, getD-set-other}
 use Rattle.lts.specs.TestsLaws.{lt-or-le, lt-suc-cases}
-use Rattle.model.specs.Model.{Model}
+use Rattle.text.specs.Model.{Model}
 use Rattle.model.specs.System.{source}
 use Rattle.judge.specs.Inner.Stored.{Stored}
 use Rattle.judge.specs.Inner.Index.{Begins, Index}

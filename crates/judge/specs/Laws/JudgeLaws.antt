@@ -5,9 +5,9 @@ use mathlib.Core.Option.{Option, none}
 use mathlib.Core.Path.{_≡_, refl, sym, ap, subst, _∙_}
 use Prim.Native.Nat.{ℕ, _≤_, _<_}
 use lib.ListN.{length}
-use Rattle.model.specs.Limits.{storeLength}
-use Rattle.model.specs.Faults.{Outcome}
-use Rattle.model.specs.Model.{Model}
+use Rattle.text.specs.Limits.{storeLength}
+use Rattle.text.specs.Faults.{Outcome}
+use Rattle.text.specs.Model.{Model}
 use Rattle.model.specs.Store.{Good}
 use Rattle.model.specs.StoredModel.{modelAt}
 use Rattle.model.specs.Laws.Store.StoredModelLaws.{good-model}

@@ -3,7 +3,7 @@
 use mathlib.Core.List.{List, [], _∷_}
 use mathlib.Core.Path.{_≡_, sym, ap, _∙_}
 use Prim.Native.Nat.{ℕ}
-use Rattle.model.specs.Faults.{Outcome, answers}
+use Rattle.text.specs.Faults.{Outcome, answers}
 use Rattle.model.specs.Laws.PromisesLaws.{onStore-unique}
 use Rattle.model.specs.System.{LowStep}
 use Rattle.judge.specs.Promises.{rankLists, RankPromise}

@@ -15,7 +15,7 @@ use Rattle.lts.specs.AlikeLaws.{rank-unique}
 use Rattle.lts.specs.TestsLaws.{T-cases, and-intro, and-left, and-right, not-T→false, lt-suc-cases, lt-or-le}
 use Rattle.lts.specs.CheckedLaws.{lowRank→Rank}
 use Rattle.lts.specs.DistanceLaws.{Reachable→within?, within?→Reachable}
-use Rattle.model.specs.Model.{high, Model}
+use Rattle.text.specs.Model.{high, Model}
 use Rattle.model.specs.System.{source, action, target, level, levels, Steps, Start, LowStep, ReachableIn}
 use Rattle.judge.specs.Inner.Stored.{Stored}
 use Rattle.judge.specs.Inner.StepTest.{step?, start?}

@@ -5,7 +5,7 @@ use mathlib.Core.Option.{none, some}
 use mathlib.Core.Path.{_≡_, refl}
 use Prim.Native.Nat.{ℕ, suc, _≤_, _<_}
 use borrow.Author.Tests.{lt-ltb, le-ltb}
-use Rattle.model.specs.Faults.{firstShort}
+use Rattle.text.specs.Faults.{firstShort}
 
 module _ (k : ℕ) where
   pub firstShort-nil : firstShort k [] [] ≡ none

@@ -5,7 +5,7 @@ use mathlib.Core.Option.{Option, none, some}
 use mathlib.Core.Path.{_≡_, ap, _∙_}
 use Prim.Native.Nat.{ℕ}
 use native.Mathlib.Omega.{arith}
-use Rattle.model.specs.Faults.{Outcome, refuses}
+use Rattle.text.specs.Faults.{Outcome, refuses}
 use Rattle.model.specs.Promises.{OnStore}
 use Rattle.model.specs.Store.{Good}
 

@@ -9,9 +9,9 @@ use native.Mathlib.Omega.{arith}
 use lib.ListN.{length, take, drop, length-append, length-drop}
 use lib.Seq.{take-at}
 use borrow.Author.Tests.{le-ltb}
-use Rattle.model.specs.Limits.{storeLength, outLength}
-use Rattle.model.specs.Faults.{Outcome, answers, firstShort}
-use Rattle.model.specs.Model.{Model}
+use Rattle.text.specs.Limits.{storeLength, outLength}
+use Rattle.text.specs.Faults.{Outcome, answers, firstShort}
+use Rattle.text.specs.Model.{Model}
 use Rattle.model.specs.Reading.{Reading, done, tooLong, faulty, readText}
 use Rattle.model.specs.Laws.Text.ReadingLaws.{textOf-of-readText}
 use Rattle.model.specs.Store.{storeOf, Good}

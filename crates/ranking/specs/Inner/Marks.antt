@@ -6,7 +6,7 @@ use mathlib.Core.Path.{_≡_}
 use Prim.Native.Nat.{ℕ, _+_, _*_, _≤_, _<_}
 use lib.ListN.{length, getD}
 use Rattle.lts.specs.Alike.{Moves}
-use Rattle.model.specs.Limits.{stateLimit, actionLimit, stepLimit}
+use Rattle.text.specs.Limits.{stateLimit, actionLimit, stepLimit}
 
 -- A place for each action and state.
 abbrev pub marksLength : ℕ

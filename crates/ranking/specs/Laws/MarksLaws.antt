@@ -11,9 +11,9 @@ use lib.ListN.{length, getD, set, replicate, length-replicate}
 use lib.Seq.{getD-set-same, getD-set-other}
 use Rattle.lts.specs.TestsLaws.{lt-suc-cases}
 use Rattle.lts.specs.Alike.{Moves, Answered}
-use Rattle.model.specs.Decides.{Decides}
+use Rattle.text.specs.Decides.{Decides}
 use Rattle.model.specs.Laws.Store.DecidesLaws.{decides-iff}
-use Rattle.model.specs.Limits.{stateLimit}
+use Rattle.text.specs.Limits.{stateLimit}
 use Rattle.ranking.specs.MoveList.{Listed, MoveList}
 use Rattle.ranking.specs.Laws.MoveListLaws.{place-lt-last}
 use Rattle.ranking.specs.Inner.ClassList.{Same, Refinable}

@@ -12,7 +12,7 @@ use Rattle.lts.specs.Alike.{Moves, Rank}
 use Rattle.lts.specs.AlikeLaws.{rank-unique}
 use Rattle.lts.specs.AgreeLaws.{separated-same, rank-same}
 use Rattle.lts.specs.TestsLaws.{lt-or-le}
-use Rattle.model.specs.Limits.{stateLimit}
+use Rattle.text.specs.Limits.{stateLimit}
 use Rattle.model.specs.Lists.{tableLength, pairPlace, Past}
 use Rattle.model.specs.Laws.ListsLaws.{past-getD}
 use Rattle.ranking.specs.MoveList.{Listed, MoveList, Lists}

@@ -14,7 +14,7 @@ use Rattle.lts.specs.Alike.{Moves, Alike, Separated, Rank, bisimilar}
 use Rattle.lts.specs.AlikeLaws.{alike-suc, bisimilar-refl, rank-of-separated}
 use Rattle.lts.specs.Game.{Game, Settled, Separates}
 use Rattle.lts.specs.GameLaws.{separated-of-separates, bisimilar-of-settled, rank-le-settled}
-use Rattle.model.specs.Limits.{stateLimit}
+use Rattle.text.specs.Limits.{stateLimit}
 use Rattle.model.specs.Lists.{tableLength, pairPlace, Past}
 use Rattle.ranking.specs.Table.{SomePair, Ranked}
 use Rattle.ranking.specs.Inner.ClassList.{Classes, Refined, Moved}

@@ -2,8 +2,8 @@
 use mathlib.Core.Path.{sym, ap, _∙_}
 use native.Mathlib.Omega.{arith}
 use borrow.Author.Needs.{needs}
-use Rattle.model.specs.declared.State.{State}
-use Rattle.model.specs.declared.Action.{Action}
+use Rattle.text.specs.declared.State.{State}
+use Rattle.text.specs.declared.Action.{Action}
 use Rattle.judge.specs.Laws.StoredLaws.{stored-action, stored-target}
 use Rattle.judge.specs.Laws.RolesLaws.{low-of-role, role-of-low}
 use Rattle.judge.specs.Laws.ListingLaws.{appended-not-low, appended-low}
