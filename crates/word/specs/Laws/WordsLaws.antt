@@ -1,0 +1,1 @@
+-- Whether a model branches, and the word: one answer. Document 01, operation 6. Assumes nothing.
