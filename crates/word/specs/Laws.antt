@@ -1,0 +1,6 @@
+pub mod WordsLaws
+pub mod LettersLaws
+pub mod LastLetterLaws
+pub mod WordHeadLaws
+pub mod WordPromiseLaws
+pub mod ClaimLaws

@@ -1,0 +1,1 @@
+-- The promises of Read, Judge and Word give demand 3. Document 01, "Demand 3 is one claim [..]". Assumes nothing.

@@ -1,0 +1,6 @@
+pub mod Inner
+pub mod Laws
+pub mod Words
+pub mod Promises
+pub mod Claim
+pub mod Tells

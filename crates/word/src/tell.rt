@@ -1,0 +1,20 @@
+// From a text to what is told of it.
+use crate::word::WordAnswer;
+use judge::judge::JudgeAnswer;
+use model::read::ReadAnswer;
+ghost use Rattle.word.specs.Tells.{TellPromise, TellClaim};
+
+// Read's refusal; or what Judge and Word answer.
+pub enum TextAnswer {
+    Unread(ReadAnswer),
+    Judged(JudgeAnswer, WordAnswer),
+}
+
+// Reads a text, judges it and asks for the word.
+pub fn tell(text: &[u8], store: &mut [u16], distances: &mut [u16], table: &mut [u8], word: &mut [u16]) -> TextAnswer
+    ensures { λ r. ⌜ TellPromise (now (text .entry)) (now (store .entry)) (now (distances .entry)) (now (table .entry))
+        (now (word .entry)) r (now (store .exit)) (now (distances .exit)) (now (table .exit)) (now (word .exit)) ⌝ }
+    ensures { λ r. ⌜ TellClaim (now (text .entry)) r (now (word .exit)) ⌝ }
+{
+    TextAnswer::Unread(model::read::read(text, store))
+}
