@@ -1,2 +1,4 @@
 pub mod WordsLaws
+pub mod LeastLeakLaws
+pub mod ReadTextLaws
 pub mod ClaimLaws
