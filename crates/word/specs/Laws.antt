@@ -1,4 +1,6 @@
 pub mod WordsLaws
+pub mod WordAnswersLaws
 pub mod LeastLeakLaws
 pub mod ReadTextLaws
 pub mod ClaimLaws
+pub mod TellLaws
