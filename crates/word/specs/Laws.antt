@@ -3,4 +3,5 @@ pub mod WordAnswersLaws
 pub mod LeastLeakLaws
 pub mod ReadTextLaws
 pub mod ClaimLaws
+pub mod TellingLaws
 pub mod TellLaws

@@ -2,10 +2,9 @@
 use native.Mathlib.Omega.{arith}
 use borrow.Author.Needs.{needs}
 use Rattle.judge.specs.Laws.GoodStoredLaws.{good→Stored}
-use Rattle.judge.specs.Laws.JudgeLaws.{judge-second-short, judge-third-short, judge-done}
-use Rattle.word.specs.Laws.WordAnswersLaws.{word-second-short, word-third-short, word-fourth-short, word-done}
-use Rattle.word.specs.Laws.WordAnswersLaws.{filled-again, judged-distances-long, judged-table-long}
 use Rattle.word.specs.Laws.WordAnswersLaws.{judging→Showable}
+use Rattle.word.specs.Laws.TellingLaws.{telling-second-short, telling-third-short, telling-fourth-short}
+use Rattle.word.specs.Laws.TellingLaws.{telling-done}
 use Rattle.word.proofs.tell.judge_text.Statement.{statement}
 use Rattle.word.proofs.tell.judge_text.Tie as tie
 
@@ -13,24 +12,16 @@ returns : tie.Need-returns
 returns c =
     let start = c .before .before .before .before .before in
     let args = start .args in
-    record {
-      judge-promise = judge-second-short (args .store .now) (args .distances .now) (args .table .now) (start .pre .0)
-          (c .if1 .taken);
-      word-promise = word-second-short (args .store .now) (args .distances .now) (args .table .now) (args .word .now)
-          (start .pre .0) (c .if1 .taken);
-    }
+    telling-second-short (args .store .now) (args .distances .now) (args .table .now) (args .word .now)
+    (start .pre .0) (c .if1 .taken)
 
 returns-2 : tie.Need-returns-2
 returns-2 c =
-    let second-long = c .before .if1 .left in
-    let start = c .before .before .before .before .before .before in
+    let second-long = c .before in
+    let start = second-long .before .before .before .before .before in
     let args = start .args in
-    record {
-      judge-promise = judge-third-short (args .store .now) (args .distances .now) (args .table .now) (start .pre .0)
-          second-long (c .if2 .taken);
-      word-promise = word-third-short (args .store .now) (args .distances .now) (args .table .now) (args .word .now)
-          (start .pre .0) second-long (c .if2 .taken);
-    }
+    telling-third-short (args .store .now) (args .distances .now) (args .table .now) (args .word .now) (start .pre .0)
+    (second-long .if1 .left) (c .if2 .taken)
 
 slice-aggregate-judge-good : tie.Need-slice-aggregate-judge-good
 slice-aggregate-judge-good c = search needs
@@ -64,15 +55,8 @@ returns-3 c =
     let second-long = third-long .before in
     let start = second-long .before .before .before .before .before in
     let args = start .args in
-    let store = args .store .now in
-    let judging = judged .judge-good .ensures in
-    record {
-      judge-promise = judge-done store (args .distances .now) (args .table .now) (start .pre .0) (second-long .if1 .left)
-          (third-long .if2 .left) (start .pre .1) _ _ _ _ _ judging;
-      word-promise = word-fourth-short store _ _ (args .word .now) (start .pre .0) (judged-distances-long judging
-          (second-long .if1 .left) (third-long .if2 .left)) (judged-table-long judging (second-long .if1 .left)
-          (third-long .if2 .left)) (c .if3 .taken);
-    }
+    telling-fourth-short (args .store .now) (args .distances .now) (args .table .now) (args .word .now) (start .pre .0)
+    (second-long .if1 .left) (third-long .if2 .left) (start .pre .1) (judged .judge-good .ensures) (c .if3 .taken)
 
 slice-aggregate-show : tie.Need-slice-aggregate-show
 slice-aggregate-show c = search needs
@@ -82,8 +66,8 @@ slice-aggregate-show-2 c = search needs
 
 show-requires : tie.Need-show-requires
 show-requires c κs =
-    let word-long = c .before .before .before .before .before in
-    let judged = word-long .before .before .before .before .before .before .before in
+    let fourth-long = c .before .before .before .before .before in
+    let judged = fourth-long .before .before .before .before .before .before .before in
     let third-long = judged .before .before .before .before .before in
     let second-long = third-long .before in
     let start = second-long .before .before .before .before .before in
@@ -91,7 +75,7 @@ show-requires c κs =
     judging→Showable (judged .judge-good .ensures) (second-long .if1 .left) (third-long .if2 .left) store
     (start .args .word .now) (good→Stored store (start .pre .0) (start .pre .1))
     (omega (arith, judged .judge-good .kept .1 .0)) (omega (arith, judged .judge-good .kept .1 .1 .0))
-    (word-long .if3 .left)
+    (fourth-long .if3 .left)
 
 same-length-3 : tie.Need-same-length-3
 same-length-3 c = search needs
@@ -105,22 +89,15 @@ same-length-5 c = search needs
 returns-4 : tie.Need-returns-4
 returns-4 c =
     let shown = c .before .before in
-    let word-long = shown .before .before .before .before .before .before in
-    let judged = word-long .before .before .before .before .before .before .before in
+    let fourth-long = shown .before .before .before .before .before .before in
+    let judged = fourth-long .before .before .before .before .before .before .before in
     let third-long = judged .before .before .before .before .before in
     let second-long = third-long .before in
     let start = second-long .before .before .before .before .before in
     let args = start .args in
-    let store = args .store .now in
-    let judging = judged .judge-good .ensures in
-    record {
-      judge-promise = judge-done store (args .distances .now) (args .table .now) (start .pre .0) (second-long .if1 .left)
-          (third-long .if2 .left) (start .pre .1) _ _ _ _ _ judging;
-      word-promise = word-done store _ _ (args .word .now) (start .pre .0) (judged-distances-long judging
-          (second-long .if1 .left) (third-long .if2 .left)) (judged-table-long judging (second-long .if1 .left)
-          (third-long .if2 .left)) (word-long .if3 .left) (start .pre .1) _ _ _ _
-          (filled-again (judging .filled)) (shown .show .ensures);
-    }
+    telling-done (args .store .now) (args .distances .now) (args .table .now) (args .word .now) (start .pre .0)
+    (second-long .if1 .left) (third-long .if2 .left) (start .pre .1) (judged .judge-good .ensures)
+    (fourth-long .if3 .left) (shown .show .ensures)
 
 pub judge-text-spec : {M : Type 1} → statement M
 judge-text-spec =
