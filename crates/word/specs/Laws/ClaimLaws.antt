@@ -21,11 +21,9 @@ use Rattle.judge.specs.Inner.Stored.{Stored}
 use Rattle.judge.specs.Laws.GoodStoredLaws.{holds→Stored}
 use Rattle.judge.specs.Laws.VerdictsLaws.{no-leak-of-bnid}
 use Rattle.judge.specs.Promises.{verdictOutcome, judgeLists, JudgePromise}
-use Rattle.word.specs.declared.word.End.{End}
-use Rattle.word.specs.declared.word.End.the-variants.{Source, Target}
-use Rattle.word.specs.Words.{endNumber, endState, otherState, WordShown}
+use Rattle.word.specs.Words.{endNumber, WordShown}
 use Rattle.word.specs.Promises.{wordLists, WordDone, WordPromise}
-use Rattle.word.specs.Claim.{States, Told, SaysPassed, SaysRefused, Ends, JudgeTells, Sequence, WordTells, Claim}
+use Rattle.word.specs.Claim.{States, Told, SaysPassed, SaysRefused, JudgeTells, Sequence, WordTells, Claim}
 use Rattle.word.specs.Laws.LeastLeakLaws.{bnid↔INI, depth-le}
 use Rattle.word.specs.Laws.ReadTextLaws.{lists-of-told, states→readText, read-exit-long, read-holds, read↔States}
 
@@ -42,20 +40,12 @@ refused-same {judge} {i} {j} {d} {e} x y =
 
 -- ---- the sequence
 
-named-end : (m : Model) (j : ℕ) (end : End) → Ends m j (endNumber end) (endState m j end) (otherState m j end)
-unfolding endNumber
-named-end m j Source = record { either = inl (refl, refl, refl) }
-named-end m j Target = record { either = inr (refl, refl, refl) }
-
 module _ {s : List ℕ} {m : Model} (st : Stored s m) where
   pub sequence-of-shown : {j depth : ℕ} {word : Outcome} {entry exit : List ℕ} → RefusedAt m j depth
       → WordShown m j depth word entry exit → Sequence m j depth word exit
-  sequence-of-shown {j} refused x = record {
+  sequence-of-shown refused x = record {
     sequence = x .word;
-    number = endNumber (x .end);
-    end = endState m j (x .end);
-    other = otherState m j (x .end);
-    ends = named-end m j (x .end);
+    end = x .end;
     answer = x .outcome-is ∙ ap (λ (n : ℕ). answers (n ∷ endNumber (x .end) ∷ [])) (sym (x .length-is));
     filled = ap (take (length (x .word))) (x .list) ∙ take-at (x .word) _ (length (x .word)) refl;
     low = x .word-of .first-word .is-low;
