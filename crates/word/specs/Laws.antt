@@ -1,7 +1,7 @@
 pub mod WordsLaws
-pub mod WordAnswersLaws
+pub mod LettersLaws
+pub mod LastLetterLaws
+pub mod WordHeadLaws
 pub mod LeastLeakLaws
 pub mod ReadTextLaws
 pub mod ClaimLaws
-pub mod TellingLaws
-pub mod TellLaws

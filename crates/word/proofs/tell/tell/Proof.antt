@@ -9,7 +9,8 @@ use types.Run.{OneOf}
 use Rattle.model.proofs.read.ReadAnswer.{the-type}
 use Rattle.model.specs.declared.read.ReadAnswer.{ReadAnswer}
 use Rattle.model.specs.declared.read.ReadAnswer.the-variants.{Done}
-use Rattle.word.specs.Laws.TellLaws.{unread-promise, unread-claim, read-long-good, judged-promise, judged-claim}
+use Rattle.word.proofs.TextAnswers.{unread-promised, unread-claimed, read-long-good, judged-promised}
+use Rattle.word.proofs.TextAnswers.{judged-claimed}
 use Rattle.word.proofs.tell.tell.Statement.{statement}
 use Rattle.word.proofs.tell.tell.Tie as tie
 
@@ -45,8 +46,8 @@ returns c =
     let promise = read .read .ensures .0 in
     let is-done = done .enum-told .given .1 in
     let r = judged .judge-text .result in (
-      judged-promise promise is-done r _ _ _ _ _ _ (judged .judge-text .ensures),
-      judged-claim promise is-done r _ _ _ _ _ _ (judged .judge-text .ensures),
+      judged-promised promise is-done r _ _ _ _ _ _ (judged .judge-text .ensures),
+      judged-claimed promise is-done r _ _ _ _ _ _ (judged .judge-text .ensures),
     )
 
 same-length-5 : tie.Need-same-length-5
@@ -66,7 +67,7 @@ returns-2 c =
     let read = c .before .before .before in
     let promise = read .read .ensures .0 in
     let refused = not-done (read .read .result) (c .match .keys2) in
-    (unread-promise promise refused _ _ _, unread-claim promise refused _)
+    (unread-promised promise refused _ _ _, unread-claimed promise refused _)
 
 pub tell-spec : {M : Type 1} → statement M
 tell-spec =
