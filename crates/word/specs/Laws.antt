@@ -3,4 +3,6 @@ pub mod LettersLaws
 pub mod LastLetterLaws
 pub mod WordHeadLaws
 pub mod WordPromiseLaws
+pub mod LeastLeakLaws
+pub mod ReadTextLaws
 pub mod ClaimLaws
