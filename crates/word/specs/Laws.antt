@@ -1,2 +1,4 @@
 pub mod WordsLaws
 pub mod ClaimLaws
+pub mod WordTestLaws
+pub mod BenchLaws
