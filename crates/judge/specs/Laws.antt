@@ -13,7 +13,6 @@ pub mod ModelListsLaws
 pub mod JudgeLaws
 pub mod VerdictsLaws
 pub mod VerdictTestLaws
-pub mod BenchLaws
 pub mod ReachLaws
 pub mod RunsLaws
 pub mod RunPromiseLaws

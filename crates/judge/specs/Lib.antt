@@ -5,5 +5,3 @@ pub mod Verdicts
 pub mod Runs
 pub mod Promises
 pub mod VerdictTest
-pub mod BenchModels
-pub mod Bench

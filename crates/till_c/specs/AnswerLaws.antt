@@ -17,6 +17,13 @@ pub promise-told-two : (P : List ℕ → List ℕ → List ℕ → Outcome → L
     {a b c exit exit′ : List ℕ} {t u : Outcome} → t ≡ u → P a b c t exit exit′ → P a b c u exit exit′
 promise-told-two P {a} {b} {c} {exit} {exit′} e p = subst (λ (x : Outcome). P a b c x exit exit′) e p
 
+-- the same on three
+pub promise-told-three : (P : List ℕ → List ℕ → List ℕ → List ℕ → Outcome → List ℕ → List ℕ → List ℕ → Type 0)
+    {a b c d exit exit′ exit″ : List ℕ} {t u : Outcome} → t ≡ u → P a b c d t exit exit′ exit″
+    → P a b c d u exit exit′ exit″
+promise-told-three P {a} {b} {c} {d} {exit} {exit′} {exit″} e p =
+    subst (λ (x : Outcome). P a b c d x exit exit′ exit″) e p
+
 pub faultNumber-not-zero : (fault : Fault) → faultNumber fault ≡ 0 → ⊥
 faultNumber-not-zero Absent e = omega arith
 faultNumber-not-zero Shape e = omega arith

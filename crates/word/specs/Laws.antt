@@ -6,3 +6,5 @@ pub mod WordPromiseLaws
 pub mod LeastLeakLaws
 pub mod ReadTextLaws
 pub mod ClaimLaws
+pub mod WordTestLaws
+pub mod BenchLaws

@@ -1,7 +1,8 @@
--- The joint fact on the starred bench models, by evaluation: each text is read, and the computed verdict is the one.
+-- The joint fact on the starred bench models, by evaluation: each text is read, the computed verdict is the one, and the
+-- words and the deterministic models pass their tests.
 -- Document 01, "Bench models". Assumes nothing.
 use mathlib.Core.Bool.{Bool, _&&_, _||_}
-use mathlib.Core.List.{List, [], _++_}
+use mathlib.Core.List.{List, [], _∷_, _++_}
 use mathlib.Core.Path.{_≡_, refl, subst}
 use Prim.Native.Nat.{ℕ, _<_, _≤_}
 use native.Mathlib.Omega.{arith}
@@ -29,22 +30,26 @@ use Rattle.model.specs.Laws.Text.ReadingLaws.{textOf-of-readText}
 use Rattle.model.specs.Store.{storeOf}
 use Rattle.model.specs.Laws.Store.StoreLaws.{storeOf-length}
 use Rattle.model.specs.Laws.Store.StoredModelLaws.{holds-storeOf}
-use Rattle.lts.specs.Run.{Deterministic, begin}
-use Rattle.model.specs.System.{levels, Steps, Start, LowStep, ReachableIn}
+use Rattle.lts.specs.Run.{begin}
+use Rattle.model.specs.System.{levels, Steps, LowStep, ReachableIn, DeterministicModel}
 use Rattle.judge.specs.declared.judge.Verdict.{Verdict}
 use Rattle.judge.specs.declared.judge.Verdict.the-variants.{Passed}
 use Rattle.judge.specs.Inner.Stored.{Stored}
 use Rattle.judge.specs.Laws.GoodStoredLaws.{holds→Stored}
 use Rattle.judge.specs.Inner.StepTest.{step?}
 use Rattle.judge.specs.Laws.StepTestLaws.{decided-steps}
 use Rattle.judge.specs.Verdicts.{Judged}
 use Rattle.judge.specs.VerdictTest.{greatestBelow, leastBelow, verdictOf}
 use Rattle.judge.specs.Laws.VerdictTestLaws.{verdictOf-judged, Reachable→reachable?}
-use Rattle.judge.specs.BenchModels.{worked, workedText, scannedOnce, scannedOnceText, released, releasedText}
-use Rattle.judge.specs.BenchModels.{scan}
-use Rattle.judge.specs.BenchModels.{closeLow, closeLowText, branching, branchingText, noSteps, noStepsText}
-use Rattle.judge.specs.BenchModels.{printLoop, printLoopText, unreachedPrint, unreachedPrintText}
-use Rattle.judge.specs.Bench.{ReadsAndJudged, refusedAt, JointFact}
+use Rattle.word.specs.BenchModels.{worked, workedText, scannedOnce, scannedOnceText, released, releasedText}
+use Rattle.word.specs.BenchModels.{scan, close}
+use Rattle.word.specs.BenchModels.{closeLow, closeLowText, branching, branchingText, noSteps, noStepsText}
+use Rattle.word.specs.BenchModels.{printLoop, printLoopText, unreachedPrint, unreachedPrintText}
+use Rattle.word.specs.Bench.{ReadsAndJudged, refusedAt, JointFact}
+use Rattle.word.specs.declared.word.End.the-variants.{Source, Target}
+use Rattle.word.specs.Words.{FirstBranch, WordOf}
+use Rattle.word.specs.Inner.WordTest.{unbranched?, low?, allows?, notAfter?, eachWord?, wordOf?}
+use Rattle.word.specs.Laws.WordTestLaws.{unbranched?→DeterministicModel, wordOf?→WordOf}
 
 -- ---- what evaluation finds
 
@@ -97,6 +102,35 @@ computed = record {
   unreached-print = refl;
 }
 
+record Words : Type 0 where
+  worked : T (wordOf? worked 1 (scan ∷ scan ∷ []) Source)
+  close-low : T (wordOf? closeLow 0 (close ∷ []) Target)
+
+words : Words
+unfolding wordOf? eachWord? notAfter? allows? low? step? all any
+words = record { worked = tt; close-low = tt }
+
+record Unbranched : Type 0 where
+  worked : T (unbranched? worked)
+  scanned-once : T (unbranched? scannedOnce)
+  released : T (unbranched? released)
+  close-low : T (unbranched? closeLow)
+  no-steps : T (unbranched? noSteps)
+  print-loop : T (unbranched? printLoop)
+  unreached-print : T (unbranched? unreachedPrint)
+
+unbranched : Unbranched
+unfolding unbranched? all
+unbranched = record {
+  worked = tt;
+  scanned-once = tt;
+  released = tt;
+  close-low = tt;
+  no-steps = tt;
+  print-loop = tt;
+  unreached-print = tt;
+}
+
 -- ---- and so the definitions say
 
 module _ (text : List ℕ) (m : Model) (e : readText text ≡ done m) where
@@ -133,15 +167,24 @@ branching-same-words w l = (
     back : ℕ → ℕ → Bool
     back x y = (eqb x 1 && eqb y 0) || ((eqb x 2 && eqb y 2) || eqb x 3)
 
--- Steps 0 and 1 leave the start with scan, to 2 and to 3.
-branching-not-deterministic : ¬ (Deterministic (Steps branching) (Start branching))
+-- Steps 0 and 1 leave the start with scan.
+branching-not-deterministic : ¬ (DeterministicModel branching)
 branching-not-deterministic det =
-    let first : Steps branching 0 scan 2 =
-    record { number = 0; number-lt = omega arith; source-is = refl; action-is = refl; target-is = refl } in
-    let second : Steps branching 0 scan 3 =
-    record { number = 1; number-lt = omega arith; source-is = refl; action-is = refl; target-is = refl } in
-    let e = det 0 scan 2 3 (begin refl) first second in
+    let e = det .one-step 0 1 (omega arith) (omega arith) (begin refl) refl refl in
     omega arith
+
+branching-first : FirstBranch branching 1
+branching-first = record {
+  branches = record {
+    before = 0;
+    next-is = refl;
+    number-lt = omega arith;
+    reachable = begin refl;
+    same-source = refl;
+    same-action = refl;
+  };
+  first = λ i b. omega (arith, b .next-is);
+}
 
 print-unreachable : ¬ (ReachableIn unreachedPrint 1)
 unfolding within? all any step?
@@ -152,19 +195,31 @@ pub joint-fact : JointFact
 unfolding thin released?
 joint-fact = record {
   worked-refused = judged-of-computed workedText worked (read .worked) (refusedAt 1 2) (computed .worked);
+  worked-deterministic = unbranched?→DeterministicModel worked (unbranched .worked);
+  worked-word = wordOf?→WordOf (stored-of-read workedText worked (read .worked)) 1 (scan ∷ scan ∷ []) Source
+      (words .worked);
   scanned-once-passed =
       judged-of-computed scannedOnceText scannedOnce (read .scanned-once) (Passed 1) (computed .scanned-once);
+  scanned-once-deterministic = unbranched?→DeterministicModel scannedOnce (unbranched .scanned-once);
   released-passed = judged-of-computed releasedText released (read .released) (Passed 1) (computed .released);
+  released-deterministic = unbranched?→DeterministicModel released (unbranched .released);
   close-low-refused = judged-of-computed closeLowText closeLow (read .close-low) (refusedAt 0 1) (computed .close-low);
+  close-low-deterministic = unbranched?→DeterministicModel closeLow (unbranched .close-low);
+  close-low-word = wordOf?→WordOf (stored-of-read closeLowText closeLow (read .close-low)) 0 (close ∷ []) Target
+      (words .close-low);
   branching-refused =
       judged-of-computed branchingText branching (read .branching) (refusedAt 2 2) (computed .branching);
-  branching-not-deterministic = branching-not-deterministic;
   branching-same-words = branching-same-words;
+  branching-not-deterministic = branching-not-deterministic;
+  branching-first = branching-first;
   no-steps-passed = judged-of-computed noStepsText noSteps (read .no-steps) (Passed 0) (computed .no-steps);
+  no-steps-deterministic = unbranched?→DeterministicModel noSteps (unbranched .no-steps);
   print-loop-passed = judged-of-computed printLoopText printLoop (read .print-loop) (Passed 0) (computed .print-loop);
+  print-loop-deterministic = unbranched?→DeterministicModel printLoop (unbranched .print-loop);
   unreached-print-passed =
       judged-of-computed unreachedPrintText unreachedPrint (read .unreached-print) (Passed 1)
       (computed .unreached-print);
+  unreached-print-deterministic = unbranched?→DeterministicModel unreachedPrint (unbranched .unreached-print);
   print-unreachable = print-unreachable;
   thinned = refl;
   thinned-empty = refl;
