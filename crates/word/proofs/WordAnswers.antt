@@ -8,11 +8,11 @@ use native.Mathlib.Omega.{arith}
 use lib.ListN.{length}
 use Rattle.lts.specs.AlikeLaws.{separated-of-rank}
 use Rattle.lts.specs.Run.{onward}
-use Rattle.model.specs.declared.Step.{Step}
-use Rattle.model.specs.Faults.{refuses}
-use Rattle.model.specs.Limits.{storeLength}
+use Rattle.text.specs.declared.Step.{Step}
+use Rattle.text.specs.Faults.{refuses}
+use Rattle.text.specs.Limits.{storeLength}
 use Rattle.model.specs.Lists.{distancesLength, tableLength, wordLength}
-use Rattle.model.specs.Model.{Model}
+use Rattle.text.specs.Model.{Model}
 use Rattle.model.specs.Store.{Good}
 use Rattle.model.specs.StoredModel.{modelAt}
 use Rattle.model.specs.System.{source, target, LowStep, DeterministicModel}

@@ -3,7 +3,7 @@ use mathlib.Core.List.{[], _∷_}
 use mathlib.Core.Path.{sym, ap, _∙_}
 use Prim.Native.Nat.{ℕ}
 use borrow.Author.Needs.{needs}
-use Rattle.model.specs.Faults.{Outcome, answers}
+use Rattle.text.specs.Faults.{Outcome, answers}
 use Rattle.word.specs.declared.word.End.{End}
 use Rattle.word.specs.Words.{endNumber}
 use Rattle.till_c.proofs.shown.Statement.{statement}

@@ -6,9 +6,9 @@ use Prim.Native.Nat.{ℕ, _≤_, _<_}
 use lib.Dec.{T}
 use lib.ListN.{length}
 use Rattle.lts.specs.Alike.{Separated}
-use Rattle.model.specs.Limits.{actionLimit}
+use Rattle.text.specs.Limits.{actionLimit}
 use Rattle.model.specs.Lists.{tableLength, wordLength}
-use Rattle.model.specs.Model.{Model}
+use Rattle.text.specs.Model.{Model}
 use Rattle.model.specs.System.{source, action, target, levels, LowStep, ReachableIn, DeterministicModel}
 use Rattle.ranking.specs.Table.{Ranks}
 use Rattle.judge.specs.declared.judge.Verdict.{Verdict}

@@ -6,7 +6,7 @@ use Prim.Native.Nat.{ℕ, zero, suc}
 use lib.Dec.{eqb, ltb}
 use lib.ListN.{length}
 use Rattle.lts.specs.Tests.{all, any}
-use Rattle.model.specs.Model.{Model}
+use Rattle.text.specs.Model.{Model}
 use Rattle.model.specs.System.{source, action, target, levels}
 use Rattle.judge.specs.Inner.StepTest.{step?}
 use Rattle.word.specs.declared.word.End.{End}

@@ -16,9 +16,9 @@ use Rattle.lts.specs.Decided.{answers?}
 use Rattle.lts.specs.FirstWordLaws.{letter-of-separated}
 use Rattle.lts.specs.Game.{Game}
 use Rattle.lts.specs.TestsLaws.{lt-or-le}
-use Rattle.model.specs.declared.Step.{Step}
+use Rattle.text.specs.declared.Step.{Step}
 use Rattle.model.specs.Lists.{pairPlace}
-use Rattle.model.specs.Model.{Model, low}
+use Rattle.text.specs.Model.{Model, low}
 use Rattle.model.specs.System.{source, action, target, levels, Steps, Start, LowStep, ReachableIn, DeterministicModel}
 use Rattle.model.specs.Laws.Store.SystemLaws.{deterministicModel→Deterministic}
 use Rattle.judge.specs.Inner.Index.{Index}

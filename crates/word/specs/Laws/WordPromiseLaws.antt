@@ -12,8 +12,8 @@ use Rattle.lts.specs.FirstWordLaws.{first-word-unique}
 use Rattle.lts.specs.TestsLaws.{lt-or-le, eq-or-not, lt-suc-cases}
 use Rattle.lts.specs.Word.{OnlyFrom}
 use Rattle.lts.specs.WordLaws.{only-from-unique}
-use Rattle.model.specs.Faults.{Outcome, answers, refuses}
-use Rattle.model.specs.Model.{Model}
+use Rattle.text.specs.Faults.{Outcome, answers, refuses}
+use Rattle.text.specs.Model.{Model}
 use Rattle.model.specs.System.{source, action, target, levels, Steps, ReachableIn, DeterministicModel}
 use Rattle.model.specs.Promises.{OnStore}
 use Rattle.model.specs.Laws.PromisesLaws.{onStore-unique}

@@ -16,7 +16,7 @@ use Rattle.lts.specs.Noninterference.{Low}
 use Rattle.lts.specs.Run.{Run, Allows}
 use Rattle.lts.specs.RunLaws.{allows-cons}
 use Rattle.lts.specs.Word.{OnlyFrom, JustOne, NotAfter}
-use Rattle.model.specs.Model.{Model}
+use Rattle.text.specs.Model.{Model}
 use Rattle.model.specs.System.{source, action, target, levels, Steps, DeterministicModel}
 use Rattle.judge.specs.Inner.Stored.{Stored}
 use Rattle.judge.specs.Inner.StepTest.{step?}

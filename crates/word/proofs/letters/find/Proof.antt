@@ -5,7 +5,7 @@ use native.Mathlib.Omega.{arith}
 use lib.ListN.{getD}
 use borrow.Author.Count.{below-more}
 use borrow.Author.Needs.{needs}
-use Rattle.model.specs.declared.Action.{Action}
+use Rattle.text.specs.declared.Action.{Action}
 use Rattle.model.specs.StoredModel.{modelAt}
 use Rattle.judge.specs.Laws.StoredLaws.{stored-action}
 use Rattle.word.specs.Inner.Letters.{StepOf}
