@@ -44,10 +44,12 @@ module _ (text store distances table word : List ℕ) where
       ((judged .0, shown .0), e, judged .1, judged .2, shown .3)
 
   pub tellPromise-unique : (a b : TextAnswer) (s d t w s′ d′ t′ w′ : List ℕ)
-      → TellPromise text store distances table word a s d t w → TellPromise text store distances table word b s′ d′ t′ w′
+      → TellPromise text store distances table word a s d t w
+      → TellPromise text store distances table word b s′ d′ t′ w′
       → SameTold a b × (s ≡ s′) × (d ≡ d′) × (t ≡ t′) × (w ≡ w′)
   tellPromise-unique (Unread p) (Unread q) s d t w s′ d′ t′ w′ x y =
-      let e = readPromise-unique text store (readOutcome p) (readOutcome q) s s′ (x .read-promise) (y .read-promise) in (
+      let e = readPromise-unique text store (readOutcome p) (readOutcome q) s s′ (x .read-promise) (y .read-promise)
+      in (
         e .0,
         e .1,
         x .distances-kept ∙ sym (y .distances-kept),
