@@ -1,5 +1,5 @@
--- Each answer of `tell` keeps its promise and the claim: Read refuses; or the store that it left is judged once, and keeps
--- Judge's promise and then Word's, whether a list is short or all is done. Assumes nothing.
+-- Each answer of `tell` keeps its promise and the claim: Read refuses; or the store that it left is judged once, and
+-- keeps Judge's promise and then Word's, whether a list is short or all is done. Assumes nothing.
 use mathlib.Core.List.{List, []}
 use mathlib.Core.Path.{_≡_, refl, subst}
 use Prim.Native.Nat.{ℕ, _≤_, _<_}
@@ -115,7 +115,8 @@ module _ (store distances table word : List ℕ) (first-long : storeLength ≤ l
         judge-promise =
             judge-done store distances table first-long second-long third-long good v begins roles distances′ table′ x;
         word-promise = done-promised store distances′ table′ word first-long (distances-long x second-long third-long)
-            (table-long x second-long third-long) fourth-long r distances′ table′ word′ good (filled-again (x .filled)) w;
+            (table-long x second-long third-long) fourth-long r distances′ table′ word′ good
+            (filled-again (x .filled)) w;
       }
 
 -- ---- Read refuses

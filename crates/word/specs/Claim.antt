@@ -1,10 +1,11 @@
--- Demand 3 as one claim, from a text to what Read, Judge and Word tell of it: they get the store as Read left it, and the
--- other lists may have held anything. Whoever makes the three calls has it (`claim-holds`), and `tell` is held to it.
+-- Demand 3 as one claim, from a text to what Read, Judge and Word tell of it: they get the store as Read left it, and
+-- the other lists may have held anything. Whoever makes the three calls has it (`claim-holds`), and `tell` is held to
+-- it.
 --
 -- It shuts out, among others: a Judge that passes or refuses all (`passed-iff`), one that counts unreachable high steps
--- (`step-told`), a depth made up (`depth-is`), a Word that says 24 without having judged (`no-word-iff`), one that names the
--- other end (`possible`), shows a word one too long (`shortest`), the last by action numbers (`first`) or one with a
--- release in it (`low`).
+-- (`step-told`), a depth made up (`depth-is`), a Word that says 24 without having judged (`no-word-iff`), one that
+-- names the other end (`possible`), shows a word one too long (`shortest`), the last by action numbers (`first`) or one
+-- with a release in it (`low`).
 -- Document 01, "Demand 3 is one claim [..]"; DEMANDS, 3. Assumes nothing.
 use mathlib.Core.List.{List, [], _∷_}
 use mathlib.Core.Logic.{_⊎_, _↔_}
@@ -41,9 +42,9 @@ SaysRefused judge j depth = judge ≡ answers (j ∷ depth ∷ [])
 -- What Judge tells of a deterministic model.
 pub record JudgeTells (m : Model) (judge : Outcome) : Type 0 where
   pub answered : SaysPassed judge ⊎ ((j : ℕ) × (depth : ℕ) × SaysRefused judge j depth)
-  -- "It is passed exactly when this holds of every sequence of actions, however long, that can be run from the start: with
-  -- each high action that no later release follows taken out it can still be run from the start, and the two states where
-  -- the full and the thinned sequence end allow the same low sequences."
+  -- "It is passed exactly when this holds of every sequence of actions, however long, that can be run from the start:
+  -- with each high action that no later release follows taken out it can still be run from the start, and the two
+  -- states where the full and the thinned sequence end allow the same low sequences."
   pub passed-iff : SaysPassed judge ↔ INI (levels m) (Steps m) (Start m)
   -- "the step told, a reachable high step"
   pub step-told : (j depth : ℕ) → SaysRefused judge j depth → HighStep m j
@@ -61,7 +62,8 @@ pub record Sequence (m : Model) (j depth : ℕ) (word : Outcome) (list : List �
   pub not-possible : ¬ (Allows (Steps m) (otherState m j end) sequence)
   -- "the one that document 01 fixes for Word": the first by action numbers among the shortest such of that step
   pub first : FirstWord (levels m) (Steps m) (source m j) (target m j) sequence
-  -- "Every other low sequence that is possible from just one end of any reachable high step has at least as many actions."
+  -- "Every other low sequence that is possible from just one end of any reachable high step has at least as many
+  -- actions."
   pub shortest : (i : ℕ) → HighStep m i → (v : List ℕ) → Low (levels m) v
       → JustOne (Steps m) (source m i) (target m i) v → length sequence ≤ length v
   -- "The depth told is the number of actions in the sequence shown."

@@ -8,3 +8,4 @@ pub mod ReadTextLaws
 pub mod ClaimLaws
 pub mod WordTestLaws
 pub mod BenchLaws
+pub mod TellPromiseLaws

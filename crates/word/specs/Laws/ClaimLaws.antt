@@ -1,5 +1,5 @@
--- The promises of Read, Judge and Word give demand 3: Read leaves the text's model in the store, Judge's verdict on it is
--- INI by theorem 4, and the word's length is the least rank, below which no low sequence tells two such ends apart.
+-- The promises of Read, Judge and Word give demand 3: Read leaves the text's model in the store, Judge's verdict on it
+-- is INI by theorem 4, and the word's length is the least rank, below which no low sequence tells two such ends apart.
 -- Document 01, "Demand 3 is one claim [..]"; DEMANDS, 3. Assumes nothing.
 use mathlib.Core.List.{List, [], _∷_}
 use mathlib.Core.Logic.{inl, inr, _↔_}
@@ -106,7 +106,8 @@ module _ {s : List ℕ} {m : Model} (st : Stored s m) where
 -- ---- the claim
 
 module _ {text store₀ store distances table distances′ table′ : List ℕ} {read judge : Outcome}
-    (reads : ReadPromise text store₀ read store) (judges : JudgePromise store distances table judge distances′ table′) where
+    (reads : ReadPromise text store₀ read store)
+    (judges : JudgePromise store distances table judge distances′ table′) where
   -- ---- after a successful Read, for the model that the text states
 
   module _ (e : read ≡ answers []) (m : Model) (s : States text m) where
@@ -124,7 +125,8 @@ module _ {text store₀ store distances table distances′ table′ : List ℕ} 
 
     verdict : Told judge → (v : Verdict) × (judge ≡ verdictOutcome v) × Judged m v
     verdict told =
-        let x = judges .good (lists-of-told (judgeLists store distances table) (λ k h. judges .short k h .0) told) good in
+        let lists = lists-of-told (judgeLists store distances table) (λ k h. judges .short k h .0) told in
+        let x = judges .good lists good in
         (x .0, x .1, x .2)
 
   pub claim-holds : {d t w d′ t′ w′ : List ℕ} {word : Outcome} → WordPromise store d t w word d′ t′ w′

@@ -49,7 +49,8 @@ module _ {s : List ℕ} {m : Model} (st : Stored s m) where
       (lowMove? (levels m) (step? m)))
       (low-game (levels m) (Steps m) (m .head .states) (m .head .actions) (step? m) (decided-steps st))
 
-  -- Ends of rank 0 allow the same low sequences; ends of a rank above 0 are a leak, and allow the same below their rank.
+  -- Ends of rank 0 allow the same low sequences; ends of a rank above 0 are a leak, and allow the same shorter than
+  -- their rank.
   pub depth-le : {j depth : ℕ} → RefusedAt m j depth → (i : ℕ) → HighStep m i → (v : List ℕ) → Low (levels m) v
       → JustOne (Steps m) (source m i) (target m i) v → depth ≤ length v
   depth-le {j} {depth} refused i h v l one =
@@ -68,7 +69,8 @@ module _ {s : List ℕ} {m : Model} (st : Stored s m) where
       leak : (r : ℕ) → Rank (LowStep m) p q r → 0 < r → depth ≤ length v
       leak r x pos =
           let least = refused .least i r (record { high-step = h; rank = x; above-zero = pos }) in
-          let long = separated-length-le (levels m) (Steps m) p q r (separated-of-rank (LowStep m) p q r pos x) v l one in
+          let apart = separated-of-rank (LowStep m) p q r pos x in
+          let long = separated-length-le (levels m) (Steps m) p q r apart v l one in
           omega arith
 
       go : ((r : ℕ) × Rank (LowStep m) p q r) → depth ≤ length v
