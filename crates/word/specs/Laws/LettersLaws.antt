@@ -26,6 +26,7 @@ use Rattle.judge.specs.Inner.Stored.{Stored}
 use Rattle.judge.specs.Inner.StepTest.{step?}
 use Rattle.judge.specs.Laws.RolesLaws.{low-of-role, role-of-low}
 use Rattle.judge.specs.Laws.StepTestLaws.{decided-steps}
+use Rattle.judge.specs.Laws.WavesLaws.{begins-source}
 use Rattle.word.specs.declared.branch.Found.{Found}
 use Rattle.word.specs.declared.branch.Found.the-variants.{At, Nothing}
 use Rattle.word.specs.Inner.Letters.{First, FoundFirst, StepOf, Unanswered, Answer, HasAnswer}
@@ -52,8 +53,7 @@ module _ {m : Model} {begins : List ℕ} (x : Index m (m .head .states) begins) 
   own-of-index j from to =
       let here = x .at p (omega arith) in
       let next = x .at (p + 1) (omega arith) in
-      let k : j < length (m .steps) = omega (arith, next .from-le) in
-      (k, omega (arith, next .below j to, here .above j from k))
+      (omega (arith, next .from-le), begins-source here next j from to)
 
   pub index-of-own : (j : ℕ) → j < length (m .steps) → source m j ≡ p
       → (getD begins p 0 ≤ j) × (j < getD begins (p + 1) 0)
