@@ -49,25 +49,20 @@ fn last_letter(store: &[u16], begins: &[u16], roles: &[u16], p: State, q: State)
     let there = crate::letters::alone(store, begins, roles, q, p);
     match here {
         Found::At(i) => {
-            let a = model::store::action(store, i);
+            let action = model::store::action(store, i);
+            let end = End::Source;
             match there {
                 Found::At(j) => {
                     let b = model::store::action(store, j);
-                    if b.0 < a.0 {
+                    if b.0 < action.0 {
                         return Last {
                             action: b,
                             end: End::Target,
                         };
                     }
-                    Last {
-                        action: a,
-                        end: End::Source,
-                    }
+                    Last { action, end }
                 }
-                Found::Nothing => Last {
-                    action: a,
-                    end: End::Source,
-                },
+                Found::Nothing => Last { action, end },
             }
         }
         Found::Nothing => match there {

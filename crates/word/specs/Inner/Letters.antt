@@ -55,7 +55,7 @@ pub record Answer (m : Model) (q k j i : ℕ) : Type 0 where
   pub targets : Separated (LowStep m) (target m j) (target m i) k
 
 -- Step j of p has such an answer.
-pub record Answered (m : Model) (p q k j : ℕ) : Type 0 where
+pub record HasAnswer (m : Model) (p q k j : ℕ) : Type 0 where
   pub number-lt : j < length (m .steps)
   pub source-is : source m j ≡ p
   pub by : ℕ
