@@ -3,16 +3,17 @@ use mathlib.Core.Path.{_≡_, refl}
 use Prim.Native.Nat.{_≤_, _-_}
 use native.Mathlib.Omega.{arith}
 use lib.ListN.{length, length-set}
+use Rattle.model.specs.Lists.{tableLength}
 use Rattle.ranking.specs.Inner.TableWrites.{Cleared}
 use Rattle.ranking.specs.Laws.RoundsLaws.{cleared-zero, cleared-add-one, cleared-at}
 use Rattle.ranking.proofs.classes.clear.Statement.{statement}
 use Rattle.ranking.proofs.classes.clear.Tie as tie
 
 abbrev Inv-loop : tie.InvT-loop
-Inv-loop table₀ i₀ table i = (i ≤ 16384) × Cleared i table₀ table × (length table ≡ length table₀)
+Inv-loop table₀ i₀ table i = (i ≤ tableLength) × Cleared i table₀ table × (length table ≡ length table₀)
 
 abbrev μ-loop : tie.MeasureT-loop
-μ-loop table₀ i₀ table i = 16384 - i
+μ-loop table₀ i₀ table i = tableLength - i
 
 loop-holds : tie.Need-loop-holds Inv-loop μ-loop
 loop-holds c = (omega arith, cleared-zero _, refl)
