@@ -8,3 +8,4 @@ pub mod LineAnswers
 pub mod PartAnswers
 pub mod Row
 pub mod ReadSoFar
+pub mod Clearing

@@ -11,12 +11,13 @@ ghost use Rattle.lts.specs.Alike.{Answered, Answers};
 ghost use Rattle.model.specs.Decides.{Decides};
 ghost use Rattle.model.specs.Limits.{stateLimit};
 ghost use Rattle.model.specs.Lists.{tableLength};
+ghost use Rattle.model.specs.Inner.Clearing.{Cleared};
 ghost use Rattle.ranking.specs.Table.{Ranked};
 ghost use Rattle.ranking.specs.MoveList.{Listed, MoveList};
 ghost use Rattle.ranking.specs.Inner.ClassList.{Same, Refinable, Lowest, Refined, Joins, Moved};
 ghost use Rattle.ranking.specs.Inner.Marks.{marksLength, moveMark, Reaches, Marked, AllMarked, Unmarked, StateClasses, MoveAt};
 ghost use Rattle.ranking.specs.Inner.TableWrites.{Written, PairWritten, RowWritten, RowsWritten};
-ghost use Rattle.ranking.specs.Inner.TableWrites.{RanksUpTo, Cleared, Finished};
+ghost use Rattle.ranking.specs.Inner.TableWrites.{RanksUpTo, Finished};
 
 // One place for each state.
 const STATES_LENGTH: usize = STATE_LIMIT as usize;
@@ -391,7 +392,7 @@ fn separate(
 // Makes every entry 0.
 fn clear(table: &mut [u8])
     requires { ⌜ tableLength ≤ length (now table) ⌝ }
-    ensures { λ _. ⌜ Cleared tableLength (now (table .entry)) (now (table .exit)) ⌝ }
+    ensures { λ _. ⌜ Cleared 0 tableLength (now (table .entry)) (now (table .exit)) ⌝ }
 {
     for i in 0..TABLE_LENGTH {
         table[i] = 0;
