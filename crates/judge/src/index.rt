@@ -31,20 +31,20 @@ fn end_of(store: &[u16], q: State, from: u16) -> u16
 }
 
 // Writes where the steps of each state begin, and where the last one's end.
-pub fn index(store: &[u16], first: &mut [u16])
+pub fn index(store: &[u16], begins: &mut [u16])
     requires { ⌜ Stored (now store) (modelAt (now store)) ⌝ }
-    requires { ⌜ indexLength ≤ length (now first) ⌝ }
+    requires { ⌜ indexLength ≤ length (now begins) ⌝ }
     ensures { λ _. ⌜ Index (modelAt (now (store .entry)))
-        (modelAt (now (store .entry)) .head .states) (now (first .exit)) ⌝ }
+        (modelAt (now (store .entry)) .head .states) (now (begins .exit)) ⌝ }
 {
     let n = model::store::states(store);
     let mut from = 0;
     let mut at = 0;
-    first[0] = 0;
+    begins[0] = 0;
     for q in 0..n {
         from = end_of(store, State(q), from);
         at += 1;
-        first[at] = from;
+        begins[at] = from;
     }
 }
 

@@ -1,5 +1,5 @@
--- Moves among n states as lists. Those of the state p stand from place first[p] up to place first[p + 1]: place i has an
--- action and a target.
+-- Moves among n states as lists. Those of the state p stand from place first[p] up to place first[p + 1]: place i has
+-- an action and a target.
 use mathlib.Core.List.{List}
 use mathlib.Core.Path.{_≡_}
 use Prim.Native.Nat.{ℕ, _+_, _≤_, _<_}

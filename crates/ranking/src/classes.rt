@@ -15,7 +15,8 @@ ghost use Rattle.model.specs.Inner.Clearing.{Cleared};
 ghost use Rattle.ranking.specs.Table.{Ranked};
 ghost use Rattle.ranking.specs.MoveList.{Listed, MoveList};
 ghost use Rattle.ranking.specs.Inner.ClassList.{Same, Refinable, Lowest, Refined, Joins, Moved};
-ghost use Rattle.ranking.specs.Inner.Marks.{marksLength, moveMark, Reaches, Marked, AllMarked, Unmarked, StateClasses, MoveAt};
+ghost use Rattle.ranking.specs.Inner.Marks.{marksLength, moveMark, StateClasses, MoveAt};
+ghost use Rattle.ranking.specs.Inner.Marks.{Reaches, Marked, AllMarked, Unmarked};
 ghost use Rattle.ranking.specs.Inner.TableWrites.{Written, PairWritten, RowWritten, RowsWritten};
 ghost use Rattle.ranking.specs.Inner.TableWrites.{RanksUpTo, Finished};
 

@@ -32,7 +32,8 @@ module _ {lists : Option ℕ} {store : List ℕ} {outcome : Outcome} {Unchanged 
     good = λ h g. absurd (n g);
   }
 
-  pub onStore-good : lists ≡ none → Good store → ((g : Good store) → Done g) → OnStore lists store outcome Unchanged Done
+  pub onStore-good : lists ≡ none → Good store → ((g : Good store) → Done g)
+      → OnStore lists store outcome Unchanged Done
   onStore-good e g done = record {
     short = λ k h. let z : _≡_ {A = ℕ} 0 1 = cc in absurd (omega arith);
     not-good = λ h n. absurd (n g);
@@ -51,11 +52,12 @@ option-cases none = inr refl
 option-cases (some k) = inl (k, refl)
 
 -- What pins one answer and the same lists where the lists are unchanged, and where the store is good, pins them.
-pub onStore-unique : {lists : Option ℕ} {store : List ℕ} {outcome outcome′ : Outcome} {Unchanged Unchanged′ Same : Type 0}
-    {Done Done′ : Good store → Type 0} → (Unchanged → Unchanged′ → Same)
+pub onStore-unique : {lists : Option ℕ} {store : List ℕ} {outcome outcome′ : Outcome}
+    {Unchanged Unchanged′ Same : Type 0} {Done Done′ : Good store → Type 0} → (Unchanged → Unchanged′ → Same)
     → ((g : Good store) → Done g → Done′ g → (outcome ≡ outcome′) × Same) → OnStore lists store outcome Unchanged Done
     → OnStore lists store outcome′ Unchanged′ Done′ → (outcome ≡ outcome′) × Same
-onStore-unique {lists} {store} {outcome} {outcome′} {Same = Same} kept pins p q = go (option-cases lists) (good-cases store)
+onStore-unique {lists} {store} {outcome} {outcome′} {Same = Same} kept pins p q =
+    go (option-cases lists) (good-cases store)
   where
     go : ((k : ℕ) × (lists ≡ some k)) ⊎ (lists ≡ none) → Good store ⊎ (¬ (Good store)) → (outcome ≡ outcome′) × Same
     go (inl s) d =

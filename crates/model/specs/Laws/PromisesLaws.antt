@@ -2,14 +2,14 @@
 -- Document 01, "The operations, in the order of the work", 1 and 8. Assumes nothing.
 use mathlib.Core.List.{List, [], _∷_, _++_}
 use mathlib.Core.Logic.{_⊎_, inl, inr}
-use mathlib.Core.Option.{Option, none, some}
+use mathlib.Core.Option.{none, some}
 use mathlib.Core.Path.{_≡_, refl, sym, ap, _∙_, subst}
 use Prim.Native.Nat.{ℕ, _≤_}
 use native.Mathlib.Omega.{arith}
 use lib.ListN.{length, take, drop, length-append, length-drop}
 use lib.Seq.{take-at}
 use Rattle.model.specs.Limits.{storeLength, outLength}
-use Rattle.model.specs.Faults.{Outcome, answers, firstShort}
+use Rattle.model.specs.Faults.{Outcome, answers}
 use Rattle.model.specs.Model.{Model}
 use Rattle.model.specs.Reading.{Reading, done, tooLong, faulty, readText}
 use Rattle.model.specs.Laws.Text.ReadingLaws.{textOf-of-readText}
@@ -19,7 +19,7 @@ use Rattle.model.specs.Laws.Store.StoredModelLaws.{holds-storeOf}
 use Rattle.model.specs.Laws.Store.GoodTestLaws.{good-cases}
 use Rattle.model.specs.Laws.FirstShortLaws.{none-short-two}
 use Rattle.model.specs.Laws.OnStoreLaws.{option-cases, onStore-unique}
-use Rattle.model.specs.Promises.{OnStore, readingOutcome, readingStore, readLists, ReadPromise, writeLists}
+use Rattle.model.specs.Promises.{readingOutcome, readingStore, readLists, ReadPromise, writeLists}
 use Rattle.model.specs.Promises.{WritePromise}
 
 -- ---- lists that are long enough
@@ -38,7 +38,8 @@ module _ (text store : List ℕ) (outcome outcome′ : Outcome) (exit exit′ : 
       → (outcome ≡ outcome′) × (exit ≡ exit′)
   readPromise-unique p q = go (option-cases (readLists text store))
     where
-      go : ((k : ℕ) × (readLists text store ≡ some k)) ⊎ (readLists text store ≡ none) → (outcome ≡ outcome′) × (exit ≡ exit′)
+      go : ((k : ℕ) × (readLists text store ≡ some k)) ⊎ (readLists text store ≡ none)
+          → (outcome ≡ outcome′) × (exit ≡ exit′)
       go (inl s) =
           let a = p .short (s .0) (s .1) in
           let b = q .short (s .0) (s .1) in

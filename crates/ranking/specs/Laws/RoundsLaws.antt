@@ -7,8 +7,8 @@ use mathlib.Core.List.{List}
 use Prim.Native.Nat.{ℕ, zero, suc, _+_, _/_, _%_, _≤_, _<_}
 use native.Mathlib.Numerals.{add-one}
 use native.Mathlib.Omega.{arith}
-use lib.ListN.{length, getD, set, drop, length-drop}
-use lib.Seq.{getD-set-same, getD-set-other, getD-drop, ext-getD}
+use lib.ListN.{length, getD, drop, length-drop}
+use lib.Seq.{getD-drop, ext-getD}
 use borrow.Author.Count.{below-more}
 use Rattle.lts.specs.Alike.{Moves, Alike, Separated, Rank, bisimilar}
 use Rattle.lts.specs.AlikeLaws.{alike-suc, bisimilar-refl, rank-of-separated}

@@ -1,8 +1,6 @@
 -- The first i entries are 0.
-use mathlib.Core.Path.{_≡_, refl}
 use Prim.Native.Nat.{_≤_, _-_}
 use native.Mathlib.Omega.{arith}
-use lib.ListN.{length, length-set}
 use Rattle.model.specs.Lists.{tableLength}
 use Rattle.model.specs.Inner.Clearing.{Cleared}
 use Rattle.model.specs.Laws.ClearingLaws.{cleared-zero, cleared-suc, cleared-at}
