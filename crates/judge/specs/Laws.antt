@@ -11,6 +11,7 @@ pub mod RunTailLaws
 pub mod LeakSearchLaws
 pub mod ModelListsLaws
 pub mod JudgeLaws
+pub mod PromiseOutcomeLaws
 pub mod VerdictsLaws
 pub mod VerdictTestLaws
 pub mod ReachLaws

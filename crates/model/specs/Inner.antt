@@ -3,3 +3,4 @@ pub mod LineText
 pub mod GoodPlaces
 pub mod Writable
 pub mod ReadSoFar
+pub mod Clearing

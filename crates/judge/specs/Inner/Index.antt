@@ -12,5 +12,5 @@ pub record Begins (m : Model) (p from : ℕ) : Type 0 where
   pub above : (j : ℕ) → from ≤ j → j < length (m .steps) → p ≤ source m j
 
 -- Entry p of the list, up to n, is where they begin.
-pub record Index (m : Model) (n : ℕ) (first : List ℕ) : Type 0 where
-  pub at : (p : ℕ) → p ≤ n → Begins m p (getD first p 0)
+pub record Index (m : Model) (n : ℕ) (begins : List ℕ) : Type 0 where
+  pub at : (p : ℕ) → p ≤ n → Begins m p (getD begins p 0)

@@ -27,8 +27,9 @@ use Rattle.judge.specs.Laws.VerdictsLaws.{passed-of-no-leak}
 use Rattle.judge.specs.Inner.LeakSearch.{DepthAt, FoundBelow}
 use Rattle.judge.specs.Laws.LeakSearchLaws.{found-zero, found-skip, found-keep, found-new}
 use Rattle.judge.specs.Laws.LeakSearchLaws.{refused-of-found, no-leak-of-found}
-use Rattle.judge.specs.VerdictTest.{rankIn, reachable?, greatestBelow, greatestRank, highStep?, depthAt, Least}
-use Rattle.judge.specs.VerdictTest.{lookAt, leastBelow, verdictFrom, verdictOf}
+use Rattle.judge.specs.Inner.VerdictTest.{rankIn, reachable?, greatestBelow, greatestRank, highStep?}
+use Rattle.judge.specs.Inner.VerdictTest.{depthAt, Least}
+use Rattle.judge.specs.Inner.VerdictTest.{lookAt, leastBelow, verdictFrom, verdictOf}
 
 T→true : (b : Bool) → T b → b ≡ true
 T→true true t = refl

@@ -50,11 +50,6 @@ RankUpTo Move k p q v = ((v ≡ 0) × Alike Move k p q) ⊎ ((v ≤ k) × Separa
 pub record RanksUpTo (Move : Moves) (n k : ℕ) (table : List ℕ) : Type 0 where
   pub found : (p q : ℕ) → p < n → q < n → RankUpTo Move k p q (entryOf table p q)
 
--- The first m entries are 0, and the others as they were.
-pub record Cleared (m : ℕ) (entry exit : List ℕ) : Type 0 where
-  pub zeros : (i : ℕ) → i < m → getD exit i 0 ≡ 0
-  pub kept : (i : ℕ) → m ≤ i → getD exit i 0 ≡ getD entry i 0
-
 -- The table after the rounds: each of the first `last` separated a pair, and the next one none.
 pub record Finished (Move : Moves) (n last : ℕ) (entry exit : List ℕ) : Type 0 where
   pub ranks : RanksUpTo Move n (last + 1) exit

@@ -22,7 +22,7 @@ use Rattle.ranking.specs.Table.{SomePair, Ranks, LastRound, Greatest, Ra
 
 -- each place of the table is the place of a pair
 place-pair : (i : ℕ) → i < tableLength → (p : ℕ) × (q : ℕ) × (p < stateLimit) × (q < stateLimit) × (i ≡ pairPlace p q)
-place-pair i l = (i / 128, i % 128, omega arith, omega arith, omega arith)
+place-pair i l = (i / stateLimit, i % stateLimit, omega arith, omega arith, omega arith)
 
 module _ (Move : Moves) (n : ℕ) where
   pub greatest-unique : (top top′ : ℕ) → Greatest Move n top → Greatest Move n top′ → top ≡ top′

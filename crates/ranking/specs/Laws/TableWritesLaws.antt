@@ -25,7 +25,6 @@ use Rattle.ranking.specs.Inner.TableWrites.{
   RowsWritten,
   RankUpTo,
   RanksUpTo,
-  Cleared,
   Finished,
 }
 

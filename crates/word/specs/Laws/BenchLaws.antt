@@ -39,7 +39,7 @@ use Rattle.judge.specs.Laws.GoodStoredLaws.{holds→Stored}
 use Rattle.judge.specs.Inner.StepTest.{step?}
 use Rattle.judge.specs.Laws.StepTestLaws.{decided-steps}
 use Rattle.judge.specs.Verdicts.{Judged}
-use Rattle.judge.specs.VerdictTest.{greatestBelow, leastBelow, verdictOf}
+use Rattle.judge.specs.Inner.VerdictTest.{greatestBelow, leastBelow, verdictOf}
 use Rattle.judge.specs.Laws.VerdictTestLaws.{verdictOf-judged, Reachable→reachable?}
 use Rattle.word.specs.BenchModels.{worked, workedText, scannedOnce, scannedOnceText, released, releasedText}
 use Rattle.word.specs.BenchModels.{scan, close}

@@ -1,4 +1,4 @@
--- The verdict of a model, computed: its ranks, its greatest rank and the lowest step of least depth.
+-- The verdict of a model, computed: its ranks, its greatest rank and the lowest step of least depth. Only laws cite it.
 -- Document 01, operations 3 and 4.
 use mathlib.Core.Bool.{Bool, cond, _&&_}
 use Prim.Native.Nat.{ℕ, zero, suc, _-_}
