@@ -1,9 +1,9 @@
 // Ranks by classes, over moves given as lists: entry p of a class list is the lowest state of the class of p, and each
 // round compares states by the classes of the round before.
-use text::State;
 use model::store::ACTION_LIMIT;
 use model::store::STATE_LIMIT;
 use model::store::STEP_LIMIT;
+use text::State;
 ghost use mathlib.Core.Path.{_≡_};
 ghost use Prim.Native.Nat.{ℕ, _+_, _≤_, _<_};
 ghost use lib.ListN.{length, getD};

@@ -1,5 +1,5 @@
 -- The role says whether step j is low, `find` gives the one step of q with its action, the table the targets' rank.
-use mathlib.Core.Path.{refl, sym, ap, _∙_}
+use mathlib.Core.Path.{sym, ap, _∙_}
 use native.Mathlib.Omega.{arith}
 use borrow.Author.Needs.{needs}
 use Rattle.text.specs.declared.State.{State}

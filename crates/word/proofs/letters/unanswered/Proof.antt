@@ -1,5 +1,5 @@
 -- The role says whether step j is low, and `find` whether q has a step of its action.
-use mathlib.Core.Path.{sym, ap, _∙_}
+use mathlib.Core.Path.{ap, _∙_}
 use native.Mathlib.Omega.{arith}
 use borrow.Author.Needs.{needs}
 use Rattle.text.specs.declared.Action.{Action}
