@@ -1,0 +1,3 @@
+// The page of a model.
+pub mod lines;
+pub mod page;
