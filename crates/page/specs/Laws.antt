@@ -1,1 +1,3 @@
 pub mod PageLinesLaws
+pub mod LinesWrittenLaws
+pub mod StateLinesLaws

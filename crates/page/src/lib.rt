@@ -1,3 +1,5 @@
 // The page of a model.
-pub mod lines;
+mod class;
+mod lines;
 pub mod page;
+mod states;
