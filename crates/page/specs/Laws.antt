@@ -1,3 +1,4 @@
 pub mod PageLinesLaws
 pub mod LinesWrittenLaws
 pub mod StateLinesLaws
+pub mod LeakLaws

@@ -38,11 +38,15 @@ pub data StateLines (m : Model) : ℕ → List PageLine → Type 0 where
 abbrev pub nameOf : Model → ℕ → List ℕ
 nameOf m a = (getD (m .actions) a (record { level = 3; name = [] })) .name
 
+-- `W,name`
+abbrev pub nameLine : Model → ℕ → PageLine
+nameLine m a = word-line (nameOf m a)
+
 -- "if deterministic, `W,name` per letter of the word and `B,source` or `B,target` for the end that allows it, otherwise
 -- `N`". "Page fills [..] word if it prints a `B` line (as Word does)."
 pub data LeakShown (m : Model) (j : ℕ) (word word′ : List ℕ) : List PageLine → Type 0 where
   by-word : {w : List ℕ} {end : End} → DeterministicModel m → WordOf m j w end → word′ ≡ w ++ drop (length w) word
-      → LeakShown m j word word′ (map (λ a. word-line (nameOf m a)) w ++ (end-line end ∷ []))
+      → LeakShown m j word word′ (map (nameLine m) w ++ (end-line end ∷ []))
   by-branch : ¬ (DeterministicModel m) → word′ ≡ word → LeakShown m j word word′ (branch-line ∷ [])
 
 -- "If refused: `R,step` per step of the run to the source of Judge's step"; then what shows the leak. "Page fills run if
