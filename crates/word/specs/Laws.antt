@@ -1,2 +1,5 @@
 pub mod WordsLaws
+pub mod LettersLaws
+pub mod LastLetterLaws
+pub mod WordHeadLaws
 pub mod ClaimLaws
