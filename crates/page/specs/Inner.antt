@@ -1,3 +1,4 @@
 pub mod Entries
 pub mod LinesWritten
 pub mod Leak
+pub mod PageLists

@@ -1,5 +1,6 @@
 // The lines that show the leak of a refused model.
 use crate::lines::PageEnd;
+use judge::judge::Verdict;
 use model::Action;
 use model::Step;
 use word::word::WordAnswer;
@@ -10,10 +11,11 @@ ghost use lib.ListN.{length, take};
 ghost use Rattle.model.specs.StoredModel.{modelAt};
 ghost use Rattle.model.specs.Inner.Writable.{Writable};
 ghost use Rattle.model.specs.Wrote.{Wrote};
-ghost use Rattle.page.specs.PageLines.{run-line, word-line, lineBytes};
-ghost use Rattle.page.specs.Page.{nameOf, nameLine};
+ghost use Rattle.judge.specs.declared.judge.Verdict.the-variants.{Refused};
+ghost use Rattle.page.specs.PageLines.{run-line, lineBytes};
+ghost use Rattle.page.specs.Page.{nameLine, LeakLines, AfterStates};
 ghost use Rattle.page.specs.Inner.LinesWritten.{LinesWritten};
-ghost use Rattle.page.specs.Inner.Leak.{Letters, Spelled, shownLines};
+ghost use Rattle.page.specs.Inner.Leak.{Letters, Spelled, shownLines, JudgedLists};
 
 impl PageEnd {
     // A line for each of the first n steps of a run, of at most 8 bytes.
@@ -74,5 +76,74 @@ impl PageEnd {
             return p.end_line(out, end);
         }
         self.branch_line(out)
+    }
+
+    // The run to the source of Judge's step and what Word shows, on the lists as `judge_good` leaves them.
+    fn leak_lines(
+        self,
+        out: &mut [u8],
+        store: &[u16],
+        begins: &[u16],
+        roles: &[u16],
+        distances: &[u16],
+        table: &[u8],
+        v: Verdict,
+        j: Step,
+        depth: u8,
+        run: &mut [u16],
+        word: &mut [u16],
+    ) -> PageEnd
+        requires { ⌜ JudgedLists (modelAt (now store)) v (now store) (now begins) (now roles) (now distances) (now table)
+            (now run) (now word) ⌝ }
+        requires { ⌜ v ≡ Refused j depth ⌝ }
+        requires { ⌜ self .at .at + 2930 ≤ length (now out) ⌝ }
+        ensures { λ r. ⌜ LinesWritten (LeakLines (modelAt (now (store .entry))) (j .0) (now (run .entry))
+            (now (word .entry)) (now (run .exit)) (now (word .exit))) 2930 (now (out .entry)) (self .at .at)
+            (now (out .exit)) (r .at .at) ⌝ }
+    {
+        let p = model::store::source(store, j);
+        let n = judge::run::fill_run(store, distances, run, p);
+        let end = self.run_lines(out, run, n);
+        let shown = word::word::show(store, begins, roles, distances, table, v, word);
+        end.shown_lines(out, store, word, shown)
+    }
+
+    // What follows the `C` lines.
+    pub fn after_states(
+        self,
+        out: &mut [u8],
+        store: &[u16],
+        begins: &[u16],
+        roles: &[u16],
+        distances: &[u16],
+        table: &[u8],
+        v: Verdict,
+        run: &mut [u16],
+        word: &mut [u16],
+    ) -> PageEnd
+        requires { ⌜ JudgedLists (modelAt (now store)) v (now store) (now begins) (now roles) (now distances) (now table)
+            (now run) (now word) ⌝ }
+        requires { ⌜ self .at .at + 2930 ≤ length (now out) ⌝ }
+        ensures { λ r. ⌜ LinesWritten (AfterStates (modelAt (now (store .entry))) v (now (run .entry)) (now (word .entry))
+            (now (run .exit)) (now (word .exit))) 2930 (now (out .entry)) (self .at .at) (now (out .exit)) (r .at .at) ⌝ }
+    {
+        match v {
+            Verdict::Passed(_) => self,
+            Verdict::Refused(j, depth) => {
+                self.leak_lines(
+                    out,
+                    store,
+                    begins,
+                    roles,
+                    distances,
+                    table,
+                    v,
+                    j,
+                    depth,
+                    run,
+                    word,
+                )
+            }
+        }
     }
 }

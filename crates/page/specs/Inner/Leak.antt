@@ -2,10 +2,13 @@
 use mathlib.Core.List.{List, [], _∷_, _++_, map}
 use Prim.Native.Nat.{ℕ, _≤_, _<_}
 use lib.ListN.{length, getD, take}
-use Rattle.model.specs.Lists.{wordLength}
+use Rattle.model.specs.Lists.{runLength, wordLength}
 use Rattle.model.specs.Model.{Model}
+use Rattle.model.specs.Store.{Good}
+use Rattle.judge.specs.declared.judge.Verdict.{Verdict}
 use Rattle.word.specs.declared.word.WordAnswer.{WordAnswer}
 use Rattle.word.specs.declared.word.WordAnswer.the-variants.{Shown, ShortList, NotGood, NotDeterministic, NoLeak}
+use Rattle.word.specs.Inner.Letters.{Showable}
 use Rattle.page.specs.PageLines.{PageLine, end-line, branch-line}
 use Rattle.page.specs.Page.{nameLine}
 
@@ -30,3 +33,9 @@ shownLines m (ShortList place) word = branch-line ∷ []
 shownLines m NotGood word = branch-line ∷ []
 shownLines m (NotDeterministic j) word = branch-line ∷ []
 shownLines m NoLeak word = branch-line ∷ []
+
+-- A good store, judged, with the lists made from it and room for a run and a word.
+pub record JudgedLists (m : Model) (v : Verdict) (store begins roles distances table run word : List ℕ) : Type 0 where
+  pub good : Good store
+  pub showable : Showable m v store begins roles distances table word
+  pub run-length : runLength ≤ length run

@@ -63,3 +63,16 @@ written-of f l x = record {
   wrote = x .wrote;
   length-le = omega (arith, x .length-le);
 }
+
+-- ---- lines that are known
+
+-- the lines themselves
+pub written-exact : {P : List PageLine → Type 0} {room at next : ℕ} {entry exit : List ℕ}
+    (x : LinesWritten P room entry at exit next) → LinesWritten (_≡_ (x .lines)) room entry at exit next
+written-exact x = record { lines = x .lines; holds = refl; wrote = x .wrote; length-le = x .length-le }
+
+-- known lines after known lines
+pub written-both : {xs ys : List PageLine} {r s at mid next : ℕ} {entry middle exit : List ℕ}
+    → LinesWritten (_≡_ xs) r entry at middle mid → LinesWritten (_≡_ ys) s middle mid exit next
+    → LinesWritten (_≡_ (xs ++ ys)) (r + s) entry at exit next
+written-both {xs} {ys} x y = written-append (λ us vs (p : xs ≡ us) (q : ys ≡ vs). rw (p, q)) x y
