@@ -1,1 +1,2 @@
 pub mod WordAnswers
+pub mod TextAnswers

@@ -1,10 +1,11 @@
--- Demand 3 as one claim, from a text to what Read, Judge and Word tell of it: they get the store as Read left it, and the
--- other lists may have held anything. Whoever makes the three calls has it (`claim-holds`), and `tell` is held to it.
+-- Demand 3 as one claim, from a text to what Read, Judge and Word tell of it: they get the store as Read left it, and
+-- the other lists may have held anything. Whoever makes the three calls has it (`claim-holds`), and `tell` is held to
+-- it.
 --
 -- It shuts out, among others: a Judge that passes or refuses all (`passed-iff`), one that counts unreachable high steps
--- (`step-told`), a depth made up (`depth`), a Word that says 24 without having judged (`no-word-iff`), one that names the
--- other end (`possible`), shows a word one too long (`shortest`), the last by action numbers (`first`) or one with a
--- release in it (`low`).
+-- (`step-told`), a depth made up (`depth-is`), a Word that says 24 without having judged (`no-word-iff`), one that
+-- names the other end (`possible`), shows a word one too long (`shortest`), the last by action numbers (`first`) or one
+-- with a release in it (`low`).
 -- Document 01, "Demand 3 is one claim [..]"; DEMANDS, 3. Assumes nothing.
 use mathlib.Core.List.{List, [], _∷_}
 use mathlib.Core.Logic.{_⊎_, _↔_}
@@ -19,6 +20,8 @@ use Rattle.model.specs.Model.{Model}
 use Rattle.model.specs.System.{source, target, levels, Steps, Start, HighStep, DeterministicModel}
 use Rattle.model.specs.Text.{textOf}
 use Rattle.model.specs.WellFormed.{WellFormed}
+use Rattle.word.specs.declared.word.End.{End}
+use Rattle.word.specs.Words.{endNumber, endState, otherState}
 
 -- The text has no fault that is listed for Read: it states the model m, line by line.
 pub record States (text : List ℕ) (m : Model) : Type 0 where
@@ -36,17 +39,12 @@ SaysPassed judge = (top : ℕ) × (judge ≡ answers (top ∷ []))
 abbrev pub SaysRefused : Outcome → ℕ → ℕ → Type 0
 SaysRefused judge j depth = judge ≡ answers (j ∷ depth ∷ [])
 
--- An end of a step by the number that Word tells: 0 the source, 1 the target.
-pub record Ends (m : Model) (j number end other : ℕ) : Type 0 where
-  pub either : ((number ≡ 0) × (end ≡ source m j) × (other ≡ target m j))
-      ⊎ ((number ≡ 1) × (end ≡ target m j) × (other ≡ source m j))
-
 -- What Judge tells of a deterministic model.
 pub record JudgeTells (m : Model) (judge : Outcome) : Type 0 where
   pub answered : SaysPassed judge ⊎ ((j : ℕ) × (depth : ℕ) × SaysRefused judge j depth)
-  -- "It is passed exactly when this holds of every sequence of actions, however long, that can be run from the start: with
-  -- each high action that no later release follows taken out it can still be run from the start, and the two states where
-  -- the full and the thinned sequence end allow the same low sequences."
+  -- "It is passed exactly when this holds of every sequence of actions, however long, that can be run from the start:
+  -- with each high action that no later release follows taken out it can still be run from the start, and the two
+  -- states where the full and the thinned sequence end allow the same low sequences."
   pub passed-iff : SaysPassed judge ↔ INI (levels m) (Steps m) (Start m)
   -- "the step told, a reachable high step"
   pub step-told : (j depth : ℕ) → SaysRefused judge j depth → HighStep m j
@@ -54,20 +52,18 @@ pub record JudgeTells (m : Model) (judge : Outcome) : Type 0 where
 -- The sequence that Word shows for Judge's step and depth: what it filled up to its answered length, and the end named.
 pub record Sequence (m : Model) (j depth : ℕ) (word : Outcome) (list : List ℕ) : Type 0 where
   pub sequence : List ℕ
-  pub number : ℕ
-  pub end : ℕ
-  pub other : ℕ
-  pub ends : Ends m j number end other
-  pub answer : word ≡ answers (length sequence ∷ number ∷ [])
+  pub end : End
+  pub answer : word ≡ answers (length sequence ∷ endNumber end ∷ [])
   pub filled : take (length sequence) list ≡ sequence
   -- "a low sequence is shown"
   pub low : Low (levels m) sequence
   -- "it is possible from the named end of the step told [..] and not from that step's other end"
-  pub possible : Allows (Steps m) end sequence
-  pub not-possible : ¬ (Allows (Steps m) other sequence)
+  pub possible : Allows (Steps m) (endState m j end) sequence
+  pub not-possible : ¬ (Allows (Steps m) (otherState m j end) sequence)
   -- "the one that document 01 fixes for Word": the first by action numbers among the shortest such of that step
   pub first : FirstWord (levels m) (Steps m) (source m j) (target m j) sequence
-  -- "Every other low sequence that is possible from just one end of any reachable high step has at least as many actions."
+  -- "Every other low sequence that is possible from just one end of any reachable high step has at least as many
+  -- actions."
   pub shortest : (i : ℕ) → HighStep m i → (v : List ℕ) → Low (levels m) v
       → JustOne (Steps m) (source m i) (target m i) v → length sequence ≤ length v
   -- "The depth told is the number of actions in the sequence shown."

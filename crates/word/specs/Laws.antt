@@ -2,4 +2,8 @@ pub mod WordsLaws
 pub mod LettersLaws
 pub mod LastLetterLaws
 pub mod WordHeadLaws
+pub mod WordPromiseLaws
+pub mod LeastLeakLaws
+pub mod ReadTextLaws
 pub mod ClaimLaws
+pub mod TellPromiseLaws

@@ -1,4 +1,5 @@
--- What `tell` promises: the promises of Read, Judge and Word, one call after the other on the same lists, and the claim.
+-- What `tell` promises: the promises of Read, Judge and Word, one call after the other on the same lists, and the
+-- claim.
 -- Document 01, "The operations, in the order of the work", 1, 4 and 6.
 use mathlib.Core.List.{List, []}
 use mathlib.Core.Path.{_≡_}
@@ -20,7 +21,8 @@ pub record NotRead (text store distances table word : List ℕ) (read : Outcome)
   pub table-kept : table′ ≡ table
   pub word-kept : word′ ≡ word
 
--- Else Judge is called on the store as Read left it, and then Word, which leaves distances and table as Judge left them.
+-- Else Judge is called on the store as Read left it, and then Word, which leaves distances and table as Judge left
+-- them.
 pub record ReadJudged (text store distances table word : List ℕ) (judge shown : Outcome)
     (store′ distances′ table′ word′ : List ℕ) : Type 0 where
   pub read-promise : ReadPromise text store (answers []) store′

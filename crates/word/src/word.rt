@@ -83,8 +83,8 @@ fn last_letter(store: &[u16], begins: &[u16], roles: &[u16], p: State, q: State)
     }
 }
 
-// Writes the first shortest word of p and q, which round `depth` separates, letter by letter; answers the end that allows
-// it.
+// Writes the first shortest word of p and q, which round `depth` separates, letter by letter; answers the end that
+// allows it.
 fn fill_word(
     store: &[u16],
     begins: &[u16],
@@ -140,14 +140,15 @@ pub fn show(
                 let p = model::store::source(store, j);
                 let q = model::store::target(store, j);
                 let end = fill_word(store, begins, roles, table, word, p, q, depth);
-                WordAnswer::Shown(depth as usize, end)
+                let length = depth as usize;
+                WordAnswer::Shown(length, end)
             }
         },
     }
 }
 
-// Fills the distances and the table, and the first shortest word that shows the leak; answers its length and the end that
-// allows it.
+// Fills the distances and the table, and the first shortest word that shows the leak; answers its length and the end
+// that allows it.
 pub fn word(store: &[u16], distances: &mut [u16], table: &mut [u8], word: &mut [u16]) -> WordAnswer
     ensures { λ r. ⌜ WordPromise (now (store .entry)) (now (distances .entry)) (now (table .entry)) (now (word .entry))
         (wordOutcome r) (now (distances .exit)) (now (table .exit)) (now (word .exit)) ⌝ }

@@ -74,7 +74,7 @@ module _ (store distances table : List ℕ) where
 
 -- ---- one answer
 
-filled-unique : {s : List ℕ} {m : Model} → Stored s m → (distances table u v x y : List ℕ)
+pub filled-unique : {s : List ℕ} {m : Model} → Stored s m → (distances table u v x y : List ℕ)
     → Filled m distances table u v → Filled m distances table x y → (u ≡ x) × (v ≡ y)
 filled-unique {m = m} st distances table u v x y f g = (
   distances-unique st (f .distances-filled) (g .distances-filled),

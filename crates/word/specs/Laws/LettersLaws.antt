@@ -2,7 +2,7 @@
 -- Document 01, operation 6. Assumes nothing.
 use mathlib.Core.List.{List}
 use mathlib.Core.Logic.{⊎-elim}
-use mathlib.Core.Path.{_≡_, refl, sym, ap, subst, _∙_}
+use mathlib.Core.Path.{_≡_, sym, subst, _∙_}
 use Prim.Native.Nat.{ℕ, zero, suc, _+_, _≤_, _<_}
 use native.Mathlib.Numerals.{add-one}
 use native.Mathlib.Omega.{arith}
@@ -28,7 +28,7 @@ use Rattle.judge.specs.Laws.RolesLaws.{low-of-role, role-of-low}
 use Rattle.judge.specs.Laws.StepTestLaws.{decided-steps}
 use Rattle.word.specs.declared.branch.Found.{Found}
 use Rattle.word.specs.declared.branch.Found.the-variants.{At, Nothing}
-use Rattle.word.specs.Inner.Letters.{First, FoundFirst, StepOf, Unanswered, Alone, Answer, Answered}
+use Rattle.word.specs.Inner.Letters.{First, FoundFirst, StepOf, Unanswered, Answer, Answered}
 use Rattle.word.specs.Inner.Letters.{FirstLetter, StepLists, WordLists, SeparatedPair}
 
 -- ---- the first step

@@ -119,7 +119,7 @@ module _ {m : Model} {p q : ℕ} where
   pub head-next : {s : List ℕ} → Stored s m → {at from to n k j i y z a : ℕ} {entry exit : List ℕ} → n ≡ k + 1 → 0 < k
       → SeparatedPair m from to n → FirstLetter m from to k j i → a ≡ action m j → y ≡ target m j → z ≡ target m i
       → at < length entry → WordHead m p q at from to entry exit → WordHead m p q (at + 1) y z entry (set exit at a)
-  head-next st {at} {from} {to} {j = j} {y = y} {z = z} {a = a} {entry = entry} {exit = exit} g pos pair x d e f l h = record {
+  head-next st {at} {from} {to} {j = j} {y = y} {z} {a} {entry} {exit} g pos pair x d e f l h = record {
     head = h .head ++ (a ∷ []);
     leads = λ w end v. rw (append-snoc (h .head) a w) (h .leads (a ∷ w) end (step w end v));
     length-is = snoc-length (h .head) a at (h .length-is);

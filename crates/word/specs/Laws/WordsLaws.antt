@@ -1,7 +1,7 @@
--- A model is deterministic exactly where no step branches. Document 01, operation 6, and "Refused because of the state", 23.
--- Assumes nothing.
+-- A model is deterministic exactly where no step branches.
+-- Document 01, operation 6, and "Refused because of the state", 23. Assumes nothing.
 use mathlib.Core.List.{List}
-use mathlib.Core.Logic.{_⊎_, inl, inr}
+use mathlib.Core.Logic.{_⊎_, inl, inr, _↔_}
 use mathlib.Core.Path.{_≡_, refl, sym, ap, subst, _∙_}
 use Prim.Native.Nat.{ℕ, suc, _-_, _≤_, _<_}
 use native.Mathlib.Omega.{arith}
@@ -10,7 +10,7 @@ use Rattle.lts.specs.TestsLaws.{lt-or-le}
 use Rattle.model.specs.Model.{Model}
 use Rattle.model.specs.System.{source, action, ReachableIn, DeterministicModel}
 use Rattle.judge.specs.Inner.Stored.{Stored}
-use Rattle.word.specs.Words.{Branches, FirstBranch}
+use Rattle.word.specs.Words.{Branches}
 
 -- ---- branches
 
@@ -70,7 +70,9 @@ module _ {s : List ℕ} {m : Model} (st : Stored s m) where
       }
 
   pub deterministic-of-no-branch : ((j : ℕ) → ¬ (Branches m j)) → DeterministicModel m
-  deterministic-of-no-branch none = record { one-step = λ i j li lj r e f. go i j li lj r e f (lt-or-le i j) (lt-or-le j i) }
+  deterministic-of-no-branch none = record {
+    one-step = λ i j li lj r e f. go i j li lj r e f (lt-or-le i j) (lt-or-le j i);
+  }
     where
       go : (i j : ℕ) → i < length (m .steps) → j < length (m .steps) → ReachableIn m (source m i)
           → source m i ≡ source m j → action m i ≡ action m j → (i < j) ⊎ (j ≤ i) → (j < i) ⊎ (i ≤ j) → i ≡ j
@@ -78,3 +80,6 @@ module _ {s : List ℕ} {m : Model} (st : Stored s m) where
       go i j li lj r e f (inr l) (inl k) =
           absurd (none (suc j) (branches-of-two j i k li (subst (ReachableIn m) e r) (sym e) (sym f)))
       go i j li lj r e f (inr l) (inr k) = omega arith
+
+  pub no-branch↔deterministic : ((j : ℕ) → ¬ (Branches m j)) ↔ DeterministicModel m
+  no-branch↔deterministic = (deterministic-of-no-branch, not-branches)

@@ -1,4 +1,4 @@
--- The role says whether step j is low, `find` gives the one step of q with its action, and the table their targets' rank.
+-- The role says whether step j is low, `find` gives the one step of q with its action, the table the targets' rank.
 use mathlib.Core.Path.{refl, sym, ap, _∙_}
 use native.Mathlib.Omega.{arith}
 use borrow.Author.Needs.{needs}
@@ -12,10 +12,7 @@ use Rattle.word.proofs.letters.answer.Statement.{statement}
 use Rattle.word.proofs.letters.answer.Tie as tie
 
 action-requires : tie.Need-action-requires
-action-requires c κs =
-    let pre = c .before .before .before .before .pre in
-    let st = pre .0 .step-lists .stored in
-    (st .length-le, omega (arith, st .steps-le, pre .1 .1 .1))
+action-requires c κs = search needs
 
 cast-of : tie.Need-cast-of
 cast-of c = search needs
@@ -52,10 +49,7 @@ enum-known-i : tie.Need-enum-known-i
 enum-known-i c = search needs
 
 target-requires : tie.Need-target-requires
-target-requires c κs =
-    let pre = c .before .before .before .before .before .before .before .before .before .before .before .before .pre in
-    let st = pre .0 .step-lists .stored in
-    (st .length-le, omega (arith, st .steps-le, pre .1 .1 .1))
+target-requires c κs = search needs
 
 target-requires-2 : tie.Need-target-requires-2
 target-requires-2 c κs =

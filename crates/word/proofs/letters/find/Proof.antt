@@ -63,7 +63,8 @@ returns c =
     let inv = at-loop .loop .inv in
     let pre = at-loop .before .before .before .before .before .before .pre in
     let own = own-of-index (pre .1 .0 .1) (pre .1 .1) _ (inv .1) (omega (arith, inv .0, in-loop .loop-test .taken)) in
-    let e = ap (λ (x : Action). x .0) (c .before .before .before .action .ensures) ∙ stored-action (pre .0) _ (own .0) in
+    let acted = c .before .before .before .action in
+    let e = ap (λ (x : Action). x .0) (acted .ensures) ∙ stored-action (pre .0) _ (own .0) in
     first-found (inv .2) (record {
       number-lt = own .0;
       source-is = own .1;
@@ -89,7 +90,8 @@ loop-again c =
     let inv = at-loop .loop .inv in
     let pre = at-loop .before .before .before .before .before .before .pre in
     let own = own-of-index (pre .1 .0 .1) (pre .1 .1) _ (inv .1) (omega (arith, inv .0, in-loop .loop-test .taken)) in
-    let e = ap (λ (x : Action). x .0) (c .before .before .before .action .ensures) ∙ stored-action (pre .0) _ (own .0) in
+    let acted = c .before .before .before .action in
+    let e = ap (λ (x : Action). x .0) (acted .ensures) ∙ stored-action (pre .0) _ (own .0) in
     (inv .0, omega arith, below-more _ _ (inv .2) (λ x. c .if1 .left (e ∙ x .action-is)))
 
 returns-2 : tie.Need-returns-2 Inv-loop μ-loop

@@ -1,4 +1,4 @@
--- What is written before place `at` goes on with whatever word the two states reached have, which round `left` separates.
+-- What is written goes on with whatever word the two states reached have, which round `left` separates.
 use mathlib.Core.Path.{_≡_, refl, ap, _∙_}
 use Prim.Native.Nat.{_+_, _<_}
 use native.Mathlib.Omega.{arith}
@@ -64,7 +64,8 @@ target-requires c κs =
 target-requires-2 : tie.Need-target-requires-2 Inv-loop μ-loop
 target-requires-2 c κs =
     let letter = c .before .before .first-letter in
-    let st = c .before .before .before .before .before .before .before .before .before .before .pre .0 .step-lists .stored in
+    let at-loop = c .before .before .before .before in
+    let st = at-loop .before .before .before .before .before .before .pre .0 .step-lists .stored in
     (st .length-le, omega (arith, st .steps-le, letter .ensures .answer .step-of .number-lt))
 
 add-at : tie.Need-add-at Inv-loop μ-loop

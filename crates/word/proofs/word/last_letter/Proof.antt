@@ -50,7 +50,8 @@ returns c =
     let st = tried .before .before .before .before .before .pre .0 .stored in
     let here = found-at _ (first .before .before .here .given .1) (tried .before .alone .ensures) in
     let there = found-at _ (second .before .before .there .given .1) (tried .alone2 .ensures) in
-    let d = ap (λ (x : Action). x .0) (first .action .ensures) ∙ stored-action st _ (here .holds .unanswered .number-lt) in
+    let d = ap (λ (x : Action). x .0) (first .action .ensures)
+    ∙ stored-action st _ (here .holds .unanswered .number-lt) in
     let e = ap (λ (x : Action). x .0) (second .action2 .ensures)
     ∙ stored-action st _ (there .holds .unanswered .number-lt) in
     target-letter st e there (λ i x. omega (arith, d, c .if1 .taken, first-alone-le st here i x))
@@ -82,7 +83,8 @@ returns-2 c =
     let st = tried .before .before .before .before .before .pre .0 .stored in
     let here = found-at _ (first .before .before .here .given .1) (tried .before .alone .ensures) in
     let there = found-at _ (second .before .before .there .given .1) (tried .alone2 .ensures) in
-    let d = ap (λ (x : Action). x .0) (first .action .ensures) ∙ stored-action st _ (here .holds .unanswered .number-lt) in
+    let d = ap (λ (x : Action). x .0) (first .action .ensures)
+    ∙ stored-action st _ (here .holds .unanswered .number-lt) in
     let e = ap (λ (x : Action). x .0) (second .action2 .ensures)
     ∙ stored-action st _ (there .holds .unanswered .number-lt) in
     source-letter st d here (λ i x. omega (arith, e, c .if1 .left, first-alone-le st there i x))
@@ -93,7 +95,8 @@ returns-3 c =
     let tried = first .before .before .before .before in
     let st = tried .before .before .before .before .before .pre .0 .stored in
     let here = found-at _ (first .before .before .here .given .1) (tried .before .alone .ensures) in
-    let d = ap (λ (x : Action). x .0) (first .action .ensures) ∙ stored-action st _ (here .holds .unanswered .number-lt) in
+    let d = ap (λ (x : Action). x .0) (first .action .ensures)
+    ∙ stored-action st _ (here .holds .unanswered .number-lt) in
     source-letter st d here (λ i x. absurd (found-nothing _ (c .enum-told .given .1) (tried .alone2 .ensures) i x))
 
 returns-4 : tie.Need-returns-4
@@ -101,8 +104,10 @@ returns-4 c =
     let tried = c .before .before .before .before .before .before in
     let st = tried .before .before .before .before .before .pre .0 .stored in
     let there = found-at _ (c .before .before .there2 .given .1) (tried .alone2 .ensures) in
-    let none = found-nothing _ (c .before .before .before .before .enum-told2 .given .1) (tried .before .alone .ensures) in
-    let e = ap (λ (x : Action). x .0) (c .action3 .ensures) ∙ stored-action st _ (there .holds .unanswered .number-lt) in
+    let none-here = c .before .before .before .before .enum-told2 in
+    let none = found-nothing _ (none-here .given .1) (tried .before .alone .ensures) in
+    let e = ap (λ (x : Action). x .0) (c .action3 .ensures)
+    ∙ stored-action st _ (there .holds .unanswered .number-lt) in
     target-letter st e there (λ i x. absurd (none i x))
 
 returns-5 : tie.Need-returns-5

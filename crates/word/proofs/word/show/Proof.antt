@@ -59,8 +59,8 @@ fill-word-requires c κs =
       (leak-pair (deterministic-of-no-branch st none) (r .leak) e f, pre .word-length),
     )
 
-cast-t19 : tie.Need-cast-t19
-cast-t19 c = search needs
+cast-length : tie.Need-cast-length
+cast-length c = search needs
 
 returns : tie.Need-returns
 returns c =
@@ -104,7 +104,7 @@ show-spec =
     source-requires
     target-requires
     fill-word-requires
-    cast-t19
+    cast-length
     returns
     returns-2
     same-length

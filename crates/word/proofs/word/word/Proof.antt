@@ -98,7 +98,8 @@ same-length-3 c = search needs
 returns-6 : tie.Need-returns-6
 returns-6 c =
     let shown = c .before .before in
-    let judged = shown .before .before .before .before .before .before .before .before .before .before .before .before in
+    let lent = shown .before .before .before .before .before .before in
+    let judged = lent .before .before .before .before .before .before in
     let is-good = judged .before .before .before .before .before in
     let tested = is-good .before .good2 in
     let long = is-good .before .before in
