@@ -4,3 +4,4 @@ pub mod StateLinesLaws
 pub mod LeakLaws
 pub mod LeakShownLaws
 pub mod PageLaws
+pub mod PagePromiseLaws

@@ -1,16 +1,16 @@
 -- What Word does for a refused model, as the lines that show its leak.
 -- Document 01, "The page" and operation 6. Assumes nothing.
 use mathlib.Core.List.{List, [], _∷_, _++_, map}
-use mathlib.Core.Logic.{_⊎_, ⊎-elim}
-use mathlib.Core.Path.{_≡_, refl, sym, ap, subst, _∙_}
+use mathlib.Core.Logic.{_⊎_, inl, inr, ⊎-elim}
+use mathlib.Core.Path.{_≡_, sym, ap, subst, _∙_}
 use Prim.Native.Nat.{ℕ, zero, suc, _+_, _*_, _≤_, _<_}
 use native.Mathlib.Omega.{arith}
 use lib.Dec.{T, eqb, eqb→eq}
 use lib.ListN.{length, getD, take, drop, length-append, List·getD-eq-default, List·getD-append}
-use lib.Seq.{ext-getD, take-append-seam}
+use lib.Seq.{take-append-seam}
 use Rattle.lts.specs.Noninterference.{Low}
 use Rattle.lts.specs.RankLaws.{rank-lt}
-use Rattle.lts.specs.TestsLaws.{lt-or-le, eq-or-not}
+use Rattle.lts.specs.TestsLaws.{lt-or-le}
 use Rattle.model.specs.Faults.{answers, refuses}
 use Rattle.model.specs.Model.{low, ActionLine, Model}
 use Rattle.model.specs.System.{source, target, level, levels, LowStep, DeterministicModel}
@@ -23,13 +23,12 @@ use Rattle.judge.specs.declared.judge.Verdict.the-variants.{Refused}
 use Rattle.model.specs.declared.Step.{Step}
 use Rattle.judge.specs.Verdicts.{RefusedAt, Judged}
 use Rattle.word.specs.declared.word.End.{End}
-use Rattle.word.specs.declared.word.End.the-variants.{Source, Target}
 use Rattle.word.specs.declared.word.WordAnswer.{WordAnswer}
 use Rattle.word.specs.declared.word.WordAnswer.the-variants.{Shown, ShortList, NotGood, NotDeterministic, NoLeak}
-use Rattle.word.specs.Words.{Branches, FirstBranch, endNumber, WordShown}
+use Rattle.word.specs.Words.{FirstBranch, endNumber, WordShown}
 use Rattle.word.specs.Promises.{wordOutcome, WordDone}
 use Rattle.word.specs.Laws.LettersLaws.{low-step-game}
-use Rattle.word.specs.Laws.WordsLaws.{deterministic-of-no-branch}
+use Rattle.word.specs.Laws.WordPromiseLaws.{branch-cases, endNumber-injective}
 use Rattle.page.specs.Page.{nameLine, LeakShown, by-word, by-branch, LeakLines}
 use Rattle.page.specs.PageLines.{PageLine, run-line, end-line, branch-line}
 use Rattle.page.specs.Inner.Leak.{Letters, Spelled, shownLines}
@@ -49,33 +48,6 @@ unfolding Low
 letters-lt m [] x i l = absurd (omega arith)
 letters-lt m (a ∷ w) x zero l = low-lt m a (x .0)
 letters-lt m (a ∷ w) x (suc i) l = letters-lt m w (x .1) i (omega arith)
-
--- ---- a model with no first branch has none
-
-no-branch-below : {m : Model} → ((j : ℕ) → ¬ (FirstBranch m j)) → (n j : ℕ) → j < n → ¬ (Branches m j)
-no-branch-below none zero j l x = absurd (omega arith)
-no-branch-below none (suc n) j l x = none j (record {
-  branches = x;
-  first = λ i y. ⊎-elim (λ k. absurd (no-branch-below none n i (omega arith) y)) (λ k. k) (lt-or-le i j);
-})
-
-no-branch : {m : Model} → ((j : ℕ) → ¬ (FirstBranch m j)) → (j : ℕ) → ¬ (Branches m j)
-no-branch none j x = no-branch-below none (suc j) j (omega arith) x
-
--- lists that cannot differ are equal
-stable : (a b : ℕ) → ¬ (¬ (a ≡ b)) → a ≡ b
-stable a b n = ⊎-elim (λ e. e) (λ d. absurd (n d)) (eq-or-not a b)
-
-stable-list : (a b : List ℕ) → ¬ (¬ (a ≡ b)) → a ≡ b
-stable-list a b n = ext-getD 0 a b (stable (length a) (length b) (λ d. n (λ e. d (ap length e))))
-    (λ i _. stable (getD a i 0) (getD b i 0) (λ d. n (λ e. d (ap (λ (l : List ℕ). getD l i 0) e))))
-
-endNumber-one : (e f : End) → endNumber e ≡ endNumber f → e ≡ f
-unfolding endNumber
-endNumber-one Source Source h = refl
-endNumber-one Source Target h = absurd (omega arith)
-endNumber-one Target Source h = absurd (omega arith)
-endNumber-one Target Target h = refl
 
 -- the run stands in its list
 pub runWritten-le : {m : Model} {p n : ℕ} {entry exit : List ℕ} → RunWritten m p n entry exit → n ≤ length exit
@@ -98,9 +70,14 @@ module _ {s : List ℕ} {m : Model} (st : Stored s m) {j depth : ℕ} (refused :
 
     module _ {n : ℕ} (end : End) (done : WordDone m (answers (n ∷ endNumber end ∷ [])) word word′) where
       word-deterministic : DeterministicModel m
-      word-deterministic = deterministic-of-no-branch st (no-branch (λ i f.
-          let e = done .branching i f .0 in
-          let z : _≡_ {A = ℕ} 0 1 = cc in absurd (omega arith)))
+      word-deterministic = go (branch-cases st)
+        where
+          go : ((i : ℕ) × FirstBranch m i) ⊎ DeterministicModel m → DeterministicModel m
+          go (inl (i, f)) =
+              let e = done .branching i f .0 in
+              let z : _≡_ {A = ℕ} 0 1 = cc in
+              absurd (omega arith)
+          go (inr det) = det
 
       word-shown : WordShown m j depth (answers (n ∷ endNumber end ∷ [])) word word′
       word-shown = done .refused word-deterministic j depth refused
@@ -115,7 +92,7 @@ module _ {s : List ℕ} {m : Model} (st : Stored s m) {j depth : ℕ} (refused :
       word-end =
           let e = word-shown .outcome-is in
           let f : endNumber end ≡ endNumber (word-shown .end) = cc in
-          endNumber-one end (word-shown .end) f
+          endNumber-injective end (word-shown .end) f
 
       word-taken : take n word′ ≡ word-shown .word
       word-taken =
@@ -153,8 +130,7 @@ module _ {s : List ℕ} {m : Model} (st : Stored s m) {j depth : ℕ} (refused :
           let z : _≡_ {A = ℕ} 0 1 = cc in omega arith
 
       word-kept : word′ ≡ word
-      word-kept = stable-list word′ word (λ d.
-          not-deterministic (deterministic-of-no-branch st (no-branch (λ i f. d (done .branching i f .1)))))
+      word-kept = ⊎-elim (λ b. done .branching (b .0) (b .1) .1) (λ det. absurd (not-deterministic det)) (branch-cases st)
 
       by-branch-shown : LeakShown m j word word′ (branch-line ∷ [])
       by-branch-shown = by-branch not-deterministic word-kept
