@@ -43,20 +43,20 @@ abbrev pub nameLine : Model → ℕ → PageLine
 nameLine m a = word-line (nameOf m a)
 
 -- "if deterministic, `W,name` per letter of the word and `B,source` or `B,target` for the end that allows it, otherwise
--- `N`". "Page fills [..] word if it prints a `B` line (as Word does)."
-pub data LeakShown (m : Model) (j : ℕ) (word word′ : List ℕ) : List PageLine → Type 0 where
-  by-word : {w : List ℕ} {end : End} → DeterministicModel m → WordOf m j w end → word′ ≡ w ++ drop (length w) word
-      → LeakShown m j word word′ (map (nameLine m) w ++ (end-line end ∷ []))
-  by-branch : ¬ (DeterministicModel m) → word′ ≡ word → LeakShown m j word word′ (branch-line ∷ [])
+-- `N`". "Page fills [..] word if it prints a `B` line (as Word does)." The word has as many letters as the depth says.
+pub data LeakShown (m : Model) (j depth : ℕ) (word word′ : List ℕ) : List PageLine → Type 0 where
+  by-word : {w : List ℕ} {end : End} → DeterministicModel m → WordOf m j w end → length w ≡ depth
+      → word′ ≡ w ++ drop (length w) word → LeakShown m j depth word word′ (map (nameLine m) w ++ (end-line end ∷ []))
+  by-branch : ¬ (DeterministicModel m) → word′ ≡ word → LeakShown m j depth word word′ (branch-line ∷ [])
 
 -- "If refused: `R,step` per step of the run to the source of Judge's step"; then what shows the leak. "Page fills run if
 -- the model is refused (as Run does for the source of Judge's step)".
-pub record LeakLines (m : Model) (j : ℕ) (run word run′ word′ : List ℕ) (lines : List PageLine) : Type 0 where
+pub record LeakLines (m : Model) (j depth : ℕ) (run word run′ word′ : List ℕ) (lines : List PageLine) : Type 0 where
   pub steps : List ℕ
   pub run-to : RunTo m (source m j) steps
   pub run-list : run′ ≡ steps ++ drop (length steps) run
   pub rest : List PageLine
-  pub shown : LeakShown m j word word′ rest
+  pub shown : LeakShown m j depth word word′ rest
   pub lines-are : lines ≡ map run-line steps ++ rest
 
 -- A passed model has no such lines, and its run and word are left untouched.
@@ -68,7 +68,7 @@ pub record NoLeakLines (run word run′ word′ : List ℕ) (lines : List PageLi
 -- What follows the `C` lines.
 abbrev pub AfterStates : Model → Verdict → List ℕ → List ℕ → List ℕ → List ℕ → List PageLine → Type 0
 AfterStates m (Passed rank) run word run′ word′ lines = NoLeakLines run word run′ word′ lines
-AfterStates m (Refused j depth) run word run′ word′ lines = LeakLines m (j .0) run word run′ word′ lines
+AfterStates m (Refused j depth) run word run′ word′ lines = LeakLines m (j .0) depth run word run′ word′ lines
 
 -- The lines of the page, in order.
 pub record PageOf (m : Model) (run word run′ word′ : List ℕ) (lines : List PageLine) : Type 0 where

@@ -97,7 +97,7 @@ impl PageEnd {
             (now run) (now word) ⌝ }
         requires { ⌜ v ≡ Refused j depth ⌝ }
         requires { ⌜ self .at .at + 2930 ≤ length (now out) ⌝ }
-        ensures { λ r. ⌜ LinesWritten (LeakLines (modelAt (now (store .entry))) (j .0) (now (run .entry))
+        ensures { λ r. ⌜ LinesWritten (LeakLines (modelAt (now (store .entry))) (j .0) depth (now (run .entry))
             (now (word .entry)) (now (run .exit)) (now (word .exit))) 2930 (now (out .entry)) (self .at .at)
             (now (out .exit)) (r .at .at) ⌝ }
     {

@@ -114,12 +114,12 @@ module _ {s : List ℕ} {m : Model} (st : Stored s m) {j depth : ℕ} (refused :
                 omega (arith, e, letters-lt m w (word-shown .word-of .first-word .is-low) i h);
           }
 
-      by-word-shown : LeakShown m j word word′ (map (nameLine m) (take n word′) ++ (end-line end ∷ []))
+      by-word-shown : LeakShown m j depth word word′ (map (nameLine m) (take n word′) ++ (end-line end ∷ []))
       by-word-shown =
-          subst (λ (e : End). LeakShown m j word word′ (map (nameLine m) (take n word′) ++ (end-line e ∷ [])))
+          subst (λ (e : End). LeakShown m j depth word word′ (map (nameLine m) (take n word′) ++ (end-line e ∷ [])))
           (sym word-end)
-          (subst (λ (w : List ℕ). LeakShown m j word word′ (map (nameLine m) w ++ (end-line (word-shown .end) ∷ [])))
-          (sym word-taken) (by-word word-deterministic (word-shown .word-of) (word-shown .list)))
+          (subst (λ (w : List ℕ). LeakShown m j depth word word′ (map (nameLine m) w ++ (end-line (word-shown .end) ∷ [])))
+          (sym word-taken) (by-word word-deterministic (word-shown .word-of) (word-shown .length-is) (word-shown .list)))
 
     -- ---- no word is shown
 
@@ -132,7 +132,7 @@ module _ {s : List ℕ} {m : Model} (st : Stored s m) {j depth : ℕ} (refused :
       word-kept : word′ ≡ word
       word-kept = ⊎-elim (λ b. done .branching (b .0) (b .1) .1) (λ det. absurd (not-deterministic det)) (branch-cases st)
 
-      by-branch-shown : LeakShown m j word word′ (branch-line ∷ [])
+      by-branch-shown : LeakShown m j depth word word′ (branch-line ∷ [])
       by-branch-shown = by-branch not-deterministic word-kept
 
     -- ---- whatever Word answers
@@ -146,7 +146,7 @@ module _ {s : List ℕ} {m : Model} (st : Stored s m) {j depth : ℕ} (refused :
     spelled-of NoLeak done = tt
 
     pub leak-shown-of : (shown : WordAnswer) → WordDone m (wordOutcome shown) word word′
-        → LeakShown m j word word′ (shownLines m shown word′)
+        → LeakShown m j depth word word′ (shownLines m shown word′)
     unfolding wordOutcome
     leak-shown-of (Shown n end) done = by-word-shown end done
     leak-shown-of (ShortList place) done = by-branch-shown done
@@ -159,18 +159,18 @@ module _ {s : List ℕ} {m : Model} (st : Stored s m) {j depth : ℕ} (refused :
         → p ≡ source m j → RunWritten m p n run run′ → WordDone m (wordOutcome shown) word word′
         → LinesWritten (_≡_ (map run-line (take n run′))) (8 * n) entry at middle mid
         → LinesWritten (_≡_ (shownLines m shown word′)) 1914 middle mid exit next
-        → LinesWritten (LeakLines m j run word run′ word′) 2930 entry at exit next
+        → LinesWritten (LeakLines m j depth run word run′ word′) 2930 entry at exit next
     leak-lines-written {p} {n} {run = run} {run′} shown e ran done x y =
         let taken : take n run′ ≡ ran .steps =
         ap (take n) (ran .list) ∙ ap (λ (k : ℕ). take k (ran .steps ++ drop (length (ran .steps)) run)) (sym (ran .length-is))
         ∙ take-append-seam (ran .steps) (drop (length (ran .steps)) run) in
-        written-of (λ (zs : List PageLine) (z : LeakLines m j run word run′ word′ zs). z)
+        written-of (λ (zs : List PageLine) (z : LeakLines m j depth run word run′ word′ zs). z)
         (omega (arith, runTo-length st (ran .run-to), ran .length-is)) (written-append
         (λ us vs (u : map run-line (take n run′) ≡ us) (v : shownLines m shown word′ ≡ vs). record {
           steps = ran .steps;
           run-to = subst (λ (q : ℕ). RunTo m q (ran .steps)) e (ran .run-to);
           run-list = ran .list;
           rest = vs;
-          shown = subst (LeakShown m j word word′) v (leak-shown-of shown done);
+          shown = subst (LeakShown m j depth word word′) v (leak-shown-of shown done);
           lines-are = ap (λ (z : List PageLine). z ++ vs) (sym u ∙ ap (map run-line) taken);
         }) x y)

@@ -65,16 +65,16 @@ wordOf-unique {m} {j} {w} {u} {d} {e} word x y =
     let h : endNumber d ≡ endNumber e = cc in
     (f, endNumber-injective d e h)
 
-leakShown-unique : {m : Model} {j : ℕ} {word word′ word″ : List ℕ} {xs ys : List PageLine}
-    → LeakShown m j word word′ xs → LeakShown m j word word″ ys → (xs ≡ ys) × (word′ ≡ word″)
-leakShown-unique {m} {word = word} (by-word {w = w} {end = d} det x e) (by-word {w = u} {end = f} _ y g) =
+leakShown-unique : {m : Model} {j depth : ℕ} {word word′ word″ : List ℕ} {xs ys : List PageLine}
+    → LeakShown m j depth word word′ xs → LeakShown m j depth word word″ ys → (xs ≡ ys) × (word′ ≡ word″)
+leakShown-unique {m} {word = word} (by-word {w = w} {end = d} det x _ e) (by-word {w = u} {end = f} _ y _ g) =
     let same = wordOf-unique word x y in (
       ap (λ (z : List ℕ). map (nameLine m) z ++ (end-line d ∷ [])) (same .0)
           ∙ ap (λ (z : End). map (nameLine m) u ++ (end-line z ∷ [])) (same .1),
       e ∙ ap (λ (z : List ℕ). z ++ drop (length z) word) (same .0) ∙ sym g,
     )
-leakShown-unique (by-word det x e) (by-branch n g) = absurd (n det)
-leakShown-unique (by-branch n e) (by-word det y g) = absurd (n det)
+leakShown-unique (by-word det x _ e) (by-branch n g) = absurd (n det)
+leakShown-unique (by-branch n e) (by-word det y _ g) = absurd (n det)
 leakShown-unique (by-branch n e) (by-branch k g) = (refl, e ∙ sym g)
 
 afterStates-unique : (m : Model) (v : Verdict) (run word : List ℕ) {run′ word′ run″ word″ : List ℕ}
