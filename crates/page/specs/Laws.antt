@@ -1,0 +1,7 @@
+pub mod PageLinesLaws
+pub mod LinesWrittenLaws
+pub mod StateLinesLaws
+pub mod LeakLaws
+pub mod LeakShownLaws
+pub mod PageLaws
+pub mod PagePromiseLaws

@@ -1,0 +1,166 @@
+-- Page's promise pins its answer and the content of each list: a model has one page.
+-- Document 01, operation 7. Assumes nothing.
+use mathlib.Core.List.{List, [], _∷_, _++_, map}
+use mathlib.Core.Option.{Option, some}
+use mathlib.Core.Path.{_≡_, refl, sym, ap, subst, _∙_}
+use Prim.Native.Nat.{ℕ, zero, suc}
+use lib.ListN.{length, drop}
+use Rattle.lts.specs.FirstWordLaws.{first-word-unique}
+use Rattle.lts.specs.RunLaws.{distance-unique}
+use Rattle.lts.specs.TestsLaws.{eq-of-not-lt}
+use Rattle.lts.specs.WithinLaws.{distance→Reachable}
+use Rattle.model.specs.Faults.{Outcome, answers}
+use Rattle.model.specs.Model.{Model}
+use Rattle.model.specs.Promises.{OnStore}
+use Rattle.model.specs.Laws.PromisesLaws.{onStore-unique}
+use Rattle.model.specs.System.{source, target, levels, Steps, Start}
+use Rattle.judge.specs.declared.judge.Verdict.{Verdict}
+use Rattle.judge.specs.declared.judge.Verdict.the-variants.{Passed, Refused}
+use Rattle.judge.specs.Promises.{Filled}
+use Rattle.judge.specs.Laws.JudgeLaws.{filled-unique}
+use Rattle.judge.specs.Laws.ReachLaws.{good-stored}
+use Rattle.judge.specs.Laws.RunsLaws.{runTo-unique}
+use Rattle.judge.specs.Laws.VerdictsLaws.{judged-unique}
+use Rattle.word.specs.declared.word.End.{End}
+use Rattle.word.specs.Words.{endNumber, WordOf, WordShown}
+use Rattle.word.specs.Laws.WordPromiseLaws.{endNumber-injective, wordShown-unique}
+use Rattle.page.specs.PageLines.{PageLine, verdict-line, run-line, end-line, last-line, pageBytes}
+use Rattle.page.specs.Page.{DistanceField, unreached, reached, ClassOf, StateLines, no-state, next-state}
+use Rattle.page.specs.Page.{nameLine, LeakShown, by-word, by-branch, AfterStates, PageOf}
+use Rattle.page.specs.Promises.{pageLists, PagePrinted, PagePromise}
+
+-- ---- the `C` lines
+
+distanceField-unique : {m : Model} {p : ℕ} {d e : Option ℕ} → DistanceField m p d → DistanceField m p e → d ≡ e
+distanceField-unique (unreached f) (unreached g) = refl
+distanceField-unique (unreached f) (reached y) = absurd (f (distance→Reachable y))
+distanceField-unique (reached x) (unreached g) = absurd (g (distance→Reachable x))
+distanceField-unique {m} {p} (reached {d = d} x) (reached {d = e} y) =
+    ap some (distance-unique (Steps m) (Start m) p d e x y)
+
+classOf-unique : {m : Model} {p c d : ℕ} → ClassOf m p c → ClassOf m p d → c ≡ d
+classOf-unique {c = c} {d} x y =
+    eq-of-not-lt c d (λ l. y .lowest c l (x .rank-zero)) (λ l. x .lowest d l (y .rank-zero))
+
+stateLines-unique : {m : Model} (n : ℕ) {xs ys : List PageLine} → StateLines m n xs → StateLines m n ys → xs ≡ ys
+stateLines-unique zero no-state no-state = refl
+stateLines-unique (suc n) (next-state {lines = xs} {distance = d} {class = c} x f k)
+    (next-state {lines = ys} {distance = e} {class = l} y g h) =
+    let a : xs ≡ ys = stateLines-unique n x y in
+    let b : d ≡ e = distanceField-unique f g in
+    let i : c ≡ l = classOf-unique k h in
+    rw (a, b, i)
+
+-- ---- what shows the leak
+
+wordOf-unique : {m : Model} {j : ℕ} {w u : List ℕ} {d e : End} (word : List ℕ) → WordOf m j w d → WordOf m j u e
+    → (w ≡ u) × (d ≡ e)
+wordOf-unique {m} {j} {w} {u} {d} {e} word x y =
+    let f : w ≡ u = first-word-unique (levels m) (Steps m) (source m j) (target m j) w u (x .first-word) (y .first-word) in
+    let a : WordShown m j (length w) (answers (length w ∷ endNumber d ∷ [])) word (w ++ drop (length w) word) =
+    record { word = w; end = d; word-of = x; length-is = refl; outcome-is = refl; list = refl } in
+    let b : WordShown m j (length w) (answers (length w ∷ endNumber e ∷ [])) word (u ++ drop (length u) word) =
+    record { word = u; end = e; word-of = y; length-is = ap length (sym f); outcome-is = refl; list = refl } in
+    let g = wordShown-unique a b .0 in
+    let h : endNumber d ≡ endNumber e = cc in
+    (f, endNumber-injective d e h)
+
+leakShown-unique : {m : Model} {j depth : ℕ} {word word′ word″ : List ℕ} {xs ys : List PageLine}
+    → LeakShown m j depth word word′ xs → LeakShown m j depth word word″ ys → (xs ≡ ys) × (word′ ≡ word″)
+leakShown-unique {m} {word = word} (by-word {w = w} {end = d} det x _ e) (by-word {w = u} {end = f} _ y _ g) =
+    let same = wordOf-unique word x y in (
+      ap (λ (z : List ℕ). map (nameLine m) z ++ (end-line d ∷ [])) (same .0)
+          ∙ ap (λ (z : End). map (nameLine m) u ++ (end-line z ∷ [])) (same .1),
+      e ∙ ap (λ (z : List ℕ). z ++ drop (length z) word) (same .0) ∙ sym g,
+    )
+leakShown-unique (by-word det x _ e) (by-branch n g) = absurd (n det)
+leakShown-unique (by-branch n e) (by-word det y _ g) = absurd (n det)
+leakShown-unique (by-branch n e) (by-branch k g) = (refl, e ∙ sym g)
+
+afterStates-unique : (m : Model) (v : Verdict) (run word : List ℕ) {run′ word′ run″ word″ : List ℕ}
+    {xs ys : List PageLine}
+    → AfterStates m v run word run′ word′ xs → AfterStates m v run word run″ word″ ys
+    → (xs ≡ ys) × (run′ ≡ run″) × (word′ ≡ word″)
+afterStates-unique m (Passed top) run word x y =
+    (x .lines-are ∙ sym (y .lines-are), x .run-kept ∙ sym (y .run-kept), x .word-kept ∙ sym (y .word-kept))
+afterStates-unique m (Refused j depth) run word x y =
+    let steps = runTo-unique (x .run-to) (y .run-to) in
+    let rest = leakShown-unique (x .shown) (y .shown) in (
+      x .lines-are ∙ ap (λ (z : List ℕ). map run-line z ++ x .rest) steps
+          ∙ ap (λ (z : List PageLine). map run-line (y .steps) ++ z) (rest .0) ∙ sym (y .lines-are),
+      x .run-list ∙ ap (λ (z : List ℕ). z ++ drop (length z) run) steps ∙ sym (y .run-list),
+      rest .1,
+    )
+
+-- ---- the page
+
+pageOf-unique : {m : Model} {run word run′ word′ run″ word″ : List ℕ} {xs ys : List PageLine}
+    → PageOf m run word run′ word′ xs → PageOf m run word run″ word″ ys
+    → (xs ≡ ys) × (run′ ≡ run″) × (word′ ≡ word″)
+pageOf-unique {m} {run} {word} {run″ = run″} {word″} x y =
+    let v : y .verdict ≡ x .verdict = judged-unique m (y .verdict) (x .verdict) (y .judged) (x .judged) in
+    let states = stateLines-unique (m .head .states) (x .state-lines) (y .state-lines) in
+    let after = afterStates-unique m (x .verdict) run word (x .after-states)
+    (subst (λ (z : Verdict). AfterStates m z run word run″ word″ (y .after)) v (y .after-states)) in (
+      x .lines-are ∙ whole (sym v) states (after .0) ∙ sym (y .lines-are),
+      after .1,
+      after .2,
+    )
+  where
+    whole : {v u : Verdict} {a b c d : List PageLine} → v ≡ u → a ≡ b → c ≡ d
+        → (verdict-line v ∷ []) ++ a ++ c ++ (last-line ∷ []) ≡ (verdict-line u ∷ []) ++ b ++ d ++ (last-line ∷ [])
+    whole e f g = rw (e, f, g)
+
+pub pagePrinted-unique : {m : Model} {t u : Outcome} {run word out run′ word′ out′ run″ word″ out″ : List ℕ}
+    → PagePrinted m t run word out run′ word′ out′ → PagePrinted m u run word out run″ word″ out″
+    → (t ≡ u) × (run′ ≡ run″) × (word′ ≡ word″) × (out′ ≡ out″)
+pagePrinted-unique {out = out} x y =
+    let e = pageOf-unique (x .page) (y .page) in (
+      x .outcome-is ∙ ap (λ (z : List PageLine). answers (length (pageBytes z) ∷ [])) (e .0) ∙ sym (y .outcome-is),
+      e .1,
+      e .2,
+      x .list ∙ ap (λ (z : List PageLine). pageBytes z ++ drop (length (pageBytes z)) out) (e .0) ∙ sym (y .list),
+    )
+
+-- the five lists of Page, as one
+abbrev Lists : Type 0
+Lists = List ℕ × List ℕ × List ℕ × List ℕ × List ℕ
+
+as-one : {a b c d e a′ b′ c′ d′ e′ : List ℕ} → a ≡ a′ → b ≡ b′ → c ≡ c′ → d ≡ d′ → e ≡ e′
+    → _≡_ {A = Lists} (a, b, c, d, e) (a′, b′, c′, d′, e′)
+as-one p q r s t = rw (p, q, r, s, t)
+
+module _ (store distances table run word out : List ℕ) where
+  -- what is unchanged, as one equation
+  onStore-lists : (t : Outcome) (d′ t′ r′ w′ o′ : List ℕ)
+      → PagePromise store distances table run word out t d′ t′ r′ w′ o′
+      → OnStore (pageLists store distances table run word out) store t
+      (_≡_ {A = Lists} (d′, t′, r′, w′, o′) (distances, table, run, word, out))
+      (λ g. Filled (g .model) distances table d′ t′ × PagePrinted (g .model) t run word out r′ w′ o′)
+  onStore-lists t d′ t′ r′ w′ o′ x = record {
+    short = λ k e. let y = x .short k e in (y .0, as-one (y .1 .0) (y .1 .1) (y .1 .2) (y .1 .3) (y .1 .4));
+    not-good = λ e n. let y = x .not-good e n in (y .0, as-one (y .1 .0) (y .1 .1) (y .1 .2) (y .1 .3) (y .1 .4));
+    good = x .good;
+  }
+
+  pub pagePromise-unique : (t u : Outcome) (d′ t′ r′ w′ o′ d″ t″ r″ w″ o″ : List ℕ)
+      → PagePromise store distances table run word out t d′ t′ r′ w′ o′
+      → PagePromise store distances table run word out u d″ t″ r″ w″ o″
+      → (t ≡ u) × (d′ ≡ d″) × (t′ ≡ t″) × (r′ ≡ r″) × (w′ ≡ w″) × (o′ ≡ o″)
+  pagePromise-unique t u d′ t′ r′ w′ o′ d″ t″ r″ w″ o″ x y =
+      let e = onStore-unique {A = Lists} (pageLists store distances table run word out) store t u
+      (distances, table, run, word, out) (d′, t′, r′, w′, o′) (d″, t″, r″, w″, o″)
+      (λ o l g. Filled (g .model) distances table (l .0) (l .1)
+      × PagePrinted (g .model) o run word out (l .2) (l .3) (l .4))
+      (λ g a b.
+      let f = filled-unique (good-stored store g) distances table d′ t′ d″ t″ (a .0) (b .0) in
+      let h = pagePrinted-unique (a .1) (b .1) in
+      (h .0, as-one (f .0) (f .1) (h .1) (h .2) (h .3)))
+      (onStore-lists t d′ t′ r′ w′ o′ x) (onStore-lists u d″ t″ r″ w″ o″ y) in (
+        e .0,
+        ap (λ (l : Lists). l .0) (e .1),
+        ap (λ (l : Lists). l .1) (e .1),
+        ap (λ (l : Lists). l .2) (e .1),
+        ap (λ (l : Lists). l .3) (e .1),
+        ap (λ (l : Lists). l .4) (e .1),
+      )

@@ -1,0 +1,6 @@
+pub mod Inner
+pub mod Laws
+pub mod PageLines
+pub mod Page
+pub mod Promises
+pub mod Examples

@@ -1,0 +1,30 @@
+// The class of a state: the lowest state of rank 0 to it.
+use model::State;
+ghost use mathlib.Core.Path.{_≡_};
+ghost use Prim.Native.Nat.{_≤_, _<_};
+ghost use lib.ListN.{length, getD};
+ghost use Rattle.model.specs.Limits.{stateLimit};
+ghost use Rattle.model.specs.Lists.{tableLength, pairPlace};
+ghost use Rattle.page.specs.Inner.Entries.{LowestZero};
+
+// Entry 128 p + q of the table is the rank of p and q.
+const ROW: usize = 128;
+
+// Looked up in p's row of the table, which has 0 at p itself.
+pub fn class_of(table: &[u8], p: State) -> State
+    requires { ⌜ (p .0 < stateLimit) × (tableLength ≤ length (now table)) ⌝ }
+    requires { ⌜ getD (now table) (pairPlace (p .0) (p .0)) 0 ≡ 0 ⌝ }
+    ensures { λ r. ⌜ LowestZero (now (table .entry)) (p .0) (r .0) ⌝ }
+{
+    let n = p.0;
+    let row = ROW * n as usize;
+    let mut q: u16 = 0;
+    while q < n {
+        let at = row + q as usize;
+        if table[at] == 0 {
+            return State(q);
+        }
+        q += 1;
+    }
+    p
+}

@@ -1,0 +1,6 @@
+// The page of a model.
+mod class;
+mod leak;
+mod lines;
+pub mod page;
+mod states;

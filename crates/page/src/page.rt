@@ -1,0 +1,111 @@
+// Page: what is told of a store, line by line.
+use crate::lines::PageEnd;
+use judge::judge::Verdict;
+use judge::rank::TABLE_LENGTH;
+use judge::reach::DISTANCES_LENGTH;
+use judge::run::RUN_LENGTH;
+use model::store::STORE_LENGTH;
+use word::word::WORD_LENGTH;
+ghost use Prim.Native.Nat.{_≤_};
+ghost use lib.ListN.{length};
+ghost use Rattle.model.specs.Lists.{pageLength};
+ghost use Rattle.model.specs.StoredModel.{modelAt};
+ghost use Rattle.page.specs.Page.{PageOf};
+ghost use Rattle.page.specs.Promises.{pageOutcome, PagePromise};
+ghost use Rattle.page.specs.Inner.Leak.{JudgedLists};
+ghost use Rattle.page.specs.Inner.LinesWritten.{LinesWritten};
+ghost use Rattle.page.specs.Inner.PageLists.{PageLists, PageMade};
+
+// What Page answers: the bytes written.
+pub enum PageAnswer {
+    Printed(usize),
+    ShortList(usize),
+    NotGood,
+}
+
+pub const PAGE_LENGTH: usize = 5000;
+
+// The page of a judged model; the lists are as `judge_good` leaves them.
+fn judged_page(
+    store: &[u16],
+    begins: &[u16],
+    roles: &[u16],
+    distances: &[u16],
+    table: &[u8],
+    v: Verdict,
+    run: &mut [u16],
+    word: &mut [u16],
+    out: &mut [u8],
+) -> PageEnd
+    requires { ⌜ JudgedLists (modelAt (now store)) v (now store) (now begins) (now roles) (now distances) (now table)
+        (now run) (now word) ⌝ }
+    requires { ⌜ pageLength ≤ length (now out) ⌝ }
+    ensures { λ r. ⌜ LinesWritten (PageOf (modelAt (now (store .entry))) (now (run .entry)) (now (word .entry))
+        (now (run .exit)) (now (word .exit))) pageLength (now (out .entry)) 0 (now (out .exit)) (r .at .at) ⌝ }
+{
+    let start = PageEnd::start();
+    let verdict = start.verdict_line(out, v);
+    let states = verdict.state_lines(out, store, distances, table);
+    let end = states.after_states(out, store, begins, roles, distances, table, v, run, word);
+    end.last_line(out)
+}
+
+// Page on a good store: judged once.
+fn page_good(
+    store: &[u16],
+    distances: &mut [u16],
+    table: &mut [u8],
+    run: &mut [u16],
+    word: &mut [u16],
+    out: &mut [u8],
+) -> PageEnd
+    requires { ⌜ PageLists (now store) (now distances) (now table) (now run) (now word) (now out) ⌝ }
+    ensures { λ r. ⌜ PageMade (modelAt (now (store .entry))) (r .at .at) (now (distances .entry)) (now (table .entry))
+        (now (run .entry)) (now (word .entry)) (now (out .entry)) (now (distances .exit)) (now (table .exit))
+        (now (run .exit)) (now (word .exit)) (now (out .exit)) ⌝ }
+{
+    let mut begins = [0u16; 129];
+    let mut roles = [0u16; 64];
+    let v = judge::judge::judge_good(store, &mut begins, &mut roles, distances, table);
+    judged_page(store, &begins, &roles, distances, table, v, run, word, out)
+}
+
+// Fills the distances and the table, the run of a refused model, and the word where it prints one; puts the page at the
+// front of `out`.
+pub fn page(
+    store: &[u16],
+    distances: &mut [u16],
+    table: &mut [u8],
+    run: &mut [u16],
+    word: &mut [u16],
+    out: &mut [u8],
+) -> PageAnswer
+    ensures { λ r. ⌜ PagePromise (now (store .entry)) (now (distances .entry)) (now (table .entry)) (now (run .entry))
+        (now (word .entry)) (now (out .entry)) (pageOutcome r) (now (distances .exit)) (now (table .exit))
+        (now (run .exit)) (now (word .exit)) (now (out .exit)) ⌝ }
+{
+    if store.len() < STORE_LENGTH {
+        return PageAnswer::ShortList(1);
+    }
+    if distances.len() < DISTANCES_LENGTH {
+        return PageAnswer::ShortList(2);
+    }
+    if table.len() < TABLE_LENGTH {
+        return PageAnswer::ShortList(3);
+    }
+    if run.len() < RUN_LENGTH {
+        return PageAnswer::ShortList(4);
+    }
+    if word.len() < WORD_LENGTH {
+        return PageAnswer::ShortList(5);
+    }
+    if out.len() < PAGE_LENGTH {
+        return PageAnswer::ShortList(6);
+    }
+    if !model::good::good(store) {
+        return PageAnswer::NotGood;
+    }
+    let end = page_good(store, distances, table, run, word, out);
+    let at = end.at;
+    PageAnswer::Printed(at.at)
+}
