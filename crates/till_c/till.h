@@ -20,6 +20,7 @@ typedef struct {
 #define TILL_DISTANCES 128
 #define TILL_TABLE 16384
 #define TILL_RUN 127
+#define TILL_WORD 127
 #define TILL_WRITTEN 14420
 
 /* Fills the store from a text. No value. */
@@ -38,6 +39,11 @@ TillAnswer till_judge(const uint16_t *store, size_t store_len, uint16_t *distanc
 /* Fills distances, and the steps of a shortest run to the state. One value: its length. */
 TillAnswer till_run(const uint16_t *store, size_t store_len, uint16_t *distances, size_t distances_len,
                     uint16_t *run, size_t run_len, uint16_t state);
+
+/* Fills distances and ranks, and the action numbers of the first shortest low sequence that just one end of Judge's step
+   allows. Two values: its length, and the end that allows it, 0 for the source and 1 for the target. */
+TillAnswer till_word(const uint16_t *store, size_t store_len, uint16_t *distances, size_t distances_len,
+                     uint8_t *table, size_t table_len, uint16_t *word, size_t word_len);
 
 /* Fills the text that reads to the store. One value: its length. */
 TillAnswer till_write(const uint16_t *store, size_t store_len, uint8_t *out, size_t out_len);

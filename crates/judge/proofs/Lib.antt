@@ -1,3 +1,1 @@
-pub mod RankAnswers
-pub mod ReachAnswers
 pub mod RunAnswers

@@ -8,3 +8,4 @@ pub mod RunTail
 pub mod ModelLists
 pub mod LeakSearch
 pub mod Judging
+pub mod VerdictTest

@@ -11,9 +11,9 @@ pub mod RunTailLaws
 pub mod LeakSearchLaws
 pub mod ModelListsLaws
 pub mod JudgeLaws
+pub mod PromiseOutcomeLaws
 pub mod VerdictsLaws
 pub mod VerdictTestLaws
-pub mod BenchLaws
 pub mod ReachLaws
 pub mod RunsLaws
 pub mod RunPromiseLaws

@@ -4,6 +4,3 @@ pub mod Distances
 pub mod Verdicts
 pub mod Runs
 pub mod Promises
-pub mod VerdictTest
-pub mod BenchModels
-pub mod Bench

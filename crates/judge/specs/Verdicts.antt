@@ -4,7 +4,7 @@
 use Prim.Native.Nat.{ℕ, _≤_, _<_}
 use Rattle.lts.specs.Alike.{Rank}
 use Rattle.lts.specs.Noninterference.{BNID}
-use Rattle.model.specs.Model.{Model}
+use Rattle.text.specs.Model.{Model}
 use Rattle.model.specs.System.{source, target, levels, Steps, Start, LowStep, HighStep}
 use Rattle.judge.specs.declared.judge.Verdict.{Verdict}
 use Rattle.judge.specs.declared.judge.Verdict.the-variants.{Passed, Refused}
@@ -21,11 +21,13 @@ pub record PassedWith (m : Model) (top : ℕ) : Type 0 where
   pub bnid : BNID (levels m) (Steps m) (Start m)
   pub greatest : Greatest (LowStep m) (m .head .states) top
 
+-- Of the reachable high steps whose ends have a rank above 0, d is the least rank, and j the lowest step having it.
 pub record RefusedAt (m : Model) (j d : ℕ) : Type 0 where
   pub leak : Leak m j d
   pub least : (i e : ℕ) → Leak m i e → d ≤ e
   pub lowest : (i : ℕ) → Leak m i d → j ≤ i
 
+-- What a verdict says of a model.
 abbrev pub Judged : Model → Verdict → Type 0
 Judged m (Passed top) = PassedWith m top
 Judged m (Refused j d) = RefusedAt m (j .0) d

@@ -1,11 +1,13 @@
 // Where the steps of each state begin, and the role of each action: found once, and handed to all that need them.
-use model::Action;
-use model::State;
-use model::Step;
+use text::Action;
+use text::State;
+use text::Step;
 ghost use Prim.Native.Nat.{_+_, _≤_, _<_};
 ghost use lib.ListN.{length};
+ghost use Rattle.text.specs.Limits.{actionLimit};
 ghost use Rattle.model.specs.StoredModel.{modelAt};
 ghost use Rattle.model.specs.System.{levels};
+ghost use Rattle.ranking.specs.MoveList.{indexLength};
 ghost use Rattle.judge.specs.Inner.Stored.{Stored};
 ghost use Rattle.judge.specs.Inner.Index.{Begins, Index};
 ghost use Rattle.judge.specs.Inner.Roles.{Roles};
@@ -29,27 +31,27 @@ fn end_of(store: &[u16], q: State, from: u16) -> u16
 }
 
 // Writes where the steps of each state begin, and where the last one's end.
-pub fn index(store: &[u16], first: &mut [u16])
+pub fn index(store: &[u16], begins: &mut [u16])
     requires { ⌜ Stored (now store) (modelAt (now store)) ⌝ }
-    requires { ⌜ 129 ≤ length (now first) ⌝ }
+    requires { ⌜ indexLength ≤ length (now begins) ⌝ }
     ensures { λ _. ⌜ Index (modelAt (now (store .entry)))
-        (modelAt (now (store .entry)) .head .states) (now (first .exit)) ⌝ }
+        (modelAt (now (store .entry)) .head .states) (now (begins .exit)) ⌝ }
 {
     let n = model::store::states(store);
     let mut from = 0;
     let mut at = 0;
-    first[0] = 0;
+    begins[0] = 0;
     for q in 0..n {
         from = end_of(store, State(q), from);
         at += 1;
-        first[at] = from;
+        begins[at] = from;
     }
 }
 
 // Writes the role of each action.
 pub fn roles(store: &[u16], out: &mut [u16])
     requires { ⌜ Stored (now store) (modelAt (now store)) ⌝ }
-    requires { ⌜ 64 ≤ length (now out) ⌝ }
+    requires { ⌜ actionLimit ≤ length (now out) ⌝ }
     ensures { λ _. ⌜ Roles (levels (modelAt (now (store .entry))))
         (modelAt (now (store .entry)) .head .actions) (now (out .exit)) ⌝ }
 {

@@ -1,15 +1,16 @@
 // The moves that are played, as lists: the low steps of each state. No other module knows what a move is.
-use model::State;
-use model::Step;
+use crate::LOW;
+use text::State;
+use text::Step;
 ghost use Prim.Native.Nat.{_+_, _≤_, _<_};
 ghost use lib.ListN.{length, getD};
-ghost use Rattle.model.specs.Limits.{stepLimit};
+ghost use Rattle.text.specs.Limits.{actionLimit, stepLimit};
 ghost use Rattle.model.specs.StoredModel.{modelAt};
 ghost use Rattle.model.specs.System.{levels, LowStep};
 ghost use Rattle.judge.specs.Inner.Stored.{Stored};
 ghost use Rattle.judge.specs.Inner.Index.{Index};
 ghost use Rattle.judge.specs.Inner.Roles.{Roles};
-ghost use Rattle.ranking.specs.MoveList.{Lists};
+ghost use Rattle.ranking.specs.MoveList.{indexLength, Lists};
 ghost use Rattle.judge.specs.Inner.Listing.{Appended, LowAmong};
 
 // Appends a step to the lists at place `at` if it is low, and yields the next free place.
@@ -22,7 +23,7 @@ fn list_step(
     targets: &mut [u16],
 ) -> u16
     requires { ⌜ Stored (now store) (modelAt (now store)) ⌝ }
-    requires { ⌜ (64 ≤ length (now roles))
+    requires { ⌜ (actionLimit ≤ length (now roles))
         × Roles (levels (modelAt (now store))) (modelAt (now store) .head .actions) (now roles) ⌝ }
     requires { ⌜ (j .0 < length (modelAt (now store) .steps)) × (at < stepLimit) ⌝ }
     requires { ⌜ (stepLimit ≤ length (now actions)) × (stepLimit ≤ length (now targets)) ⌝ }
@@ -32,7 +33,7 @@ fn list_step(
 {
     let a = model::store::action(store, j);
     let of = a.0 as usize;
-    if roles[of] != 0 {
+    if LOW < roles[of] {
         return at;
     }
     let q = model::store::target(store, j);
@@ -53,9 +54,9 @@ fn list_state(
     targets: &mut [u16],
 ) -> u16
     requires { ⌜ Stored (now store) (modelAt (now store)) ⌝ }
-    requires { ⌜ (129 ≤ length (now begins))
+    requires { ⌜ (indexLength ≤ length (now begins))
         × Index (modelAt (now store)) (modelAt (now store) .head .states) (now begins) ⌝ }
-    requires { ⌜ (64 ≤ length (now roles))
+    requires { ⌜ (actionLimit ≤ length (now roles))
         × Roles (levels (modelAt (now store))) (modelAt (now store) .head .actions) (now roles) ⌝ }
     requires { ⌜ (p .0 < modelAt (now store) .head .states) × (from ≤ getD (now begins) (p .0) 0) ⌝ }
     requires { ⌜ (stepLimit ≤ length (now actions)) × (stepLimit ≤ length (now targets)) ⌝ }
@@ -84,11 +85,11 @@ pub fn list_moves(
     targets: &mut [u16],
 )
     requires { ⌜ Stored (now store) (modelAt (now store)) ⌝ }
-    requires { ⌜ (129 ≤ length (now begins))
+    requires { ⌜ (indexLength ≤ length (now begins))
         × Index (modelAt (now store)) (modelAt (now store) .head .states) (now begins) ⌝ }
-    requires { ⌜ (64 ≤ length (now roles))
+    requires { ⌜ (actionLimit ≤ length (now roles))
         × Roles (levels (modelAt (now store))) (modelAt (now store) .head .actions) (now roles) ⌝ }
-    requires { ⌜ (129 ≤ length (now first)) × (stepLimit ≤ length (now actions))
+    requires { ⌜ (indexLength ≤ length (now first)) × (stepLimit ≤ length (now actions))
         × (stepLimit ≤ length (now targets)) ⌝ }
     ensures { λ _. ⌜ Lists (LowStep (modelAt (now (store .entry)))) (modelAt (now (store .entry)) .head .states)
         (now (first .exit)) (now (actions .exit)) (now (targets .exit)) ⌝ }

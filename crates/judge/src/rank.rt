@@ -1,16 +1,21 @@
 // The table of ranks.
+use crate::INDEX_LENGTH;
+use crate::ROLES_LENGTH;
+use ranking::classes::MOVES_LENGTH;
 ghost use Prim.Native.Nat.{_≤_};
 ghost use lib.ListN.{length};
+ghost use Rattle.text.specs.Limits.{actionLimit};
 ghost use Rattle.model.specs.StoredModel.{modelAt};
 ghost use Rattle.model.specs.System.{levels, LowStep};
 ghost use Rattle.model.specs.Lists.{tableLength};
 ghost use Rattle.judge.specs.Inner.Stored.{Stored};
 ghost use Rattle.judge.specs.Inner.Index.{Index};
 ghost use Rattle.judge.specs.Inner.Roles.{Roles};
+ghost use Rattle.ranking.specs.MoveList.{indexLength};
 ghost use Rattle.ranking.specs.Table.{Ranked};
 ghost use Rattle.judge.specs.Promises.{rankOutcome, RankPromise};
 
-pub const TABLE_LENGTH: usize = 16384;
+pub const TABLE_LENGTH: usize = ranking::classes::TABLE_LENGTH;
 
 // What Rank answers: the last round that separated two states.
 pub enum RankAnswer {
@@ -23,17 +28,17 @@ pub enum RankAnswer {
 // steps of each state begin where `begins` says.
 pub fn fill_table(store: &[u16], begins: &[u16], roles: &[u16], table: &mut [u8]) -> u8
     requires { ⌜ Stored (now store) (modelAt (now store)) ⌝ }
-    requires { ⌜ (129 ≤ length (now begins))
+    requires { ⌜ (indexLength ≤ length (now begins))
         × Index (modelAt (now store)) (modelAt (now store) .head .states) (now begins) ⌝ }
-    requires { ⌜ (64 ≤ length (now roles))
+    requires { ⌜ (actionLimit ≤ length (now roles))
         × Roles (levels (modelAt (now store))) (modelAt (now store) .head .actions) (now roles) ⌝ }
     requires { ⌜ tableLength ≤ length (now table) ⌝ }
     ensures { λ r. ⌜ Ranked (LowStep (modelAt (now (store .entry)))) (modelAt (now (store .entry)) .head .states)
         (now (table .entry)) (now (table .exit)) r ⌝ }
 {
-    let mut first = [0u16; 129];
-    let mut actions = [0u16; 1024];
-    let mut targets = [0u16; 1024];
+    let mut first = [0u16; INDEX_LENGTH];
+    let mut actions = [0u16; MOVES_LENGTH];
+    let mut targets = [0u16; MOVES_LENGTH];
     crate::moves::list_moves(store, begins, roles, &mut first, &mut actions, &mut targets);
     let n = model::store::states(store);
     ranking::classes::rank_moves(n, &first, &actions, &targets, table)
@@ -52,8 +57,8 @@ pub fn rank(store: &[u16], table: &mut [u8]) -> RankAnswer
     if !model::good::good(store) {
         return RankAnswer::NotGood;
     }
-    let mut begins = [0u16; 129];
-    let mut roles = [0u16; 64];
+    let mut begins = [0u16; INDEX_LENGTH];
+    let mut roles = [0u16; ROLES_LENGTH];
     crate::index::index(store, &mut begins);
     crate::index::roles(store, &mut roles);
     RankAnswer::Last(fill_table(store, &begins, &roles, table))

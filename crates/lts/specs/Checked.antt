@@ -21,14 +21,14 @@ abbrev pub reachableStep? : ℕ → ℕ → (ℕ → ℕ → ℕ → Bool) → (
 reachableStep? n l step? start? p a q = step? p a q && within? n l step? start? (n - 1) p
 
 -- If a high step with the action a leads from the reachable state p to q, the two have the rank 0.
-abbrev pub highStep? : Levels → ℕ → ℕ → (ℕ → ℕ → ℕ → Bool) → (ℕ → Bool) → ℕ → ℕ → ℕ → Bool
-highStep? L n l step? start? p a q =
+abbrev pub harmless? : Levels → ℕ → ℕ → (ℕ → ℕ → ℕ → Bool) → (ℕ → Bool) → ℕ → ℕ → ℕ → Bool
+harmless? L n l step? start? p a q =
     let r = eqb (lowRank L n l step? p q) 0 in
     not (L .high? a && reachableStep? n l step? start? p a q) || r
 
 -- The test of `BNID`.
 unfoldable pub bnid? : Levels → ℕ → ℕ → (ℕ → ℕ → ℕ → Bool) → (ℕ → Bool) → Bool
-bnid? L n l step? start? = all n (λ p. all l (λ a. all n (highStep? L n l step? start? p a)))
+bnid? L n l step? start? = all n (λ p. all l (λ a. all n (harmless? L n l step? start? p a)))
 
 -- If steps with the action a lead from the reachable state p to q and to r, these two are one.
 abbrev pub oneTarget? : ℕ → ℕ → (ℕ → ℕ → ℕ → Bool) → (ℕ → Bool) → ℕ → ℕ → ℕ → ℕ → Bool

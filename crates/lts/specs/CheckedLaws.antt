@@ -15,7 +15,7 @@ use Rattle.lts.specs.Noninterference.{Levels, LowMove, BNID}
 use Rattle.lts.specs.Decided.{Decided, DecidedStarts, answers?, within?}
 use Rattle.lts.specs.DecidedLaws.{decided-game}
 use Rattle.lts.specs.DistanceLaws.{Reachable→within?, within?→Reachable}
-use Rattle.lts.specs.Checked.{lowMove?, lowRank, reachableStep?, highStep?, bnid?, oneTarget?, deterministic?}
+use Rattle.lts.specs.Checked.{lowMove?, lowRank, reachableStep?, harmless?, bnid?, oneTarget?, deterministic?}
 
 -- Low steps of decided steps are decided.
 pub decided-low : (L : Levels) (Step : Moves) (n l : ℕ) (step? : ℕ → ℕ → ℕ → Bool) → Decided Step n l step?
@@ -108,7 +108,7 @@ module _ (Step : Moves) (Start : ℕ → Type 0) (n l : ℕ) (step? : ℕ → �
         (lowRank→Rank L Step n l step? D p q (D .source-lt p a q s) (D .target-lt p a q s))
       where
         f : ℕ → ℕ → ℕ → Bool
-        f = highStep? L n l step? start?
+        f = harmless? L n l step? start?
 
         at-p : T (all l (λ a. all n (f p a)))
         at-p = all→Each n (λ p. all l (λ a. all n (f p a))) t p (D .source-lt p a q s)
@@ -130,7 +130,7 @@ module _ (Step : Moves) (Start : ℕ → Type 0) (n l : ℕ) (step? : ℕ → �
         (eqb (lowRank L n l step? p q) 0) (zero-rank p a q lp lq))))
       where
         f : ℕ → ℕ → ℕ → Bool
-        f = highStep? L n l step? start?
+        f = harmless? L n l step? start?
 
         zero-rank : (p a q : ℕ) → p < n → q < n → T (L .high? a && reached? p a q)
             → T (eqb (lowRank L n l step? p q) 0)

@@ -1,16 +1,15 @@
 -- Each answer of Write keeps its promise: the lists' lengths decide first, then goodness. Assumes nothing.
 use mathlib.Core.List.{List, [], _∷_}
-use mathlib.Core.Option.{some}
-use mathlib.Core.Path.{_≡_, refl, ap}
+use mathlib.Core.Path.{refl, ap}
 use Prim.Native.Nat.{ℕ, _≤_, _<_}
 use native.Mathlib.Omega.{arith}
 use lib.ListN.{length}
-use borrow.Author.Tests.{lt-ltb, le-ltb}
 use Rattle.model.specs.declared.write.WriteAnswer.the-variants.{Written, ShortList, NotGood}
-use Rattle.model.specs.Faults.{answers, firstShort}
-use Rattle.model.specs.Limits.{storeLength, outLength}
+use Rattle.text.specs.Faults.{answers}
+use Rattle.text.specs.Limits.{storeLength, outLength}
+use Rattle.model.specs.Laws.FirstShortLaws.{first-short, second-short}
 use Rattle.model.specs.Laws.OnStoreLaws.{onStore-short, onStore-not-good, onStore-good}
-use Rattle.model.specs.Promises.{writeOutcome, writeLists, WritePromise}
+use Rattle.model.specs.Promises.{writeOutcome, WritePromise}
 use Rattle.model.specs.Laws.PromisesLaws.{writeLists-none}
 use Rattle.model.specs.Store.{Good}
 use Rattle.model.specs.StoredModel.{modelAt}
@@ -22,22 +21,14 @@ use Rattle.model.specs.Wrote.{Wrote}
 use Rattle.model.specs.Laws.Write.WroteLaws.{wrote-start}
 
 module _ (store out : List ℕ) where
-  store-short : length store < storeLength → writeLists store out ≡ some 1
-  unfolding firstShort
-  store-short h = rw (lt-ltb (length store) storeLength h)
-
-  out-short : storeLength ≤ length store → length out < outLength → writeLists store out ≡ some 2
-  unfolding firstShort
-  out-short h l = rw (le-ltb (length store) storeLength h, lt-ltb (length out) outLength l)
-
   pub short-store-promised : length store < storeLength → WritePromise store out (writeOutcome (ShortList 1)) out
   unfolding writeOutcome
-  short-store-promised h = onStore-short (store-short h) refl refl
+  short-store-promised h = onStore-short (first-short _ _ h) refl refl
 
   pub short-out-promised : storeLength ≤ length store → length out < outLength
       → WritePromise store out (writeOutcome (ShortList 2)) out
   unfolding writeOutcome
-  short-out-promised h l = onStore-short (out-short h l) refl refl
+  short-out-promised h l = onStore-short (second-short _ _ h l) refl refl
 
   pub not-good-promised : storeLength ≤ length store → outLength ≤ length out → ¬ (Good store)
       → WritePromise store out (writeOutcome NotGood) out

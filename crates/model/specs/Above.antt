@@ -4,8 +4,8 @@ use mathlib.Core.List.{_++_}
 use mathlib.Core.Path.{_≡_}
 use Prim.Native.Nat.{ℕ, suc, _-_, _≤_, _<_}
 use lib.ListN.{take, drop}
-use Rattle.model.specs.declared.StepLine.{StepLine}
-use Rattle.model.specs.Model.{Model}
+use Rattle.text.specs.declared.StepLine.{StepLine}
+use Rattle.text.specs.Model.{Model}
 
 -- t stands above s
 pub record Above (s t : StepLine) : Type 0 where

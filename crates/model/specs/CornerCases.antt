@@ -4,15 +4,15 @@ use mathlib.Core.List.{List, [], _∷_, _++_}
 use mathlib.Core.Path.{_≡_, refl}
 use Prim.Native.Nat.{ℕ}
 use lib.ListN.{replicate}
-use Rattle.model.specs.declared.Fault.the-variants.{Absent, Shape, Digits, Range, Repeated, Order}
-use Rattle.model.specs.Bytes.{kindOf}
-use Rattle.model.specs.Numbers.{digitsValue, numberShape?, numberOf}
-use Rattle.model.specs.Split.{consFirst, split, same?}
-use Rattle.model.specs.Model.{above?, aboveLast?}
-use Rattle.model.specs.Lines.{checked, fieldsFrom, fieldsOf, consNumber, numbersOf, numbersFrom, numbersLine}
-use Rattle.model.specs.Lines.{headFits?, headFrom, headOf, levelOf, allOf, nameByte?, name?, nameFrom}
-use Rattle.model.specs.Lines.{actionFields}
-use Rattle.model.specs.Lines.{used?, actionFrom, actionOf, stepFits?, rising, stepFrom, stepOf}
+use Rattle.text.specs.declared.Fault.the-variants.{Absent, Shape, Digits, Range, Repeated, Order}
+use Rattle.text.specs.Bytes.{kindOf}
+use Rattle.text.specs.Numbers.{digitsValue, numberShape?, numberOf}
+use Rattle.text.specs.Split.{consFirst, split, same?}
+use Rattle.text.specs.Model.{above?, aboveLast?}
+use Rattle.text.specs.Lines.{checked, fieldsFrom, fieldsOf, consNumber, numbersOf, numbersFrom, numbersLine}
+use Rattle.text.specs.Lines.{headFits?, headFrom, headOf, levelOf, allOf, nameByte?, name?, nameFrom}
+use Rattle.text.specs.Lines.{actionFields}
+use Rattle.text.specs.Lines.{used?, actionFrom, actionOf, stepFits?, rising, stepFrom, stepOf}
 use Rattle.model.specs.Reading.{tooLong, faulty, onLine, orFault, readNothing, readEnd, readSteps}
 use Rattle.model.specs.Reading.{readActions, readModel, readText}
 

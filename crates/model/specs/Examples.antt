@@ -3,15 +3,15 @@
 use mathlib.Core.List.{List, [], _∷_}
 use mathlib.Core.Path.{_≡_, refl}
 use Prim.Native.Nat.{ℕ}
-use Rattle.model.specs.declared.Fault.the-variants.{Absent}
-use Rattle.model.specs.declared.StepLine.{StepLine}
-use Rattle.model.specs.Bytes.{kindOf}
-use Rattle.model.specs.Numbers.{digitsValue, numberShape?, numberOf, digitsUpTo, digits}
-use Rattle.model.specs.Split.{consFirst, split, same?}
-use Rattle.model.specs.Model.{Model, above?, aboveLast?}
-use Rattle.model.specs.Lines.{checked, fieldsFrom, fieldsOf, consNumber, numbersOf, numbersFrom, numbersLine}
-use Rattle.model.specs.Lines.{headFits?, headFrom, headOf, levelOf, allOf, nameByte?, name?, nameFrom}
-use Rattle.model.specs.Lines.{actionFields, used?, actionFrom, actionOf, stepFits?, rising, stepFrom, stepOf}
+use Rattle.text.specs.declared.Fault.the-variants.{Absent}
+use Rattle.text.specs.declared.StepLine.{StepLine}
+use Rattle.text.specs.Bytes.{kindOf}
+use Rattle.text.specs.Numbers.{digitsValue, numberShape?, numberOf, digitsUpTo, digits}
+use Rattle.text.specs.Split.{consFirst, split, same?}
+use Rattle.text.specs.Model.{Model, above?, aboveLast?}
+use Rattle.text.specs.Lines.{checked, fieldsFrom, fieldsOf, consNumber, numbersOf, numbersFrom, numbersLine}
+use Rattle.text.specs.Lines.{headFits?, headFrom, headOf, levelOf, allOf, nameByte?, name?, nameFrom}
+use Rattle.text.specs.Lines.{actionFields, used?, actionFrom, actionOf, stepFits?, rising, stepFrom, stepOf}
 use Rattle.model.specs.Reading.{done, faulty, onLine, orFault, readNothing, readEnd, readSteps, readActions}
 use Rattle.model.specs.Reading.{readModel, readText}
 use Rattle.model.specs.Text.{headText, levelByte, actionText, stepText, actionsText, stepsText, textOf}

@@ -5,12 +5,12 @@ use mathlib.Core.List.{List, [], _∷_, _++_}
 use Prim.Native.Nat.{ℕ}
 use lib.Dec.{leb, eqb}
 use lib.ListN.{length, take}
-use Rattle.model.specs.declared.Head.{Head}
-use Rattle.model.specs.declared.StepLine.{StepLine}
-use Rattle.model.specs.Limits.{storeLength}
-use Rattle.model.specs.Split.{same?}
-use Rattle.model.specs.Model.{high, ActionLine, Model, aboveLast?}
-use Rattle.model.specs.Lines.{headFits?, name?, used?, stepFits?}
+use Rattle.text.specs.declared.Head.{Head}
+use Rattle.text.specs.declared.StepLine.{StepLine}
+use Rattle.text.specs.Limits.{storeLength}
+use Rattle.text.specs.Split.{same?}
+use Rattle.text.specs.Model.{high, ActionLine, Model, aboveLast?}
+use Rattle.text.specs.Lines.{headFits?, name?, used?, stepFits?}
 use Rattle.model.specs.Store.{storeOf}
 use Rattle.model.specs.StoredModel.{headAt, modelAt}
 

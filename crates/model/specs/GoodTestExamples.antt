@@ -3,10 +3,10 @@ use mathlib.Core.Bool.{true, false}
 use mathlib.Core.List.{[], _∷_}
 use mathlib.Core.Path.{_≡_, refl}
 use lib.ListN.{set}
-use Rattle.model.specs.Bytes.{kindOf}
-use Rattle.model.specs.Split.{same?}
-use Rattle.model.specs.Model.{Model, above?, aboveLast?}
-use Rattle.model.specs.Lines.{headFits?, allOf, nameByte?, name?, used?, stepFits?}
+use Rattle.text.specs.Bytes.{kindOf}
+use Rattle.text.specs.Split.{same?}
+use Rattle.text.specs.Model.{Model, above?, aboveLast?}
+use Rattle.text.specs.Lines.{headFits?, allOf, nameByte?, name?, used?, stepFits?}
 use Rattle.model.specs.Store.{padded, actionNumbers, actionsNumbers, stepsNumbers, headPlaces, storeOf}
 use Rattle.model.specs.StoredModel.{listed, modelAt}
 use Rattle.model.specs.GoodTest.{eachAfter?, actionFits?, stepRises?, wellFormed?, holds?, good?}

@@ -1,10 +1,6 @@
 pub mod EachFrom
-pub mod Table
-pub mod Ranges
 pub mod LineText
 pub mod GoodPlaces
 pub mod Writable
-pub mod LineAnswers
-pub mod PartAnswers
-pub mod Row
 pub mod ReadSoFar
+pub mod Clearing

@@ -3,8 +3,8 @@
 use mathlib.Core.List.{List, [], _∷_, _++_}
 use mathlib.Core.Path.{_≡_}
 use Prim.Native.Nat.{ℕ}
-use Rattle.model.specs.Bytes.{kindOf}
-use Rattle.model.specs.All.{All}
+use Rattle.text.specs.Bytes.{kindOf}
+use Rattle.text.specs.All.{All}
 
 -- the parts, with the byte between any two
 unfoldable pub join : ℕ → List (List ℕ) → List ℕ

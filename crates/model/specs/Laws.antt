@@ -5,4 +5,5 @@ pub mod PromisesLaws
 pub mod OnStoreLaws
 pub mod Read
 pub mod ListsLaws
+pub mod ClearingLaws
 pub mod FirstShortLaws

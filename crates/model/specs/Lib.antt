@@ -1,16 +1,7 @@
-pub mod Limits
 pub mod Lists
-pub mod Decides
 pub mod Laws
 pub mod Inner
-pub mod Bytes
-pub mod Numbers
-pub mod All
-pub mod Split
 pub mod Join
-pub mod Model
-pub mod Faults
-pub mod Lines
 pub mod Reading
 pub mod Store
 pub mod Text

@@ -9,8 +9,8 @@ use Rattle.model.specs.declared.read.ReadAnswer.{ReadAnswer}
 use Rattle.model.specs.declared.read.ReadAnswer.the-variants.{Done, ShortList, TooLong, Faulty}
 use Rattle.model.specs.declared.write.WriteAnswer.{WriteAnswer}
 use Rattle.model.specs.declared.write.WriteAnswer.the-variants as write-answer
-use Rattle.model.specs.Limits.{storeLength, outLength}
-use Rattle.model.specs.Faults.{Outcome, answers, refuses, faultNumber, firstShort}
+use Rattle.text.specs.Limits.{storeLength, outLength}
+use Rattle.text.specs.Faults.{Outcome, answers, refuses, faultNumber, firstShort}
 use Rattle.model.specs.Reading.{Reading, done, tooLong, faulty, readText}
 use Rattle.model.specs.Store.{storeOf, Good}
 

@@ -5,14 +5,14 @@ use mathlib.Core.List.{List, [], _∷_}
 use Prim.Native.Nat.{ℕ, zero, suc}
 use lib.Dec.{ltb}
 use lib.ListN.{length}
-use Rattle.model.specs.declared.Fault.{Fault}
-use Rattle.model.specs.declared.Fault.the-variants.{Absent, Shape}
-use Rattle.model.specs.declared.Head.{Head}
-use Rattle.model.specs.Bytes.{lineEnd}
-use Rattle.model.specs.Split.{split, same?}
-use Rattle.model.specs.Limits.{textLimit}
-use Rattle.model.specs.Model.{Model, withAction, withStep}
-use Rattle.model.specs.Lines.{Line, good, bad, headOf, actionOf, stepOf}
+use Rattle.text.specs.declared.Fault.{Fault}
+use Rattle.text.specs.declared.Fault.the-variants.{Absent, Shape}
+use Rattle.text.specs.declared.Head.{Head}
+use Rattle.text.specs.Bytes.{lineEnd}
+use Rattle.text.specs.Split.{split, same?}
+use Rattle.text.specs.Limits.{textLimit}
+use Rattle.text.specs.Model.{Model, withAction, withStep}
+use Rattle.text.specs.Lines.{Line, good, bad, headOf, actionOf, stepOf}
 
 -- the model that a text states, or why it is refused: too long, or the first bad line with its fault
 pub data Reading : Type 0 where

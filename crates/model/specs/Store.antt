@@ -4,10 +4,10 @@ use mathlib.Core.List.{List, [], _∷_, _++_}
 use mathlib.Core.Path.{_≡_}
 use Prim.Native.Nat.{ℕ, _-_, _*_}
 use lib.ListN.{length, take, replicate}
-use Rattle.model.specs.declared.Head.{Head}
-use Rattle.model.specs.declared.StepLine.{StepLine}
-use Rattle.model.specs.Limits.{actionLimit, stepLimit, nameLimit, storeLength}
-use Rattle.model.specs.Model.{ActionLine, Model}
+use Rattle.text.specs.declared.Head.{Head}
+use Rattle.text.specs.declared.StepLine.{StepLine}
+use Rattle.text.specs.Limits.{actionLimit, stepLimit, nameLimit, storeLength}
+use Rattle.text.specs.Model.{ActionLine, Model}
 use Rattle.model.specs.Reading.{done, readText}
 
 -- a list with zeros behind it up to n places

@@ -4,10 +4,10 @@ use mathlib.Core.List.{List, [], _∷_, _++_}
 use mathlib.Core.Path.{_≡_}
 use Prim.Native.Nat.{ℕ, zero, suc, _+_}
 use lib.ListN.{getD, take, drop}
-use Rattle.model.specs.declared.Head.{Head}
-use Rattle.model.specs.declared.StepLine.{StepLine}
-use Rattle.model.specs.Limits.{storeLength, actionPlace, namePlace, stepPlace}
-use Rattle.model.specs.Model.{ActionLine, Model}
+use Rattle.text.specs.declared.Head.{Head}
+use Rattle.text.specs.declared.StepLine.{StepLine}
+use Rattle.text.specs.Limits.{storeLength, actionPlace, namePlace, stepPlace}
+use Rattle.text.specs.Model.{ActionLine, Model}
 use Rattle.model.specs.Store.{storeOf}
 use Rattle.model.specs.WellFormed.{WellFormed}
 

@@ -8,8 +8,8 @@ use lib.ListN.{length, getD}
 use Rattle.lts.specs.Alike.{Moves}
 use Rattle.lts.specs.Noninterference.{Levels, LowMove}
 use Rattle.lts.specs.Run.{Reachable, Distance}
-use Rattle.model.specs.declared.StepLine.{StepLine}
-use Rattle.model.specs.Model.{low, release, high, Model}
+use Rattle.text.specs.declared.StepLine.{StepLine}
+use Rattle.text.specs.Model.{low, release, high, Model}
 
 -- What step j states. Past the last step it says nothing of the model: `Steps` counts the steps alone.
 abbrev pub step : Model → ℕ → StepLine

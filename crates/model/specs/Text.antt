@@ -4,10 +4,10 @@ use mathlib.Core.Bool.{cond}
 use mathlib.Core.List.{List, [], _∷_, _++_}
 use Prim.Native.Nat.{ℕ}
 use lib.Dec.{eqb}
-use Rattle.model.specs.declared.Head.{Head}
-use Rattle.model.specs.declared.StepLine.{StepLine}
-use Rattle.model.specs.Numbers.{digits}
-use Rattle.model.specs.Model.{low, release, ActionLine, Model}
+use Rattle.text.specs.declared.Head.{Head}
+use Rattle.text.specs.declared.StepLine.{StepLine}
+use Rattle.text.specs.Numbers.{digits}
+use Rattle.text.specs.Model.{low, release, ActionLine, Model}
 
 -- a field after a comma (44)
 abbrev pub field : List ℕ → List ℕ

@@ -6,10 +6,10 @@ use mathlib.Core.Path.{_≡_}
 use Prim.Native.Nat.{_≤_}
 use lib.Dec.{T}
 use lib.ListN.{length}
-use Rattle.model.specs.declared.Head.{Head}
-use Rattle.model.specs.declared.StepLine.{StepLine}
-use Rattle.model.specs.Model.{high, ActionLine, Model, aboveLast?}
-use Rattle.model.specs.Lines.{headFits?, name?, used?, stepFits?}
+use Rattle.text.specs.declared.Head.{Head}
+use Rattle.text.specs.declared.StepLine.{StepLine}
+use Rattle.text.specs.Model.{high, ActionLine, Model, aboveLast?}
+use Rattle.text.specs.Lines.{headFits?, name?, used?, stepFits?}
 
 -- P holds of each element and the list of those before it, which begins with `before`
 unfoldable pub EachAfter : {A : Type 0} → (List A → A → Type 0) → List A → List A → Type 0

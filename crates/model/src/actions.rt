@@ -1,22 +1,22 @@
 // The lines of the actions, and how an action stands in a store.
-use crate::Fault;
-use crate::Head;
 use crate::body::LinesRead;
-use crate::bytes::LINE_END;
-use crate::line::ActionRead;
-use crate::line::action_line;
-use crate::line::find;
 use crate::store::ACTION_SIZE;
 use crate::store::ACTIONS_AT;
+use text::Fault;
+use text::Head;
+use text::bytes::LINE_END;
+use text::line::ActionRead;
+use text::line::action_line;
+use text::line::find;
 ghost use mathlib.Core.List.{List, _∷_};
 ghost use mathlib.Core.Path.{_≡_};
 ghost use Prim.Native.Nat.{_+_, _*_, _≤_, _<_};
 ghost use lib.ListN.{length};
 ghost use lib.Seq.{sets};
-ghost use Rattle.model.specs.Limits.{nameLimit, actionLimit, storeLength};
-ghost use Rattle.model.specs.Model.{ActionLine};
-ghost use Rattle.model.specs.Split.{same?};
-ghost use Rattle.model.specs.Lines.{used?};
+ghost use Rattle.text.specs.Limits.{nameLimit, actionLimit, storeLength};
+ghost use Rattle.text.specs.Model.{ActionLine};
+ghost use Rattle.text.specs.Split.{same?};
+ghost use Rattle.text.specs.Lines.{used?};
 ghost use Rattle.model.specs.Inner.ReadSoFar.{ActionStored, ActionsStored, AfterActions, Further};
 
 // Whether the action that stands at a place of the store has a name.

@@ -1,26 +1,26 @@
 // The text behind its first line: actions, steps and the end, read into a store of zeros that is copied out where
 // all is well.
-use crate::Fault;
-use crate::Head;
 use crate::actions::actions;
-use crate::bytes::LINE_END;
-use crate::line::HeadRead;
-use crate::line::find;
-use crate::line::head_line;
-use crate::line::is_letter;
 use crate::read::ReadAnswer;
 use crate::steps::steps;
 use crate::store::STORE_LENGTH;
+use text::Fault;
+use text::Head;
+use text::bytes::LINE_END;
+use text::line::HeadRead;
+use text::line::find;
+use text::line::head_line;
+use text::line::is_letter;
 ghost use mathlib.Core.Path.{_≡_};
 ghost use mathlib.Core.List.{_++_};
 ghost use Prim.Native.Nat.{_≤_};
 ghost use lib.ListN.{length, drop};
 ghost use lib.Seq.{sets};
-ghost use Rattle.model.specs.Bytes.{lineEnd};
-ghost use Rattle.model.specs.Split.{split};
-ghost use Rattle.model.specs.Limits.{storeLength};
+ghost use Rattle.text.specs.Bytes.{lineEnd};
+ghost use Rattle.text.specs.Split.{split};
+ghost use Rattle.text.specs.Limits.{storeLength};
 ghost use Rattle.model.specs.Store.{headPlaces};
-ghost use Rattle.model.specs.Inner.LineAnswers.{headRead};
+ghost use Rattle.text.specs.Inner.LineAnswers.{headRead};
 ghost use Rattle.model.specs.Inner.ReadSoFar.{AfterHead, AfterActions, AfterSteps, AfterEnd, Further, ReadOut};
 ghost use Rattle.model.specs.Inner.ReadSoFar.{AfterLine, firstLine, AfterFirst};
 

@@ -3,8 +3,8 @@ ghost use mathlib.Core.Path.{_≡_};
 ghost use mathlib.Core.List.{[], _∷_};
 ghost use Prim.Native.Nat.{ℕ, _+_, _≤_, _<_};
 ghost use lib.ListN.{length};
-ghost use Rattle.model.specs.All.{All};
-ghost use Rattle.model.specs.Numbers.{digits};
+ghost use Rattle.text.specs.All.{All};
+ghost use Rattle.text.specs.Numbers.{digits};
 ghost use Rattle.model.specs.Text.{field};
 ghost use Rattle.model.specs.Wrote.{Wrote};
 

@@ -1,7 +1,7 @@
 // The operation Read.
-use crate::Fault;
 use crate::reader::read_lines;
 use crate::store::STORE_LENGTH;
+use text::Fault;
 ghost use Rattle.model.specs.Promises.{readOutcome, ReadPromise, ReadCause};
 
 // A text has at most so many bytes.

@@ -3,15 +3,15 @@
 use crate::body::after_line;
 use crate::body::body;
 use crate::body::first_line;
-use crate::line::HeadRead;
 use crate::read::ReadAnswer;
+use text::line::HeadRead;
 ghost use mathlib.Core.Path.{_≡_};
 ghost use Prim.Native.Nat.{_≤_};
 ghost use lib.ListN.{length, drop};
-ghost use Rattle.model.specs.Limits.{storeLength};
-ghost use Rattle.model.specs.Bytes.{lineEnd};
-ghost use Rattle.model.specs.Split.{split};
-ghost use Rattle.model.specs.Inner.LineAnswers.{headRead};
+ghost use Rattle.text.specs.Limits.{storeLength};
+ghost use Rattle.text.specs.Bytes.{lineEnd};
+ghost use Rattle.text.specs.Split.{split};
+ghost use Rattle.text.specs.Inner.LineAnswers.{headRead};
 ghost use Rattle.model.specs.Inner.ReadSoFar.{ReadOut, AfterLine, AfterFirst, firstLine};
 
 pub struct Reader<'a> {

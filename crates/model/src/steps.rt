@@ -1,16 +1,16 @@
 // The lines of the steps.
-use crate::Action;
-use crate::Fault;
-use crate::Head;
-use crate::State;
-use crate::StepLine;
 use crate::body::LinesRead;
-use crate::bytes::LINE_END;
-use crate::line::StepRead;
-use crate::line::find;
-use crate::line::step_line;
 use crate::store::STEP_SIZE;
 use crate::store::STEPS_AT;
+use text::Action;
+use text::Fault;
+use text::Head;
+use text::State;
+use text::StepLine;
+use text::bytes::LINE_END;
+use text::line::StepRead;
+use text::line::find;
+use text::line::step_line;
 ghost use mathlib.Core.List.{[], _∷_};
 ghost use mathlib.Core.Path.{_≡_};
 ghost use Prim.Native.Nat.{_+_, _*_, _≤_, _<_};

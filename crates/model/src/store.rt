@@ -1,13 +1,13 @@
 // The layout of the model store and its limits, each named once, and what stands at its places.
-use crate::Action;
-use crate::Head;
-use crate::State;
-use crate::Step;
-use crate::StepLine;
+use text::Action;
+use text::Head;
+use text::State;
+use text::Step;
+use text::StepLine;
 ghost use mathlib.Core.Path.{_≡_};
 ghost use Prim.Native.Nat.{_+_, _≤_, _<_};
 ghost use lib.ListN.{length, getD};
-ghost use Rattle.model.specs.Limits.{actionLimit, stepLimit, storeLength, actionPlace, namePlace, stepPlace};
+ghost use Rattle.text.specs.Limits.{actionLimit, stepLimit, storeLength, actionPlace, namePlace, stepPlace};
 ghost use Rattle.model.specs.StoredModel.{headAt, actionAt, stepAt};
 
 pub const STORE_LENGTH: usize = 3972;

@@ -1,15 +1,15 @@
 // Write: the text of the model that a store holds, line by line.
-use crate::Action;
-use crate::Head;
-use crate::Step;
-use crate::StepLine;
 use crate::good::good;
 use crate::position::Position;
 use crate::store;
+use text::Action;
+use text::Head;
+use text::Step;
+use text::StepLine;
 ghost use mathlib.Core.Path.{_≡_};
 ghost use Prim.Native.Nat.{ℕ, _+_, _≤_, _<_};
 ghost use lib.ListN.{length, getD};
-ghost use Rattle.model.specs.All.{All};
+ghost use Rattle.text.specs.All.{All};
 ghost use Rattle.model.specs.Promises.{writeOutcome, WritePromise};
 ghost use Rattle.model.specs.StoredModel.{actionAt, modelAt};
 ghost use Rattle.model.specs.Text.{levelByte, headText, actionText, actionsText, stepText, stepsText, textOf};

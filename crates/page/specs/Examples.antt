@@ -4,7 +4,7 @@ use mathlib.Core.List.{List, [], _∷_}
 use mathlib.Core.Option.{some}
 use mathlib.Core.Path.{_≡_, refl}
 use Prim.Native.Nat.{ℕ}
-use Rattle.model.specs.Numbers.{digits, digitsUpTo}
+use Rattle.text.specs.Numbers.{digits, digitsUpTo}
 use Rattle.judge.specs.declared.judge.Verdict.the-variants.{Refused}
 use Rattle.word.specs.declared.word.End.the-variants.{Source}
 use Rattle.page.specs.PageLines.{PageLine, verdict-line, state-line, word-line, end-line, last-line}

@@ -1,9 +1,9 @@
 // The class of a state: the lowest state of rank 0 to it.
-use model::State;
+use text::State;
 ghost use mathlib.Core.Path.{_≡_};
 ghost use Prim.Native.Nat.{_≤_, _<_};
 ghost use lib.ListN.{length, getD};
-ghost use Rattle.model.specs.Limits.{stateLimit};
+ghost use Rattle.text.specs.Limits.{stateLimit};
 ghost use Rattle.model.specs.Lists.{tableLength, pairPlace};
 ghost use Rattle.page.specs.Inner.Entries.{LowestZero};
 

@@ -1,8 +1,8 @@
 // The lines that show the leak of a refused model.
 use crate::lines::PageEnd;
 use judge::judge::Verdict;
-use model::Action;
-use model::Step;
+use text::Action;
+use text::Step;
 use word::word::WordAnswer;
 ghost use mathlib.Core.List.{map};
 ghost use mathlib.Core.Path.{_≡_};

@@ -1,14 +1,14 @@
 // The lines of a page.
 use judge::judge::Verdict;
 use judge::reach::UNREACHABLE;
-use model::State;
-use model::Step;
+use text::State;
+use text::Step;
 use model::position::Position;
 use word::word::End;
 ghost use mathlib.Core.Path.{_≡_};
 ghost use Prim.Native.Nat.{ℕ, _+_, _≤_, _<_};
 ghost use lib.ListN.{length};
-ghost use Rattle.model.specs.All.{All};
+ghost use Rattle.text.specs.All.{All};
 ghost use Rattle.model.specs.Text.{field};
 ghost use Rattle.model.specs.Wrote.{Wrote};
 ghost use Rattle.judge.specs.declared.judge.Verdict.the-variants.{Passed, Refused};

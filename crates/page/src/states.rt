@@ -1,7 +1,7 @@
 // The `C` lines of a page.
 use crate::class::class_of;
 use crate::lines::PageEnd;
-use model::State;
+use text::State;
 ghost use Prim.Native.Nat.{_+_, _*_, _≤_};
 ghost use lib.ListN.{length};
 ghost use Rattle.model.specs.StoredModel.{modelAt};

@@ -1,11 +1,15 @@
--- Moves among n states as lists. Those of the state p stand from place first[p] up to place first[p + 1]: place i has an
--- action and a target.
+-- Moves among n states as lists. Those of the state p stand from place first[p] up to place first[p + 1]: place i has
+-- an action and a target.
 use mathlib.Core.List.{List}
 use mathlib.Core.Path.{_≡_}
 use Prim.Native.Nat.{ℕ, _+_, _≤_, _<_}
 use lib.ListN.{getD}
 use Rattle.lts.specs.Alike.{Moves}
-use Rattle.model.specs.Limits.{stateLimit, actionLimit, stepLimit}
+use Rattle.text.specs.Limits.{stateLimit, actionLimit, stepLimit}
+
+-- The places of `first`: one for each state, and one more.
+abbrev pub indexLength : ℕ
+indexLength = stateLimit + 1
 
 -- The lists have a move from p with the action a to q.
 pub record Listed (n : ℕ) (first actions targets : List ℕ) (p a q : ℕ) : Type 0 where

@@ -1,27 +1,49 @@
 // Ranks by classes, over moves given as lists: entry p of a class list is the lowest state of the class of p, and each
 // round compares states by the classes of the round before.
-use model::State;
+use model::store::ACTION_LIMIT;
+use model::store::STATE_LIMIT;
+use model::store::STEP_LIMIT;
+use text::State;
 ghost use mathlib.Core.Path.{_≡_};
 ghost use Prim.Native.Nat.{ℕ, _+_, _≤_, _<_};
 ghost use lib.ListN.{length, getD};
 ghost use Rattle.lts.specs.Alike.{Answered, Answers};
-ghost use Rattle.model.specs.Decides.{Decides};
-ghost use Rattle.model.specs.Limits.{stateLimit};
+ghost use Rattle.text.specs.Decides.{Decides};
+ghost use Rattle.text.specs.Limits.{stateLimit};
 ghost use Rattle.model.specs.Lists.{tableLength};
+ghost use Rattle.model.specs.Inner.Clearing.{Cleared};
 ghost use Rattle.ranking.specs.Table.{Ranked};
 ghost use Rattle.ranking.specs.MoveList.{Listed, MoveList};
 ghost use Rattle.ranking.specs.Inner.ClassList.{Same, Refinable, Lowest, Refined, Joins, Moved};
-ghost use Rattle.ranking.specs.Inner.Marks.{marksLength, moveMark, Reaches, Marked, AllMarked, Unmarked, Bounded, MoveAt};
+ghost use Rattle.ranking.specs.Inner.Marks.{marksLength, moveMark, StateClasses, MoveAt};
+ghost use Rattle.ranking.specs.Inner.Marks.{Reaches, Marked, AllMarked, Unmarked};
 ghost use Rattle.ranking.specs.Inner.TableWrites.{Written, PairWritten, RowWritten, RowsWritten};
-ghost use Rattle.ranking.specs.Inner.TableWrites.{RanksUpTo, Cleared, Finished};
+ghost use Rattle.ranking.specs.Inner.TableWrites.{RanksUpTo, Finished};
 
+// One place for each state.
+const STATES_LENGTH: usize = STATE_LIMIT as usize;
+
+// One place more: where the moves of each state begin, and where the last one's end.
+pub const INDEX_LENGTH: usize = STATES_LENGTH + 1;
+
+// One place for each move.
+pub const MOVES_LENGTH: usize = STEP_LIMIT as usize;
+
+// One place for each action and class.
+const MARKS_LENGTH: usize = ACTION_LIMIT as usize * STATES_LENGTH;
+
+// One place for each two states.
+pub const TABLE_LENGTH: usize = STATES_LENGTH * STATES_LENGTH;
+
+// A number of a list as a place.
 fn wide(x: u16) -> usize
     ensures { λ r. ⌜ r ≡ x ⌝ }
 {
     x as usize
 }
 
-fn class_of(class: &[u16; 128], p: State) -> State
+// The lowest state of the class of p.
+fn class_of(class: &[u16; STATES_LENGTH], p: State) -> State
     requires { ⌜ p .0 < stateLimit ⌝ }
     ensures { λ r. ⌜ r .0 ≡ getD (now (class .entry)) (p .0) 0 ⌝ }
 {
@@ -30,7 +52,7 @@ fn class_of(class: &[u16; 128], p: State) -> State
 }
 
 // Where the moves of p begin in the lists.
-fn moves_from(first: &[u16; 129], p: State) -> usize
+fn moves_from(first: &[u16; INDEX_LENGTH], p: State) -> usize
     requires { ⌜ p .0 < stateLimit ⌝ }
     ensures { λ r. ⌜ r ≡ getD (now (first .entry)) (p .0) 0 ⌝ }
 {
@@ -39,7 +61,7 @@ fn moves_from(first: &[u16; 129], p: State) -> usize
 }
 
 // Where they end.
-fn moves_to(first: &[u16; 129], p: State) -> usize
+fn moves_to(first: &[u16; INDEX_LENGTH], p: State) -> usize
     requires { ⌜ p .0 < stateLimit ⌝ }
     ensures { λ r. ⌜ r ≡ getD (now (first .entry)) (p .0 + 1) 0 ⌝ }
 {
@@ -48,28 +70,33 @@ fn moves_to(first: &[u16; 129], p: State) -> usize
 }
 
 // The mark of the move at place i: one for each action and class.
-fn move_mark(actions: &[u16; 1024], targets: &[u16; 1024], class: &[u16; 128], i: usize) -> usize
+fn move_mark(
+    actions: &[u16; MOVES_LENGTH],
+    targets: &[u16; MOVES_LENGTH],
+    class: &[u16; STATES_LENGTH],
+    i: usize,
+) -> usize
     requires { ⌜ MoveAt (now actions) (now targets) (now class) i ⌝ }
     ensures { λ r. ⌜ r < marksLength ⌝ }
     ensures { λ r. ⌜ r ≡ moveMark (now (actions .entry)) (now (targets .entry)) (now (class .entry)) i ⌝ }
 {
     let c = class_of(class, State(targets[i]));
-    128 * wide(actions[i]) + wide(c.0)
+    STATES_LENGTH * wide(actions[i]) + wide(c.0)
 }
 
 // Gives the marks of the moves of p the value.
 fn mark(
     n: u16,
-    first: &[u16; 129],
-    actions: &[u16; 1024],
-    targets: &[u16; 1024],
-    class: &[u16; 128],
+    first: &[u16; INDEX_LENGTH],
+    actions: &[u16; MOVES_LENGTH],
+    targets: &[u16; MOVES_LENGTH],
+    class: &[u16; STATES_LENGTH],
     p: State,
     value: u8,
     marks: &mut [u8],
 )
     requires { ⌜ MoveList n (now first) (now actions) (now targets) ⌝ }
-    requires { ⌜ Bounded n (now class) ⌝ }
+    requires { ⌜ StateClasses n (now class) ⌝ }
     requires { ⌜ p .0 < n ⌝ }
     requires { ⌜ marksLength ≤ length (now marks) ⌝ }
     ensures { λ _. ⌜ Marked
@@ -88,15 +115,15 @@ fn mark(
 // Whether each move of p is marked.
 fn all_marked(
     n: u16,
-    first: &[u16; 129],
-    actions: &[u16; 1024],
-    targets: &[u16; 1024],
-    class: &[u16; 128],
+    first: &[u16; INDEX_LENGTH],
+    actions: &[u16; MOVES_LENGTH],
+    targets: &[u16; MOVES_LENGTH],
+    class: &[u16; STATES_LENGTH],
     p: State,
     marks: &[u8],
 ) -> bool
     requires { ⌜ MoveList n (now first) (now actions) (now targets) ⌝ }
-    requires { ⌜ Bounded n (now class) ⌝ }
+    requires { ⌜ StateClasses n (now class) ⌝ }
     requires { ⌜ p .0 < n ⌝ }
     requires { ⌜ marksLength ≤ length (now marks) ⌝ }
     ensures { λ r. ⌜ Decides r
@@ -118,16 +145,16 @@ fn all_marked(
 // Whether each move of p is answered by q, with targets compared by their classes.
 fn answered(
     n: u16,
-    first: &[u16; 129],
-    actions: &[u16; 1024],
-    targets: &[u16; 1024],
-    class: &[u16; 128],
+    first: &[u16; INDEX_LENGTH],
+    actions: &[u16; MOVES_LENGTH],
+    targets: &[u16; MOVES_LENGTH],
+    class: &[u16; STATES_LENGTH],
     p: State,
     q: State,
     marks: &mut [u8],
 ) -> bool
     requires { ⌜ MoveList n (now first) (now actions) (now targets) ⌝ }
-    requires { ⌜ Bounded n (now class) ⌝ }
+    requires { ⌜ StateClasses n (now class) ⌝ }
     requires { ⌜ (p .0 < n) × (q .0 < n) ⌝ }
     requires { ⌜ Unmarked (now marks) ⌝ }
     ensures { λ r. ⌜ Decides r
@@ -144,16 +171,16 @@ fn answered(
 // Whether each of p and q answers the other.
 fn answers(
     n: u16,
-    first: &[u16; 129],
-    actions: &[u16; 1024],
-    targets: &[u16; 1024],
-    class: &[u16; 128],
+    first: &[u16; INDEX_LENGTH],
+    actions: &[u16; MOVES_LENGTH],
+    targets: &[u16; MOVES_LENGTH],
+    class: &[u16; STATES_LENGTH],
     p: State,
     q: State,
     marks: &mut [u8],
 ) -> bool
     requires { ⌜ MoveList n (now first) (now actions) (now targets) ⌝ }
-    requires { ⌜ Bounded n (now class) ⌝ }
+    requires { ⌜ StateClasses n (now class) ⌝ }
     requires { ⌜ (p .0 < n) × (q .0 < n) ⌝ }
     requires { ⌜ Unmarked (now marks) ⌝ }
     ensures { λ r. ⌜ Decides r
@@ -170,11 +197,11 @@ fn answers(
 // Whether q is the lowest state of its new class, and p is of that class.
 fn joins(
     n: u16,
-    first: &[u16; 129],
-    actions: &[u16; 1024],
-    targets: &[u16; 1024],
-    class: &[u16; 128],
-    next: &[u16; 128],
+    first: &[u16; INDEX_LENGTH],
+    actions: &[u16; MOVES_LENGTH],
+    targets: &[u16; MOVES_LENGTH],
+    class: &[u16; STATES_LENGTH],
+    next: &[u16; STATES_LENGTH],
     p: State,
     q: State,
     marks: &mut [u8],
@@ -203,11 +230,11 @@ fn joins(
 // The lowest state of the new class of p; the lower states have theirs in `next`.
 fn lowest(
     n: u16,
-    first: &[u16; 129],
-    actions: &[u16; 1024],
-    targets: &[u16; 1024],
-    class: &[u16; 128],
-    next: &[u16; 128],
+    first: &[u16; INDEX_LENGTH],
+    actions: &[u16; MOVES_LENGTH],
+    targets: &[u16; MOVES_LENGTH],
+    class: &[u16; STATES_LENGTH],
+    next: &[u16; STATES_LENGTH],
     p: State,
     marks: &mut [u8],
 ) -> State
@@ -234,12 +261,12 @@ fn lowest(
 // The classes one round later.
 fn refine(
     n: u16,
-    first: &[u16; 129],
-    actions: &[u16; 1024],
-    targets: &[u16; 1024],
-    class: &[u16; 128],
+    first: &[u16; INDEX_LENGTH],
+    actions: &[u16; MOVES_LENGTH],
+    targets: &[u16; MOVES_LENGTH],
+    class: &[u16; STATES_LENGTH],
     marks: &mut [u8],
-) -> [u16; 128]
+) -> [u16; STATES_LENGTH]
     requires { ⌜ MoveList n (now first) (now actions) (now targets) ⌝ }
     requires { ⌜ Refinable (Listed n (now first) (now actions) (now targets)) n (now class) ⌝ }
     requires { ⌜ Unmarked (now marks) ⌝ }
@@ -247,7 +274,7 @@ fn refine(
         (now (class .entry)) r n ⌝ }
     ensures { λ r. ⌜ Unmarked (now (marks .exit)) ⌝ }
 {
-    let mut next = [0u16; 128];
+    let mut next = [0u16; STATES_LENGTH];
     let mut p = 0;
     while p < n {
         let d = lowest(n, first, actions, targets, class, &next, State(p), marks);
@@ -261,8 +288,8 @@ fn refine(
 // Writes the round for p and q both ways, if it separates them.
 fn write_pair(
     table: &mut [u8],
-    class: &[u16; 128],
-    next: &[u16; 128],
+    class: &[u16; STATES_LENGTH],
+    next: &[u16; STATES_LENGTH],
     round: u8,
     p: State,
     q: State,
@@ -285,12 +312,19 @@ fn write_pair(
     }
     let x = p.0 as usize;
     let y = q.0 as usize;
-    table[128 * x + y] = round;
-    table[128 * y + x] = round;
+    table[STATES_LENGTH * x + y] = round;
+    table[STATES_LENGTH * y + x] = round;
 }
 
 // Writes the round for p and each state that it separates from p.
-fn write_row(table: &mut [u8], class: &[u16; 128], next: &[u16; 128], round: u8, n: u16, p: State)
+fn write_row(
+    table: &mut [u8],
+    class: &[u16; STATES_LENGTH],
+    next: &[u16; STATES_LENGTH],
+    round: u8,
+    n: u16,
+    p: State,
+)
     requires { ⌜ tableLength ≤ length (now table) ⌝ }
     requires { ⌜ (n ≤ stateLimit) × (p .0 < n) ⌝ }
     ensures { λ _. ⌜ Written n (now (class .entry)) (now (next .entry)) round (now (table .entry))
@@ -307,8 +341,8 @@ fn write_row(table: &mut [u8], class: &[u16; 128], next: &[u16; 128], round: u8,
 // Writes the row of p, if p has left its class.
 fn write_moved(
     table: &mut [u8],
-    class: &[u16; 128],
-    next: &[u16; 128],
+    class: &[u16; STATES_LENGTH],
+    next: &[u16; STATES_LENGTH],
     round: u8,
     n: u16,
     p: State,
@@ -333,7 +367,13 @@ fn write_moved(
 }
 
 // Writes the round for each pair that it separates. Answers whether there is one.
-fn separate(table: &mut [u8], class: &[u16; 128], next: &[u16; 128], round: u8, n: u16) -> bool
+fn separate(
+    table: &mut [u8],
+    class: &[u16; STATES_LENGTH],
+    next: &[u16; STATES_LENGTH],
+    round: u8,
+    n: u16,
+) -> bool
     requires { ⌜ tableLength ≤ length (now table) ⌝ }
     requires { ⌜ n ≤ stateLimit ⌝ }
     ensures { λ r. ⌜ Written n (now (class .entry)) (now (next .entry)) round (now (table .entry))
@@ -350,11 +390,12 @@ fn separate(table: &mut [u8], class: &[u16; 128], next: &[u16; 128], round: u8, 
     found
 }
 
+// Makes every entry 0.
 fn clear(table: &mut [u8])
     requires { ⌜ tableLength ≤ length (now table) ⌝ }
-    ensures { λ _. ⌜ Cleared tableLength (now (table .entry)) (now (table .exit)) ⌝ }
+    ensures { λ _. ⌜ Cleared 0 tableLength (now (table .entry)) (now (table .exit)) ⌝ }
 {
-    for i in 0..16384 {
+    for i in 0..TABLE_LENGTH {
         table[i] = 0;
     }
 }
@@ -362,9 +403,9 @@ fn clear(table: &mut [u8])
 // Goes round until a round separates no further pair, and yields the last round that did.
 fn rounds(
     n: u16,
-    first: &[u16; 129],
-    actions: &[u16; 1024],
-    targets: &[u16; 1024],
+    first: &[u16; INDEX_LENGTH],
+    actions: &[u16; MOVES_LENGTH],
+    targets: &[u16; MOVES_LENGTH],
     table: &mut [u8],
 ) -> u8
     requires { ⌜ MoveList n (now first) (now actions) (now targets) ⌝ }
@@ -373,8 +414,8 @@ fn rounds(
     ensures { λ r. ⌜ Finished (Listed n (now (first .entry)) (now (actions .entry)) (now (targets .entry))) n r
         (now (table .entry)) (now (table .exit)) ⌝ }
 {
-    let mut class = [0u16; 128];
-    let mut marks = [0u8; 8192];
+    let mut class = [0u16; STATES_LENGTH];
+    let mut marks = [0u8; MARKS_LENGTH];
     let mut k = 0;
     let last = loop {
         let next = refine(n, first, actions, targets, &class, &mut marks);
@@ -391,9 +432,9 @@ fn rounds(
 // Fills the table with the ranks of n states, and answers the last round that separated two of them.
 pub fn rank_moves(
     n: u16,
-    first: &[u16; 129],
-    actions: &[u16; 1024],
-    targets: &[u16; 1024],
+    first: &[u16; INDEX_LENGTH],
+    actions: &[u16; MOVES_LENGTH],
+    targets: &[u16; MOVES_LENGTH],
     table: &mut [u8],
 ) -> u8
     requires { ⌜ MoveList n (now first) (now actions) (now targets) ⌝ }

@@ -4,7 +4,7 @@ use mathlib.Core.Bool.{cond}
 use mathlib.Core.List.{List, [], _∷_}
 use Prim.Native.Nat.{ℕ, zero, suc}
 use lib.Dec.{eqb}
-use Rattle.model.specs.Faults.{Outcome, answers, refuses}
+use Rattle.text.specs.Faults.{Outcome, answers, refuses}
 use Rattle.till_c.specs.declared.TillAnswer.{TillAnswer}
 
 -- no value, one or two; no operation has more

@@ -3,9 +3,9 @@ use mathlib.Core.List.{List}
 use mathlib.Core.Path.{_≡_, subst}
 use Prim.Native.Nat.{ℕ}
 use native.Mathlib.Omega.{arith}
-use Rattle.model.specs.declared.Fault.{Fault}
-use Rattle.model.specs.declared.Fault.the-variants.{Absent, Shape, Digits, Range, Repeated, Order}
-use Rattle.model.specs.Faults.{Outcome, faultNumber}
+use Rattle.text.specs.declared.Fault.{Fault}
+use Rattle.text.specs.declared.Fault.the-variants.{Absent, Shape, Digits, Range, Repeated, Order}
+use Rattle.text.specs.Faults.{Outcome, faultNumber}
 
 -- a promise on one list that is lent to be filled
 pub promise-told : (P : List ℕ → List ℕ → Outcome → List ℕ → Type 0) {a b exit : List ℕ} {t u : Outcome}
@@ -16,6 +16,13 @@ promise-told P {a} {b} {exit} e p = subst (λ (x : Outcome). P a b x exit) e p
 pub promise-told-two : (P : List ℕ → List ℕ → List ℕ → Outcome → List ℕ → List ℕ → Type 0)
     {a b c exit exit′ : List ℕ} {t u : Outcome} → t ≡ u → P a b c t exit exit′ → P a b c u exit exit′
 promise-told-two P {a} {b} {c} {exit} {exit′} e p = subst (λ (x : Outcome). P a b c x exit exit′) e p
+
+-- the same on three
+pub promise-told-three : (P : List ℕ → List ℕ → List ℕ → List ℕ → Outcome → List ℕ → List ℕ → List ℕ → Type 0)
+    {a b c d exit exit′ exit″ : List ℕ} {t u : Outcome} → t ≡ u → P a b c d t exit exit′ exit″
+    → P a b c d u exit exit′ exit″
+promise-told-three P {a} {b} {c} {d} {exit} {exit′} {exit″} e p =
+    subst (λ (x : Outcome). P a b c d x exit exit′ exit″) e p
 
 pub faultNumber-not-zero : (fault : Fault) → faultNumber fault ≡ 0 → ⊥
 faultNumber-not-zero Absent e = omega arith

@@ -4,15 +4,19 @@ use judge::judge::Verdict;
 use judge::rank::RankAnswer;
 use judge::reach::ReachAnswer;
 use judge::run::RunAnswer;
-use model::Fault;
-use model::State;
 use model::read::ReadAnswer;
 use model::write::WriteAnswer;
+use text::Fault;
+use text::State;
+use word::word::End;
+use word::word::WordAnswer;
 ghost use mathlib.Core.Path.{_≡_};
 ghost use mathlib.Core.List.{[], _∷_};
-ghost use Rattle.model.specs.Faults.{answers, refuses, faultNumber};
+ghost use Rattle.text.specs.Faults.{answers, refuses, faultNumber};
 ghost use Rattle.model.specs.Promises.{ReadPromise, WritePromise};
 ghost use Rattle.judge.specs.Promises.{ReachPromise, RankPromise, JudgePromise, RunPromise, verdictOutcome};
+ghost use Rattle.word.specs.Words.{endNumber};
+ghost use Rattle.word.specs.Promises.{WordPromise};
 ghost use Rattle.till_c.specs.Answer.{answerOutcome};
 
 // Number 0 with `count` values, or a refusal's number with its place.
@@ -82,7 +86,7 @@ fn done() -> TillAnswer
 fn faulty(fault: Fault, line: usize) -> TillAnswer
     ensures { λ r. ⌜ answerOutcome r ≡ refuses (faultNumber fault) line ⌝ }
 {
-    let number = model::fault_number(fault);
+    let number = text::fault_number(fault);
     refusal(number as u64, line)
 }
 
@@ -93,6 +97,16 @@ fn judged(v: Verdict) -> TillAnswer
     match v {
         Verdict::Passed(top) => value(top as usize),
         Verdict::Refused(step, depth) => two_values(step.0 as usize, depth as usize),
+    }
+}
+
+// A word: its length, and the end that allows it, 0 for the source and 1 for the target.
+fn shown(length: usize, end: End) -> TillAnswer
+    ensures { λ r. ⌜ answerOutcome r ≡ answers (length ∷ endNumber end ∷ []) ⌝ }
+{
+    match end {
+        End::Source => two_values(length, 0),
+        End::Target => two_values(length, 1),
     }
 }
 
@@ -176,5 +190,25 @@ pub extern "C" fn till_run(
         RunAnswer::NotGood => refusal(22, 0),
         RunAnswer::NoState(p) => refusal(25, p.0 as usize),
         RunAnswer::Unreachable(p) => refusal(26, p.0 as usize),
+    }
+}
+
+#[no_mangle]
+pub extern "C" fn till_word(
+    store: &[u16],
+    distances: &mut [u16],
+    table: &mut [u8],
+    word: &mut [u16],
+) -> TillAnswer
+    ensures { λ r. ⌜ WordPromise (now (store .entry)) (now (distances .entry)) (now (table .entry)) (now (word .entry))
+        (answerOutcome r) (now (distances .exit)) (now (table .exit)) (now (word .exit)) ⌝ }
+{
+    let answer = word::word::word(store, distances, table, word);
+    match answer {
+        WordAnswer::Shown(length, end) => shown(length, end),
+        WordAnswer::ShortList(place) => refusal(21, place),
+        WordAnswer::NotGood => refusal(22, 0),
+        WordAnswer::NotDeterministic(step) => refusal(23, step.0 as usize),
+        WordAnswer::NoLeak => refusal(24, 0),
     }
 }

@@ -7,10 +7,10 @@ use native.Mathlib.Omega.{arith}
 use lib.ListN.{length}
 use Rattle.model.specs.declared.read.ReadAnswer.{ReadAnswer}
 use Rattle.model.specs.declared.read.ReadAnswer.the-variants as read
-use Rattle.model.specs.Limits.{actionLimit, storeLength}
+use Rattle.text.specs.Limits.{actionLimit, storeLength}
 use Rattle.model.specs.Lists.{distancesLength, tableLength, wordLength}
-use Rattle.model.specs.Faults.{answers}
-use Rattle.model.specs.Model.{Model}
+use Rattle.text.specs.Faults.{answers}
+use Rattle.text.specs.Model.{Model}
 use Rattle.model.specs.Store.{Good}
 use Rattle.model.specs.StoredModel.{modelAt}
 use Rattle.model.specs.Promises.{readOutcome, ReadPromise}

@@ -2,23 +2,22 @@
 -- then the verdict. Assumes nothing.
 use mathlib.Core.List.{List}
 use mathlib.Core.Option.{none}
-use mathlib.Core.Path.{_≡_, refl, sym, ap, _∙_, subst}
+use mathlib.Core.Path.{_≡_, refl, sym, ap, subst}
 use Prim.Native.Nat.{ℕ, _≤_, _<_}
 use native.Mathlib.Omega.{arith}
 use lib.ListN.{length}
 use Rattle.lts.specs.AlikeLaws.{separated-of-rank}
 use Rattle.lts.specs.Run.{onward}
-use Rattle.model.specs.declared.Step.{Step}
-use Rattle.model.specs.Faults.{refuses}
-use Rattle.model.specs.Limits.{storeLength}
+use Rattle.text.specs.declared.Step.{Step}
+use Rattle.text.specs.Faults.{refuses}
+use Rattle.text.specs.Limits.{storeLength}
 use Rattle.model.specs.Lists.{distancesLength, tableLength, wordLength}
-use Rattle.model.specs.Model.{Model}
+use Rattle.text.specs.Model.{Model}
 use Rattle.model.specs.Store.{Good}
 use Rattle.model.specs.StoredModel.{modelAt}
 use Rattle.model.specs.System.{source, target, LowStep, DeterministicModel}
-use Rattle.model.specs.Laws.FirstShortLaws.{firstShort-nil, firstShort-lt, firstShort-le}
-use Rattle.model.specs.Laws.OnStoreLaws.{onStore-short, onStore-not-good, onStore-good}
-use Rattle.model.specs.Laws.Store.StoredModelLaws.{good-model}
+use Rattle.model.specs.Laws.FirstShortLaws.{first-short, second-short, third-short, fourth-short, none-short-four}
+use Rattle.model.specs.Laws.OnStoreLaws.{onStore-short, onStore-not-good, onStore-model}
 use Rattle.judge.specs.declared.judge.Verdict.{Verdict}
 use Rattle.judge.specs.declared.judge.Verdict.the-variants.{Passed, Refused}
 use Rattle.judge.specs.Promises.{Filled}
@@ -126,49 +125,40 @@ module _ (store distances table word : List ℕ) where
   pub short-store-promised : length store < storeLength
       → WordPromise store distances table word (wordOutcome (ShortList 1)) distances table word
   unfolding wordOutcome
-  short-store-promised h = onStore-short (firstShort-lt _ _ _ h) refl (refl, refl, refl)
+  short-store-promised h = onStore-short (first-short _ _ h) refl (refl, refl, refl)
 
   module _ (first-long : storeLength ≤ length store) where
     pub short-distances-promised : length distances < distancesLength
         → WordPromise store distances table word (wordOutcome (ShortList 2)) distances table word
     unfolding wordOutcome
-    short-distances-promised h =
-        onStore-short (firstShort-le _ _ _ first-long ∙ firstShort-lt _ _ _ h) refl (refl, refl, refl)
+    short-distances-promised h = onStore-short (second-short _ _ first-long h) refl (refl, refl, refl)
 
     module _ (second-long : distancesLength ≤ length distances) where
       pub short-table-promised : length table < tableLength
           → WordPromise store distances table word (wordOutcome (ShortList 3)) distances table word
       unfolding wordOutcome
-      short-table-promised h = onStore-short
-          (firstShort-le _ _ _ first-long ∙ firstShort-le _ _ _ second-long ∙ firstShort-lt _ _ _ h) refl
-          (refl, refl, refl)
+      short-table-promised h = onStore-short (third-short _ _ first-long second-long h) refl (refl, refl, refl)
 
       module _ (third-long : tableLength ≤ length table) where
         pub short-word-promised : length word < wordLength
             → WordPromise store distances table word (wordOutcome (ShortList 4)) distances table word
         unfolding wordOutcome
-        short-word-promised h = onStore-short
-            (firstShort-le _ _ _ first-long ∙ firstShort-le _ _ _ second-long ∙ firstShort-le _ _ _ third-long
-            ∙ firstShort-lt _ _ _ h) refl (refl, refl, refl)
+        short-word-promised h =
+            onStore-short (fourth-short _ _ first-long second-long third-long h) refl (refl, refl, refl)
 
         module _ (fourth-long : wordLength ≤ length word) where
           wordLists-none : wordLists store distances table word ≡ none
-          wordLists-none =
-              firstShort-le _ _ _ first-long ∙ firstShort-le _ _ _ second-long ∙ firstShort-le _ _ _ third-long
-              ∙ firstShort-le _ _ _ fourth-long ∙ firstShort-nil _
+          wordLists-none = none-short-four first-long second-long third-long fourth-long
 
           pub not-good-promised : ¬ (Good store)
               → WordPromise store distances table word (wordOutcome NotGood) distances table word
           unfolding wordOutcome
           not-good-promised n = onStore-not-good wordLists-none n refl (refl, refl, refl)
 
-          -- whatever text reads to a good store, it states the model that the store shows
           pub done-promised : (r : WordAnswer) (distances′ table′ word′ : List ℕ) → Good store
               → Filled (modelAt store) distances table distances′ table′
               → WordDone (modelAt store) (wordOutcome r) word word′
               → WordPromise store distances table word (wordOutcome r) distances′ table′ word′
-          done-promised r distances′ table′ word′ good f d = onStore-good wordLists-none good (λ g.
-              let e = sym (good-model store g) in (
-                subst (λ (m : Model). Filled m distances table distances′ table′) e f,
-                subst (λ (m : Model). WordDone m (wordOutcome r) word word′) e d,
-              ))
+          done-promised r distances′ table′ word′ good f d =
+              onStore-model (λ m. Filled m distances table distances′ table′ × WordDone m (wordOutcome r) word word′)
+              wordLists-none good (f, d)

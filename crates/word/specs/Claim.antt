@@ -15,8 +15,8 @@ use lib.ListN.{length, take}
 use Rattle.lts.specs.Noninterference.{Low, INI}
 use Rattle.lts.specs.Run.{Allows}
 use Rattle.lts.specs.Word.{JustOne, FirstWord}
-use Rattle.model.specs.Faults.{Outcome, answers, refuses}
-use Rattle.model.specs.Model.{Model}
+use Rattle.text.specs.Faults.{Outcome, answers, refuses}
+use Rattle.text.specs.Model.{Model}
 use Rattle.model.specs.System.{source, target, levels, Steps, Start, HighStep, DeterministicModel}
 use Rattle.model.specs.Text.{textOf}
 use Rattle.model.specs.WellFormed.{WellFormed}

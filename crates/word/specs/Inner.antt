@@ -1,3 +1,4 @@
 pub mod Letters
 pub mod WordHead
 pub mod Telling
+pub mod WordTest

@@ -6,4 +6,6 @@ pub mod WordPromiseLaws
 pub mod LeastLeakLaws
 pub mod ReadTextLaws
 pub mod ClaimLaws
+pub mod WordTestLaws
+pub mod BenchLaws
 pub mod TellPromiseLaws

@@ -4,3 +4,5 @@ pub mod Words
 pub mod Promises
 pub mod Claim
 pub mod Tells
+pub mod BenchModels
+pub mod Bench

@@ -6,10 +6,10 @@ use mathlib.Core.Path.{_≡_}
 use Prim.Native.Nat.{ℕ}
 use lib.ListN.{length}
 use Rattle.lts.specs.Noninterference.{BNID}
-use Rattle.model.specs.Limits.{storeLength}
+use Rattle.text.specs.Limits.{storeLength}
 use Rattle.model.specs.Lists.{distancesLength, tableLength, wordLength}
-use Rattle.model.specs.Faults.{Outcome, answers, refuses, firstShort}
-use Rattle.model.specs.Model.{Model}
+use Rattle.text.specs.Faults.{Outcome, answers, refuses, firstShort}
+use Rattle.text.specs.Model.{Model}
 use Rattle.model.specs.System.{levels, Steps, Start, DeterministicModel}
 use Rattle.model.specs.Promises.{OnStore}
 use Rattle.judge.specs.Verdicts.{RefusedAt}

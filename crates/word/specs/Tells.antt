@@ -4,7 +4,7 @@
 use mathlib.Core.List.{List, []}
 use mathlib.Core.Path.{_≡_}
 use Prim.Native.Nat.{ℕ}
-use Rattle.model.specs.Faults.{Outcome, answers}
+use Rattle.text.specs.Faults.{Outcome, answers}
 use Rattle.model.specs.Promises.{readOutcome, ReadPromise}
 use Rattle.judge.specs.Promises.{judgeOutcome, JudgePromise}
 use Rattle.word.specs.declared.tell.TextAnswer.{TextAnswer}

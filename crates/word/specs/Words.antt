@@ -5,8 +5,8 @@ use mathlib.Core.Path.{_≡_}
 use Prim.Native.Nat.{ℕ, suc, _≤_, _<_}
 use lib.ListN.{length, drop}
 use Rattle.lts.specs.Word.{OnlyFrom, FirstWord}
-use Rattle.model.specs.Faults.{Outcome, answers}
-use Rattle.model.specs.Model.{Model}
+use Rattle.text.specs.Faults.{Outcome, answers}
+use Rattle.text.specs.Model.{Model}
 use Rattle.model.specs.System.{source, action, target, levels, Steps, ReachableIn}
 use Rattle.word.specs.declared.word.End.{End}
 use Rattle.word.specs.declared.word.End.the-variants.{Source, Target}

@@ -1,10 +1,10 @@
 // Whether a model is deterministic.
 use judge::reach::UNREACHABLE;
-use model::Step;
+use text::Step;
 ghost use mathlib.Core.Path.{_≡_};
 ghost use Prim.Native.Nat.{_≤_, _<_};
 ghost use lib.ListN.{length};
-ghost use Rattle.model.specs.Decides.{Decides};
+ghost use Rattle.text.specs.Decides.{Decides};
 ghost use Rattle.model.specs.Lists.{distancesLength};
 ghost use Rattle.model.specs.StoredModel.{modelAt};
 ghost use Rattle.judge.specs.Inner.Stored.{Stored};

@@ -1,12 +1,12 @@
 // The letters of a word: low steps of one state that another state answers, or has no answer to.
 use crate::branch::Found;
-use model::Action;
-use model::State;
-use model::Step;
+use text::Action;
+use text::State;
+use text::Step;
 ghost use mathlib.Core.Path.{_≡_};
 ghost use Prim.Native.Nat.{_+_, _≤_, _<_};
 ghost use lib.ListN.{length};
-ghost use Rattle.model.specs.Decides.{Decides};
+ghost use Rattle.text.specs.Decides.{Decides};
 ghost use Rattle.model.specs.StoredModel.{modelAt};
 ghost use Rattle.model.specs.System.{ReachableIn, DeterministicModel};
 ghost use Rattle.judge.specs.Inner.Stored.{Stored};

@@ -7,7 +7,7 @@ use judge::reach::DISTANCES_LENGTH;
 use model::read::ReadAnswer;
 ghost use Prim.Native.Nat.{_≤_};
 ghost use lib.ListN.{length};
-ghost use Rattle.model.specs.Limits.{storeLength};
+ghost use Rattle.text.specs.Limits.{storeLength};
 ghost use Rattle.model.specs.Store.{Good};
 ghost use Rattle.word.specs.Tells.{TellPromise, TellClaim};
 ghost use Rattle.word.specs.Inner.Telling.{TextJudged};

@@ -3,10 +3,10 @@ use crate::branch::Found;
 use judge::judge::Verdict;
 use judge::rank::TABLE_LENGTH;
 use judge::reach::DISTANCES_LENGTH;
-use model::Action;
-use model::State;
-use model::Step;
 use model::store::STORE_LENGTH;
+use text::Action;
+use text::State;
+use text::Step;
 ghost use mathlib.Core.List.{[], _∷_};
 ghost use Prim.Native.Nat.{_≤_, _<_};
 ghost use lib.ListN.{length};
@@ -49,25 +49,20 @@ fn last_letter(store: &[u16], begins: &[u16], roles: &[u16], p: State, q: State)
     let there = crate::letters::alone(store, begins, roles, q, p);
     match here {
         Found::At(i) => {
-            let a = model::store::action(store, i);
+            let action = model::store::action(store, i);
+            let end = End::Source;
             match there {
                 Found::At(j) => {
                     let b = model::store::action(store, j);
-                    if b.0 < a.0 {
+                    if b.0 < action.0 {
                         return Last {
                             action: b,
                             end: End::Target,
                         };
                     }
-                    Last {
-                        action: a,
-                        end: End::Source,
-                    }
+                    Last { action, end }
                 }
-                Found::Nothing => Last {
-                    action: a,
-                    end: End::Source,
-                },
+                Found::Nothing => Last { action, end },
             }
         }
         Found::Nothing => match there {

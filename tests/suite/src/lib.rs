@@ -1,7 +1,8 @@
 //! The proved operations as Rust calls them. A slice passes as a pointer and the number of its elements.
+pub mod bench;
 pub mod lists;
 
-use second::{Refusal, Verdict};
+use second::{End, Refusal, Verdict};
 
 /// Number 0 with `count` values, or a refusal's number with its place.
 #[repr(C)]
@@ -45,6 +46,16 @@ extern "C" {
         run: *mut u16,
         run_len: usize,
         state: u16,
+    ) -> TillAnswer;
+    fn till_word(
+        store: *const u16,
+        store_len: usize,
+        distances: *mut u16,
+        distances_len: usize,
+        table: *mut u8,
+        table_len: usize,
+        word: *mut u16,
+        word_len: usize,
     ) -> TillAnswer;
 }
 
@@ -138,6 +149,32 @@ pub fn run(
     let values = answer.values()?;
     assert_eq!(values.len(), 1, "Run answers its length");
     Ok(usize::try_from(values[0]).expect("a length fits"))
+}
+
+pub fn word(
+    store: &[u16],
+    distances: &mut [u16],
+    table: &mut [u8],
+    word: &mut [u16],
+) -> Result<(usize, End), Refusal> {
+    let answer = unsafe {
+        till_word(
+            store.as_ptr(),
+            store.len(),
+            distances.as_mut_ptr(),
+            distances.len(),
+            table.as_mut_ptr(),
+            table.len(),
+            word.as_mut_ptr(),
+            word.len(),
+        )
+    };
+    let (length, end) = match answer.values()?[..] {
+        [length, 0] => (length, End::Source),
+        [length, 1] => (length, End::Target),
+        _ => panic!("Word answers its length and an end"),
+    };
+    Ok((usize::try_from(length).expect("a length fits"), end))
 }
 
 /// A rank, a depth or a step number.

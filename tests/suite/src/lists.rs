@@ -1,5 +1,7 @@
 //! Lists as a caller may lend them.
 use second::gen::Rng;
+use second::store::STORE;
+use second::Model;
 
 /// A list of some length with anything in it.
 pub fn anything16(rng: &mut Rng, length: usize) -> Vec<u16> {
@@ -13,4 +15,13 @@ pub fn anything8(rng: &mut Rng, length: usize) -> Vec<u8> {
 /// Lengths around a least length: none, one short, exact, longer.
 pub fn lengths(least: usize) -> [usize; 5] {
     [0, least - 1, least, least + 1, least + 37]
+}
+
+/// A model's store with a few numbers more, or one too few.
+pub fn store_lengths(rng: &mut Rng, model: &Model) -> Vec<Vec<u16>> {
+    let exact = model.to_store();
+    let mut longer = exact.clone();
+    longer.extend(anything16(rng, 5));
+    let shorter = exact[..STORE - 1].to_vec();
+    vec![Vec::new(), shorter, exact, longer]
 }

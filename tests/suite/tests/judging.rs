@@ -1,14 +1,11 @@
 //! Reach, Rank, Judge and Run against the second checker: every list is compared afterwards, element by element.
 use second::gen::{self, Rng};
-use second::store::{DISTANCES, RUN, STORE, TABLE};
-use second::{Model, Refusal, Verdict};
-use suite::lists::{anything16, anything8, lengths};
+use second::store::{DISTANCES, RUN, TABLE};
+use second::{Refusal, Verdict};
+use suite::bench::{bench, ACTIONS, CLOSE_IS_LOW};
+use suite::lists::{anything16, anything8, lengths, store_lengths};
 
 const SEED: u64 = 0x7112;
-
-/// Action lines of the bench models: 0 is scan, 1 is print, 2 is close.
-const ACTIONS: &str = "A,L,scan\nA,H,print\nA,D,close\n";
-const CLOSE_IS_LOW: &str = "A,L,scan\nA,H,print\nA,L,close\n";
 
 fn passed(rank: u16) -> Verdict {
     Verdict::Passed { rank }
@@ -98,21 +95,6 @@ fn same_all(rng: &mut Rng, store: &[u16], states: impl Iterator<Item = u16>) {
     for state in states {
         let _ = same_run(&before, store, state);
     }
-}
-
-fn store_of(text: &str) -> Vec<u16> {
-    let mut store = vec![0; STORE];
-    assert_eq!(suite::read(text.as_bytes(), &mut store), Ok(()), "{text}");
-    store
-}
-
-/// The store of a bench model: start 0, steps as written.
-fn bench(states: usize, actions: &str, steps: &[(u16, u16, u16)]) -> Vec<u16> {
-    let mut text = format!("M,{states},3,{},0\n{actions}", steps.len());
-    for (source, action, target) in steps {
-        text += &format!("S,{source},{action},{target}\n");
-    }
-    store_of(&(text + "E\n"))
 }
 
 #[test]
@@ -240,15 +222,6 @@ fn random_models() {
         let model = gen::any_model(&mut rng);
         same_all(&mut rng, &model.to_store(), states());
     }
-}
-
-/// The store with a few numbers more, or one too few.
-fn store_lengths(rng: &mut Rng, model: &Model) -> Vec<Vec<u16>> {
-    let exact = model.to_store();
-    let mut longer = exact.clone();
-    longer.extend(anything16(rng, 5));
-    let shorter = exact[..STORE - 1].to_vec();
-    vec![Vec::new(), shorter, exact, longer]
 }
 
 #[test]

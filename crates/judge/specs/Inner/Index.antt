@@ -2,7 +2,7 @@
 use mathlib.Core.List.{List}
 use Prim.Native.Nat.{ℕ, _≤_, _<_}
 use lib.ListN.{length, getD}
-use Rattle.model.specs.Model.{Model}
+use Rattle.text.specs.Model.{Model}
 use Rattle.model.specs.System.{source}
 
 -- The steps of the states from p on begin at step `from`.
@@ -12,5 +12,5 @@ pub record Begins (m : Model) (p from : ℕ) : Type 0 where
   pub above : (j : ℕ) → from ≤ j → j < length (m .steps) → p ≤ source m j
 
 -- Entry p of the list, up to n, is where they begin.
-pub record Index (m : Model) (n : ℕ) (first : List ℕ) : Type 0 where
-  pub at : (p : ℕ) → p ≤ n → Begins m p (getD first p 0)
+pub record Index (m : Model) (n : ℕ) (begins : List ℕ) : Type 0 where
+  pub at : (p : ℕ) → p ≤ n → Begins m p (getD begins p 0)

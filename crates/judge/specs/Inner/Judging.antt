@@ -3,11 +3,12 @@
 use mathlib.Core.List.{List}
 use Prim.Native.Nat.{ℕ, _≤_}
 use lib.ListN.{length}
-use Rattle.model.specs.Limits.{actionLimit}
-use Rattle.model.specs.Model.{Model}
+use Rattle.text.specs.Limits.{actionLimit}
+use Rattle.text.specs.Model.{Model}
 use Rattle.model.specs.System.{levels}
 use Rattle.judge.specs.declared.judge.Verdict.{Verdict}
 use Rattle.model.specs.Lists.{distancesLength, tableLength}
+use Rattle.ranking.specs.MoveList.{indexLength}
 use Rattle.judge.specs.Inner.Stored.{Stored}
 use Rattle.judge.specs.Inner.Index.{Index}
 use Rattle.judge.specs.Inner.Roles.{Roles}
@@ -17,7 +18,7 @@ use Rattle.judge.specs.Promises.{Filled}
 -- A good store, and lists long enough for its index, its roles, its distances and its table.
 pub record Judgeable (m : Model) (store begins roles distances table : List ℕ) : Type 0 where
   pub stored : Stored store m
-  pub index-length : 129 ≤ length begins
+  pub index-length : indexLength ≤ length begins
   pub roles-length : actionLimit ≤ length roles
   pub distances-length : distancesLength ≤ length distances
   pub table-length : tableLength ≤ length table

@@ -6,7 +6,7 @@ use Prim.Native.Nat.{ℕ, _<_}
 use lib.Dec.{eqb}
 use lib.ListN.{getD}
 use Rattle.lts.specs.Noninterference.{Levels}
-use Rattle.model.specs.Model.{low, release, high}
+use Rattle.text.specs.Model.{low, release, high}
 
 -- The list has the roles of the first n actions.
 pub record Roles (L : Levels) (n : ℕ) (roles : List ℕ) : Type 0 where

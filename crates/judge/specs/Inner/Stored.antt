@@ -5,8 +5,8 @@ use mathlib.Core.List.{List}
 use mathlib.Core.Path.{_≡_}
 use Prim.Native.Nat.{ℕ, _≤_, _<_}
 use lib.ListN.{length}
-use Rattle.model.specs.Limits.{stateLimit, actionLimit, stepLimit, storeLength}
-use Rattle.model.specs.Model.{high, Model}
+use Rattle.text.specs.Limits.{stateLimit, actionLimit, stepLimit, storeLength}
+use Rattle.text.specs.Model.{high, Model}
 use Rattle.model.specs.StoredModel.{headAt, actionAt, stepAt}
 use Rattle.model.specs.System.{step, source, action, target, level}
 

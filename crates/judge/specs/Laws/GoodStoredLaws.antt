@@ -8,11 +8,11 @@ use Prim.Native.Nat.{ℕ, _≤_}
 use native.Mathlib.Omega.{arith}
 use native.Mathlib.Nat.{eq-or-lt-of-le}
 use lib.ListN.{length}
-use Rattle.model.specs.Limits.{storeLength}
-use Rattle.model.specs.Decides.{Decides}
+use Rattle.text.specs.Limits.{storeLength}
+use Rattle.text.specs.Decides.{Decides}
 use Rattle.model.specs.Laws.Store.DecidesLaws.{decides-passed}
-use Rattle.model.specs.Model.{Model}
-use Rattle.model.specs.Inner.Ranges.{HeadRanges}
+use Rattle.text.specs.Model.{Model}
+use Rattle.text.specs.Inner.Ranges.{HeadRanges}
 use Rattle.model.specs.Store.{Good}
 use Rattle.model.specs.StoredModel.{modelAt, Holds}
 use Rattle.model.specs.System.{source, action}

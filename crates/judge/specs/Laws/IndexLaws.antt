@@ -8,7 +8,7 @@ use native.Mathlib.Omega.{arith}
 use lib.ListN.{length, getD, set}
 use lib.Seq.{getD-set-same, getD-set-other}
 use Rattle.lts.specs.TestsLaws.{lt-or-le, lt-suc-cases}
-use Rattle.model.specs.Model.{Model}
+use Rattle.text.specs.Model.{Model}
 use Rattle.model.specs.System.{source}
 use Rattle.judge.specs.Inner.Stored.{Stored}
 use Rattle.judge.specs.Inner.Index.{Begins, Index}
@@ -33,28 +33,28 @@ begins-le {m} {p} {from} {to} b c =
     (λ l. l)
     (lt-or-le to from)
 
-pub index-zero : (m : Model) (first : List ℕ) → 0 < length first → Index m 0 (set first 0 0)
-index-zero m first l = record {
+pub index-zero : (m : Model) (begins : List ℕ) → 0 < length begins → Index m 0 (set begins 0 0)
+index-zero m begins l = record {
   at = λ p k.
       let e : p ≡ 0 = omega arith in
-      subst (λ (x : ℕ). Begins m x (getD (set first 0 0) x 0)) (sym e)
-      (subst (λ (y : ℕ). Begins m 0 y) (sym (getD-set-same first 0 0 0 l)) (begins-zero m));
+      subst (λ (x : ℕ). Begins m x (getD (set begins 0 0) x 0)) (sym e)
+      (subst (λ (y : ℕ). Begins m 0 y) (sym (getD-set-same begins 0 0 0 l)) (begins-zero m));
 }
 
-pub index-suc : {m : Model} {first : List ℕ} {p i to : ℕ} → i ≡ p + 1 → i < length first → Begins m (p + 1) to
-    → Index m p first → Index m (p + 1) (set first i to)
-index-suc {m} {first} {p} {i} {to} e l b x = record {
+pub index-suc : {m : Model} {begins : List ℕ} {p i to : ℕ} → i ≡ p + 1 → i < length begins → Begins m (p + 1) to
+    → Index m p begins → Index m (p + 1) (set begins i to)
+index-suc {m} {begins} {p} {i} {to} e l b x = record {
   at = λ q k. ⊎-elim
       (λ z.
       let g : q ≡ i = omega arith in
-      subst (λ (y : ℕ). Begins m y (getD (set first i to) y 0)) (sym g)
-      (subst (λ (y : ℕ). Begins m i y) (sym (getD-set-same first i to 0 l))
+      subst (λ (y : ℕ). Begins m y (getD (set begins i to) y 0)) (sym g)
+      (subst (λ (y : ℕ). Begins m i y) (sym (getD-set-same begins i to 0 l))
       (subst (λ (y : ℕ). Begins m y to) (sym e) b)))
       (λ z.
-      subst (λ (y : ℕ). Begins m q y) (sym (getD-set-other first i q to 0 (λ g. omega arith)))
+      subst (λ (y : ℕ). Begins m q y) (sym (getD-set-other begins i q to 0 (λ g. omega arith)))
       (x .at q (omega arith)))
       (lt-suc-cases {i = q} {n = p + 1} (omega arith));
 }
 
-pub index-le : {m : Model} {first : List ℕ} {p n : ℕ} → n ≤ p → Index m p first → Index m n first
+pub index-le : {m : Model} {begins : List ℕ} {p n : ℕ} → n ≤ p → Index m p begins → Index m n begins
 index-le l x = record { at = λ q k. x .at q (omega arith) }

@@ -9,7 +9,7 @@ use lib.ListN.{length, getD, set}
 use lib.Seq.{getD-set-same, getD-set-other}
 use lib.Dec.{T}
 use Rattle.lts.specs.TestsLaws.{lt-or-le}
-use Rattle.model.specs.Model.{Model}
+use Rattle.text.specs.Model.{Model}
 use Rattle.model.specs.System.{action, target, levels, LowStep}
 use Rattle.judge.specs.Inner.Index.{Begins}
 use Rattle.judge.specs.Inner.Listing.{Appended, LowAmong}

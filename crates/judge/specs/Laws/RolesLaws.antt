@@ -11,7 +11,7 @@ use lib.Seq.{getD-set-same, getD-set-other}
 use borrow.Author.Tests.{eq-eqb}
 use Rattle.lts.specs.Noninterference.{Levels}
 use Rattle.lts.specs.TestsLaws.{lt-suc-cases}
-use Rattle.model.specs.Model.{low, release, high, Model}
+use Rattle.text.specs.Model.{low, release, high, Model}
 use Rattle.model.specs.System.{level, levels}
 use Rattle.judge.specs.Inner.Roles.{Roles}
 

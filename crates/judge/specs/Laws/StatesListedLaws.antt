@@ -10,8 +10,8 @@ use lib.Seq.{getD-set-same, getD-set-other}
 use borrow.Author.Count.{below-more}
 use Rattle.lts.specs.Alike.{Moves}
 use Rattle.lts.specs.TestsLaws.{lt-or-le}
-use Rattle.model.specs.Limits.{stepLimit}
-use Rattle.model.specs.Model.{Model}
+use Rattle.text.specs.Limits.{stepLimit}
+use Rattle.text.specs.Model.{Model}
 use Rattle.model.specs.System.{LowStep}
 use Rattle.judge.specs.Inner.Stored.{Stored}
 use Rattle.ranking.specs.MoveList.{Listed, Lists}

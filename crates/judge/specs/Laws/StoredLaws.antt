@@ -4,10 +4,10 @@ use mathlib.Core.List.{List}
 use mathlib.Core.Path.{_≡_, ap, _∙_}
 use Prim.Native.Nat.{ℕ, _+_, _<_}
 use lib.ListN.{length, getD}
-use Rattle.model.specs.declared.Head.{Head}
-use Rattle.model.specs.declared.StepLine.{StepLine}
-use Rattle.model.specs.Limits.{stepPlace}
-use Rattle.model.specs.Model.{Model}
+use Rattle.text.specs.declared.Head.{Head}
+use Rattle.text.specs.declared.StepLine.{StepLine}
+use Rattle.text.specs.Limits.{stepPlace}
+use Rattle.text.specs.Model.{Model}
 use Rattle.model.specs.System.{source, action, target}
 use Rattle.judge.specs.Inner.Stored.{Stored}
 

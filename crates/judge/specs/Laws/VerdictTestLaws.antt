@@ -15,7 +15,7 @@ use Rattle.lts.specs.AlikeLaws.{rank-unique}
 use Rattle.lts.specs.TestsLaws.{T-cases, and-intro, and-left, and-right, not-T→false, lt-suc-cases, lt-or-le}
 use Rattle.lts.specs.CheckedLaws.{lowRank→Rank}
 use Rattle.lts.specs.DistanceLaws.{Reachable→within?, within?→Reachable}
-use Rattle.model.specs.Model.{high, Model}
+use Rattle.text.specs.Model.{high, Model}
 use Rattle.model.specs.System.{source, action, target, level, levels, Steps, Start, LowStep, ReachableIn}
 use Rattle.judge.specs.Inner.Stored.{Stored}
 use Rattle.judge.specs.Inner.StepTest.{step?, start?}
@@ -27,8 +27,9 @@ use Rattle.judge.specs.Laws.VerdictsLaws.{passed-of-no-leak}
 use Rattle.judge.specs.Inner.LeakSearch.{DepthAt, FoundBelow}
 use Rattle.judge.specs.Laws.LeakSearchLaws.{found-zero, found-skip, found-keep, found-new}
 use Rattle.judge.specs.Laws.LeakSearchLaws.{refused-of-found, no-leak-of-found}
-use Rattle.judge.specs.VerdictTest.{rankIn, reachable?, greatestBelow, greatestRank, highStep?, depthAt, Least}
-use Rattle.judge.specs.VerdictTest.{lookAt, leastBelow, verdictFrom, verdictOf}
+use Rattle.judge.specs.Inner.VerdictTest.{rankIn, reachable?, greatestBelow, greatestRank, highStep?}
+use Rattle.judge.specs.Inner.VerdictTest.{depthAt, Least}
+use Rattle.judge.specs.Inner.VerdictTest.{lookAt, leastBelow, verdictFrom, verdictOf}
 
 T→true : (b : Bool) → T b → b ≡ true
 T→true true t = refl

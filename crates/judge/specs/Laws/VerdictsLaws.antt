@@ -12,7 +12,7 @@ use Rattle.lts.specs.TestsLaws.{lt-or-le}
 use Rattle.lts.specs.Noninterference.{BNID}
 use Rattle.lts.specs.Checked.{lowRank}
 use Rattle.lts.specs.CheckedLaws.{lowRank→Rank}
-use Rattle.model.specs.Model.{high, Model}
+use Rattle.text.specs.Model.{high, Model}
 use Rattle.model.specs.System.{source, action, target, level, levels, Steps, Start, LowStep, HighStep, ReachableIn}
 use Rattle.judge.specs.declared.judge.Verdict.{Verdict}
 use Rattle.judge.specs.declared.judge.Verdict.the-variants.{Passed, Refused}

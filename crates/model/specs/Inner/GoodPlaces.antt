@@ -5,10 +5,10 @@ use mathlib.Core.Path.{_≡_}
 use Prim.Native.Nat.{ℕ, _+_, _-_, _≤_, _<_}
 use lib.Dec.{T}
 use lib.ListN.{getD}
-use Rattle.model.specs.declared.Head.{Head}
-use Rattle.model.specs.Limits.{nameLimit, storeLength, actionPlace, namePlace, stepPlace}
-use Rattle.model.specs.Model.{high, above?}
-use Rattle.model.specs.Lines.{headFits?, nameByte?, stepFits?}
+use Rattle.text.specs.declared.Head.{Head}
+use Rattle.text.specs.Limits.{nameLimit, storeLength, actionPlace, namePlace, stepPlace}
+use Rattle.text.specs.Model.{high, above?}
+use Rattle.text.specs.Lines.{headFits?, nameByte?, stepFits?}
 use Rattle.model.specs.Inner.EachFrom.{EachFrom}
 use Rattle.model.specs.StoredModel.{headAt, stepAt}
 

@@ -4,12 +4,12 @@ use mathlib.Core.List.{List, [], _∷_, _++_, map}
 use mathlib.Core.Logic.{_⊎_}
 use mathlib.Core.Path.{_≡_}
 use Prim.Native.Nat.{ℕ, _<_}
-use Rattle.model.specs.declared.Head.{Head}
-use Rattle.model.specs.declared.StepLine.{StepLine}
-use Rattle.model.specs.Bytes.{kindOf, digit, smallLetter, lineEnd}
-use Rattle.model.specs.Numbers.{digits}
+use Rattle.text.specs.declared.Head.{Head}
+use Rattle.text.specs.declared.StepLine.{StepLine}
+use Rattle.text.specs.Bytes.{kindOf, digit, smallLetter, lineEnd}
+use Rattle.text.specs.Numbers.{digits}
 use Rattle.model.specs.Join.{join}
-use Rattle.model.specs.Model.{ActionLine, Model}
+use Rattle.text.specs.Model.{ActionLine, Model}
 use Rattle.model.specs.Text.{levelByte}
 use Rattle.model.specs.Store.{headPlaces}
 

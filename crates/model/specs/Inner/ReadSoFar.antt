@@ -5,20 +5,20 @@ use mathlib.Core.List.{List, [], _∷_, _++_}
 use mathlib.Core.Path.{_≡_}
 use Prim.Native.Nat.{ℕ, _+_, _-_, _*_, _≤_}
 use lib.ListN.{length, drop}
-use Rattle.model.specs.declared.Fault.the-variants.{Absent}
-use Rattle.model.specs.declared.Head.{Head}
-use Rattle.model.specs.declared.StepLine.{StepLine}
-use Rattle.model.specs.declared.line.HeadRead.{HeadRead}
-use Rattle.model.specs.declared.line.HeadRead.the-variants as head-read
+use Rattle.text.specs.declared.Fault.the-variants.{Absent}
+use Rattle.text.specs.declared.Head.{Head}
+use Rattle.text.specs.declared.StepLine.{StepLine}
+use Rattle.text.specs.declared.line.HeadRead.{HeadRead}
+use Rattle.text.specs.declared.line.HeadRead.the-variants as head-read
 use Rattle.model.specs.declared.body.LinesRead.{LinesRead}
 use Rattle.model.specs.declared.body.LinesRead.the-variants as lines-read
 use Rattle.model.specs.declared.read.ReadAnswer.{ReadAnswer}
-use Rattle.model.specs.Limits.{stateLimit, actionLimit, stepLimit, nameLimit}
-use Rattle.model.specs.Bytes.{lineEnd}
-use Rattle.model.specs.Split.{split}
-use Rattle.model.specs.Model.{ActionLine, Model}
-use Rattle.model.specs.Lines.{Line, bad, headOf}
-use Rattle.model.specs.Inner.LineAnswers.{Last}
+use Rattle.text.specs.Limits.{stateLimit, actionLimit, stepLimit, nameLimit}
+use Rattle.text.specs.Bytes.{lineEnd}
+use Rattle.text.specs.Split.{split}
+use Rattle.text.specs.Model.{ActionLine, Model}
+use Rattle.text.specs.Lines.{Line, bad, headOf}
+use Rattle.text.specs.Inner.LineAnswers.{Last}
 use Rattle.model.specs.Reading.{Reading, faulty, done, headModel, readModel, readActions, readSteps}
 use Rattle.model.specs.Store.{actionNumbers, actionsNumbers, storeOf}
 use Rattle.model.specs.Promises.{readAnswer, readingStore}

@@ -2,8 +2,8 @@
 use Prim.Native.Nat.{ℕ, _+_, _≤_, _<_}
 use mathlib.Core.List.{List}
 use lib.ListN.{length, getD}
-use Rattle.model.specs.Limits.{nameLimit, storeLength, actionPlace}
-use Rattle.model.specs.All.{All}
+use Rattle.text.specs.Limits.{nameLimit, storeLength, actionPlace}
+use Rattle.text.specs.All.{All}
 use Rattle.model.specs.Store.{Good}
 use Rattle.model.specs.StoredModel.{actionAt}
 

@@ -2,82 +2,55 @@
 -- Document 01, "The operations, in the order of the work", 1 and 8. Assumes nothing.
 use mathlib.Core.List.{List, [], _∷_, _++_}
 use mathlib.Core.Logic.{_⊎_, inl, inr}
-use mathlib.Core.Option.{Option, none, some}
+use mathlib.Core.Option.{none, some}
 use mathlib.Core.Path.{_≡_, refl, sym, ap, _∙_, subst}
 use Prim.Native.Nat.{ℕ, _≤_}
 use native.Mathlib.Omega.{arith}
 use lib.ListN.{length, take, drop, length-append, length-drop}
 use lib.Seq.{take-at}
-use borrow.Author.Tests.{le-ltb}
-use Rattle.model.specs.Limits.{storeLength, outLength}
-use Rattle.model.specs.Faults.{Outcome, answers, firstShort}
-use Rattle.model.specs.Model.{Model}
+use Rattle.text.specs.Limits.{storeLength, outLength}
+use Rattle.text.specs.Faults.{Outcome, answers}
+use Rattle.text.specs.Model.{Model}
 use Rattle.model.specs.Reading.{Reading, done, tooLong, faulty, readText}
 use Rattle.model.specs.Laws.Text.ReadingLaws.{textOf-of-readText}
 use Rattle.model.specs.Store.{storeOf, Good}
 use Rattle.model.specs.Laws.Store.StoreLaws.{storeOf-length}
 use Rattle.model.specs.Laws.Store.StoredModelLaws.{holds-storeOf}
 use Rattle.model.specs.Laws.Store.GoodTestLaws.{good-cases}
-use Rattle.model.specs.Promises.{OnStore, readingOutcome, readingStore, readLists, ReadPromise, writeLists}
+use Rattle.model.specs.Laws.FirstShortLaws.{none-short-two}
+use Rattle.model.specs.Laws.OnStoreLaws.{option-cases, onStore-unique}
+use Rattle.model.specs.Promises.{readingOutcome, readingStore, readLists, ReadPromise, writeLists}
 use Rattle.model.specs.Promises.{WritePromise}
 
 -- ---- lists that are long enough
 
 pub readLists-none : (text store : List ℕ) → storeLength ≤ length store → readLists text store ≡ none
-unfolding firstShort
-readLists-none text store h = rw (le-ltb (length text) 0 (omega arith), le-ltb (length store) storeLength h)
+readLists-none text store h = none-short-two (omega arith) h
 
 pub writeLists-none : (store out : List ℕ) → storeLength ≤ length store → outLength ≤ length out
     → writeLists store out ≡ none
-unfolding firstShort
-writeLists-none store out h l = rw (le-ltb (length store) storeLength h, le-ltb (length out) outLength l)
+writeLists-none store out h l = none-short-two h l
 
 -- ---- one answer
-
-option-cases : (o : Option ℕ) → ((k : ℕ) × (o ≡ some k)) ⊎ (o ≡ none)
-option-cases none = inr refl
-option-cases (some k) = inl (k, refl)
 
 module _ (text store : List ℕ) (outcome outcome′ : Outcome) (exit exit′ : List ℕ) where
   pub readPromise-unique : ReadPromise text store outcome exit → ReadPromise text store outcome′ exit′
       → (outcome ≡ outcome′) × (exit ≡ exit′)
   readPromise-unique p q = go (option-cases (readLists text store))
     where
-      go : ((k : ℕ) × (readLists text store ≡ some k)) ⊎ (readLists text store ≡ none) → (outcome ≡ outcome′) × (exit ≡ exit′)
+      go : ((k : ℕ) × (readLists text store ≡ some k)) ⊎ (readLists text store ≡ none)
+          → (outcome ≡ outcome′) × (exit ≡ exit′)
       go (inl s) =
           let a = p .short (s .0) (s .1) in
           let b = q .short (s .0) (s .1) in
           (a .0 ∙ sym (b .0), a .1 ∙ sym (b .1))
       go (inr e) = (p .answer e ∙ sym (q .answer e), p .filled e ∙ sym (q .filled e))
 
--- Whatever an operation on a store does: what pins one answer where the lists are long enough and the store is good,
--- pins one answer.
-pub onStore-unique : {A : Type 0} (lists : Option ℕ) (store : List ℕ) (outcome outcome′ : Outcome) (entry exit exit′ : A)
-    (Done : Outcome → A → Good store → Type 0)
-    → ((g : Good store) → Done outcome exit g → Done outcome′ exit′ g → (outcome ≡ outcome′) × (exit ≡ exit′))
-    → OnStore lists store outcome (exit ≡ entry) (Done outcome exit)
-    → OnStore lists store outcome′ (exit′ ≡ entry) (Done outcome′ exit′)
-    → (outcome ≡ outcome′) × (exit ≡ exit′)
-onStore-unique lists store outcome outcome′ entry exit exit′ Done pins p q = go (option-cases lists) (good-cases store)
-  where
-    go : ((k : ℕ) × (lists ≡ some k)) ⊎ (lists ≡ none) → Good store ⊎ (¬ (Good store)) → (outcome ≡ outcome′) × (exit ≡ exit′)
-    go (inl s) d =
-        let a = p .short (s .0) (s .1) in
-        let b = q .short (s .0) (s .1) in
-        (a .0 ∙ sym (b .0), a .1 ∙ sym (b .1))
-    go (inr e) (inl g) = pins g (p .good e g) (q .good e g)
-    go (inr e) (inr n) =
-        let a = p .not-good e n in
-        let b = q .not-good e n in
-        (a .0 ∙ sym (b .0), a .1 ∙ sym (b .1))
-
 pub writePromise-unique : (store out : List ℕ) (outcome outcome′ : Outcome) (exit exit′ : List ℕ)
     → WritePromise store out outcome exit
     → WritePromise store out outcome′ exit′ → (outcome ≡ outcome′) × (exit ≡ exit′)
 writePromise-unique store out outcome outcome′ exit exit′ =
-    onStore-unique (writeLists store out) store outcome outcome′ out exit exit′
-    (λ t x g. (t ≡ answers (length (g .text) ∷ [])) × (x ≡ g .text ++ drop (length (g .text)) out))
-    (λ g a b. (a .0 ∙ sym (b .0), a .1 ∙ sym (b .1)))
+    onStore-unique (λ a b. a ∙ sym b) (λ g a b. (a .0 ∙ sym (b .0), a .1 ∙ sym (b .1)))
 
 -- ---- Read leaves a good store
 

@@ -8,7 +8,7 @@ use Prim.Native.Nat.{ℕ, _≤_, _<_}
 use lib.Dec.{eqb}
 use lib.ListN.{length, getD}
 use Rattle.model.specs.Lists.{distancesLength, tableLength, pairPlace, unreachable}
-use Rattle.model.specs.Model.{Model}
+use Rattle.text.specs.Model.{Model}
 use Rattle.model.specs.System.{LowStep}
 use Rattle.ranking.specs.Table.{Ranks}
 use Rattle.judge.specs.Distances.{DistanceList}

@@ -3,10 +3,10 @@
 use mathlib.Core.List.{List, [], _∷_}
 use Prim.Native.Nat.{ℕ, _≤_}
 use lib.ListN.{length}
-use Rattle.model.specs.Faults.{answers}
-use Rattle.model.specs.Limits.{storeLength}
+use Rattle.text.specs.Faults.{answers}
+use Rattle.text.specs.Limits.{storeLength}
 use Rattle.model.specs.Lists.{distancesLength, tableLength, runLength, wordLength, pageLength}
-use Rattle.model.specs.Model.{Model}
+use Rattle.text.specs.Model.{Model}
 use Rattle.model.specs.Store.{Good}
 use Rattle.judge.specs.Promises.{Filled}
 use Rattle.page.specs.Promises.{PagePrinted}

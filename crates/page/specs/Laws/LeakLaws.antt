@@ -7,13 +7,13 @@ use native.Mathlib.Omega.{arith}
 use native.Mathlib.Nat.{mul-suc}
 use native.Mathlib.Numerals.{add-one}
 use lib.ListN.{length, getD, take, drop, length-take}
-use Rattle.model.specs.Model.{ActionLine}
-use Rattle.model.specs.Numbers.{digits}
+use Rattle.text.specs.Model.{ActionLine}
+use Rattle.text.specs.Numbers.{digits}
 use Rattle.model.specs.Laws.Text.DigitsLaws.{digitsUpTo-length-le}
 use Rattle.model.specs.StoredModel.{actionAt, modelAt}
 use Rattle.model.specs.Laws.Store.StoredModelLaws.{actionAt-holds, Good→Holds, listed-length}
-use Rattle.model.specs.All.{All}
-use Rattle.model.specs.Limits.{actionPlace, namePlace}
+use Rattle.text.specs.All.{All}
+use Rattle.text.specs.Limits.{actionPlace, namePlace}
 use Rattle.model.specs.Inner.Writable.{Writable}
 use Rattle.model.specs.Laws.Write.WritableLaws.{name-bytes-at, actionAt-part}
 use Rattle.model.specs.Wrote.{Wrote}

@@ -11,8 +11,8 @@ use lib.Seq.{take-append-seam}
 use Rattle.lts.specs.Noninterference.{Low}
 use Rattle.lts.specs.RankLaws.{rank-lt}
 use Rattle.lts.specs.TestsLaws.{lt-or-le}
-use Rattle.model.specs.Faults.{answers, refuses}
-use Rattle.model.specs.Model.{low, ActionLine, Model}
+use Rattle.text.specs.Faults.{answers, refuses}
+use Rattle.text.specs.Model.{low, ActionLine, Model}
 use Rattle.model.specs.System.{source, target, level, levels, LowStep, DeterministicModel}
 use Rattle.judge.specs.Inner.Stored.{Stored}
 use Rattle.judge.specs.Inner.RunTail.{RunWritten}
@@ -20,7 +20,7 @@ use Rattle.judge.specs.Runs.{RunTo}
 use Rattle.judge.specs.Laws.RunsLaws.{runTo-length}
 use Rattle.judge.specs.declared.judge.Verdict.{Verdict}
 use Rattle.judge.specs.declared.judge.Verdict.the-variants.{Refused}
-use Rattle.model.specs.declared.Step.{Step}
+use Rattle.text.specs.declared.Step.{Step}
 use Rattle.judge.specs.Verdicts.{RefusedAt, Judged}
 use Rattle.word.specs.declared.word.End.{End}
 use Rattle.word.specs.declared.word.WordAnswer.{WordAnswer}

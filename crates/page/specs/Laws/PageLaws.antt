@@ -5,10 +5,10 @@ use mathlib.Core.Path.{_≡_, refl, sym, ap}
 use Prim.Native.Nat.{ℕ, _+_, _*_, _≤_}
 use native.Mathlib.Omega.{arith}
 use lib.ListN.{length}
-use Rattle.model.specs.Faults.{answers}
-use Rattle.model.specs.Limits.{stateLimit}
+use Rattle.text.specs.Faults.{answers}
+use Rattle.text.specs.Limits.{stateLimit}
 use Rattle.model.specs.Lists.{pageLength}
-use Rattle.model.specs.Model.{Model}
+use Rattle.text.specs.Model.{Model}
 use Rattle.model.specs.Wrote.{Wrote}
 use Rattle.model.specs.Laws.Write.WroteLaws.{wrote-start}
 use Rattle.judge.specs.declared.judge.Verdict.{Verdict}

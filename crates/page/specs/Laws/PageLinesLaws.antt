@@ -7,12 +7,12 @@ use Prim.Native.Nat.{ℕ, _+_, _≤_}
 use native.Mathlib.Omega.{arith}
 use lib.ListN.{length, length-append}
 use borrow.Author.Tests.{eq-eqb, ne-eqb}
-use Rattle.model.specs.Numbers.{digits}
+use Rattle.text.specs.Numbers.{digits}
 use Rattle.model.specs.Laws.Text.DigitsLaws.{digitsUpTo-length-le}
 use Rattle.model.specs.Lists.{unreachable}
 use Rattle.judge.specs.declared.judge.Verdict.{Verdict}
 use Rattle.judge.specs.declared.judge.Verdict.the-variants.{Passed, Refused}
-use Rattle.model.specs.declared.Step.{Step}
+use Rattle.text.specs.declared.Step.{Step}
 use Rattle.page.specs.PageLines.{verdict-line, state-line, run-line, word-line, end-line, branch-line, last-line}
 use Rattle.page.specs.PageLines.{distanceText, endText, lineText, lineBytes}
 use Rattle.word.specs.declared.word.End.{End}

@@ -9,10 +9,9 @@ use Rattle.lts.specs.FirstWordLaws.{first-word-unique}
 use Rattle.lts.specs.RunLaws.{distance-unique}
 use Rattle.lts.specs.TestsLaws.{eq-of-not-lt}
 use Rattle.lts.specs.WithinLaws.{distance→Reachable}
-use Rattle.model.specs.Faults.{Outcome, answers}
-use Rattle.model.specs.Model.{Model}
-use Rattle.model.specs.Promises.{OnStore}
-use Rattle.model.specs.Laws.PromisesLaws.{onStore-unique}
+use Rattle.text.specs.Faults.{Outcome, answers}
+use Rattle.text.specs.Model.{Model}
+use Rattle.model.specs.Laws.OnStoreLaws.{onStore-unique}
 use Rattle.model.specs.System.{source, target, levels, Steps, Start}
 use Rattle.judge.specs.declared.judge.Verdict.{Verdict}
 use Rattle.judge.specs.declared.judge.Verdict.the-variants.{Passed, Refused}
@@ -122,45 +121,17 @@ pagePrinted-unique {out = out} x y =
       x .list ∙ ap (λ (z : List PageLine). pageBytes z ++ drop (length (pageBytes z)) out) (e .0) ∙ sym (y .list),
     )
 
--- the five lists of Page, as one
-abbrev Lists : Type 0
-Lists = List ℕ × List ℕ × List ℕ × List ℕ × List ℕ
-
-as-one : {a b c d e a′ b′ c′ d′ e′ : List ℕ} → a ≡ a′ → b ≡ b′ → c ≡ c′ → d ≡ d′ → e ≡ e′
-    → _≡_ {A = Lists} (a, b, c, d, e) (a′, b′, c′, d′, e′)
-as-one p q r s t = rw (p, q, r, s, t)
-
-module _ (store distances table run word out : List ℕ) where
-  -- what is unchanged, as one equation
-  onStore-lists : (t : Outcome) (d′ t′ r′ w′ o′ : List ℕ)
-      → PagePromise store distances table run word out t d′ t′ r′ w′ o′
-      → OnStore (pageLists store distances table run word out) store t
-      (_≡_ {A = Lists} (d′, t′, r′, w′, o′) (distances, table, run, word, out))
-      (λ g. Filled (g .model) distances table d′ t′ × PagePrinted (g .model) t run word out r′ w′ o′)
-  onStore-lists t d′ t′ r′ w′ o′ x = record {
-    short = λ k e. let y = x .short k e in (y .0, as-one (y .1 .0) (y .1 .1) (y .1 .2) (y .1 .3) (y .1 .4));
-    not-good = λ e n. let y = x .not-good e n in (y .0, as-one (y .1 .0) (y .1 .1) (y .1 .2) (y .1 .3) (y .1 .4));
-    good = x .good;
-  }
-
-  pub pagePromise-unique : (t u : Outcome) (d′ t′ r′ w′ o′ d″ t″ r″ w″ o″ : List ℕ)
-      → PagePromise store distances table run word out t d′ t′ r′ w′ o′
-      → PagePromise store distances table run word out u d″ t″ r″ w″ o″
-      → (t ≡ u) × (d′ ≡ d″) × (t′ ≡ t″) × (r′ ≡ r″) × (w′ ≡ w″) × (o′ ≡ o″)
-  pagePromise-unique t u d′ t′ r′ w′ o′ d″ t″ r″ w″ o″ x y =
-      let e = onStore-unique {A = Lists} (pageLists store distances table run word out) store t u
-      (distances, table, run, word, out) (d′, t′, r′, w′, o′) (d″, t″, r″, w″, o″)
-      (λ o l g. Filled (g .model) distances table (l .0) (l .1)
-      × PagePrinted (g .model) o run word out (l .2) (l .3) (l .4))
-      (λ g a b.
-      let f = filled-unique (good-stored store g) distances table d′ t′ d″ t″ (a .0) (b .0) in
-      let h = pagePrinted-unique (a .1) (b .1) in
-      (h .0, as-one (f .0) (f .1) (h .1) (h .2) (h .3)))
-      (onStore-lists t d′ t′ r′ w′ o′ x) (onStore-lists u d″ t″ r″ w″ o″ y) in (
-        e .0,
-        ap (λ (l : Lists). l .0) (e .1),
-        ap (λ (l : Lists). l .1) (e .1),
-        ap (λ (l : Lists). l .2) (e .1),
-        ap (λ (l : Lists). l .3) (e .1),
-        ap (λ (l : Lists). l .4) (e .1),
-      )
+pub pagePromise-unique : (store distances table run word out : List ℕ) (t u : Outcome)
+    (d′ t′ r′ w′ o′ d″ t″ r″ w″ o″ : List ℕ)
+    → PagePromise store distances table run word out t d′ t′ r′ w′ o′
+    → PagePromise store distances table run word out u d″ t″ r″ w″ o″
+    → (t ≡ u) × (d′ ≡ d″) × (t′ ≡ t″) × (r′ ≡ r″) × (w′ ≡ w″) × (o′ ≡ o″)
+pagePromise-unique store distances table run word out t u d′ t′ r′ w′ o′ d″ t″ r″ w″ o″ x y =
+    let e = onStore-unique {Same = (d′ ≡ d″) × (t′ ≡ t″) × (r′ ≡ r″) × (w′ ≡ w″) × (o′ ≡ o″)}
+    (λ a b.
+    (a .0 ∙ sym (b .0), a .1 ∙ sym (b .1), a .2 ∙ sym (b .2), a .3 ∙ sym (b .3), a .4 ∙ sym (b .4)))
+    (λ g a b.
+    let f = filled-unique (good-stored store g) distances table d′ t′ d″ t″ (a .0) (b .0) in
+    let h = pagePrinted-unique (a .1) (b .1) in
+    (h .0, (f .0, f .1, h .1, h .2, h .3))) x y in
+    (e .0, e .1 .0, e .1 .1, e .1 .2, e .1 .3, e .1 .4)

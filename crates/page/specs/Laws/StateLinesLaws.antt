@@ -12,7 +12,7 @@ use Rattle.lts.specs.Alike.{Rank, bisimilar}
 use Rattle.lts.specs.AlikeLaws.{rank-unique, bisimilar-refl}
 use Rattle.lts.specs.TestsLaws.{eq-or-not}
 use Rattle.model.specs.Lists.{pairPlace, unreachable}
-use Rattle.model.specs.Model.{Model}
+use Rattle.text.specs.Model.{Model}
 use Rattle.model.specs.Laws.Text.DigitsLaws.{digits-length-le}
 use Rattle.model.specs.System.{LowStep}
 use Rattle.model.specs.Wrote.{Wrote}

@@ -6,15 +6,15 @@ use mathlib.Core.Path.{_≡_}
 use Prim.Native.Nat.{ℕ, _+_, _*_, _≤_, _<_}
 use lib.ListN.{length, getD}
 use Rattle.lts.specs.Alike.{Moves}
-use Rattle.model.specs.Limits.{stateLimit, actionLimit, stepLimit}
+use Rattle.text.specs.Limits.{stateLimit, actionLimit, stepLimit}
 
 -- A place for each action and state.
 abbrev pub marksLength : ℕ
-marksLength = 8192
+marksLength = actionLimit * stateLimit
 
 -- The place of the action a and the class c.
 abbrev pub markPlace : ℕ → ℕ → ℕ
-markPlace a c = 128 * a + c
+markPlace a c = stateLimit * a + c
 
 -- The place of the move i of the lists: its action, and the class of its target.
 abbrev pub moveMark : List ℕ → List ℕ → List ℕ → ℕ → ℕ
@@ -49,7 +49,7 @@ pub record Unmarked (marks : List ℕ) : Type 0 where
   pub zeros : (i : ℕ) → getD marks i 0 ≡ 0
 
 -- The classes are numbers of states.
-pub record Bounded (n : ℕ) (class : List ℕ) : Type 0 where
+pub record StateClasses (n : ℕ) (class : List ℕ) : Type 0 where
   pub class-lt : (p : ℕ) → p < n → getD class p 0 < stateLimit
 
 -- Place i of the lists has a move whose place among the marks can be told.

@@ -7,7 +7,7 @@ use Prim.Native.Nat.{ℕ, _+_, _≤_, _<_}
 use lib.ListN.{getD}
 use Rattle.lts.specs.Alike.{Moves, Alike, Separated}
 use Rattle.lts.specs.Game.{Settled, Separates}
-use Rattle.model.specs.Limits.{stateLimit}
+use Rattle.text.specs.Limits.{stateLimit}
 use Rattle.model.specs.Lists.{pairPlace}
 use Rattle.ranking.specs.Inner.ClassList.{Same}
 
@@ -49,11 +49,6 @@ RankUpTo Move k p q v = ((v ≡ 0) × Alike Move k p q) ⊎ ((v ≤ k) × Separa
 -- The table says so of each two of the n states.
 pub record RanksUpTo (Move : Moves) (n k : ℕ) (table : List ℕ) : Type 0 where
   pub found : (p q : ℕ) → p < n → q < n → RankUpTo Move k p q (entryOf table p q)
-
--- The first m entries are 0, and the others as they were.
-pub record Cleared (m : ℕ) (entry exit : List ℕ) : Type 0 where
-  pub zeros : (i : ℕ) → i < m → getD exit i 0 ≡ 0
-  pub kept : (i : ℕ) → m ≤ i → getD exit i 0 ≡ getD entry i 0
 
 -- The table after the rounds: each of the first `last` separated a pair, and the next one none.
 pub record Finished (Move : Moves) (n last : ℕ) (entry exit : List ℕ) : Type 0 where

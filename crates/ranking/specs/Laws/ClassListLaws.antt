@@ -15,7 +15,7 @@ use Rattle.lts.specs.TestsLaws.{lt-suc-cases, lt-or-le, eq-or-not}
 use Rattle.lts.specs.Alike.{Moves, Answered, Answers, Alike}
 use Rattle.lts.specs.AlikeLaws.{alike-suc, alike-sym, alike-trans, answers-below}
 use Rattle.lts.specs.Game.{Settled, Separates}
-use Rattle.model.specs.Decides.{Decides}
+use Rattle.text.specs.Decides.{Decides}
 use Rattle.model.specs.Laws.Store.DecidesLaws.{decides-iff}
 use Rattle.ranking.specs.Inner.ClassList.{Same, Classes, Refinable, Lowest, Refined, Joins, Moved}
 

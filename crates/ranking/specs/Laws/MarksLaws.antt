@@ -11,9 +11,9 @@ use lib.ListN.{length, getD, set, replicate, length-replicate}
 use lib.Seq.{getD-set-same, getD-set-other}
 use Rattle.lts.specs.TestsLaws.{lt-suc-cases}
 use Rattle.lts.specs.Alike.{Moves, Answered}
-use Rattle.model.specs.Decides.{Decides}
+use Rattle.text.specs.Decides.{Decides}
 use Rattle.model.specs.Laws.Store.DecidesLaws.{decides-iff}
-use Rattle.model.specs.Limits.{stateLimit}
+use Rattle.text.specs.Limits.{stateLimit}
 use Rattle.ranking.specs.MoveList.{Listed, MoveList}
 use Rattle.ranking.specs.Laws.MoveListLaws.{place-lt-last}
 use Rattle.ranking.specs.Inner.ClassList.{Same, Refinable}
@@ -27,38 +27,38 @@ use Rattle.ranking.specs.Inner.Marks.{
   Marked,
   AllMarked,
   Unmarked,
-  Bounded,
+  StateClasses,
   MoveAt,
 }
 
 -- ---- what the places say
 
-module _ (Move : Moves) (n : ℕ) (target-lt : (p a q : ℕ) → Move p a q → q < n) (class : List ℕ) (B : Bounded n class)
-  where
-    pub reaches-of-answered : {p q : ℕ} → Answered Move (Same class) p q → (i : ℕ) → Reaches Move class p i
-        → Reaches Move class q i
-    reaches-of-answered h i x =
-        let r = h (x .action) (x .target) (x .move) in
-        record {
-          action = x .action;
-          target = r .0;
-          move = r .1;
-          place-is = ap (markPlace (x .action)) (sym (r .2)) ∙ x .place-is;
-        }
+module _ (Move : Moves) (n : ℕ) (target-lt : (p a q : ℕ) → Move p a q → q < n) (class : List ℕ)
+    (B : StateClasses n class) where
+  pub reaches-of-answered : {p q : ℕ} → Answered Move (Same class) p q → (i : ℕ) → Reaches Move class p i
+      → Reaches Move class q i
+  reaches-of-answered h i x =
+      let r = h (x .action) (x .target) (x .move) in
+      record {
+        action = x .action;
+        target = r .0;
+        move = r .1;
+        place-is = ap (markPlace (x .action)) (sym (r .2)) ∙ x .place-is;
+      }
 
-    pub answered-of-reaches : {p q : ℕ} → ((i : ℕ) → Reaches Move class p i → Reaches Move class q i)
-        → Answered Move (Same class) p q
-    answered-of-reaches {p} {q} h a p′ m =
-        let x : Reaches Move class p (markPlace a (getD class p′ 0)) =
-        record { action = a; target = p′; move = m; place-is = refl } in
-        let y = h (markPlace a (getD class p′ 0)) x in
-        let lp : getD class p′ 0 < stateLimit = B .class-lt p′ (target-lt p a p′ m) in
-        let lq : getD class (y .target) 0 < stateLimit =
-        B .class-lt (y .target) (target-lt q (y .action) (y .target) (y .move)) in
-        let e : markPlace (y .action) (getD class (y .target) 0) ≡ markPlace a (getD class p′ 0) = y .place-is in
-        let ea : y .action ≡ a = omega (arith, e, lp, lq) in
-        let ec : getD class p′ 0 ≡ getD class (y .target) 0 = omega (arith, e, lp, lq) in
-        (y .target, subst (λ (b : ℕ). Move q b (y .target)) ea (y .move), ec)
+  pub answered-of-reaches : {p q : ℕ} → ((i : ℕ) → Reaches Move class p i → Reaches Move class q i)
+      → Answered Move (Same class) p q
+  answered-of-reaches {p} {q} h a p′ m =
+      let x : Reaches Move class p (markPlace a (getD class p′ 0)) =
+      record { action = a; target = p′; move = m; place-is = refl } in
+      let y = h (markPlace a (getD class p′ 0)) x in
+      let lp : getD class p′ 0 < stateLimit = B .class-lt p′ (target-lt p a p′ m) in
+      let lq : getD class (y .target) 0 < stateLimit =
+      B .class-lt (y .target) (target-lt q (y .action) (y .target) (y .move)) in
+      let e : markPlace (y .action) (getD class (y .target) 0) ≡ markPlace a (getD class p′ 0) = y .place-is in
+      let ea : y .action ≡ a = omega (arith, e, lp, lq) in
+      let ec : getD class p′ 0 ≡ getD class (y .target) 0 = omega (arith, e, lp, lq) in
+      (y .target, subst (λ (b : ℕ). Move q b (y .target)) ea (y .move), ec)
 
 -- ---- marking
 
@@ -107,8 +107,8 @@ unmarked-of-marked {P} {entry} {middle} {exit} u m w e = record {
     go i (inl e) (inl k) = e ∙ k ∙ u .zeros i
 
 -- With the places of q marked and no others, p is answered by q exactly when all places of p are marked.
-pub decides-answered : {Move : Moves} {n : ℕ} {class : List ℕ} → ((p a q : ℕ) → Move p a q → q < n) → Bounded n class
-    → (p : ℕ) {q : ℕ} {entry marks : List ℕ} → Unmarked entry → Marked (Reaches Move class q) 1 entry marks → (r : Bool)
+pub decides-answered : {Move : Moves} {n : ℕ} {class : List ℕ} → ((p a q : ℕ) → Move p a q → q < n)
+    → StateClasses n class → (p : ℕ) {q : ℕ} {entry marks : List ℕ} → Unmarked entry → Marked (Reaches Move class q) 1 entry marks → (r : Bool)
     → Decides r (AllMarked (Reaches Move class p) marks) → Decides r (Answered Move (Same class) p q)
 decides-answered {Move} {n} {class} target-lt B p u m r =
     decides-iff r
@@ -222,13 +222,13 @@ module _ {n : ℕ} {first actions targets class : List ℕ} {p from to : ℕ} (l
       → Marked (Reaches (Listed n first actions targets) class p) value entry exit
   marked-of-from m = marked-map reaches-of-reachesFrom reachesFrom-of-reaches m
 
-pub bounded-of-refinable : {Move : Moves} {n : ℕ} {class : List ℕ} → n ≤ stateLimit → Refinable Move n class
-    → Bounded n class
-bounded-of-refinable l R = record { class-lt = λ p lp. omega (arith, R .lowest-le p lp) }
+pub stateClasses-of-refinable : {Move : Moves} {n : ℕ} {class : List ℕ} → n ≤ stateLimit → Refinable Move n class
+    → StateClasses n class
+stateClasses-of-refinable l R = record { class-lt = λ p lp. omega (arith, R .lowest-le p lp) }
 
 -- A move of a state can be marked.
 pub moveAt : {n : ℕ} {first actions targets class : List ℕ} {p i to : ℕ} → MoveList n first actions targets
-    → Bounded n class → p < n → to ≡ getD first (p + 1) 0 → i < to → MoveAt actions targets class i
+    → StateClasses n class → p < n → to ≡ getD first (p + 1) 0 → i < to → MoveAt actions targets class i
 moveAt {n} {first} {actions} {targets} {class} {p} {i} L B lp e l =
     let li : i < getD first n 0 = place-lt-last L lp (omega arith) in
     let lt : getD targets i 0 < n = L .target-lt i li in

@@ -15,7 +15,7 @@ use Rattle.lts.specs.Game.{Game, Separates}
 use Rattle.lts.specs.ClassesLaws.{rounds-lt}
 use Rattle.lts.specs.Decided.{Decided, answers?}
 use Rattle.lts.specs.DecidedLaws.{decided-game}
-use Rattle.model.specs.Limits.{actionLimit}
+use Rattle.text.specs.Limits.{actionLimit}
 use Rattle.ranking.specs.MoveList.{Listed, MoveList}
 
 -- Place i holds a move from p with the action a to q.

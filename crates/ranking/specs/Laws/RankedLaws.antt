@@ -12,7 +12,7 @@ use Rattle.lts.specs.Alike.{Moves, Rank}
 use Rattle.lts.specs.AlikeLaws.{rank-unique}
 use Rattle.lts.specs.AgreeLaws.{separated-same, rank-same}
 use Rattle.lts.specs.TestsLaws.{lt-or-le}
-use Rattle.model.specs.Limits.{stateLimit}
+use Rattle.text.specs.Limits.{stateLimit}
 use Rattle.model.specs.Lists.{tableLength, pairPlace, Past}
 use Rattle.model.specs.Laws.ListsLaws.{past-getD}
 use Rattle.ranking.specs.MoveList.{Listed, MoveList, Lists}
@@ -22,7 +22,7 @@ use Rattle.ranking.specs.Table.{SomePair, Ranks, LastRound, Greatest, Ra
 
 -- each place of the table is the place of a pair
 place-pair : (i : ℕ) → i < tableLength → (p : ℕ) × (q : ℕ) × (p < stateLimit) × (q < stateLimit) × (i ≡ pairPlace p q)
-place-pair i l = (i / 128, i % 128, omega arith, omega arith, omega arith)
+place-pair i l = (i / stateLimit, i % stateLimit, omega arith, omega arith, omega arith)
 
 module _ (Move : Moves) (n : ℕ) where
   pub greatest-unique : (top top′ : ℕ) → Greatest Move n top → Greatest Move n top′ → top ≡ top′

@@ -7,15 +7,17 @@ use mathlib.Core.List.{List}
 use Prim.Native.Nat.{ℕ, zero, suc, _+_, _/_, _%_, _≤_, _<_}
 use native.Mathlib.Numerals.{add-one}
 use native.Mathlib.Omega.{arith}
-use lib.ListN.{length, getD, set, drop, length-drop}
-use lib.Seq.{getD-set-same, getD-set-other, getD-drop, ext-getD}
+use lib.ListN.{length, getD, drop, length-drop}
+use lib.Seq.{getD-drop, ext-getD}
 use borrow.Author.Count.{below-more}
 use Rattle.lts.specs.Alike.{Moves, Alike, Separated, Rank, bisimilar}
 use Rattle.lts.specs.AlikeLaws.{alike-suc, bisimilar-refl, rank-of-separated}
 use Rattle.lts.specs.Game.{Game, Settled, Separates}
 use Rattle.lts.specs.GameLaws.{separated-of-separates, bisimilar-of-settled, rank-le-settled}
-use Rattle.model.specs.Limits.{stateLimit}
+use Rattle.text.specs.Limits.{stateLimit}
 use Rattle.model.specs.Lists.{tableLength, pairPlace, Past}
+use Rattle.model.specs.Inner.Clearing.{Cleared}
+use Rattle.model.specs.Laws.ListsLaws.{past-getD}
 use Rattle.ranking.specs.Table.{SomePair, Ranked}
 use Rattle.ranking.specs.Inner.ClassList.{Classes, Refined, Moved}
 use Rattle.ranking.specs.Laws.ClassListLaws.{classes-suc, separates-of-moved, settled-of-not-moved}
@@ -25,29 +27,16 @@ use Rattle.ranking.specs.Inner.TableWrites.{
   RowsWritten,
   RankUpTo,
   RanksUpTo,
-  Cleared,
   Finished,
 }
 use Rattle.ranking.specs.Laws.TableWritesLaws.{ranksUpTo-suc}
 
 -- ---- the cleared table
 
-pub cleared-zero : (t : List ℕ) → Cleared 0 t t
-cleared-zero t = record { zeros = λ i l. absurd (omega arith); kept = λ i l. refl }
-
-pub cleared-add-one : {m : ℕ} {t u : List ℕ} → Cleared m t u → m < length u → Cleared (m + 1) t (set u m 0)
-cleared-add-one {m} {t} {u} C l = record {
-  zeros = below-more _ m (λ i k. getD-set-other u m i 0 0 (λ e. omega arith) ∙ C .zeros i k) (getD-set-same u m 0 0 l);
-  kept = λ i k. getD-set-other u m i 0 0 (λ e. omega arith) ∙ C .kept i (omega arith);
-}
-
-pub cleared-at : {m n : ℕ} {t u : List ℕ} → m ≡ n → Cleared m t u → Cleared n t u
-cleared-at {t = t} {u = u} e C = subst (λ (x : ℕ). Cleared x t u) e C
-
-pub ranksUpTo-zero : (Move : Moves) {n : ℕ} {t u : List ℕ} → n ≤ stateLimit → Cleared tableLength t u
+pub ranksUpTo-zero : (Move : Moves) {n : ℕ} {t u : List ℕ} → n ≤ stateLimit → Cleared 0 tableLength t u
     → RanksUpTo Move n 0 u
 unfolding Alike
-ranksUpTo-zero Move l C = record { found = λ p q lp lq. inl (C .zeros (pairPlace p q) (omega arith), tt) }
+ranksUpTo-zero Move l C = record { found = λ p q lp lq. inl (C .given (pairPlace p q) (omega arith), tt) }
 
 -- ---- one round
 
@@ -75,7 +64,7 @@ module _ {Move : Moves} {n : ℕ} (target-lt : (p a q : ℕ) → Move p a q → 
 -- ---- after the last round
 
 module _ {Move : Moves} {n : ℕ} {round : (ℕ → ℕ → Bool) → ℕ → ℕ → Bool} (G : Game Move n round) (some : 0 < n)
-    {last : ℕ} {t u w : List ℕ} (limit : n ≤ stateLimit) (C : Cleared tableLength t u) (F : Finished Move n last u w)
+    {last : ℕ} {t u w : List ℕ} (limit : n ≤ stateLimit) (C : Cleared 0 tableLength t u) (F : Finished Move n last u w)
     (same-length : length w ≡ length t) where
   -- A pair that round `last` separated, if there is such a round.
   LastPair : ℕ → Type 0
@@ -127,11 +116,11 @@ module _ {Move : Moves} {n : ℕ} {round : (ℕ → ℕ → Bool) → ℕ → �
   -- A place past the least length is that of a row past the states.
   past-kept : (i : ℕ) → getD w (tableLength + i) 0 ≡ getD t (tableLength + i) 0
   past-kept i =
-      let p = (tableLength + i) / 128 in
-      let q = (tableLength + i) % 128 in
+      let p = (tableLength + i) / stateLimit in
+      let q = (tableLength + i) % stateLimit in
       let e : pairPlace p q ≡ tableLength + i = omega arith in
       let k : entryOf w p q ≡ entryOf u p q = F .outside .kept p q (omega arith) (inl (omega arith)) in
-      subst (λ (x : ℕ). getD w x 0 ≡ getD u x 0) e k ∙ C .kept (tableLength + i) (omega arith)
+      subst (λ (x : ℕ). getD w x 0 ≡ getD u x 0) e k ∙ past-getD (C .past) (tableLength + i) (omega arith)
 
   past : Past tableLength t w
   past = record {
@@ -145,7 +134,7 @@ module _ {Move : Moves} {n : ℕ} {round : (ℕ → ℕ → Bool) → ℕ → �
   ranked-of-finished = record {
     table = record {
       ranks = λ p q lp lq. rank-of-found p q (entryOf w p q) lp lq (F .ranks .found p q lp lq);
-      outside = λ p q lp lq d. F .outside .kept p q lq d ∙ C .zeros (pairPlace p q) (omega arith);
+      outside = λ p q lp lq d. F .outside .kept p q lq d ∙ C .given (pairPlace p q) (omega arith);
     };
     past = past;
     last-round = record {

@@ -10,7 +10,7 @@ use lib.Seq.{getD-set-same, getD-set-other}
 use borrow.Author.Count.{below-more}
 use Rattle.lts.specs.Alike.{Moves, Alike, Separated}
 use Rattle.lts.specs.AlikeLaws.{alike-le}
-use Rattle.model.specs.Limits.{stateLimit}
+use Rattle.text.specs.Limits.{stateLimit}
 use Rattle.model.specs.Lists.{tableLength, pairPlace}
 use Rattle.ranking.specs.Inner.ClassList.{Same, Classes}
 use Rattle.lts.specs.TestsLaws.{eq-or-not}
@@ -25,7 +25,6 @@ use Rattle.ranking.specs.Inner.TableWrites.{
   RowsWritten,
   RankUpTo,
   RanksUpTo,
-  Cleared,
   Finished,
 }
 

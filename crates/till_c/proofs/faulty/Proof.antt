@@ -2,7 +2,7 @@
 use mathlib.Core.Path.{ap, sym, _∙_}
 use borrow.Author.Needs.{needs}
 use Prim.Native.Nat.{ℕ}
-use Rattle.model.specs.Faults.{refuses}
+use Rattle.text.specs.Faults.{refuses}
 use Rattle.till_c.specs.AnswerLaws.{faultNumber-not-zero}
 use Rattle.till_c.proofs.faulty.Statement.{statement}
 use Rattle.till_c.proofs.faulty.Tie as tie

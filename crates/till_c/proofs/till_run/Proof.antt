@@ -2,7 +2,7 @@
 use mathlib.Core.List.{List}
 use mathlib.Core.Path.{refl, sym, ap, _∙_}
 use Prim.Native.Nat.{ℕ}
-use Rattle.model.specs.Faults.{Outcome}
+use Rattle.text.specs.Faults.{Outcome}
 use borrow.Author.Tests.{eqb-false}
 use Rattle.judge.specs.Promises.{runOutcome, RunPromise}
 use Rattle.till_c.specs.AnswerLaws.{promise-told-two}

@@ -6,9 +6,9 @@ use Prim.Native.Nat.{ℕ, _≤_, _<_}
 use lib.Dec.{T}
 use lib.ListN.{length}
 use Rattle.lts.specs.Alike.{Separated}
-use Rattle.model.specs.Limits.{actionLimit}
+use Rattle.text.specs.Limits.{actionLimit}
 use Rattle.model.specs.Lists.{tableLength, wordLength}
-use Rattle.model.specs.Model.{Model}
+use Rattle.text.specs.Model.{Model}
 use Rattle.model.specs.System.{source, action, target, levels, LowStep, ReachableIn, DeterministicModel}
 use Rattle.ranking.specs.Table.{Ranks}
 use Rattle.judge.specs.declared.judge.Verdict.{Verdict}
@@ -55,7 +55,7 @@ pub record Answer (m : Model) (q k j i : ℕ) : Type 0 where
   pub targets : Separated (LowStep m) (target m j) (target m i) k
 
 -- Step j of p has such an answer.
-pub record Answered (m : Model) (p q k j : ℕ) : Type 0 where
+pub record HasAnswer (m : Model) (p q k j : ℕ) : Type 0 where
   pub number-lt : j < length (m .steps)
   pub source-is : source m j ≡ p
   pub by : ℕ

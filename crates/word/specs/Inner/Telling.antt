@@ -2,7 +2,7 @@
 -- Document 01, operations 4 and 6.
 use mathlib.Core.List.{List}
 use Prim.Native.Nat.{ℕ}
-use Rattle.model.specs.Faults.{Outcome}
+use Rattle.text.specs.Faults.{Outcome}
 use Rattle.judge.specs.Promises.{judgeOutcome, JudgePromise}
 use Rattle.word.specs.declared.tell.TextAnswer.{TextAnswer}
 use Rattle.word.specs.declared.tell.TextAnswer.the-variants.{Unread, Judged}

@@ -5,7 +5,7 @@ use mathlib.Core.Path.{_≡_}
 use Prim.Native.Nat.{ℕ}
 use lib.ListN.{length, drop}
 use Rattle.lts.specs.Word.{OnlyFrom, FirstWord}
-use Rattle.model.specs.Model.{Model}
+use Rattle.text.specs.Model.{Model}
 use Rattle.model.specs.System.{levels, Steps}
 use Rattle.word.specs.declared.word.End.{End}
 use Rattle.word.specs.declared.word.End.the-variants.{Source, Target}

@@ -8,8 +8,8 @@ use Prim.Native.Nat.{ℕ, _≤_}
 use native.Mathlib.Omega.{arith}
 use lib.ListN.{length, take}
 use lib.Seq.{take-at}
-use Rattle.model.specs.Faults.{Outcome, answers}
-use Rattle.model.specs.Model.{Model}
+use Rattle.text.specs.Faults.{Outcome, answers}
+use Rattle.text.specs.Model.{Model}
 use Rattle.model.specs.Promises.{ReadPromise}
 use Rattle.model.specs.Store.{Good}
 use Rattle.model.specs.StoredModel.{Holds}

@@ -9,7 +9,7 @@ use lib.Dec.{T}
 use Rattle.lts.specs.FirstWordLaws.{first-word-one, letter-of-separated-one}
 use Rattle.lts.specs.Run.{Run}
 use Rattle.lts.specs.Word.{OnlyFrom, JustOne, FirstWord}
-use Rattle.model.specs.Model.{Model}
+use Rattle.text.specs.Model.{Model}
 use Rattle.model.specs.System.{action, target, levels, Steps, Start}
 use Rattle.model.specs.Laws.Store.SystemLaws.{deterministicModel→Deterministic}
 use Rattle.judge.specs.Inner.Stored.{Stored}

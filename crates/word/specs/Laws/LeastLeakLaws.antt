@@ -19,7 +19,7 @@ use Rattle.lts.specs.CheckedLaws.{low-game}
 use Rattle.lts.specs.LowLaws.{bisimilar→SameLow}
 use Rattle.lts.specs.Word.{JustOne}
 use Rattle.lts.specs.WordLaws.{just-one-not-both, separated-length-le}
-use Rattle.model.specs.Model.{Model}
+use Rattle.text.specs.Model.{Model}
 use Rattle.model.specs.System.{source, target, level, levels, Steps, Start, LowStep, HighStep, DeterministicModel}
 use Rattle.model.specs.Laws.Store.SystemLaws.{deterministicModel→Deterministic}
 use Rattle.judge.specs.Verdicts.{RefusedAt}

@@ -16,9 +16,9 @@ use Rattle.lts.specs.Decided.{answers?}
 use Rattle.lts.specs.FirstWordLaws.{letter-of-separated}
 use Rattle.lts.specs.Game.{Game}
 use Rattle.lts.specs.TestsLaws.{lt-or-le}
-use Rattle.model.specs.declared.Step.{Step}
+use Rattle.text.specs.declared.Step.{Step}
 use Rattle.model.specs.Lists.{pairPlace}
-use Rattle.model.specs.Model.{Model, low}
+use Rattle.text.specs.Model.{Model, low}
 use Rattle.model.specs.System.{source, action, target, levels, Steps, Start, LowStep, ReachableIn, DeterministicModel}
 use Rattle.model.specs.Laws.Store.SystemLaws.{deterministicModel→Deterministic}
 use Rattle.judge.specs.Inner.Index.{Index}
@@ -26,9 +26,10 @@ use Rattle.judge.specs.Inner.Stored.{Stored}
 use Rattle.judge.specs.Inner.StepTest.{step?}
 use Rattle.judge.specs.Laws.RolesLaws.{low-of-role, role-of-low}
 use Rattle.judge.specs.Laws.StepTestLaws.{decided-steps}
+use Rattle.judge.specs.Laws.WavesLaws.{begins-source}
 use Rattle.word.specs.declared.branch.Found.{Found}
 use Rattle.word.specs.declared.branch.Found.the-variants.{At, Nothing}
-use Rattle.word.specs.Inner.Letters.{First, FoundFirst, StepOf, Unanswered, Answer, Answered}
+use Rattle.word.specs.Inner.Letters.{First, FoundFirst, StepOf, Unanswered, Answer, HasAnswer}
 use Rattle.word.specs.Inner.Letters.{FirstLetter, StepLists, WordLists, SeparatedPair}
 
 -- ---- the first step
@@ -52,8 +53,7 @@ module _ {m : Model} {begins : List ℕ} (x : Index m (m .head .states) begins) 
   own-of-index j from to =
       let here = x .at p (omega arith) in
       let next = x .at (p + 1) (omega arith) in
-      let k : j < length (m .steps) = omega (arith, next .from-le) in
-      (k, omega (arith, next .below j to, here .above j from k))
+      (omega (arith, next .from-le), begins-source here next j from to)
 
   pub index-of-own : (j : ℕ) → j < length (m .steps) → source m j ≡ p
       → (getD begins p 0 ≤ j) × (j < getD begins (p + 1) 0)
@@ -136,9 +136,9 @@ module _ {m : Model} {store begins roles table : List ℕ} (L : WordLists m stor
 -- ---- the first letter
 
 module _ {m : Model} {p q k b x y : ℕ} where
-  pub answered-of : (u : LowStep m p b x) → LowStep m q b y → Separated (LowStep m) x y k
-      → Answered m p q k (u .1 .number)
-  answered-of u v s = record {
+  pub has-answer-of : (u : LowStep m p b x) → LowStep m q b y → Separated (LowStep m) x y k
+      → HasAnswer m p q k (u .1 .number)
+  has-answer-of u v s = record {
     number-lt = u .1 .number-lt;
     source-is = u .1 .source-is;
     by = v .1 .number;
@@ -161,17 +161,17 @@ module _ {s : List ℕ} {m : Model} (st : Stored s m) where
       low-game (levels m) (Steps m) (m .head .states) (m .head .actions) (step? m) (decided-steps st)
 
   -- Of two states that the round k+1 separates, some low step has an answer.
-  pub answered-some : (p q k : ℕ) → 0 < k → SeparatedPair m p q (k + 1) → (j : ℕ) × Answered m p q k j
-  answered-some p q zero pos x = absurd (omega arith)
-  answered-some p q (suc k) pos x =
+  pub has-answer-some : (p q k : ℕ) → 0 < k → SeparatedPair m p q (k + 1) → (j : ℕ) × HasAnswer m p q k j
+  has-answer-some p q zero pos x = absurd (omega arith)
+  has-answer-some p q (suc k) pos x =
       let (a, y, z, u, v, w) = letter-of-separated (levels m) (Steps m) (Start m) (m .head .states) _ low-step-game
       (deterministicModel→Deterministic m (x .deterministic)) k p q (x .second-reachable)
       (subst (Separated (LowStep m) p q) (add-one (suc k)) (x .separated)) in
-      (u .1 .number, answered-of u v w)
+      (u .1 .number, has-answer-of u v w)
 
   -- Steps rise by action, so the first step that has an answer has the lowest action.
   pub first-letter-of : {p q k j i : ℕ} → (j < length (m .steps)) × (source m j ≡ p) → Answer m q k j i
-      → ((o : ℕ) → o < j → ¬ (Answered m p q k o)) → FirstLetter m p q k j i
+      → ((o : ℕ) → o < j → ¬ (HasAnswer m p q k o)) → FirstLetter m p q k j i
   first-letter-of {j = j} (l, e) x none = record {
     number-lt = l;
     source-is = e;
@@ -179,7 +179,7 @@ module _ {s : List ℕ} {m : Model} (st : Stored s m) where
     first = λ b y z below u v w.
         let n = u .1 .number in
         ⊎-elim
-        (λ h. none n h (answered-of u v w))
+        (λ h. none n h (has-answer-of u v w))
         (λ h. omega (
           arith,
           st .action-le j n h (u .1 .number-lt) (e ∙ sym (u .1 .source-is)),

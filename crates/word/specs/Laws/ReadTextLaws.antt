@@ -8,9 +8,9 @@ use Prim.Native.Nat.{ℕ, _≤_, _<_}
 use native.Mathlib.Omega.{arith}
 use lib.ListN.{length, drop}
 use Rattle.lts.specs.TestsLaws.{lt-or-le}
-use Rattle.model.specs.Limits.{storeLength}
-use Rattle.model.specs.Faults.{Outcome, answers, refuses}
-use Rattle.model.specs.Model.{Model}
+use Rattle.text.specs.Limits.{storeLength}
+use Rattle.text.specs.Faults.{Outcome, answers, refuses}
+use Rattle.text.specs.Model.{Model}
 use Rattle.model.specs.Reading.{done, readText}
 use Rattle.model.specs.Store.{storeOf}
 use Rattle.model.specs.StoredModel.{Holds}

@@ -3,7 +3,7 @@
 use mathlib.Core.List.{List, []}
 use mathlib.Core.Path.{_≡_, sym, subst, _∙_}
 use Prim.Native.Nat.{ℕ}
-use Rattle.model.specs.Faults.{Outcome, answers}
+use Rattle.text.specs.Faults.{Outcome, answers}
 use Rattle.model.specs.Promises.{readOutcome}
 use Rattle.model.specs.Laws.PromisesLaws.{readPromise-unique}
 use Rattle.judge.specs.Promises.{judgeOutcome, JudgePromise}

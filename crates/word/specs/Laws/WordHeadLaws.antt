@@ -14,7 +14,7 @@ use Rattle.lts.specs.RankLaws.{rank-lt}
 use Rattle.lts.specs.Run.{Deterministic, onward}
 use Rattle.lts.specs.Word.{FirstWord}
 use Rattle.lts.specs.WordLaws.{only-from-cons}
-use Rattle.model.specs.Model.{Model}
+use Rattle.text.specs.Model.{Model}
 use Rattle.model.specs.System.{action, target, levels, Steps, Start, LowStep, ReachableIn}
 use Rattle.model.specs.Laws.Store.SystemLaws.{deterministicModel→Deterministic}
 use Rattle.judge.specs.Inner.Stored.{Stored}

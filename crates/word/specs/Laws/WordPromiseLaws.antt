@@ -12,16 +12,14 @@ use Rattle.lts.specs.FirstWordLaws.{first-word-unique}
 use Rattle.lts.specs.TestsLaws.{lt-or-le, eq-or-not, lt-suc-cases}
 use Rattle.lts.specs.Word.{OnlyFrom}
 use Rattle.lts.specs.WordLaws.{only-from-unique}
-use Rattle.model.specs.Faults.{Outcome, answers, refuses}
-use Rattle.model.specs.Model.{Model}
+use Rattle.text.specs.Faults.{Outcome, answers, refuses}
+use Rattle.text.specs.Model.{Model}
 use Rattle.model.specs.System.{source, action, target, levels, Steps, ReachableIn, DeterministicModel}
-use Rattle.model.specs.Promises.{OnStore}
-use Rattle.model.specs.Laws.PromisesLaws.{onStore-unique}
+use Rattle.model.specs.Laws.OnStoreLaws.{onStore-unique}
 use Rattle.judge.specs.declared.judge.Verdict.{Verdict}
 use Rattle.judge.specs.declared.judge.Verdict.the-variants.{Passed, Refused}
 use Rattle.judge.specs.Inner.Stored.{Stored}
-use Rattle.judge.specs.Promises.{Filled}
-use Rattle.judge.specs.VerdictTest.{verdictOf}
+use Rattle.judge.specs.Inner.VerdictTest.{verdictOf}
 use Rattle.judge.specs.Verdicts.{Judged}
 use Rattle.judge.specs.Laws.JudgeLaws.{filled-unique}
 use Rattle.judge.specs.Laws.ReachLaws.{good-stored}
@@ -32,7 +30,7 @@ use Rattle.word.specs.declared.word.End.the-variants.{Source, Target}
 use Rattle.word.specs.declared.word.WordAnswer.{WordAnswer}
 use Rattle.word.specs.declared.word.WordAnswer.the-variants.{Shown, ShortList, NotGood, NotDeterministic, NoLeak}
 use Rattle.word.specs.Words.{Branches, FirstBranch, endNumber, endState, otherState, WordShown}
-use Rattle.word.specs.Promises.{wordOutcome, wordLists, WordDone, WordPromise}
+use Rattle.word.specs.Promises.{wordOutcome, WordDone, WordPromise}
 use Rattle.word.specs.Laws.WordsLaws.{branches-source, branches-action, branches-of, deterministic-of-no-branch}
 
 -- ---- outcomes tell answers apart
@@ -155,39 +153,15 @@ module _ {s : List ℕ} {m : Model} (st : Stored s m) {t u : Outcome} {word word
           (a .0 ∙ sym (b .0), a .1 ∙ sym (b .1))
       go (inr d) = judged d (verdictOf m) (verdictOf-judged st)
 
--- the three lists of Word, as one
-abbrev Lists : Type 0
-Lists = List ℕ × List ℕ × List ℕ
-
-as-one : {a b c d e f : List ℕ} → a ≡ d → b ≡ e → c ≡ f → _≡_ {A = Lists} (a, b, c) (d, e, f)
-as-one p q r = rw (p, q, r)
-
-module _ (store distances table word : List ℕ) where
-  -- what is unchanged, as one equation
-  onStore-lists : (t : Outcome) (d′ t′ w′ : List ℕ) → WordPromise store distances table word t d′ t′ w′
-      → OnStore (wordLists store distances table word) store t (_≡_ {A = Lists} (d′, t′, w′) (distances, table, word))
-      (λ g. Filled (g .model) distances table d′ t′ × WordDone (g .model) t word w′)
-  onStore-lists t d′ t′ w′ x = record {
-    short = λ k e. let y = x .short k e in (y .0, as-one (y .1 .0) (y .1 .1) (y .1 .2));
-    not-good = λ e n. let y = x .not-good e n in (y .0, as-one (y .1 .0) (y .1 .1) (y .1 .2));
-    good = x .good;
-  }
-
-  pub wordPromise-unique : (t u : Outcome) (d′ t′ w′ d″ t″ w″ : List ℕ)
-      → WordPromise store distances table word t d′ t′ w′ → WordPromise store distances table word u d″ t″ w″
-      → (t ≡ u) × (d′ ≡ d″) × (t′ ≡ t″) × (w′ ≡ w″)
-  wordPromise-unique t u d′ t′ w′ d″ t″ w″ x y =
-      let r = onStore-unique {A = Lists} (wordLists store distances table word) store t u (distances, table, word)
-      (d′, t′, w′) (d″, t″, w″)
-      (λ o l g. Filled (g .model) distances table (l .0) (l .1) × WordDone (g .model) o word (l .2))
-      (λ g a b.
-      let st = good-stored store g in
-      let f = filled-unique st distances table d′ t′ d″ t″ (a .0) (b .0) in
-      let h = wordDone-unique st (a .1) (b .1) in
-      (h .0, as-one (f .0) (f .1) (h .1)))
-      (onStore-lists t d′ t′ w′ x) (onStore-lists u d″ t″ w″ y) in (
-        r .0,
-        ap (λ (l : Lists). l .0) (r .1),
-        ap (λ (l : Lists). l .1) (r .1),
-        ap (λ (l : Lists). l .2) (r .1),
-      )
+pub wordPromise-unique : (store distances table word : List ℕ) (t u : Outcome) (d′ t′ w′ d″ t″ w″ : List ℕ)
+    → WordPromise store distances table word t d′ t′ w′ → WordPromise store distances table word u d″ t″ w″
+    → (t ≡ u) × (d′ ≡ d″) × (t′ ≡ t″) × (w′ ≡ w″)
+wordPromise-unique store distances table word t u d′ t′ w′ d″ t″ w″ x y =
+    let e = onStore-unique {Same = (d′ ≡ d″) × (t′ ≡ t″) × (w′ ≡ w″)}
+    (λ a b. (a .0 ∙ sym (b .0), a .1 ∙ sym (b .1), a .2 ∙ sym (b .2)))
+    (λ g a b.
+    let st = good-stored store g in
+    let f = filled-unique st distances table d′ t′ d″ t″ (a .0) (b .0) in
+    let h = wordDone-unique st (a .1) (b .1) in
+    (h .0, (f .0, f .1, h .1))) x y in
+    (e .0, e .1 .0, e .1 .1, e .1 .2)

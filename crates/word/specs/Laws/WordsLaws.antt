@@ -7,7 +7,7 @@ use Prim.Native.Nat.{ℕ, suc, _-_, _≤_, _<_}
 use native.Mathlib.Omega.{arith}
 use lib.ListN.{length}
 use Rattle.lts.specs.TestsLaws.{lt-or-le}
-use Rattle.model.specs.Model.{Model}
+use Rattle.text.specs.Model.{Model}
 use Rattle.model.specs.System.{source, action, ReachableIn, DeterministicModel}
 use Rattle.judge.specs.Inner.Stored.{Stored}
 use Rattle.word.specs.Words.{Branches}

@@ -5,7 +5,7 @@ use native.Mathlib.Omega.{arith}
 use lib.ListN.{length}
 use borrow.Author.Count.{below-more}
 use borrow.Author.Needs.{needs}
-use Rattle.model.specs.declared.State.{State}
+use Rattle.text.specs.declared.State.{State}
 use Rattle.model.specs.StoredModel.{modelAt}
 use Rattle.model.specs.System.{source}
 use Rattle.judge.specs.Laws.StoredLaws.{stored-steps, stored-source}

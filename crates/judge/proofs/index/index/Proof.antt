@@ -12,18 +12,18 @@ use Rattle.judge.proofs.index.index.Statement.{statement}
 use Rattle.judge.proofs.index.index.Tie as tie
 
 abbrev Inv-loop : tie.InvT-loop
-Inv-loop store first₀ n from₀ at₀ q₀ first from at q =
-    (n ≡ modelAt store .head .states) × (q ≤ n) × (at ≡ q) × (length first ≡ length first₀)
-    × Begins (modelAt store) q from × Index (modelAt store) q first
+Inv-loop store begins₀ n from₀ at₀ q₀ begins from at q =
+    (n ≡ modelAt store .head .states) × (q ≤ n) × (at ≡ q) × (length begins ≡ length begins₀)
+    × Begins (modelAt store) q from × Index (modelAt store) q begins
 
 abbrev μ-loop : tie.MeasureT-loop
-μ-loop store first₀ n from₀ at₀ q₀ first from at q = n - q
+μ-loop store begins₀ n from₀ at₀ q₀ begins from at q = n - q
 
 states-requires : tie.Need-states-requires Inv-loop μ-loop
 states-requires c κs = c .before .before .pre .0 .length-le
 
-slice-write-first : tie.Need-slice-write-first Inv-loop μ-loop
-slice-write-first c = search needs
+slice-write-begins : tie.Need-slice-write-begins Inv-loop μ-loop
+slice-write-begins c = search needs
 
 loop-holds : tie.Need-loop-holds Inv-loop μ-loop
 loop-holds c =
@@ -34,7 +34,7 @@ loop-holds c =
       refl,
       refl,
       begins-zero _,
-      index-zero _ (at-start .args .first .now) (omega (arith, at-start .pre .1)),
+      index-zero _ (at-start .args .begins .now) (omega (arith, at-start .pre .1)),
     )
 
 end-of-requires : tie.Need-end-of-requires Inv-loop μ-loop
@@ -43,13 +43,13 @@ end-of-requires c κs = (c .before .before .before .before .before .pre .0, c .b
 add-at : tie.Need-add-at Inv-loop μ-loop
 add-at c = search needs
 
-mul-first : tie.Need-mul-first Inv-loop μ-loop
-mul-first c = search needs
+mul-begins : tie.Need-mul-begins Inv-loop μ-loop
+mul-begins c = search needs
 
-slice-write-first-2 : tie.Need-slice-write-first-2 Inv-loop μ-loop
-slice-write-first-2 c =
+slice-write-begins-2 : tie.Need-slice-write-begins-2 Inv-loop μ-loop
+slice-write-begins-2 c =
     let at-start = c .before .before .before .before .before .before in
-    let long = c .before .before .loop .inv .3 ∙ length-set (at-start .args .first .now) 0 0 in
+    let long = c .before .before .loop .inv .3 ∙ length-set (at-start .args .begins .now) 0 0 in
     omega (arith, long, at-start .pre, c .before .before .loop .inv, c .before .loop-test .taken)
 
 add-q : tie.Need-add-q Inv-loop μ-loop
@@ -63,20 +63,20 @@ loop-again c =
     let at-loop = c .before .before in
     let inv = at-loop .loop .inv in
     let at-start = at-loop .before .before .before .before in
-    let long = inv .3 ∙ length-set (at-start .args .first .now) 0 0 in
-    let l : at-loop .loop .at + 1 < length (at-loop .loop .first) =
+    let long = inv .3 ∙ length-set (at-start .args .begins .now) 0 0 in
+    let l : at-loop .loop .at + 1 < length (at-loop .loop .begins) =
     omega (arith, long, at-start .pre, inv, c .before .loop-test .taken) in (
       inv .0,
       omega (arith, c .before .loop-test .taken),
       omega (arith, inv .2),
-      length-set (at-loop .loop .first) (at-loop .loop .at + 1) (c .end-of .result) ∙ inv .3,
+      length-set (at-loop .loop .begins) (at-loop .loop .at + 1) (c .end-of .result) ∙ inv .3,
       c .end-of .ensures,
       index-suc (omega (arith, inv .2)) l (c .end-of .ensures) (inv .5),
     )
 
 same-length : tie.Need-same-length Inv-loop μ-loop
 same-length c =
-    c .before .loop .inv .3 ∙ length-set (c .before .before .before .before .before .args .first .now) 0 0
+    c .before .loop .inv .3 ∙ length-set (c .before .before .before .before .before .args .begins .now) 0 0
 
 returns : tie.Need-returns Inv-loop μ-loop
 returns c =
@@ -90,12 +90,12 @@ index-spec =
     Inv-loop
     μ-loop
     states-requires
-    slice-write-first
+    slice-write-begins
     loop-holds
     end-of-requires
     add-at
-    mul-first
-    slice-write-first-2
+    mul-begins
+    slice-write-begins-2
     add-q
     loop-less
     loop-again

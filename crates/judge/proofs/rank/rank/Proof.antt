@@ -1,27 +1,37 @@
 -- Tested in the order of the refusals; a good store has what filling the table requires.
+use mathlib.Core.List.{[], _∷_}
+use mathlib.Core.Path.{_≡_, refl}
+use Prim.Native.Nat.{ℕ}
 use native.Mathlib.Omega.{arith}
 use borrow.Author.Needs.{needs}
+use Rattle.text.specs.Faults.{Outcome, answers}
+use Rattle.model.specs.System.{LowStep}
+use Rattle.model.specs.Laws.FirstShortLaws.{first-short, second-short, none-short-two}
+use Rattle.model.specs.Laws.OnStoreLaws.{onStore-short, onStore-not-good, onStore-model}
 use Rattle.model.specs.Laws.Store.DecidesLaws.{decides-passed, decides-refused}
+use Rattle.ranking.specs.Table.{Ranked}
 use Rattle.judge.specs.Laws.GoodStoredLaws.{passed→Stored}
-use Rattle.judge.proofs.RankAnswers.{short-store-promised, short-table-promised, not-good-promised}
-use Rattle.judge.proofs.RankAnswers.{ranked-promised}
+use Rattle.judge.specs.Promises.{rankOutcome}
 use Rattle.judge.proofs.rank.rank.Statement.{statement}
 use Rattle.judge.proofs.rank.rank.Tie as tie
 
 returns : tie.Need-returns
-returns c = short-store-promised _ _ (c .if1 .taken)
+unfolding rankOutcome
+returns c = onStore-short (first-short _ _ (c .if1 .taken)) refl refl
 
 returns-2 : tie.Need-returns-2
-returns-2 c = short-table-promised _ _ (c .before .if1 .left) (c .if2 .taken)
+unfolding rankOutcome
+returns-2 c = onStore-short (second-short _ _ (c .before .if1 .left) (c .if2 .taken)) refl refl
 
 good-requires : tie.Need-good-requires
 good-requires c κs = search needs
 
 returns-3 : tie.Need-returns-3
+unfolding rankOutcome
 returns-3 c =
     let tested = c .before .good2 in
-    not-good-promised _ _ (c .before .before .before .if1 .left) (c .before .before .if2 .left)
-    (decides-refused (tested .result) _ (tested .ensures) (c .if3 .taken))
+    onStore-not-good (none-short-two (c .before .before .before .if1 .left) (c .before .before .if2 .left))
+    (decides-refused (tested .result) _ (tested .ensures) (c .if3 .taken)) refl refl
 
 slice-aggregate-index : tie.Need-slice-aggregate-index
 slice-aggregate-index c = search needs
@@ -67,13 +77,16 @@ same-length : tie.Need-same-length
 same-length c = search needs
 
 returns-4 : tie.Need-returns-4
+unfolding rankOutcome
 returns-4 c =
     let filled = c .before .before .fill-table in
     let passed = c .before .before .before .before .before .before .before .before .before .before .before .before in
     let tested = passed .before .good2 in
     let good = decides-passed (tested .result) _ (tested .ensures) (passed .if3 .left) in
-    ranked-promised _ _ (passed .before .before .before .if1 .left) (passed .before .before .if2 .left) _
-    (filled .result) good (filled .ensures)
+    onStore-model (λ m. (last : ℕ) × (_≡_ {A = Outcome} (answers (filled .result ∷ [])) (answers (last ∷ [])))
+    × Ranked (LowStep m) (m .head .states) _ _ last)
+    (none-short-two (passed .before .before .before .if1 .left) (passed .before .before .if2 .left)) good
+    (filled .result, refl, filled .ensures)
 
 pub rank-spec : {M : Type 1} → statement M
 rank-spec =

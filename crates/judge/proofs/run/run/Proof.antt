@@ -1,31 +1,38 @@
 -- Tested in the order of the refusals; the rest is Run on a good store.
+use mathlib.Core.Path.{refl}
 use borrow.Author.Needs.{needs}
+use Rattle.model.specs.Laws.FirstShortLaws.{first-short, second-short, third-short, none-short-three}
+use Rattle.model.specs.Laws.OnStoreLaws.{onStore-short, onStore-not-good, onStore-model}
 use Rattle.model.specs.Laws.Store.DecidesLaws.{decides-passed, decides-refused}
 use Rattle.judge.specs.Laws.GoodStoredLaws.{passed→Stored}
-use Rattle.judge.proofs.RunAnswers.{short-store-promised, short-distances-promised, short-run-promised}
-use Rattle.judge.proofs.RunAnswers.{not-good-promised, done-promised}
+use Rattle.judge.specs.Promises.{runOutcome, RunDone}
 use Rattle.judge.proofs.run.run.Statement.{statement}
 use Rattle.judge.proofs.run.run.Tie as tie
 
 returns : tie.Need-returns
-returns c = short-store-promised _ _ _ _ (c .if1 .taken)
+unfolding runOutcome
+returns c = onStore-short (first-short _ _ (c .if1 .taken)) refl (refl, refl)
 
 returns-2 : tie.Need-returns-2
-returns-2 c = short-distances-promised _ _ _ _ (c .before .if1 .left) (c .if2 .taken)
+unfolding runOutcome
+returns-2 c = onStore-short (second-short _ _ (c .before .if1 .left) (c .if2 .taken)) refl (refl, refl)
 
 returns-3 : tie.Need-returns-3
+unfolding runOutcome
 returns-3 c =
-    short-run-promised _ _ _ _ (c .before .before .if1 .left) (c .before .if2 .left) (c .if3 .taken)
+    onStore-short (third-short _ _ (c .before .before .if1 .left) (c .before .if2 .left) (c .if3 .taken)) refl
+    (refl, refl)
 
 good-requires : tie.Need-good-requires
 good-requires c κs = search needs
 
 returns-4 : tie.Need-returns-4
+unfolding runOutcome
 returns-4 c =
     let tested = c .before .good2 in
     let long = c .before .before in
-    not-good-promised _ _ _ _ (long .before .before .if1 .left) (long .before .if2 .left) (long .if3 .left)
-    (decides-refused (tested .result) _ (tested .ensures) (c .if4 .taken))
+    onStore-not-good (none-short-three (long .before .before .if1 .left) (long .before .if2 .left) (long .if3 .left))
+    (decides-refused (tested .result) _ (tested .ensures) (c .if4 .taken)) refl (refl, refl)
 
 run-good-requires : tie.Need-run-good-requires
 run-good-requires c κs =
@@ -49,8 +56,9 @@ returns-5 c =
     let tested = passed .before .good2 in
     let long = passed .before .before in
     let good = decides-passed (tested .result) _ (tested .ensures) (passed .if4 .left) in
-    done-promised _ _ _ _ (long .before .before .if1 .left) (long .before .if2 .left) (long .if3 .left) (done .result) _
-    _ good (done .ensures)
+    onStore-model (λ m. RunDone m _ (runOutcome (done .result)) _ _ _ _)
+    (none-short-three (long .before .before .if1 .left) (long .before .if2 .left) (long .if3 .left)) good
+    (done .ensures)
 
 pub run-spec : {M : Type 1} → statement M
 run-spec =

@@ -5,11 +5,11 @@ use native.Mathlib.Omega.{arith}
 use Prim.Native.Nat.{_+_, _-_, _≤_, _<_}
 use mathlib.Core.Path.{_≡_, sym, ap, _∙_}
 use lib.ListN.{length, take, drop}
-use Rattle.model.specs.Limits.{nameLimit}
-use Rattle.model.specs.Bytes.{lineEnd}
-use Rattle.model.specs.Laws.Text.SplitLaws.{found-le}
-use Rattle.model.specs.Lines.{good, fieldsOf, actionFields}
-use Rattle.model.specs.Inner.LineAnswers.{actionRead}
+use Rattle.text.specs.Limits.{nameLimit}
+use Rattle.text.specs.Bytes.{lineEnd}
+use Rattle.text.specs.Laws.SplitLaws.{found-le}
+use Rattle.text.specs.Lines.{good, fieldsOf, actionFields}
+use Rattle.text.specs.Inner.LineAnswers.{actionRead}
 use Rattle.model.specs.Inner.ReadSoFar.{Further}
 use Rattle.model.specs.Laws.Read.ReadLaws.{action-absent, action-bad, action-next, AfterActions-length}
 use Rattle.model.specs.Laws.Read.ReadLaws.{actionOf-bad, actionOf-used, actionOf-good}

@@ -6,8 +6,8 @@ use mathlib.Core.Bool.{true, false}
 use mathlib.Core.List.{List}
 use mathlib.Core.Path.{_≡_, refl, sym, _∙_}
 use lib.ListN.{length, drop}
-use Rattle.model.specs.Model.{ActionLine}
-use Rattle.model.specs.Lines.{used?}
+use Rattle.text.specs.Model.{ActionLine}
+use Rattle.text.specs.Lines.{used?}
 use Rattle.model.specs.Inner.ReadSoFar.{ActionsStored}
 use Rattle.model.specs.Laws.Read.NameLaws.{used?-drop, used?-none}
 use Rattle.model.proofs.actions.used.Statement.{statement}

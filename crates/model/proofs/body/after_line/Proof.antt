@@ -1,8 +1,8 @@
 -- By where the search ends: past the text, at its end, or at a line end.
 use borrow.Author.Needs.{needs}
 use native.Mathlib.Omega.{arith}
-use Rattle.model.specs.Bytes.{lineEnd}
-use Rattle.model.specs.Laws.Text.SplitLaws.{found-le}
+use Rattle.text.specs.Bytes.{lineEnd}
+use Rattle.text.specs.Laws.SplitLaws.{found-le}
 use Rattle.model.specs.Laws.Read.ReadAnswerLaws.{AfterLine-past, AfterLine-absent, AfterLine-line}
 use Rattle.model.proofs.body.after_line.Statement.{statement}
 use Rattle.model.proofs.body.after_line.Tie as tie

@@ -4,9 +4,9 @@ use native.Mathlib.Omega.{arith}
 use Prim.Native.Nat.{_<_}
 use lib.ListN.{length}
 use mathlib.Core.Path.{refl}
-use Rattle.model.specs.Bytes.{lineEnd, kindOf}
+use Rattle.text.specs.Bytes.{lineEnd, kindOf}
 use Rattle.model.specs.Laws.Store.DecidesLaws.{decides-passed, decides-refused}
-use Rattle.model.specs.Laws.Text.SplitLaws.{found-le}
+use Rattle.text.specs.Laws.SplitLaws.{found-le}
 use Rattle.model.specs.Inner.ReadSoFar.{AfterSteps, Further}
 use Rattle.model.specs.Laws.Read.ReadStepsLaws.{end-absent, end-long, end-other, end-more, end-done}
 use Rattle.model.proofs.body.end.Statement.{statement}

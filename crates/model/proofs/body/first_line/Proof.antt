@@ -2,9 +2,9 @@
 use borrow.Author.Needs.{needs}
 use native.Mathlib.Omega.{arith}
 use mathlib.Core.Path.{sym, _∙_}
-use Rattle.model.specs.Bytes.{lineEnd}
-use Rattle.model.specs.Laws.Text.SplitLaws.{found-le}
-use Rattle.model.specs.Inner.LineAnswers.{headRead}
+use Rattle.text.specs.Bytes.{lineEnd}
+use Rattle.text.specs.Laws.SplitLaws.{found-le}
+use Rattle.text.specs.Inner.LineAnswers.{headRead}
 use Rattle.model.specs.Laws.Read.ReadAnswerLaws.{firstLine-past, firstLine-absent, firstLine-line}
 use Rattle.model.proofs.body.first_line.Statement.{statement}
 use Rattle.model.proofs.body.first_line.Tie as tie

@@ -1,6 +1,6 @@
 -- Each test is one of the ranges of line 1.
 use native.Mathlib.Omega.{arith}
-use Rattle.model.specs.Laws.Text.RangesLaws.{headFits?→HeadRanges, HeadRanges→headFits?}
+use Rattle.text.specs.Laws.RangesLaws.{headFits?→HeadRanges, HeadRanges→headFits?}
 use Rattle.model.proofs.good.head_fits.Statement.{statement}
 use Rattle.model.proofs.good.head_fits.Tie as tie
 

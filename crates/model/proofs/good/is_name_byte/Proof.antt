@@ -5,9 +5,9 @@ use Prim.Native.Nat.{ℕ}
 use lib.Dec.{T, eqb}
 use borrow.Author.Tests.{eq-eqb, ne-eqb}
 use Rattle.lts.specs.TestsLaws.{or-right}
-use Rattle.model.specs.Bytes.{kindOf, digit, smallLetter}
-use Rattle.model.specs.Laws.Text.BytesLaws.{digit-within, smallLetter-within}
-use Rattle.model.specs.Lines.{nameByte?}
+use Rattle.text.specs.Bytes.{kindOf, digit, smallLetter}
+use Rattle.text.specs.Laws.BytesLaws.{digit-within, smallLetter-within}
+use Rattle.text.specs.Lines.{nameByte?}
 use mathlib.Core.Path.{sym, _∙_}
 use borrow.Author.Needs.{needs}
 use Rattle.model.proofs.good.is_name_byte.Statement.{statement}

@@ -1,8 +1,8 @@
 -- Each test decides one of the conditions on a store's places; its head is the one that was read.
 use mathlib.Core.Path.{ap}
 use native.Mathlib.Omega.{arith}
-use Rattle.model.specs.declared.Head.{Head}
-use Rattle.model.specs.Laws.Text.RangesLaws.{headFits?→HeadRanges}
+use Rattle.text.specs.declared.Head.{Head}
+use Rattle.text.specs.Laws.RangesLaws.{headFits?→HeadRanges}
 use Rattle.model.specs.Laws.Store.DecidesLaws.{decides-passed, decides-refused, decides-iff}
 use borrow.Author.Needs.{needs}
 use Rattle.model.proofs.good.places_good.Statement.{statement}

@@ -3,7 +3,7 @@ use mathlib.Core.Bool.{Bool}
 use mathlib.Core.List.{List}
 use mathlib.Core.Path.{_≡_, subst}
 use Prim.Native.Nat.{ℕ, _+_}
-use Rattle.model.specs.Decides.{Decides}
+use Rattle.text.specs.Decides.{Decides}
 use Rattle.model.specs.Inner.EachFrom.{EachFrom}
 use Rattle.model.specs.Inner.GoodPlaces.{SameAt}
 use borrow.Author.Needs.{needs}

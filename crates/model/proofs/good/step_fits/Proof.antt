@@ -1,6 +1,6 @@
 -- Each test is one of the ranges of a step.
 use native.Mathlib.Omega.{arith}
-use Rattle.model.specs.Laws.Text.RangesLaws.{stepFits?→StepRanges, StepRanges→stepFits?}
+use Rattle.text.specs.Laws.RangesLaws.{stepFits?→StepRanges, StepRanges→stepFits?}
 use Rattle.model.proofs.good.step_fits.Statement.{statement}
 use Rattle.model.proofs.good.step_fits.Tie as tie
 

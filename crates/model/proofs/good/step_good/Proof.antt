@@ -3,12 +3,12 @@ use mathlib.Core.Bool.{Bool}
 use mathlib.Core.Path.{_≡_, sym, subst, _∙_}
 use native.Mathlib.Omega.{arith}
 use lib.Dec.{T}
-use Rattle.model.specs.declared.Head.{Head}
-use Rattle.model.specs.declared.StepLine.{StepLine}
-use Rattle.model.specs.Decides.{Decides}
+use Rattle.text.specs.declared.Head.{Head}
+use Rattle.text.specs.declared.StepLine.{StepLine}
+use Rattle.text.specs.Decides.{Decides}
 use Rattle.model.specs.Laws.Store.DecidesLaws.{decides-passed, decides-refused, T-of-true, not-T-of-false}
-use Rattle.model.specs.Model.{above?}
-use Rattle.model.specs.Lines.{stepFits?}
+use Rattle.text.specs.Model.{above?}
+use Rattle.text.specs.Lines.{stepFits?}
 use borrow.Author.Needs.{needs}
 use Rattle.model.proofs.good.step_good.Statement.{statement}
 use Rattle.model.proofs.good.step_good.Tie as tie

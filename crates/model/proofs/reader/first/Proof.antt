@@ -33,13 +33,13 @@ use denote.Triple.Table.{entered, cited}
 use denote.Triple.Walked.{says, Stays, stay-none, walkOf, goes-none, Walks, ends-at, walked, walk-meets}
 use denote.Exit.{yes}
 use denote.Triple.Clauses.{ensured, lasts}
-use Rattle.model.specs.Bytes.{lineEnd}
-use Rattle.model.specs.Split as S
-use Rattle.model.specs.Inner.LineAnswers.{headRead}
+use Rattle.text.specs.Bytes.{lineEnd}
+use Rattle.text.specs.Split as S
+use Rattle.text.specs.Inner.LineAnswers.{headRead}
 use Rattle.model.specs.Inner.ReadSoFar.{firstLine}
-use Rattle.model.specs.declared.line.HeadRead.{HeadRead}
-use Rattle.model.proofs.line.HeadRead as E
-use Rattle.model.proofs.line.HeadRead.Laws as E′
+use Rattle.text.specs.declared.line.HeadRead.{HeadRead}
+use Rattle.text.proofs.line.HeadRead as E
+use Rattle.text.proofs.line.HeadRead.Laws as E′
 use Rattle.model.specs.declared.reader.Reader.{Reader}
 use Rattle.model.proofs.reader.Reader as T
 use Rattle.model.proofs.reader.Reader.Laws as T′

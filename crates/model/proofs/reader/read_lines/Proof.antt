@@ -36,17 +36,17 @@ use denote.Triple.Spec.{Meets, tripleOf}
 use denote.Triple.Table.{entered, cited}
 use denote.Triple.Walked.{says, needs, Stays, stay-dropped, gave-slice, walkOf, goes-dropped, goes-gave-slice, Walks, ends-at, walked, walk-meets}
 use denote.Exit.{yes}
-use Rattle.model.specs.Limits.{storeLength}
-use Rattle.model.specs.Bytes.{lineEnd}
-use Rattle.model.specs.Split as S
-use Rattle.model.specs.Inner.LineAnswers.{headRead}
+use Rattle.text.specs.Limits.{storeLength}
+use Rattle.text.specs.Bytes.{lineEnd}
+use Rattle.text.specs.Split as S
+use Rattle.text.specs.Inner.LineAnswers.{headRead}
 use Rattle.model.specs.Inner.ReadSoFar.{AfterFirst, AfterLine, ReadOut, firstLine}
 use Rattle.model.specs.Laws.Read.ReadAnswerLaws.{after-first}
-use Rattle.model.specs.declared.line.HeadRead.{HeadRead}
+use Rattle.text.specs.declared.line.HeadRead.{HeadRead}
 use Rattle.model.specs.declared.read.ReadAnswer.{ReadAnswer}
 use Rattle.model.specs.declared.reader.Reader.{Reader}
-use Rattle.model.proofs.line.HeadRead as E
-use Rattle.model.proofs.line.HeadRead.Laws as E′
+use Rattle.text.proofs.line.HeadRead as E
+use Rattle.text.proofs.line.HeadRead.Laws as E′
 use Rattle.model.proofs.read.ReadAnswer as R
 use Rattle.model.proofs.read.ReadAnswer.Laws as R′
 use Rattle.model.proofs.reader.Reader as T

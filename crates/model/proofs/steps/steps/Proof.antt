@@ -5,9 +5,9 @@ use native.Mathlib.Omega.{arith}
 use Prim.Native.Nat.{_-_, _≤_, _<_}
 use mathlib.Core.Path.{_≡_, refl, ap, _∙_}
 use lib.ListN.{length}
-use Rattle.model.specs.Bytes.{lineEnd}
-use Rattle.model.specs.Laws.Text.SplitLaws.{found-le}
-use Rattle.model.specs.Inner.LineAnswers.{stepRead}
+use Rattle.text.specs.Bytes.{lineEnd}
+use Rattle.text.specs.Laws.SplitLaws.{found-le}
+use Rattle.text.specs.Inner.LineAnswers.{stepRead}
 use Rattle.model.specs.Inner.ReadSoFar.{AfterStep, Further}
 use Rattle.model.specs.Laws.Read.ReadStepsLaws.{after-actions, step-absent, step-bad, step-next}
 use Rattle.model.specs.Laws.Read.ReadStepsLaws.{AfterStep-length, after-steps}

@@ -10,12 +10,12 @@ use lib.Dec.{T}
 use lib.ListN.{length, take, drop, getD, replicate, length-drop, List·getD-append}
 use lib.Seq.{drop-cons, drop-drop, drop-at, getD-drop, drop-nil, take-nil, ext-getD, drop-length, length-take-le}
 use Rattle.lts.specs.TestsLaws.{T→true}
-use Rattle.model.specs.declared.Head.{Head}
-use Rattle.model.specs.Limits.{nameLimit, actionPlace}
-use Rattle.model.specs.Split.{same?}
-use Rattle.model.specs.Laws.Text.SameLaws.{same?→eq, same?-refl, same?-length}
-use Rattle.model.specs.Model.{ActionLine, noAction}
-use Rattle.model.specs.Lines.{good, fieldsOf, actionFields, used?}
+use Rattle.text.specs.declared.Head.{Head}
+use Rattle.text.specs.Limits.{nameLimit, actionPlace}
+use Rattle.text.specs.Split.{same?}
+use Rattle.text.specs.Laws.SameLaws.{same?→eq, same?-refl, same?-length}
+use Rattle.text.specs.Model.{ActionLine, noAction}
+use Rattle.text.specs.Lines.{good, fieldsOf, actionFields, used?}
 use Rattle.model.specs.Store.{padded, actionNumbers, actionsNumbers, stepsNumbers, storeOf, headPlaces}
 use Rattle.model.specs.Inner.ReadSoFar.{ActionStored, ActionsStored, Short, AfterActions}
 use Rattle.model.specs.Laws.Store.StoreLaws.{actionNumbers-length}

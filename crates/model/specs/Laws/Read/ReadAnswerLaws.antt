@@ -7,20 +7,20 @@ use Prim.Native.Nat.{ℕ, _+_, _-_, _≤_, _<_}
 use native.Mathlib.Omega.{arith}
 use lib.ListN.{length, take, drop, drop-of-length-le}
 use borrow.Author.Tests.{lt-ltb, le-ltb}
-use Rattle.model.specs.declared.Fault.{Fault}
-use Rattle.model.specs.declared.Fault.the-variants.{Absent}
-use Rattle.model.specs.declared.Head.{Head}
-use Rattle.model.specs.declared.line.HeadRead.{HeadRead}
-use Rattle.model.specs.declared.line.HeadRead.the-variants as head-read
+use Rattle.text.specs.declared.Fault.{Fault}
+use Rattle.text.specs.declared.Fault.the-variants.{Absent}
+use Rattle.text.specs.declared.Head.{Head}
+use Rattle.text.specs.declared.line.HeadRead.{HeadRead}
+use Rattle.text.specs.declared.line.HeadRead.the-variants as head-read
 use Rattle.model.specs.declared.read.ReadAnswer.{ReadAnswer}
 use Rattle.model.specs.declared.read.ReadAnswer.the-variants.{Done, ShortList, TooLong, Faulty}
-use Rattle.model.specs.Limits.{storeLength, textLimit}
-use Rattle.model.specs.Bytes.{lineEnd}
-use Rattle.model.specs.Split.{split, indexOf}
-use Rattle.model.specs.Laws.Text.SplitLaws.{split-nil, split-first, split-part, split-last, found-le}
-use Rattle.model.specs.Lines.{bad, headOf}
-use Rattle.model.specs.Inner.LineAnswers.{headRead}
-use Rattle.model.specs.Faults.{firstShort}
+use Rattle.text.specs.Limits.{storeLength, textLimit}
+use Rattle.text.specs.Bytes.{lineEnd}
+use Rattle.text.specs.Split.{split, indexOf}
+use Rattle.text.specs.Laws.SplitLaws.{split-nil, split-first, split-part, split-last, found-le}
+use Rattle.text.specs.Lines.{bad, headOf}
+use Rattle.text.specs.Inner.LineAnswers.{headRead}
+use Rattle.text.specs.Faults.{firstShort}
 use Rattle.model.specs.Reading.{Reading, done, tooLong, faulty, onLine, orFault, readModel, readText}
 use Rattle.model.specs.Laws.PromisesLaws.{readLists-none}
 use Rattle.model.specs.Promises.{

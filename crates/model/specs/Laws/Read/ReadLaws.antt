@@ -9,19 +9,19 @@ use native.Mathlib.Omega.{arith}
 use lib.Dec.{T}
 use lib.ListN.{length, take, drop, getD, length-append}
 use lib.Seq.{sets}
-use Rattle.model.specs.declared.Fault.{Fault}
-use Rattle.model.specs.declared.Fault.the-variants.{Absent, Repeated, Range}
-use Rattle.model.specs.declared.Head.{Head}
+use Rattle.text.specs.declared.Fault.{Fault}
+use Rattle.text.specs.declared.Fault.the-variants.{Absent, Repeated, Range}
+use Rattle.text.specs.declared.Head.{Head}
 use Rattle.model.specs.declared.body.LinesRead.{LinesRead}
 use Rattle.model.specs.declared.body.LinesRead.the-variants.{Next, Faulty}
-use Rattle.model.specs.Limits.{nameLimit, storeLength, actionPlace}
-use Rattle.model.specs.Bytes.{lineEnd}
-use Rattle.model.specs.Split.{split, indexOf}
-use Rattle.model.specs.Laws.Text.SplitLaws.{split-first, split-part, split-last}
-use Rattle.model.specs.Model.{ActionLine, Model}
-use Rattle.model.specs.Lines.{Line, good, bad, headFits?, headFrom, headOf, headNumbers, numbersLine, levelOf}
-use Rattle.model.specs.Lines.{actionFields, fieldsOf, used?, actionFrom, actionOf}
-use Rattle.model.specs.Laws.Text.RangesLaws.{headFits?→HeadRanges}
+use Rattle.text.specs.Limits.{nameLimit, storeLength, actionPlace}
+use Rattle.text.specs.Bytes.{lineEnd}
+use Rattle.text.specs.Split.{split, indexOf}
+use Rattle.text.specs.Laws.SplitLaws.{split-first, split-part, split-last}
+use Rattle.text.specs.Model.{ActionLine, Model}
+use Rattle.text.specs.Lines.{Line, good, bad, headFits?, headFrom, headOf, headNumbers, numbersLine, levelOf}
+use Rattle.text.specs.Lines.{actionFields, fieldsOf, used?, actionFrom, actionOf}
+use Rattle.text.specs.Laws.RangesLaws.{headFits?→HeadRanges}
 use Rattle.model.specs.Laws.Text.JoinedFieldsLaws.{good-checked}
 use Rattle.model.specs.Laws.Text.ActionLineLaws.{good-nameFrom, name-length}
 use Rattle.model.specs.Reading.{Reading, faulty, onLine, orFault, readActions, headModel}

@@ -7,19 +7,19 @@ use Prim.Native.Nat.{ℕ, suc, _+_, _-_, _≤_, _<_}
 use native.Mathlib.Omega.{arith}
 use lib.ListN.{length, take, drop, getD, length-append, length-drop}
 use lib.Seq.{sets, length-take-le, getD-drop}
-use Rattle.model.specs.declared.Fault.{Fault}
-use Rattle.model.specs.declared.Fault.the-variants.{Absent, Shape}
-use Rattle.model.specs.declared.Head.{Head}
-use Rattle.model.specs.declared.StepLine.{StepLine}
-use Rattle.model.specs.Limits.{storeLength, stepPlace}
-use Rattle.model.specs.Bytes.{lineEnd, kindOf}
-use Rattle.model.specs.Split.{consFirst, split, indexOf, same?}
-use Rattle.model.specs.Laws.Text.SplitLaws.{Is, same, other, is, split-nil, split-end, split-cons, split-first, found-le}
-use Rattle.model.specs.Laws.Text.SameLaws.{same?-length}
-use Rattle.model.specs.Laws.Text.FieldsLaws.{same?-byte, same?-other, take-one}
-use Rattle.model.specs.Model.{Model, above?, aboveLast?}
-use Rattle.model.specs.Lines.{good, bad, stepOf}
-use Rattle.model.specs.Inner.LineAnswers.{Last}
+use Rattle.text.specs.declared.Fault.{Fault}
+use Rattle.text.specs.declared.Fault.the-variants.{Absent, Shape}
+use Rattle.text.specs.declared.Head.{Head}
+use Rattle.text.specs.declared.StepLine.{StepLine}
+use Rattle.text.specs.Limits.{storeLength, stepPlace}
+use Rattle.text.specs.Bytes.{lineEnd, kindOf}
+use Rattle.text.specs.Split.{consFirst, split, indexOf, same?}
+use Rattle.text.specs.Laws.SplitLaws.{Is, same, other, is, split-nil, split-end, split-cons, split-first, found-le}
+use Rattle.text.specs.Laws.SameLaws.{same?-length}
+use Rattle.text.specs.Laws.FieldsLaws.{same?-byte, same?-other, take-one}
+use Rattle.text.specs.Model.{Model, above?, aboveLast?}
+use Rattle.text.specs.Lines.{good, bad, stepOf}
+use Rattle.text.specs.Inner.LineAnswers.{Last}
 use Rattle.model.specs.Reading.{done, faulty, readNothing, readEnd, readSteps, readActions}
 use Rattle.model.specs.Inner.ReadSoFar.{whole, AfterActions, AfterStep, AfterSteps, AfterEnd}
 use Rattle.model.specs.Laws.Store.StoreLaws.{storeOf-length-of-places}

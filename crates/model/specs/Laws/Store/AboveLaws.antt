@@ -10,12 +10,12 @@ use lib.Dec.{T, ltb, eqb, ltb→lt, lt→ltb, eqb→eq, eqb-refl}
 use lib.ListN.{length, getD, take, drop, length-append, length-take, length-drop}
 use lib.Seq.{split-at}
 use Rattle.lts.specs.TestsLaws.{and-left, and-right, and-intro, or-left, or-right, or-cases, lt-or-le}
-use Rattle.model.specs.declared.Head.{Head}
-use Rattle.model.specs.declared.StepLine.{StepLine}
-use Rattle.model.specs.Model.{Model, above?, aboveLast?}
-use Rattle.model.specs.Lines.{stepFits?}
+use Rattle.text.specs.declared.Head.{Head}
+use Rattle.text.specs.declared.StepLine.{StepLine}
+use Rattle.text.specs.Model.{Model, above?, aboveLast?}
+use Rattle.text.specs.Lines.{stepFits?}
 use Rattle.model.specs.Above.{Above, withoutStep}
-use Rattle.model.specs.Laws.Text.RangesLaws.{headFits?→HeadRanges, HeadRanges→headFits?}
+use Rattle.text.specs.Laws.RangesLaws.{headFits?→HeadRanges, HeadRanges→headFits?}
 use Rattle.model.specs.WellFormed.{EachAfter, StepFits, WellFormed}
 use Rattle.model.specs.Laws.Store.EachLaws.{each-append, append-each, cons-each, each-of-each, each-without}
 

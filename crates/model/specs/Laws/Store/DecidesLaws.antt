@@ -4,7 +4,7 @@ use mathlib.Core.Bool.{Bool, true, false, not}
 use mathlib.Core.Path.{_≡_, sym, subst}
 use lib.Dec.{T}
 use borrow.Author.Tests.{not-true, not-false}
-use Rattle.model.specs.Decides.{Decides}
+use Rattle.text.specs.Decides.{Decides}
 
 pub decides-true : (r : Bool) (P : Type 0) → Decides r P → r ≡ true → P
 decides-true r P d e = subst (λ (b : Bool). Decides b P) e d

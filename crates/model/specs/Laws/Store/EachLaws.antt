@@ -4,7 +4,7 @@ use mathlib.Core.List.{List, [], _∷_, _++_, append-assoc, append-nil}
 use Prim.Native.Nat.{ℕ, zero, suc, _<_}
 use native.Mathlib.Omega.{arith}
 use lib.ListN.{length, getD, take}
-use Rattle.model.specs.All.{All}
+use Rattle.text.specs.All.{All}
 use Rattle.model.specs.WellFormed.{EachAfter}
 
 -- `each-X` makes it of the parts of X, `X-each` takes it apart.

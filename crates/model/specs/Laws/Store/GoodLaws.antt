@@ -3,7 +3,7 @@
 use mathlib.Core.List.{List}
 use Prim.Native.Nat.{ℕ, _≤_}
 use lib.ListN.{length}
-use Rattle.model.specs.Limits.{storeLength}
+use Rattle.text.specs.Limits.{storeLength}
 use Rattle.model.specs.Store.{Good}
 use Rattle.model.specs.Laws.Store.StoredModelLaws.{Good→Holds, Holds→Good}
 use Rattle.model.specs.Inner.GoodPlaces.{GoodPlaces}

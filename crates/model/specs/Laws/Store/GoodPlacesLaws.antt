@@ -8,17 +8,17 @@ use lib.Dec.{not-T}
 use lib.ListN.{length, getD, take, drop}
 use lib.Seq.{take-add}
 use Rattle.lts.specs.TestsLaws.{and-intro}
-use Rattle.model.specs.Limits.{actionLimit, stepLimit, nameLimit, storeLength, actionPlace, namePlace, stepPlace}
-use Rattle.model.specs.Bytes.{between?}
-use Rattle.model.specs.Model.{aboveLast?}
-use Rattle.model.specs.Lines.{allOf, nameByte?, name?, used?}
+use Rattle.text.specs.Limits.{actionLimit, stepLimit, nameLimit, storeLength, actionPlace, namePlace, stepPlace}
+use Rattle.text.specs.Bytes.{between?}
+use Rattle.text.specs.Model.{aboveLast?}
+use Rattle.text.specs.Lines.{allOf, nameByte?, name?, used?}
 use Rattle.model.specs.Store.{padded, actionNumbers, actionsNumbers, stepsNumbers, headPlaces, storeOf}
 use Rattle.model.specs.Inner.LineText.{stepPlaces}
 use Rattle.model.specs.WellFormed.{ActionFits, StepFits, WellFormed}
 use Rattle.model.specs.StoredModel.{headAt, actionAt, stepAt, listed, modelAt, Holds}
-use Rattle.model.specs.Inner.Ranges.{HeadRanges}
-use Rattle.model.specs.Laws.Text.BytesLaws.{le→between?}
-use Rattle.model.specs.Laws.Text.RangesLaws.{headFits?→HeadRanges}
+use Rattle.text.specs.Inner.Ranges.{HeadRanges}
+use Rattle.text.specs.Laws.BytesLaws.{le→between?}
+use Rattle.text.specs.Laws.RangesLaws.{headFits?→HeadRanges}
 use Rattle.model.specs.Laws.Store.StoredModelLaws.{listed-length}
 use Rattle.model.specs.Inner.GoodPlaces.{nameLengthAt, GoodAction, GoodPlaces}
 use Rattle.model.specs.Laws.Store.PlacesLaws.{part-length, part-cons, padded-part, getD→allOf}

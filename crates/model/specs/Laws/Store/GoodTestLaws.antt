@@ -8,13 +8,13 @@ use Prim.Native.Nat.{ℕ}
 use lib.Dec.{T, T-not, leb, eqb, leb→le, le→leb, eqb→eq, eqb-refl}
 use lib.ListN.{length, take}
 use Rattle.lts.specs.TestsLaws.{T-cases, and-left, and-right, and-intro}
-use Rattle.model.specs.declared.Head.{Head}
-use Rattle.model.specs.declared.StepLine.{StepLine}
-use Rattle.model.specs.Limits.{storeLength}
-use Rattle.model.specs.Split.{same?}
-use Rattle.model.specs.Laws.Text.SameLaws.{same?→eq, eq→same?}
-use Rattle.model.specs.Model.{high, ActionLine, Model, aboveLast?}
-use Rattle.model.specs.Lines.{headFits?, name?, used?, stepFits?}
+use Rattle.text.specs.declared.Head.{Head}
+use Rattle.text.specs.declared.StepLine.{StepLine}
+use Rattle.text.specs.Limits.{storeLength}
+use Rattle.text.specs.Split.{same?}
+use Rattle.text.specs.Laws.SameLaws.{same?→eq, eq→same?}
+use Rattle.text.specs.Model.{high, ActionLine, Model, aboveLast?}
+use Rattle.text.specs.Lines.{headFits?, name?, used?, stepFits?}
 use Rattle.model.specs.Store.{storeOf, Good}
 use Rattle.model.specs.WellFormed.{EachAfter, ActionFits, StepFits, WellFormed}
 use Rattle.model.specs.StoredModel.{headAt, modelAt, Holds}

@@ -9,15 +9,15 @@ use lib.Dec.{T, T-not}
 use lib.ListN.{length, getD, drop, length-drop, length-append}
 use lib.Seq.{length-take-le, take-all, getD-drop}
 use Rattle.lts.specs.TestsLaws.{lt-or-le, and-right}
-use Rattle.model.specs.Limits.{actionLimit, stepLimit, nameLimit, storeLength, actionPlace, namePlace, stepPlace}
-use Rattle.model.specs.Bytes.{between?}
-use Rattle.model.specs.Model.{ActionLine, above?, aboveLast?}
-use Rattle.model.specs.Lines.{allOf, nameByte?, name?, used?}
+use Rattle.text.specs.Limits.{actionLimit, stepLimit, nameLimit, storeLength, actionPlace, namePlace, stepPlace}
+use Rattle.text.specs.Bytes.{between?}
+use Rattle.text.specs.Model.{ActionLine, above?, aboveLast?}
+use Rattle.text.specs.Lines.{allOf, nameByte?, name?, used?}
 use Rattle.model.specs.Store.{padded, actionNumbers, actionsNumbers, stepsNumbers, headPlaces, storeOf}
 use Rattle.model.specs.WellFormed.{ActionFits, StepFits}
 use Rattle.model.specs.StoredModel.{headAt, actionAt, stepAt, listed, modelAt, Holds}
-use Rattle.model.specs.Inner.Ranges.{HeadRanges}
-use Rattle.model.specs.Laws.Text.RangesLaws.{headFits?→HeadRanges}
+use Rattle.text.specs.Inner.Ranges.{HeadRanges}
+use Rattle.text.specs.Laws.RangesLaws.{headFits?→HeadRanges}
 use Rattle.model.specs.Laws.Text.ActionLineLaws.{name-length}
 use Rattle.model.specs.Laws.Store.StoreLaws.{actionsNumbers-length, stepsNumbers-length}
 use Rattle.model.specs.Laws.Store.StoreLaws.{actions-padded-length, storeOf-action}

@@ -12,10 +12,10 @@ use lib.Dec.{T}
 use lib.ListN.{take, drop}
 use lib.Seq.{take-add, drop-drop}
 use Rattle.lts.specs.TestsLaws.{lt-suc-cases, or-left, or-right, or-cases}
-use Rattle.model.specs.Split.{same?}
-use Rattle.model.specs.Laws.Text.SameLaws.{same?→eq, eq→same?}
-use Rattle.model.specs.Model.{ActionLine}
-use Rattle.model.specs.Lines.{used?}
+use Rattle.text.specs.Split.{same?}
+use Rattle.text.specs.Laws.SameLaws.{same?→eq, eq→same?}
+use Rattle.text.specs.Model.{ActionLine}
+use Rattle.text.specs.Lines.{used?}
 use Rattle.model.specs.WellFormed.{EachAfter}
 use Rattle.model.specs.Laws.Store.BlocksLaws.{blocks-snoc}
 use Rattle.model.specs.Laws.Store.EachLaws.{each-nil, each-snoc, snoc-each}

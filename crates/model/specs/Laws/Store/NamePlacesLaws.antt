@@ -8,7 +8,7 @@ use native.Mathlib.Omega.{arith}
 use lib.ListN.{length, getD, drop}
 use lib.Seq.{getD-take, getD-drop}
 use Rattle.lts.specs.TestsLaws.{lt-or-le}
-use Rattle.model.specs.Limits.{actionLimit, nameLimit, storeLength, actionPlace, namePlace}
+use Rattle.text.specs.Limits.{actionLimit, nameLimit, storeLength, actionPlace, namePlace}
 use Rattle.model.specs.StoredModel.{actionAt}
 use Rattle.model.specs.Inner.GoodPlaces.{SameAt, SameName, nameLengthAt, GoodAction}
 use Rattle.model.specs.Laws.Store.PlacesLaws.{part-length, part-same}

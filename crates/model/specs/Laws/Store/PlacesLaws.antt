@@ -10,7 +10,7 @@ use lib.Dec.{T}
 use lib.ListN.{length, getD, take, drop, replicate, length-drop, length-replicate, getD-replicate, List·getD-append}
 use lib.Seq.{length-take-le, drop-cons, drop-drop, take-add, getD-take, getD-drop, getD-append-add, ext-getD}
 use Rattle.lts.specs.TestsLaws.{and-left, and-right, and-intro}
-use Rattle.model.specs.Lines.{allOf}
+use Rattle.text.specs.Lines.{allOf}
 use Rattle.model.specs.Store.{padded}
 use Rattle.model.specs.Inner.EachFrom.{EachFrom}
 use Rattle.model.specs.Inner.GoodPlaces.{ZeroAt, SameAt}

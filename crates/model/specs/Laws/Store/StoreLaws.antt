@@ -7,18 +7,18 @@ use native.Mathlib.Omega.{arith}
 use lib.Dec.{lit<}
 use lib.ListN.{length, getD, drop, replicate, length-append}
 use lib.Seq.{drop-append-add}
-use Rattle.model.specs.declared.StepLine.{StepLine}
-use Rattle.model.specs.Limits.{actionLimit, stepLimit, nameLimit, storeLength, actionPlace, stepPlace}
-use Rattle.model.specs.All.{All}
+use Rattle.text.specs.declared.StepLine.{StepLine}
+use Rattle.text.specs.Limits.{actionLimit, stepLimit, nameLimit, storeLength, actionPlace, stepPlace}
+use Rattle.text.specs.All.{All}
 use Rattle.model.specs.Laws.Text.AllLaws.{all-intro, all-of-all, all-append}
-use Rattle.model.specs.Model.{ActionLine, Model}
+use Rattle.text.specs.Model.{ActionLine, Model}
 use Rattle.model.specs.Store.{padded, actionNumbers, actionsNumbers, stepsNumbers, headPlaces, storeOf}
 use Rattle.model.specs.WellFormed.{EachAfter, ActionFits, StepFits, WellFormed}
 use Rattle.model.specs.Laws.Store.EachLaws.{all-of-each}
 use Rattle.model.specs.Laws.Store.BlocksLaws.{padded-append, padded-length, padded-all, blocks-length, blocks-all}
 use Rattle.model.specs.Laws.Store.BlocksLaws.{blocks-drop}
-use Rattle.model.specs.Inner.Ranges.{Storable}
-use Rattle.model.specs.Laws.Text.RangesLaws.{headFits?→HeadRanges, stepFits?→StepRanges}
+use Rattle.text.specs.Inner.Ranges.{Storable}
+use Rattle.text.specs.Laws.RangesLaws.{headFits?→HeadRanges, stepFits?→StepRanges}
 use Rattle.model.specs.Inner.LineText.{stepPlaces, NameByte}
 use Rattle.model.specs.Laws.Text.ActionLineLaws.{name-bytes, nameByte-lt, name-length}
 

@@ -8,10 +8,10 @@ use native.Mathlib.Omega.{arith}
 use native.Mathlib.Nat.{add-zero}
 use lib.ListN.{length, getD, take, drop, take-append-drop, length-append}
 use lib.Seq.{take-suc, take-length, take-at, getD-drop, drop-drop}
-use Rattle.model.specs.declared.Head.{Head}
-use Rattle.model.specs.declared.StepLine.{StepLine}
-use Rattle.model.specs.Limits.{nameLimit, storeLength, actionPlace, namePlace, stepPlace}
-use Rattle.model.specs.Model.{ActionLine, Model, noAction, noStep}
+use Rattle.text.specs.declared.Head.{Head}
+use Rattle.text.specs.declared.StepLine.{StepLine}
+use Rattle.text.specs.Limits.{nameLimit, storeLength, actionPlace, namePlace, stepPlace}
+use Rattle.text.specs.Model.{ActionLine, Model, noAction, noStep}
 use Rattle.model.specs.Laws.Text.ReadingLaws.{readText-textOf, textOf-of-readText}
 use Rattle.model.specs.Text.{textOf}
 use Rattle.model.specs.Store.{actionNumbers, headPlaces, storeOf, Good}

@@ -8,7 +8,7 @@ use native.Mathlib.Omega.{arith}
 use lib.ListN.{length}
 use Rattle.lts.specs.Run.{Deterministic}
 use Rattle.lts.specs.TestsLaws.{lt-or-le}
-use Rattle.model.specs.Model.{Model}
+use Rattle.text.specs.Model.{Model}
 use Rattle.model.specs.System.{source, action, target, Steps, Start, ReachableIn, DeterministicModel}
 use Rattle.model.specs.WellFormed.{WellFormed}
 use Rattle.model.specs.Laws.Store.WellFormedLaws.{step-above}

@@ -9,13 +9,13 @@ use lib.Dec.{T}
 use lib.ListN.{length, getD, take}
 use lib.Seq.{take-suc}
 use Rattle.lts.specs.TestsLaws.{lt-suc-cases}
-use Rattle.model.specs.Model.{high, ActionLine, Model, aboveLast?}
+use Rattle.text.specs.Model.{high, ActionLine, Model, aboveLast?}
 use Rattle.model.specs.WellFormed.{ActionFits, StepFits, WellFormed}
 use Rattle.model.specs.Laws.Store.EachLaws.{each-getD}
 use Rattle.model.specs.Above.{Above}
 use Rattle.model.specs.Laws.Store.AboveLaws.{above?→Above, above-trans, aboveLast?-append}
-use Rattle.model.specs.Inner.Ranges.{HeadRanges, StepRanges}
-use Rattle.model.specs.Laws.Text.RangesLaws.{headFits?→HeadRanges, stepFits?→StepRanges}
+use Rattle.text.specs.Inner.Ranges.{HeadRanges, StepRanges}
+use Rattle.text.specs.Laws.RangesLaws.{headFits?→HeadRanges, stepFits?→StepRanges}
 use Rattle.model.specs.System.{step, level}
 
 module _ (m : Model) (w : WellFormed m) where

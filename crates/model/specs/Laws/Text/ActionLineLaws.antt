@@ -10,17 +10,17 @@ use lib.Dec.{T, eqb, eqb→eq}
 use lib.ListN.{length, getD}
 use borrow.Author.Tests.{eqb-false}
 use Rattle.lts.specs.TestsLaws.{and-left, and-right, or-cases, not-T→false}
-use Rattle.model.specs.declared.Fault.the-variants.{Shape, Repeated}
-use Rattle.model.specs.Bytes.{kindOf, between?, digit, smallLetter, capital, comma}
-use Rattle.model.specs.Limits.{nameLimit}
-use Rattle.model.specs.Laws.Text.BytesLaws.{between?→le, digit-within, smallLetter-within}
-use Rattle.model.specs.Split.{same?}
-use Rattle.model.specs.Laws.Text.SameLaws.{same?→eq}
-use Rattle.model.specs.All.{All}
+use Rattle.text.specs.declared.Fault.the-variants.{Shape, Repeated}
+use Rattle.text.specs.Bytes.{kindOf, between?, digit, smallLetter, capital, comma}
+use Rattle.text.specs.Limits.{nameLimit}
+use Rattle.text.specs.Laws.BytesLaws.{between?→le, digit-within, smallLetter-within}
+use Rattle.text.specs.Split.{same?}
+use Rattle.text.specs.Laws.SameLaws.{same?→eq}
+use Rattle.text.specs.All.{All}
 use Rattle.model.specs.Laws.Text.AllLaws.{all-of-all}
-use Rattle.model.specs.Model.{low, release, high, ActionLine}
-use Rattle.model.specs.Lines.{Line, good, bad, fieldsOf, levelOf, allOf, nameByte?, name?, nameFrom, used?}
-use Rattle.model.specs.Lines.{actionFields, actionFrom, actionOf}
+use Rattle.text.specs.Model.{low, release, high, ActionLine}
+use Rattle.text.specs.Lines.{Line, good, bad, fieldsOf, levelOf, allOf, nameByte?, name?, nameFrom, used?}
+use Rattle.text.specs.Lines.{actionFields, actionFrom, actionOf}
 use Rattle.model.specs.Text.{levelByte}
 use Rattle.model.specs.WellFormed.{ActionFits}
 use Rattle.model.specs.Inner.LineText.{lineOf, lineOfAction, NameByte}

@@ -4,7 +4,7 @@ use mathlib.Core.List.{List, [], _∷_, _++_, map}
 use Prim.Native.Nat.{ℕ, zero, suc, _<_}
 use native.Mathlib.Omega.{arith}
 use lib.ListN.{length, getD, replicate}
-use Rattle.model.specs.All.{All}
+use Rattle.text.specs.All.{All}
 
 pub all-intro : {A : Type 0} (P : A → Type 0) → ((x : A) → P x) → (xs : List A) → All P xs
 all-intro P f [] = tt

@@ -11,12 +11,12 @@ use lib.Dec.{leb, eqb, lit<}
 use lib.ListN.{length, getD, length-append, List·getD-append}
 use borrow.Author.Tests.{leb-true, eqb-true, eqb-false, lt-ltb, le-ltb, ne-eqb}
 use Rattle.lts.specs.TestsLaws.{lt-or-le}
-use Rattle.model.specs.declared.number.Number.the-variants.{Value, Bad}
-use Rattle.model.specs.Bytes.{digit, kindOf}
-use Rattle.model.specs.Laws.Text.BytesLaws.{digit-within, digit-kind}
-use Rattle.model.specs.Numbers.{digitsValue, numberShape?, numberOf, digitsUpTo, digits}
-use Rattle.model.specs.Laws.Text.NumbersLaws.{digitsValue-nil, digitsValue-cons, numberOf-one, numberOf-some}
-use Rattle.model.specs.All.{All}
+use Rattle.text.specs.declared.number.Number.the-variants.{Value, Bad}
+use Rattle.text.specs.Bytes.{digit, kindOf}
+use Rattle.text.specs.Laws.BytesLaws.{digit-within, digit-kind}
+use Rattle.text.specs.Numbers.{digitsValue, numberShape?, numberOf, digitsUpTo, digits}
+use Rattle.text.specs.Laws.NumbersLaws.{digitsValue-nil, digitsValue-cons, numberOf-one, numberOf-some}
+use Rattle.text.specs.All.{All}
 use Rattle.model.specs.Laws.Text.AllLaws.{all-append}
 
 -- ---- digits, one by one

@@ -5,10 +5,10 @@ use mathlib.Core.Path.{_≡_, refl, ap, _∙_}
 use Prim.Native.Nat.{ℕ, _<_}
 use native.Mathlib.Omega.{arith}
 use lib.ListN.{length}
-use Rattle.model.specs.Bytes.{kindOf}
-use Rattle.model.specs.Split.{consFirst, split}
-use Rattle.model.specs.Laws.Text.SplitLaws.{Is, same, other, is, split-nil, split-end, split-cons, split-first}
-use Rattle.model.specs.All.{All}
+use Rattle.text.specs.Bytes.{kindOf}
+use Rattle.text.specs.Split.{consFirst, split}
+use Rattle.text.specs.Laws.SplitLaws.{Is, same, other, is, split-nil, split-end, split-cons, split-first}
+use Rattle.text.specs.All.{All}
 use Rattle.model.specs.Laws.Text.AllLaws.{all-append}
 use Rattle.model.specs.Join.{join, Without}
 

@@ -9,24 +9,24 @@ use lib.Dec.{T, eqb, eqb→eq, eqb-refl}
 use lib.ListN.{length, length-map}
 use borrow.Author.Tests.{eqb-false}
 use Rattle.lts.specs.TestsLaws.{and-left, and-right, and-intro}
-use Rattle.model.specs.declared.Fault.{Fault}
-use Rattle.model.specs.declared.Fault.the-variants.{Shape}
-use Rattle.model.specs.declared.number.Number.{Number}
-use Rattle.model.specs.declared.number.Number.the-variants.{Value, Bad}
-use Rattle.model.specs.Bytes.{kindOf, digit, comma}
-use Rattle.model.specs.Laws.Text.BytesLaws.{comma-only}
-use Rattle.model.specs.Numbers.{numberOf, digits}
+use Rattle.text.specs.declared.Fault.{Fault}
+use Rattle.text.specs.declared.Fault.the-variants.{Shape}
+use Rattle.text.specs.declared.number.Number.{Number}
+use Rattle.text.specs.declared.number.Number.the-variants.{Value, Bad}
+use Rattle.text.specs.Bytes.{kindOf, digit, comma}
+use Rattle.text.specs.Laws.BytesLaws.{comma-only}
+use Rattle.text.specs.Numbers.{numberOf, digits}
 use Rattle.model.specs.Laws.Text.DigitsLaws.{digits-digit, numberOf-digits, digits-of-numberOf}
-use Rattle.model.specs.Split.{same?}
-use Rattle.model.specs.Laws.Text.SplitLaws.{split-first}
-use Rattle.model.specs.Laws.Text.SameLaws.{same?→eq, same?-refl}
-use Rattle.model.specs.All.{All}
+use Rattle.text.specs.Split.{same?}
+use Rattle.text.specs.Laws.SplitLaws.{split-first}
+use Rattle.text.specs.Laws.SameLaws.{same?→eq, same?-refl}
+use Rattle.text.specs.All.{All}
 use Rattle.model.specs.Laws.Text.AllLaws.{all-of-all}
 use Rattle.model.specs.Join.{join, Without}
 use Rattle.model.specs.Laws.Text.JoinLaws.{split-join, join-split}
-use Rattle.model.specs.Lines.{Line, good, bad, checked, fieldsFrom, fieldsOf, consNumber, numbersOf, numbersFrom}
-use Rattle.model.specs.Lines.{numbersLine}
-use Rattle.model.specs.Inner.Ranges.{Small}
+use Rattle.text.specs.Lines.{Line, good, bad, checked, fieldsFrom, fieldsOf, consNumber, numbersOf, numbersFrom}
+use Rattle.text.specs.Lines.{numbersLine}
+use Rattle.text.specs.Inner.Ranges.{Small}
 use Rattle.model.specs.Inner.LineText.{lineOf}
 
 -- ---- what passes a test

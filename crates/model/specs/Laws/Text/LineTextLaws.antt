@@ -7,17 +7,17 @@ use native.Mathlib.Omega.{arith}
 use lib.Dec.{T}
 use lib.ListN.{length}
 use borrow.Author.Tests.{eqb-false}
-use Rattle.model.specs.declared.Fault.the-variants.{Range, Order}
-use Rattle.model.specs.declared.Head.{Head}
-use Rattle.model.specs.declared.StepLine.{StepLine}
-use Rattle.model.specs.Bytes.{kindOf}
-use Rattle.model.specs.Numbers.{digits}
-use Rattle.model.specs.Model.{aboveLast?}
-use Rattle.model.specs.Lines.{Line, good, bad, checked, numbersLine, headFits?, headNumbers, headFrom, headOf}
-use Rattle.model.specs.Lines.{stepFits?, stepNumbers, rising, stepFrom, stepOf}
+use Rattle.text.specs.declared.Fault.the-variants.{Range, Order}
+use Rattle.text.specs.declared.Head.{Head}
+use Rattle.text.specs.declared.StepLine.{StepLine}
+use Rattle.text.specs.Bytes.{kindOf}
+use Rattle.text.specs.Numbers.{digits}
+use Rattle.text.specs.Model.{aboveLast?}
+use Rattle.text.specs.Lines.{Line, good, bad, checked, numbersLine, headFits?, headNumbers, headFrom, headOf}
+use Rattle.text.specs.Lines.{stepFits?, stepNumbers, rising, stepFrom, stepOf}
 use Rattle.model.specs.Store.{headPlaces}
-use Rattle.model.specs.Inner.Ranges.{HeadRanges, Small}
-use Rattle.model.specs.Laws.Text.RangesLaws.{headFits?→HeadRanges, stepFits?→StepRanges}
+use Rattle.text.specs.Inner.Ranges.{HeadRanges, Small}
+use Rattle.text.specs.Laws.RangesLaws.{headFits?→HeadRanges, stepFits?→StepRanges}
 use Rattle.model.specs.WellFormed.{StepFits}
 use Rattle.model.specs.Inner.LineText.{lineOf, lineOfHead, stepPlaces, lineOfStep}
 use Rattle.model.specs.Laws.Text.JoinedFieldsLaws.{checked-good, good-checked, numbersLine-line, line-of-numbersLine}

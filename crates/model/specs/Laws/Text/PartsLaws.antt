@@ -7,18 +7,18 @@ use Prim.Native.Nat.{ℕ, zero, suc, _+_, _<_}
 use native.Mathlib.Omega.{arith}
 use lib.Dec.{T}
 use lib.ListN.{length, length-append}
-use Rattle.model.specs.declared.Fault.the-variants.{Shape}
-use Rattle.model.specs.declared.Head.{Head}
-use Rattle.model.specs.declared.StepLine.{StepLine}
-use Rattle.model.specs.Split.{same?}
-use Rattle.model.specs.Laws.Text.SameLaws.{same?→eq}
-use Rattle.model.specs.Model.{ActionLine, Model}
-use Rattle.model.specs.Lines.{Line, good, bad, headFits?, headOf, actionOf, stepOf}
+use Rattle.text.specs.declared.Fault.the-variants.{Shape}
+use Rattle.text.specs.declared.Head.{Head}
+use Rattle.text.specs.declared.StepLine.{StepLine}
+use Rattle.text.specs.Split.{same?}
+use Rattle.text.specs.Laws.SameLaws.{same?→eq}
+use Rattle.text.specs.Model.{ActionLine, Model}
+use Rattle.text.specs.Lines.{Line, good, bad, headFits?, headOf, actionOf, stepOf}
 use Rattle.model.specs.Reading.{Reading, done, faulty, onLine, orFault, readNothing, readEnd, readSteps}
 use Rattle.model.specs.Reading.{readActions, headModel, readModel}
 use Rattle.model.specs.WellFormed.{EachAfter, ActionFits, StepFits, WellFormed}
-use Rattle.model.specs.Inner.Ranges.{HeadRanges}
-use Rattle.model.specs.Laws.Text.RangesLaws.{headFits?→HeadRanges}
+use Rattle.text.specs.Inner.Ranges.{HeadRanges}
+use Rattle.text.specs.Laws.RangesLaws.{headFits?→HeadRanges}
 use Rattle.model.specs.Inner.LineText.{lineOfHead, lineOfAction, lineOfStep, partsOf}
 use Rattle.model.specs.Laws.Text.LineTextLaws.{headOf-line, line-of-headOf, stepOf-line, line-of-stepOf}
 use Rattle.model.specs.Laws.Text.ActionLineLaws.{actionOf-line, line-of-actionOf}

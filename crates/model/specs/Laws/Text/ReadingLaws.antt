@@ -9,14 +9,14 @@ use native.Mathlib.Omega.{arith}
 use lib.Dec.{ltb, lit<}
 use lib.ListN.{length}
 use borrow.Author.Tests.{le-ltb}
-use Rattle.model.specs.Bytes.{kindOf, lineEnd}
-use Rattle.model.specs.Laws.Text.BytesLaws.{lineEnd-only}
-use Rattle.model.specs.Limits.{textLimit, outLength}
-use Rattle.model.specs.Split.{split}
-use Rattle.model.specs.All.{All}
+use Rattle.text.specs.Bytes.{kindOf, lineEnd}
+use Rattle.text.specs.Laws.BytesLaws.{lineEnd-only}
+use Rattle.text.specs.Limits.{textLimit, outLength}
+use Rattle.text.specs.Split.{split}
+use Rattle.text.specs.All.{All}
 use Rattle.model.specs.Join.{join}
 use Rattle.model.specs.Laws.Text.JoinLaws.{all-join, split-join, join-split}
-use Rattle.model.specs.Model.{Model}
+use Rattle.text.specs.Model.{Model}
 use Rattle.model.specs.Reading.{done, tooLong, readModel, readText}
 use Rattle.model.specs.Text.{textOf}
 use Rattle.model.specs.WellFormed.{WellFormed}

@@ -8,18 +8,18 @@ use native.Mathlib.Omega.{arith}
 use lib.Dec.{T, lit<}
 use lib.ListN.{length, length-append}
 use borrow.Author.Tests.{eqb-false}
-use Rattle.model.specs.declared.Head.{Head}
-use Rattle.model.specs.declared.StepLine.{StepLine}
-use Rattle.model.specs.Bytes.{kindOf, digit, capital}
-use Rattle.model.specs.Laws.Text.BytesLaws.{digit-within, smallLetter-within, capital-within}
-use Rattle.model.specs.Numbers.{digits}
+use Rattle.text.specs.declared.Head.{Head}
+use Rattle.text.specs.declared.StepLine.{StepLine}
+use Rattle.text.specs.Bytes.{kindOf, digit, capital}
+use Rattle.text.specs.Laws.BytesLaws.{digit-within, smallLetter-within, capital-within}
+use Rattle.text.specs.Numbers.{digits}
 use Rattle.model.specs.Laws.Text.DigitsLaws.{digits-digit}
-use Rattle.model.specs.All.{All}
+use Rattle.text.specs.All.{All}
 use Rattle.model.specs.Laws.Text.AllLaws.{all-intro, all-append, all-map, all-of-all}
 use Rattle.model.specs.Join.{join}
 use Rattle.model.specs.Laws.Text.JoinLaws.{join-cons, all-join}
-use Rattle.model.specs.Model.{ActionLine, Model}
-use Rattle.model.specs.Lines.{good, headFits?, headOf, name?, actionOf, stepOf}
+use Rattle.text.specs.Model.{ActionLine, Model}
+use Rattle.text.specs.Lines.{good, headFits?, headOf, name?, actionOf, stepOf}
 use Rattle.model.specs.Text.{headText, levelByte, actionText, stepText, actionsText, stepsText, textOf}
 use Rattle.model.specs.Store.{headPlaces}
 use Rattle.model.specs.WellFormed.{ActionFits, StepFits, WellFormed}

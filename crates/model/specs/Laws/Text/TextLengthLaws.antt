@@ -5,15 +5,15 @@ use Prim.Native.Nat.{_*_, _≤_}
 use native.Mathlib.Omega.{arith}
 use lib.Dec.{T}
 use lib.ListN.{length, length-append}
-use Rattle.model.specs.declared.Head.{Head}
-use Rattle.model.specs.declared.StepLine.{StepLine}
-use Rattle.model.specs.Limits.{outLength}
+use Rattle.text.specs.declared.Head.{Head}
+use Rattle.text.specs.declared.StepLine.{StepLine}
+use Rattle.text.specs.Limits.{outLength}
 use Rattle.model.specs.Laws.Text.DigitsLaws.{digits-length-le}
-use Rattle.model.specs.Model.{ActionLine, Model}
-use Rattle.model.specs.Lines.{name?}
+use Rattle.text.specs.Model.{ActionLine, Model}
+use Rattle.text.specs.Lines.{name?}
 use Rattle.model.specs.Text.{headText, actionText, stepText, actionsText, stepsText, textOf}
-use Rattle.model.specs.Inner.Ranges.{HeadRanges, StepRanges}
-use Rattle.model.specs.Laws.Text.RangesLaws.{headFits?→HeadRanges, stepFits?→StepRanges}
+use Rattle.text.specs.Inner.Ranges.{HeadRanges, StepRanges}
+use Rattle.text.specs.Laws.RangesLaws.{headFits?→HeadRanges, stepFits?→StepRanges}
 use Rattle.model.specs.WellFormed.{EachAfter, ActionFits, StepFits, WellFormed}
 use Rattle.model.specs.Laws.Text.ActionLineLaws.{name-length}
 

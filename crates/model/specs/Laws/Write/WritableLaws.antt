@@ -9,10 +9,10 @@ use Rattle.model.specs.Laws.Text.AllLaws.{all-of-all}
 use Rattle.model.specs.Inner.LineText.{NameByte}
 use Rattle.model.specs.Laws.Text.ActionLineLaws.{name-bytes, nameByte-lt}
 use Rattle.model.specs.Laws.Store.GoodLaws.{Good→GoodPlaces}
-use Rattle.model.specs.Limits.{actionLimit, stepLimit, outLength, actionPlace, namePlace}
+use Rattle.text.specs.Limits.{actionLimit, stepLimit, outLength, actionPlace, namePlace}
 use Rattle.model.specs.Laws.Store.ListedLaws.{each-listed}
-use Rattle.model.specs.Model.{ActionLine}
-use Rattle.model.specs.Laws.Text.RangesLaws.{headFits?→HeadRanges}
+use Rattle.text.specs.Model.{ActionLine}
+use Rattle.text.specs.Laws.RangesLaws.{headFits?→HeadRanges}
 use Rattle.model.specs.StoredModel.{headAt, actionAt, modelAt}
 use Rattle.model.specs.Laws.Store.StoredModelLaws.{good-well-formed}
 use Rattle.model.specs.Text.{textOf}

@@ -7,11 +7,11 @@ use native.Mathlib.Omega.{arith}
 use native.Mathlib.Nat.{suc-add, zero-add}
 use native.Mathlib.Numerals.{add-one}
 use lib.ListN.{length, length-append}
-use Rattle.model.specs.declared.Head.{Head}
-use Rattle.model.specs.declared.StepLine.{StepLine}
-use Rattle.model.specs.Model.{ActionLine, Model}
+use Rattle.text.specs.declared.Head.{Head}
+use Rattle.text.specs.declared.StepLine.{StepLine}
+use Rattle.text.specs.Model.{ActionLine, Model}
 use Rattle.model.specs.Laws.Store.BlocksLaws.{blocks-snoc}
-use Rattle.model.specs.Numbers.{digits}
+use Rattle.text.specs.Numbers.{digits}
 use Rattle.model.specs.StoredModel.{listed}
 use Rattle.model.specs.Text.{headText, actionText, stepText, actionsText, stepsText, textOf}
 

@@ -1,21 +1,20 @@
 -- The first i entries are 0.
-use mathlib.Core.Path.{_≡_, refl}
 use Prim.Native.Nat.{_≤_, _-_}
 use native.Mathlib.Omega.{arith}
-use lib.ListN.{length, length-set}
-use Rattle.ranking.specs.Inner.TableWrites.{Cleared}
-use Rattle.ranking.specs.Laws.RoundsLaws.{cleared-zero, cleared-add-one, cleared-at}
+use Rattle.model.specs.Lists.{tableLength}
+use Rattle.model.specs.Inner.Clearing.{Cleared}
+use Rattle.model.specs.Laws.ClearingLaws.{cleared-zero, cleared-suc, cleared-at}
 use Rattle.ranking.proofs.classes.clear.Statement.{statement}
 use Rattle.ranking.proofs.classes.clear.Tie as tie
 
 abbrev Inv-loop : tie.InvT-loop
-Inv-loop table₀ i₀ table i = (i ≤ 16384) × Cleared i table₀ table × (length table ≡ length table₀)
+Inv-loop table₀ i₀ table i = (i ≤ tableLength) × Cleared 0 i table₀ table
 
 abbrev μ-loop : tie.MeasureT-loop
-μ-loop table₀ i₀ table i = 16384 - i
+μ-loop table₀ i₀ table i = tableLength - i
 
 loop-holds : tie.Need-loop-holds Inv-loop μ-loop
-loop-holds c = (omega arith, cleared-zero _, refl)
+loop-holds c = (omega arith, cleared-zero _)
 
 slice-write-table : tie.Need-slice-write-table Inv-loop μ-loop
 slice-write-table c = omega arith
@@ -29,10 +28,10 @@ loop-less c = omega arith
 loop-again : tie.Need-loop-again Inv-loop μ-loop
 loop-again c =
     let inv = c .before .loop .inv in
-    (omega arith, cleared-add-one (inv .1) (omega arith), simp length-set (inv .2))
+    (omega arith, cleared-suc (omega (arith, c .loop-test .taken, inv .1 .past .same-length)) (inv .1))
 
 same-length : tie.Need-same-length Inv-loop μ-loop
-same-length c = c .before .loop .inv .2
+same-length c = c .before .loop .inv .1 .past .same-length
 
 returns : tie.Need-returns Inv-loop μ-loop
 returns c = cleared-at (omega arith) (c .before .loop .inv .1)

@@ -1,7 +1,7 @@
 -- A state of another old class cannot answer.
 use mathlib.Core.Path.{sym, _∙_}
 use Rattle.model.specs.Laws.Store.DecidesLaws.{decides-iff}
-use Rattle.ranking.specs.Laws.MarksLaws.{bounded-of-refinable}
+use Rattle.ranking.specs.Laws.MarksLaws.{stateClasses-of-refinable}
 use borrow.Author.Needs.{needs}
 use Rattle.ranking.proofs.classes.joins.Statement.{statement}
 use Rattle.ranking.proofs.classes.joins.Tie as tie
@@ -30,7 +30,7 @@ returns-2 c =
 answers-requires : tie.Need-answers-requires
 answers-requires c κs =
     let P = c .before .before .before .before .before .before .before .before .before .before .before .pre in
-    (P .0, (bounded-of-refinable (P .0 .states-le) (P .1 .0), (P .1 .1 .0, P .1 .1 .1)))
+    (P .0, (stateClasses-of-refinable (P .0 .states-le) (P .1 .0), (P .1 .1 .0, P .1 .1 .1)))
 
 same-length : tie.Need-same-length
 same-length c = search needs

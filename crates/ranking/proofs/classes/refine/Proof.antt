@@ -3,6 +3,7 @@ use mathlib.Core.Path.{_≡_, refl, _∙_}
 use Prim.Native.Nat.{_≤_, _-_}
 use native.Mathlib.Omega.{arith}
 use lib.ListN.{length, length-set}
+use Rattle.text.specs.Limits.{stateLimit}
 use Rattle.ranking.specs.MoveList.{Listed}
 use Rattle.ranking.specs.Inner.ClassList.{Refined}
 use Rattle.ranking.specs.Laws.ClassListLaws.{refined-zero, refined-set, refined-le}
@@ -14,7 +15,7 @@ use Rattle.ranking.proofs.classes.refine.Tie as tie
 abbrev Inv-loop : tie.InvT-loop
 Inv-loop n first actions targets class marks₀ next₀ p₀ marks next p =
     (p ≤ n) × Refined (Listed n first actions targets) class next p × Unmarked marks × (length marks ≡ length marks₀)
-    × (length next ≡ 128)
+    × (length next ≡ stateLimit)
 
 abbrev μ-loop : tie.MeasureT-loop
 μ-loop n first actions targets class marks₀ next₀ p₀ marks next p = n - p

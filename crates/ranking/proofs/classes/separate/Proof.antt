@@ -3,7 +3,7 @@ use mathlib.Core.Path.{_≡_, refl, _∙_}
 use Prim.Native.Nat.{_≤_, _-_}
 use native.Mathlib.Omega.{arith}
 use lib.ListN.{length}
-use Rattle.model.specs.Decides.{Decides}
+use Rattle.text.specs.Decides.{Decides}
 use Rattle.ranking.specs.Inner.ClassList.{Moved}
 use Rattle.ranking.specs.Laws.ClassListLaws.{moved-at}
 use Rattle.ranking.specs.Inner.TableWrites.{Written, RowsWritten}

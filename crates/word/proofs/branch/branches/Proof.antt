@@ -2,8 +2,8 @@
 use mathlib.Core.Path.{refl, ap, _∙_}
 use native.Mathlib.Omega.{arith}
 use borrow.Author.Needs.{needs}
-use Rattle.model.specs.declared.State.{State}
-use Rattle.model.specs.declared.Action.{Action}
+use Rattle.text.specs.declared.State.{State}
+use Rattle.text.specs.declared.Action.{Action}
 use Rattle.judge.specs.Laws.StoredLaws.{stored-source, stored-action}
 use Rattle.judge.specs.Laws.ReachLaws.{list-reachable, list-unreachable}
 use Rattle.word.specs.Laws.WordsLaws.{branches-source, branches-action, branches-reachable, branches-of}

@@ -1,9 +1,9 @@
 -- The role says whether step j is low, `find` gives the one step of q with its action, the table the targets' rank.
-use mathlib.Core.Path.{refl, sym, ap, _∙_}
+use mathlib.Core.Path.{sym, ap, _∙_}
 use native.Mathlib.Omega.{arith}
 use borrow.Author.Needs.{needs}
-use Rattle.model.specs.declared.State.{State}
-use Rattle.model.specs.declared.Action.{Action}
+use Rattle.text.specs.declared.State.{State}
+use Rattle.text.specs.declared.Action.{Action}
 use Rattle.judge.specs.Laws.StepTestLaws.{reachable-state}
 use Rattle.judge.specs.Laws.StoredLaws.{stored-action, stored-target}
 use Rattle.word.specs.Laws.LettersLaws.{found-at, found-nothing, stepOf-at, role-fits, letter-low, letter-role}

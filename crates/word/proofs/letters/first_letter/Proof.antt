@@ -7,16 +7,16 @@ use borrow.Author.Count.{below-more}
 use borrow.Author.Needs.{needs}
 use Rattle.model.specs.StoredModel.{modelAt}
 use Rattle.judge.specs.Laws.StepTestLaws.{reachable-state}
-use Rattle.word.specs.Inner.Letters.{Answered}
+use Rattle.word.specs.Inner.Letters.{HasAnswer}
 use Rattle.word.specs.Laws.LettersLaws.{own-of-index, none-before, none-after, found-at, found-nothing}
-use Rattle.word.specs.Laws.LettersLaws.{answered-some, first-letter-of}
+use Rattle.word.specs.Laws.LettersLaws.{has-answer-some, first-letter-of}
 use Rattle.word.proofs.letters.first_letter.Statement.{statement}
 use Rattle.word.proofs.letters.first_letter.Tie as tie
 
 abbrev Inv-loop : tie.InvT-loop
 Inv-loop store begins roles table q k of end j₀ j =
     (end ≡ getD begins (of + 1) 0) × (getD begins of 0 ≤ j)
-    × ((i : ℕ) → i < j → ¬ (Answered (modelAt store) of (q .0) k i))
+    × ((i : ℕ) → i < j → ¬ (HasAnswer (modelAt store) of (q .0) k i))
 
 abbrev μ-loop : tie.MeasureT-loop
 μ-loop store begins roles table q k of end j₀ j = end - j
@@ -105,7 +105,7 @@ returns-2 c =
     let pre = c .before .before .before .before .before .before .before .before .before .pre in
     let S = pre .0 .step-lists in
     let pair = pre .1 .1 in
-    let some = answered-some (S .stored) _ _ _ (pre .1 .0) pair in
+    let some = has-answer-some (S .stored) _ _ _ (pre .1 .0) pair in
     absurd (none-after (S .index) (reachable-state (S .stored) (pair .first-reachable)) _
     (λ j x. (x .number-lt, x .source-is)) (inv .0) (c .loop-test .left) (inv .2) (some .0) (some .1))
 

@@ -1,8 +1,8 @@
 -- The role says whether step j is low, and `find` whether q has a step of its action.
-use mathlib.Core.Path.{sym, ap, _∙_}
+use mathlib.Core.Path.{ap, _∙_}
 use native.Mathlib.Omega.{arith}
 use borrow.Author.Needs.{needs}
-use Rattle.model.specs.declared.Action.{Action}
+use Rattle.text.specs.declared.Action.{Action}
 use Rattle.judge.specs.Laws.StoredLaws.{stored-action}
 use Rattle.word.specs.Laws.LettersLaws.{found-at, found-nothing, stepOf-at, role-fits, letter-role}
 use Rattle.word.specs.Laws.LettersLaws.{unanswered-of}

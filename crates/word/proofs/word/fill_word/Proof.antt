@@ -5,8 +5,8 @@ use native.Mathlib.Omega.{arith}
 use lib.ListN.{length, length-set}
 use borrow.Author.Needs.{needs}
 use Rattle.lts.specs.AlikeLaws.{separated-pos}
-use Rattle.model.specs.declared.State.{State}
-use Rattle.model.specs.declared.Action.{Action}
+use Rattle.text.specs.declared.State.{State}
+use Rattle.text.specs.declared.Action.{Action}
 use Rattle.model.specs.StoredModel.{modelAt}
 use Rattle.judge.specs.Laws.StoredLaws.{stored-action, stored-target}
 use Rattle.word.specs.Inner.Letters.{SeparatedPair}

@@ -2,7 +2,7 @@
 use mathlib.Core.Path.{ap, _∙_}
 use native.Mathlib.Omega.{arith}
 use borrow.Author.Needs.{needs}
-use Rattle.model.specs.declared.Action.{Action}
+use Rattle.text.specs.declared.Action.{Action}
 use Rattle.judge.specs.Laws.StepTestLaws.{reachable-state}
 use Rattle.judge.specs.Laws.StoredLaws.{stored-action}
 use Rattle.word.specs.Laws.LettersLaws.{found-at, found-nothing}

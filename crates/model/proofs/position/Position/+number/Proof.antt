@@ -10,7 +10,7 @@ use borrow.Author.Needs.{needs}
 use borrow.Fn.Kinds.{In}
 use borrow.Fn.PlainCycle.{Measures, is, falls, and}
 use Rattle.model.specs.Laws.Write.WroteLaws.{wrote-append}
-use Rattle.model.specs.Numbers.{digits}
+use Rattle.text.specs.Numbers.{digits}
 use Rattle.model.specs.Laws.Text.DigitsLaws.{digitsUpTo-lt, digitsUpTo-le, digits-digitsUpTo}
 use Rattle.model.proofs.position.Position.number.Reads as number
 use Rattle.model.proofs.position.Position.number.Kinds as kinds

@@ -5,8 +5,8 @@ use mathlib.Core.Path.{ap, subst, sym}
 use lib.ListN.{length}
 use denote.Ref.{now}
 use Prim.Native.Nat.{ℕ, _<_}
-use Rattle.model.specs.All.{All}
-use Rattle.model.specs.Model.{ActionLine}
+use Rattle.text.specs.All.{All}
+use Rattle.text.specs.Model.{ActionLine}
 use Rattle.model.specs.StoredModel.{actionAt}
 use Rattle.model.specs.Laws.Write.WritingLaws.{actionText-length}
 use Rattle.model.specs.Laws.Write.WritableLaws.{actions-le, name-bytes-at, actionAt-part}

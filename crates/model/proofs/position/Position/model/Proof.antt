@@ -4,7 +4,7 @@ use native.Mathlib.Omega.{arith}
 use mathlib.Core.Path.{ap}
 use lib.ListN.{length, length-append}
 use denote.Ref.{now}
-use Rattle.model.specs.declared.Head.{Head}
+use Rattle.text.specs.declared.Head.{Head}
 use Rattle.model.specs.StoredModel.{modelAt}
 use Rattle.model.specs.Text.{headText, textOf}
 use Rattle.model.specs.Laws.Write.WroteLaws.{wrote-append, wrote-length}

@@ -2,7 +2,7 @@
 use mathlib.Core.Path.{sym, ap, subst, _∙_}
 use native.Mathlib.Omega.{arith}
 use borrow.Author.Needs.{needs}
-use Rattle.model.specs.declared.State.{State}
+use Rattle.text.specs.declared.State.{State}
 use Rattle.model.specs.System.{ReachableIn}
 use Rattle.model.specs.Laws.Write.WroteLaws.{wrote-length}
 use Rattle.judge.specs.Laws.RunsLaws.{runTo-length}

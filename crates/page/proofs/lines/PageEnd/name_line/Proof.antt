@@ -6,7 +6,7 @@ use mathlib.Core.Path.{ap, subst, sym}
 use lib.ListN.{length}
 use denote.Ref.{now}
 use Prim.Native.Nat.{ℕ, _<_}
-use Rattle.model.specs.All.{All}
+use Rattle.text.specs.All.{All}
 use Rattle.model.specs.Laws.Write.WritableLaws.{actions-le, name-bytes-at}
 use Rattle.page.specs.PageLines.{word-line, lineBytes}
 use Rattle.page.specs.Laws.LeakLaws.{name-action-lt, name-part, name-line-length-le, name-bytes-lt}

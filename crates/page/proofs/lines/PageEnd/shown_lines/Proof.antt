@@ -8,7 +8,7 @@ use types.Run.{OneOf}
 use denote.Enum.Declared.{tagOf}
 use borrow.Author.Needs.{needs}
 use Rattle.model.specs.Lists.{wordLength}
-use Rattle.model.specs.Model.{Model}
+use Rattle.text.specs.Model.{Model}
 use Rattle.model.specs.Wrote.{Wrote}
 use Rattle.model.specs.Laws.Write.WroteLaws.{wrote-length}
 use Rattle.word.proofs.word.WordAnswer.{the-type}

@@ -1,0 +1,13 @@
+-- `between` makes the two comparisons of `between?`.
+use borrow.Author.Tests.{le-leb, lt-leb}
+use Rattle.text.proofs.line.between.Statement.{statement}
+use Rattle.text.proofs.line.between.Tie as tie
+
+returns : tie.Need-returns
+returns c = simp (lt-leb _ _ (c .if1 .taken))
+
+returns-2 : tie.Need-returns-2
+returns-2 c = simp (le-leb _ _ (c .if1 .left))
+
+pub between-spec : {M : Type 1} → statement M
+between-spec = tie.close (tie.spec returns returns-2)

@@ -1,0 +1,5 @@
+pub mod LineAnswers
+pub mod PartAnswers
+pub mod Ranges
+pub mod Row
+pub mod Table

@@ -1,0 +1,41 @@
+-- What the functions that read parts of a line answer, in the terms of `Lines`. Only the contracts of inner functions
+-- cite it.
+use mathlib.Core.Bool.{Bool, true, false, cond}
+use mathlib.Core.List.{List}
+use mathlib.Core.Path.{_≡_}
+use Prim.Native.Nat.{ℕ, _≤_}
+use lib.Dec.{eqb}
+use lib.ListN.{length, drop}
+use Rattle.text.specs.declared.Fault.the-variants.{Shape}
+use Rattle.text.specs.declared.Head.{Head}
+use Rattle.text.specs.declared.StepLine.{StepLine}
+use Rattle.text.specs.declared.line.RowRead.{RowRead}
+use Rattle.text.specs.declared.line.RowRead.the-variants.{Good, Bad}
+use Rattle.text.specs.Bytes.{comma}
+use Rattle.text.specs.Split.{split}
+use Rattle.text.specs.Lines.{Line, good, bad, fieldsOf}
+
+-- the numbers that a line states are those stored
+unfoldable pub rowRead : RowRead → List ℕ → Line (List ℕ)
+rowRead Good ns = good ns
+rowRead (Bad fault) ns = bad fault
+
+-- the fields after the letter stand from place 2 on
+pub record Fields (letter n : ℕ) (line : List ℕ) (r : Bool) : Type 0 where
+  pub yes-length : r ≡ true → 2 ≤ length line
+  pub yes-fields : r ≡ true → fieldsOf letter n line ≡ good (split comma (drop 2 line))
+  pub yes-count : r ≡ true → length (split comma (drop 2 line)) ≡ n
+  pub no-fields : r ≡ false → fieldsOf letter n line ≡ bad Shape
+
+-- 0 for L, 1 for D, 2 for H, 3 for any other byte
+unfoldable pub levelNumber : ℕ → ℕ
+levelNumber b = cond (eqb b 76) 0 (cond (eqb b 68) 1 (cond (eqb b 72) 2 3))
+
+-- line 1, or a step, of these numbers
+abbrev pub headOfNumbers : ℕ → ℕ → ℕ → ℕ → Head
+headOfNumbers states actions steps start =
+    record { states = states; actions = actions; steps = steps; start = record { 0 = start } }
+
+abbrev pub stepOfNumbers : ℕ → ℕ → ℕ → StepLine
+stepOfNumbers source action target =
+    record { source = record { 0 = source }; action = record { 0 = action }; target = record { 0 = target } }

@@ -1,0 +1,11 @@
+pub mod ActionLaws
+pub mod BytesLaws
+pub mod FieldsLaws
+pub mod LinesLaws
+pub mod ListLaws
+pub mod NumbersLaws
+pub mod RangesLaws
+pub mod RowLaws
+pub mod SameLaws
+pub mod SplitLaws
+pub mod TableLaws

@@ -1,0 +1,64 @@
+-- Which bytes are of which kind, and that a comma and a line end are one byte each.
+-- Document 01, "The text". Assumes nothing.
+use mathlib.Core.Bool.{Bool, true, false, cond}
+use mathlib.Core.List.{[], _∷_}
+use mathlib.Core.Path.{_≡_, sym, subst}
+use Prim.Native.Nat.{ℕ, suc, _≤_}
+use native.Mathlib.Omega.{arith}
+use lib.Dec.{T, leb, eqb, leb→le, le→leb}
+use lib.ListN.{getD}
+use borrow.Author.Tests.{eqb-true, le-leb}
+use Rattle.lts.specs.TestsLaws.{and-left, and-right, and-intro}
+use Rattle.text.specs.Bytes.{between?, kindOf, digit, smallLetter, capital, comma, lineEnd}
+
+pub between?→le : (least most x : ℕ) → T (between? least most x) → (least ≤ x) × (x ≤ most)
+between?→le least most x t =
+    (leb→le least x (and-left (leb least x) (leb x most) t), leb→le x most (and-right (leb least x) (leb x most) t))
+
+pub le→between? : (least most x : ℕ) → least ≤ x → x ≤ most → T (between? least most x)
+le→between? least most x h l = and-intro (leb least x) (leb x most) (le→leb least x h) (le→leb x most l)
+
+-- ---- the kind of a byte, by the first of five tests that it passes
+
+tests : Bool → Bool → Bool → Bool → Bool → ℕ
+tests d s c m e = cond d 1 (cond s 2 (cond c 3 (cond m 4 (cond e 5 0))))
+
+-- the test of the kind that came out was passed
+tests-passed : (d s c m e : Bool) (k : ℕ) → tests d s c m e ≡ suc k → getD (d ∷ s ∷ c ∷ m ∷ e ∷ []) k false ≡ true
+unfolding tests
+tests-passed true s c m e k h = let z : k ≡ 0 = omega arith in rw z
+tests-passed false true c m e k h = let z : k ≡ 1 = omega arith in rw z
+tests-passed false false true m e k h = let z : k ≡ 2 = omega arith in rw z
+tests-passed false false false true e k h = let z : k ≡ 3 = omega arith in rw z
+tests-passed false false false false true k h = let z : k ≡ 4 = omega arith in rw z
+tests-passed false false false false false k h = absurd (omega arith)
+
+module _ (b : ℕ) where
+  passed : (k : ℕ) → kindOf b ≡ suc k
+      → getD (between? 48 57 b ∷ between? 97 122 b ∷ between? 65 90 b ∷ eqb b 44 ∷ eqb b 10 ∷ []) k false ≡ true
+  unfolding kindOf tests
+  passed k h = tests-passed (between? 48 57 b) (between? 97 122 b) (between? 65 90 b) (eqb b 44) (eqb b 10) k h
+
+  within : (least most : ℕ) → between? least most b ≡ true → (least ≤ b) × (b ≤ most)
+  within least most e = between?→le least most b (subst T (sym e) tt)
+
+  -- the digits are bytes 48 to 57, the small letters 97 to 122, the capitals 65 to 90
+  pub digit-within : kindOf b ≡ digit → (48 ≤ b) × (b ≤ 57)
+  digit-within h = within 48 57 (passed 0 h)
+
+  pub smallLetter-within : kindOf b ≡ smallLetter → (97 ≤ b) × (b ≤ 122)
+  smallLetter-within h = within 97 122 (passed 1 h)
+
+  pub capital-within : kindOf b ≡ capital → (65 ≤ b) × (b ≤ 90)
+  capital-within h = within 65 90 (passed 2 h)
+
+  -- the comma is byte 44 alone, and the line end is byte 10 alone
+  pub comma-only : kindOf b ≡ comma → b ≡ 44
+  comma-only h = eqb-true b 44 (passed 3 h)
+
+  pub lineEnd-only : kindOf b ≡ lineEnd → b ≡ 10
+  lineEnd-only h = eqb-true b 10 (passed 4 h)
+
+  pub digit-kind : 48 ≤ b → b ≤ 57 → kindOf b ≡ digit
+  unfolding kindOf
+  digit-kind h l = rw (le-leb 48 b h, le-leb b 57 l)

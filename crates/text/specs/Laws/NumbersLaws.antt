@@ -1,0 +1,61 @@
+-- The value of digits, byte by byte, and the number of a field, by the field's shape.
+-- Document 01, "The text": "Numbers have 1 to 5 digits and no leading zero, except `0` itself." Assumes nothing.
+use mathlib.Core.List.{List, [], _∷_}
+use mathlib.Core.Path.{_≡_, refl}
+use Prim.Native.Nat.{ℕ, _+_, _-_, _*_, _^_, _≤_, _<_}
+use native.Mathlib.Nat.{pow-suc}
+use native.Mathlib.Numerals.{add-one}
+use native.Mathlib.Omega.{arith}
+use lib.Dec.{leb}
+use lib.ListN.{length, getD}
+use borrow.Author.Tests.{le-leb, lt-leb, eq-eqb, ne-eqb}
+use Rattle.text.specs.declared.number.Number.the-variants.{Value, Bad}
+use Rattle.text.specs.Bytes.{digit, kindOf}
+use Rattle.text.specs.Numbers.{digitsValue, numberShape?, numberOf}
+use Rattle.text.specs.Laws.SameLaws.{and-false}
+
+pub pow-next : (i : ℕ) → 10 ^ (i + 1) ≡ 10 * 10 ^ i
+pow-next i = rw (add-one, pow-suc) (omega arith)
+
+pub digitsValue-nil : (v : ℕ) → digitsValue v [] ≡ Value v
+unfolding digitsValue
+digitsValue-nil v = refl
+
+pub digitsValue-cons : (v b : ℕ) (bs : List ℕ) → kindOf b ≡ digit
+    → digitsValue v (b ∷ bs) ≡ digitsValue (v * 10 + (b - 48)) bs
+unfolding digitsValue
+digitsValue-cons v b bs h = rw (eq-eqb (kindOf b) digit h)
+
+pub digitsValue-bad : (v b : ℕ) (bs : List ℕ) → (kindOf b ≡ digit → ⊥) → digitsValue v (b ∷ bs) ≡ Bad
+unfolding digitsValue
+digitsValue-bad v b bs h = rw (ne-eqb (kindOf b) digit h)
+
+pub numberOf-nil : (f : List ℕ) → length f ≡ 0 → numberOf f ≡ Bad
+unfolding numberOf numberShape?
+numberOf-nil [] h = refl
+numberOf-nil (b ∷ bs) h = absurd (omega arith)
+
+pub numberOf-long : (f : List ℕ) → 5 < length f → numberOf f ≡ Bad
+unfolding numberOf numberShape?
+numberOf-long [] h = absurd (omega arith)
+numberOf-long (b ∷ []) h = absurd (omega arith)
+numberOf-long (b ∷ c ∷ bs) h = let l : 3 < length bs = omega arith in rw (lt-leb (length bs) 3 l)
+
+pub numberOf-one : (f : List ℕ) → length f ≡ 1 → numberOf f ≡ digitsValue 0 f
+unfolding numberOf numberShape?
+numberOf-one [] h = absurd (omega arith)
+numberOf-one (b ∷ []) h = refl
+numberOf-one (b ∷ c ∷ bs) h = absurd (omega arith)
+
+-- 0 before other digits
+pub numberOf-zero : (f : List ℕ) → 1 < length f → getD f 0 0 ≡ 48 → numberOf f ≡ Bad
+unfolding numberOf numberShape?
+numberOf-zero [] h z = absurd (omega arith)
+numberOf-zero (b ∷ []) h z = absurd (omega arith)
+numberOf-zero (b ∷ c ∷ bs) h z = rw (eq-eqb b 48 z, and-false (leb (length bs) 3))
+
+pub numberOf-some : (f : List ℕ) → 1 < length f → length f ≤ 5 → (getD f 0 0 ≡ 48 → ⊥) → numberOf f ≡ digitsValue 0 f
+unfolding numberOf numberShape?
+numberOf-some [] h l z = absurd (omega arith)
+numberOf-some (b ∷ []) h l z = absurd (omega arith)
+numberOf-some (b ∷ c ∷ bs) h l z = let m : length bs ≤ 3 = omega arith in rw (le-leb (length bs) 3 m, ne-eqb b 48 z)

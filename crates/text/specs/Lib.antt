@@ -1,0 +1,11 @@
+pub mod Limits
+pub mod Decides
+pub mod Laws
+pub mod Inner
+pub mod Bytes
+pub mod Numbers
+pub mod All
+pub mod Split
+pub mod Model
+pub mod Faults
+pub mod Lines

@@ -1,0 +1,56 @@
+-- A model as its text states it: the numbers of line 1, then what each `A` line and each `S` line states.
+-- Document 01, "The text".
+use mathlib.Core.Bool.{Bool, true, _&&_, _||_}
+use mathlib.Core.List.{List, [], _∷_, _++_}
+use Prim.Native.Nat.{ℕ}
+use lib.Dec.{ltb, eqb}
+use Rattle.text.specs.declared.Head.{Head}
+use Rattle.text.specs.declared.StepLine.{StepLine}
+
+-- "level (0 L, 1 D, 2 H)"; D is called release
+abbrev pub low : ℕ
+low = 0
+
+abbrev pub release : ℕ
+release = 1
+
+abbrev pub high : ℕ
+high = 2
+
+-- `A,level,name`
+pub record ActionLine : Type 0 where
+  pub level : ℕ
+  pub name : List ℕ
+
+pub record Model : Type 0 where
+  pub head : Head
+  pub actions : List ActionLine
+  pub steps : List StepLine
+
+-- what stands past the end of a list
+abbrev pub noAction : ActionLine
+noAction = record { level = 0; name = [] }
+
+abbrev pub noStep : StepLine
+noStep = record { source = record { 0 = 0 }; action = record { 0 = 0 }; target = record { 0 = 0 } }
+
+-- a model with one more action, or one more step, at the end
+abbrev pub withAction : Model → ActionLine → Model
+withAction m a = record { head = m .head; actions = m .actions ++ (a ∷ []); steps = m .steps }
+
+abbrev pub withStep : Model → StepLine → Model
+withStep m s = record { head = m .head; actions = m .actions; steps = m .steps ++ (s ∷ []) }
+
+-- "strictly rising by source, then action, then target": t stands above s
+unfoldable pub above? : StepLine → StepLine → Bool
+above? s t =
+    ltb (s .source .0) (t .source .0)
+    || (eqb (s .source .0) (t .source .0)
+    && (ltb (s .action .0) (t .action .0)
+    || (eqb (s .action .0) (t .action .0) && ltb (s .target .0) (t .target .0))))
+
+-- t stands above the last of the steps before it, if there is one
+unfoldable pub aboveLast? : List StepLine → StepLine → Bool
+aboveLast? [] t = true
+aboveLast? (s ∷ []) t = above? s t
+aboveLast? (s ∷ r ∷ rs) t = aboveLast? (r ∷ rs) t
