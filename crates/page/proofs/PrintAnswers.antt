@@ -7,10 +7,10 @@ use native.Mathlib.Omega.{arith}
 use lib.ListN.{length, drop}
 use Rattle.model.specs.declared.read.ReadAnswer.{ReadAnswer}
 use Rattle.model.specs.declared.read.ReadAnswer.the-variants.{Done}
-use Rattle.model.specs.Faults.{answers, refuses}
-use Rattle.model.specs.Limits.{storeLength}
+use Rattle.text.specs.Faults.{answers, refuses}
+use Rattle.text.specs.Limits.{storeLength}
 use Rattle.model.specs.Lists.{distancesLength, tableLength, runLength, wordLength, pageLength}
-use Rattle.model.specs.Model.{Model}
+use Rattle.text.specs.Model.{Model}
 use Rattle.model.specs.Promises.{readOutcome, readingOutcome, readingStore, ReadPromise}
 use Rattle.model.specs.Reading.{Reading, done, tooLong, faulty, readText}
 use Rattle.model.specs.Store.{storeOf, Good}

@@ -8,8 +8,8 @@ use mathlib.Core.Path.{_≡_}
 use Prim.Native.Nat.{ℕ}
 use lib.ListN.{take}
 use Rattle.lts.specs.Noninterference.{INI}
-use Rattle.model.specs.Faults.{Outcome, answers}
-use Rattle.model.specs.Model.{Model}
+use Rattle.text.specs.Faults.{Outcome, answers}
+use Rattle.text.specs.Model.{Model}
 use Rattle.model.specs.System.{source, levels, Steps, Start, HighStep, DeterministicModel}
 use Rattle.model.specs.Text.{field}
 use Rattle.judge.specs.declared.judge.Verdict.the-variants.{Refused}

@@ -6,11 +6,11 @@ use mathlib.Core.Option.{Option, none, some}
 use mathlib.Core.Path.{_≡_}
 use Prim.Native.Nat.{ℕ}
 use lib.ListN.{length, drop}
-use Rattle.model.specs.Faults.{Outcome, answers, refuses, firstShort}
-use Rattle.model.specs.Limits.{storeLength}
+use Rattle.text.specs.Faults.{Outcome, answers, refuses, firstShort}
+use Rattle.text.specs.Limits.{storeLength}
 use Rattle.model.specs.Lists.{distancesLength, tableLength, runLength, wordLength, pageLength}
-use Rattle.model.specs.Model.{Model}
-use Rattle.model.specs.Numbers.{digits}
+use Rattle.text.specs.Model.{Model}
+use Rattle.text.specs.Numbers.{digits}
 use Rattle.model.specs.Promises.{readingOutcome}
 use Rattle.model.specs.Reading.{done, readText}
 use Rattle.model.specs.Store.{storeOf}
