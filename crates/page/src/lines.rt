@@ -1,9 +1,9 @@
 // The lines of a page.
 use judge::judge::Verdict;
 use judge::reach::UNREACHABLE;
+use model::position::Position;
 use text::State;
 use text::Step;
-use model::position::Position;
 use word::word::End;
 ghost use mathlib.Core.Path.{_≡_};
 ghost use Prim.Native.Nat.{ℕ, _+_, _≤_, _<_};
@@ -16,8 +16,8 @@ ghost use Rattle.page.specs.PageLines.{verdict-line, state-line, run-lin
 ghost use Rattle.page.specs.PageLines.{last-line, distanceText, lineBytes};
 ghost use Rattle.page.specs.Inner.Entries.{distanceOf};
 
-// Where the page ends so far, by value: each writer takes it and hands back where its line or field ended. Each asks for
-// room for just its own bytes.
+// Where the page ends so far, by value: each writer takes it and hands back where its line or field ended. Each asks
+// for room for just its own bytes.
 pub struct PageEnd {
     pub at: Position,
 }
