@@ -1,6 +1,6 @@
 -- The promise of the path from a text to its page.
--- Document 01, "The page": "The program reads standard input and prints the page, or `F,number,place` if Read refuses; each
--- line ends in byte 10."
+-- Document 01, "The page": "The program reads standard input and prints the page, or `F,number,place` if Read refuses;
+-- each line ends in byte 10."
 use mathlib.Core.List.{List, [], _∷_, _++_}
 use mathlib.Core.Option.{Option, none, some}
 use mathlib.Core.Path.{_≡_}

@@ -66,7 +66,8 @@ begins-refuse j depth rest = refl
 
 -- a sequence and its end are those that the list and the answer hold
 sequence-is : {m : Model} {j depth : ℕ} (w word : List ℕ) {word′ : List ℕ} (end : End)
-    → word′ ≡ w ++ drop (length w) word → (x : Sequence m j depth (answers (length w ∷ endNumber end ∷ [])) word′) → (w ≡ x .sequence) × (end ≡ x .end)
+    → word′ ≡ w ++ drop (length w) word → (x : Sequence m j depth (answers (length w ∷ endNumber end ∷ [])) word′)
+    → (w ≡ x .sequence) × (end ≡ x .end)
 sequence-is w word {word′} end e x =
     let a = x .answer in
     let l : length w ≡ length (x .sequence) = cc in
@@ -80,7 +81,8 @@ module _ {s : List ℕ} {m : Model} (st : Stored s m) (det : DeterministicModel 
   -- what the lines after the states say of a refused model
   leak-told : (j depth : ℕ) (bytes : List ℕ) (states after : List PageLine) → StateLines m (m .head .states) states
       → RefusedAt m j depth → LeakLines m j depth run word run′ word′ after
-      → bytes ≡ pageBytes ((verdict-line (Refused (record { 0 = j }) depth) ∷ []) ++ states ++ after ++ (last-line ∷ []))
+      → bytes ≡ pageBytes ((verdict-line (Refused (record { 0 = j }) depth) ∷ []) ++ states ++ after ++
+      (last-line ∷ []))
       → LeakTold m bytes word′
   leak-told j depth bytes states after lines refused x e = go (x .rest) (x .shown) (x .lines-are)
     where
@@ -180,7 +182,7 @@ fault-begins x e =
     let g = ap (λ (l : List ℕ). getD l 0 0) f in
     omega (arith, g)
 
-well-formed-stored : {m : Model} → WellFormed m → Stored (storeOf m ++ []) m
+pub well-formed-stored : {m : Model} → WellFormed m → Stored (storeOf m ++ []) m
 well-formed-stored {m} w = holds→Stored (storeOf m ++ []) m
     (omega (arith, storeOf-length m w, length-append (storeOf m) [])) (holds-storeOf m [] w)
 
