@@ -31,7 +31,7 @@ use Rattle.word.specs.Claim.{States, Sequence}
 use Rattle.word.specs.Words.{endNumber}
 use Rattle.word.specs.Laws.WordPromiseLaws.{endNumber-injective}
 use Rattle.word.specs.Laws.ClaimLaws.{sequence-of-shown}
-use Rattle.word.specs.Laws.ReadTextLaws.{lists-of-told, states→readText}
+use Rattle.word.specs.Laws.ReadTextLaws.{lists-of-notShort, states→readText}
 use Rattle.word.specs.Laws.LeastLeakLaws.{bnid↔INI}
 use Rattle.page.specs.Claim.{SaysPass, SaysRefuse, LeakTold, PageTells, PrintClaim}
 use Rattle.page.specs.Page.{nameLine, LeakShown, by-word, by-branch, LeakLines, AfterStates, StateLines}
@@ -200,7 +200,7 @@ module _ {text store distances table run word out : List ℕ} {outcome : Outcome
     {store′ distances′ table′ run′ word′ out′ : List ℕ}
     (p : PrintPromise text store distances table run word out outcome store′ distances′ table′ run′ word′ out′) where
   lists-none : (n : ℕ) → outcome ≡ answers (n ∷ []) → printLists text store distances table run word out ≡ none
-  lists-none n e = lists-of-told (printLists text store distances table run word out) (λ k h. p .short k h .0) (λ k h.
+  lists-none n e = lists-of-notShort (printLists text store distances table run word out) (λ k h. p .short k h .0) (λ k h.
       let z : _≡_ {A = ℕ} 0 1 = cc in omega arith)
 
   pub print-claim : PrintClaim text outcome word′ out′
