@@ -29,7 +29,7 @@ abbrev pub SaysRefuse : List ℕ → Type 0
 SaysRefuse bytes = take 9 bytes ≡ (86 ∷ []) ++ field refuseText ++ (44 ∷ [])
 
 -- What the page of a refused deterministic model tells, line by line. `word` is the list that Page filled.
-pub record LeakTold (m : Model) (bytes word : List ℕ) : Type 0 where
+pub record LeakPage (m : Model) (bytes word : List ℕ) : Type 0 where
   pub step : ℕ
   pub depth : ℕ
   pub states : List PageLine
@@ -57,7 +57,7 @@ pub record PageTells (m : Model) (bytes word : List ℕ) : Type 0 where
   -- "It is passed exactly when this holds of every sequence of actions, however long, that can be run from the start
   -- [..]"
   pub pass-iff : SaysPass bytes ↔ INI (levels m) (Steps m) (Start m)
-  pub leak : SaysRefuse bytes → LeakTold m bytes word
+  pub leak : SaysRefuse bytes → LeakPage m bytes word
 
 -- A call that gives 21 tells nothing; any other leaves its bytes at the front of `out`.
 pub record PrintClaim (text : List ℕ) (outcome : Outcome) (word out : List ℕ) : Type 0 where

@@ -33,7 +33,7 @@ use Rattle.word.specs.Laws.WordPromiseLaws.{endNumber-injective}
 use Rattle.word.specs.Laws.ClaimLaws.{sequence-of-shown}
 use Rattle.word.specs.Laws.ReadTextLaws.{lists-of-notShort, states→readText}
 use Rattle.word.specs.Laws.LeastLeakLaws.{bnid↔INI}
-use Rattle.page.specs.Claim.{SaysPass, SaysRefuse, LeakTold, PageTells, PrintClaim}
+use Rattle.page.specs.Claim.{SaysPass, SaysRefuse, LeakPage, PageTells, PrintClaim}
 use Rattle.page.specs.Page.{nameLine, LeakShown, by-word, by-branch, LeakLines, AfterStates, StateLines}
 use Rattle.page.specs.PageLines.{PageLine, verdict-line, run-line, end-line, last-line, lineText, pageBytes}
 use Rattle.page.specs.Promises.{PagePrinted}
@@ -88,11 +88,11 @@ module _ {s : List ℕ} {m : Model} (st : Stored s m) (det : DeterministicModel 
     {lines : List PageLine} {bytes : List ℕ} (bytes-are : bytes ≡ pageBytes lines)
     (parted : split lineEnd bytes ≡ map lineText lines ++ ([] ∷ [])) where
   -- what the lines after the states say of a refused model
-  leak-told : (j depth : ℕ) (states after : List PageLine) → StateLines m (m .head .states) states
+  leak-page : (j depth : ℕ) (states after : List PageLine) → StateLines m (m .head .states) states
       → RefusedAt m j depth → LeakLines m j depth run word run′ word′ after
       → lines ≡ (verdict-line (Refused (record { 0 = j }) depth) ∷ []) ++ states ++ after ++ (last-line ∷ [])
-      → LeakTold m bytes word′
-  leak-told j depth states after state-lines refused x e = go (x .rest) (x .shown) (x .lines-are)
+      → LeakPage m bytes word′
+  leak-page j depth states after state-lines refused x e = go (x .rest) (x .shown) (x .lines-are)
     where
       page : List PageLine → List PageLine
       page z = (verdict-line (Refused (record { 0 = j }) depth) ∷ []) ++ states ++ z ++ (last-line ∷ [])
@@ -101,7 +101,7 @@ module _ {s : List ℕ} {m : Model} (st : Stored s m) (det : DeterministicModel 
       shown-page w end = page (map run-line (x .steps) ++ (map (nameLine m) w ++ (end-line end ∷ [])))
 
       go : (rest : List PageLine) → LeakShown m j depth word word′ rest → after ≡ map run-line (x .steps) ++ rest
-          → LeakTold m bytes word′
+          → LeakPage m bytes word′
       go _ (by-branch n k) f = absurd (n det)
       go _ (by-word {w = w} {end = end} d y l k) f =
           let shown = sequence-of-shown st refused (record {
@@ -134,17 +134,17 @@ module _ {s : List ℕ} {m : Model} (st : Stored s m) (det : DeterministicModel 
           }
 
   -- the page of a verdict
-  verdict-told : (v : Verdict) (states after : List PageLine) → StateLines m (m .head .states) states → Judged m v
+  verdict-page : (v : Verdict) (states after : List PageLine) → StateLines m (m .head .states) states → Judged m v
       → AfterStates m v run word run′ word′ after
       → lines ≡ (verdict-line v ∷ []) ++ states ++ after ++ (last-line ∷ []) → PageTells m bytes word′
-  verdict-told (Passed rank) states after state-lines judged x e =
+  verdict-page (Passed rank) states after state-lines judged x e =
       let says : SaysPass bytes = subst SaysPass (sym (bytes-are ∙ ap pageBytes e)) (begins-pass rank _) in
       record {
         verdict = inl says;
         pass-iff = (λ _. bnid↔INI st det .0 (judged .bnid), λ _. says);
         leak = λ r. absurd (pass-not-refuse bytes says r);
       }
-  verdict-told (Refused j depth) states after state-lines judged x e =
+  verdict-page (Refused j depth) states after state-lines judged x e =
       let says : SaysRefuse bytes = subst SaysRefuse (sym (bytes-are ∙ ap pageBytes e)) (begins-refuse (j .0) depth _)
       in
       record {
@@ -153,7 +153,7 @@ module _ {s : List ℕ} {m : Model} (st : Stored s m) (det : DeterministicModel 
           λ p. absurd (pass-not-refuse bytes p says),
           λ ini. absurd (no-leak-of-bnid m (bnid↔INI st det .1 ini) (j .0) depth (judged .leak)),
         );
-        leak = λ _. leak-told (j .0) depth states after state-lines judged x e;
+        leak = λ _. leak-page (j .0) depth states after state-lines judged x e;
       }
 
 same-number : {a b : ℕ} → answers (a ∷ []) ≡ answers (b ∷ []) → a ≡ b
@@ -169,7 +169,7 @@ page-tells w det {outcome} {run} {word} {out} {run′} {word′} {out′} n e x 
     ∙ ap (λ (k : ℕ). take k (pageBytes (x .lines) ++ drop (length (pageBytes (x .lines))) out)) l
     ∙ take-append-seam (pageBytes (x .lines)) (drop (length (pageBytes (x .lines))) out) in
     let p = x .page in
-    verdict-told (well-formed-stored w) det run word run′ word′ taken (ap (split lineEnd) taken ∙ split-page w p)
+    verdict-page (well-formed-stored w) det run word run′ word′ taken (ap (split lineEnd) taken ∙ split-page w p)
     (p .verdict) (p .states) (p .after) (p .state-lines) (p .judged) (p .after-states) (p .lines-are)
 
 -- ---- the claim
@@ -200,8 +200,9 @@ module _ {text store distances table run word out : List ℕ} {outcome : Outcome
     {store′ distances′ table′ run′ word′ out′ : List ℕ}
     (p : PrintPromise text store distances table run word out outcome store′ distances′ table′ run′ word′ out′) where
   lists-none : (n : ℕ) → outcome ≡ answers (n ∷ []) → printLists text store distances table run word out ≡ none
-  lists-none n e = lists-of-notShort (printLists text store distances table run word out) (λ k h. p .short k h .0) (λ k h.
-      let z : _≡_ {A = ℕ} 0 1 = cc in omega arith)
+  lists-none n e =
+      lists-of-notShort (printLists text store distances table run word out) (λ k h. p .short k h .0)
+      (λ k h. let z : _≡_ {A = ℕ} 0 1 = cc in omega arith)
 
   pub print-claim : PrintClaim text outcome word′ out′
   unfolding readingOutcome
