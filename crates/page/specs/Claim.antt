@@ -8,15 +8,17 @@ use mathlib.Core.Path.{_≡_}
 use Prim.Native.Nat.{ℕ}
 use lib.ListN.{take}
 use Rattle.lts.specs.Noninterference.{INI}
+use Rattle.text.specs.Bytes.{lineEnd}
 use Rattle.text.specs.Faults.{Outcome, answers}
 use Rattle.text.specs.Model.{Model}
+use Rattle.text.specs.Split.{split}
 use Rattle.model.specs.System.{source, levels, Steps, Start, HighStep, DeterministicModel}
 use Rattle.model.specs.Text.{field}
 use Rattle.judge.specs.declared.judge.Verdict.the-variants.{Refused}
 use Rattle.judge.specs.Runs.{RunTo}
 use Rattle.word.specs.Claim.{States, Sequence}
 use Rattle.page.specs.PageLines.{PageLine, verdict-line, run-line, end-line, last-line, passText, refuseText}
-use Rattle.page.specs.PageLines.{pageBytes}
+use Rattle.page.specs.PageLines.{lineText, pageBytes}
 use Rattle.page.specs.Page.{StateLines, nameLine}
 
 -- The page begins with `V,pass,`, or with `V,refuse,`.
@@ -27,7 +29,7 @@ abbrev pub SaysRefuse : List ℕ → Type 0
 SaysRefuse bytes = take 9 bytes ≡ (86 ∷ []) ++ field refuseText ++ (44 ∷ [])
 
 -- What the page of a refused deterministic model tells, line by line. `word` is the list that Page filled.
-pub record LeakTold (m : Model) (bytes word : List ℕ) : Type 0 where
+pub record LeakPage (m : Model) (bytes word : List ℕ) : Type 0 where
   pub step : ℕ
   pub depth : ℕ
   pub states : List PageLine
@@ -42,8 +44,12 @@ pub record LeakTold (m : Model) (bytes word : List ℕ) : Type 0 where
   pub answer : Outcome
   pub shown : Sequence m step depth answer word
   -- `V,refuse,step,depth`, the `C` lines, `R,step` per step, `W,name` per action of the sequence, `B,` and the end, `E`
-  pub bytes-are : bytes ≡ pageBytes ((verdict-line (Refused (record { 0 = step }) depth) ∷ []) ++ states
-      ++ (map run-line run ++ (map (nameLine m) (shown .sequence) ++ (end-line (shown .end) ∷ []))) ++ (last-line ∷ []))
+  pub lines : List PageLine
+  pub lines-are : lines ≡ (verdict-line (Refused (record { 0 = step }) depth) ∷ []) ++ states
+      ++ (map run-line run ++ (map (nameLine m) (shown .sequence) ++ (end-line (shown .end) ∷ []))) ++ (last-line ∷ [])
+  -- these are the lines of the page: its bytes are theirs, and part at the line ends into their texts
+  pub bytes-are : bytes ≡ pageBytes lines
+  pub parted : split lineEnd bytes ≡ map lineText lines ++ ([] ∷ [])
 
 -- What the page of a deterministic model tells.
 pub record PageTells (m : Model) (bytes word : List ℕ) : Type 0 where
@@ -51,7 +57,7 @@ pub record PageTells (m : Model) (bytes word : List ℕ) : Type 0 where
   -- "It is passed exactly when this holds of every sequence of actions, however long, that can be run from the start
   -- [..]"
   pub pass-iff : SaysPass bytes ↔ INI (levels m) (Steps m) (Start m)
-  pub leak : SaysRefuse bytes → LeakTold m bytes word
+  pub leak : SaysRefuse bytes → LeakPage m bytes word
 
 -- A call that gives 21 tells nothing; any other leaves its bytes at the front of `out`.
 pub record PrintClaim (text : List ℕ) (outcome : Outcome) (word out : List ℕ) : Type 0 where

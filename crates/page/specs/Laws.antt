@@ -6,5 +6,6 @@ pub mod LeakShownLaws
 pub mod PageLaws
 pub mod PagePromiseLaws
 pub mod ReadingPlaceLaws
+pub mod PageSplitLaws
 pub mod PageClaimLaws
 pub mod PrintPromiseLaws

@@ -37,7 +37,7 @@ use Rattle.page.specs.Laws.LinesWrittenLaws.{written-append, written-of}
 
 -- ---- the letters of a low word are actions
 
-low-lt : (m : Model) (a : ℕ) → T (levels m .low? a) → a < length (m .actions)
+pub low-lt : (m : Model) (a : ℕ) → T (levels m .low? a) → a < length (m .actions)
 low-lt m a t = ⊎-elim (λ l. l) (λ l.
     let e = List·getD-eq-default (m .actions) (record { level = 3; name = [] }) {n = a} l in
     let f = ap (λ (x : ActionLine). x .level) e in

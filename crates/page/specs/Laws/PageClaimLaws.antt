@@ -16,7 +16,9 @@ use Rattle.model.specs.WellFormed.{WellFormed}
 use Rattle.model.specs.Laws.Store.StoreLaws.{storeOf-length}
 use Rattle.model.specs.Laws.Store.StoredModelLaws.{holds-storeOf}
 use Rattle.model.specs.Laws.Text.ReadingLaws.{readText-iff}
+use Rattle.text.specs.Bytes.{lineEnd}
 use Rattle.text.specs.Model.{Model}
+use Rattle.text.specs.Split.{split}
 use Rattle.model.specs.System.{DeterministicModel}
 use Rattle.judge.specs.declared.judge.Verdict.{Verdict}
 use Rattle.judge.specs.declared.judge.Verdict.the-variants.{Passed, Refused}
@@ -31,10 +33,11 @@ use Rattle.word.specs.Laws.WordPromiseLaws.{endNumber-injective}
 use Rattle.word.specs.Laws.ClaimLaws.{sequence-of-shown}
 use Rattle.word.specs.Laws.ReadTextLaws.{lists-of-notShort, states→readText}
 use Rattle.word.specs.Laws.LeastLeakLaws.{bnid↔INI}
-use Rattle.page.specs.Claim.{SaysPass, SaysRefuse, LeakTold, PageTells, PrintClaim}
+use Rattle.page.specs.Claim.{SaysPass, SaysRefuse, LeakPage, PageTells, PrintClaim}
 use Rattle.page.specs.Page.{nameLine, LeakShown, by-word, by-branch, LeakLines, AfterStates, StateLines}
 use Rattle.page.specs.PageLines.{PageLine, verdict-line, run-line, end-line, last-line, lineText, pageBytes}
 use Rattle.page.specs.Promises.{PagePrinted}
+use Rattle.page.specs.Laws.PageSplitLaws.{split-page}
 use Rattle.page.specs.Prints.{faultBytes, printLists, FaultPrinted, PrintPromise}
 
 -- ---- the bytes that a page begins with
@@ -77,17 +80,28 @@ sequence-is w word {word′} end e x =
       endNumber-injective end (x .end) f,
     )
 
-module _ {s : List ℕ} {m : Model} (st : Stored s m) (det : DeterministicModel m) (run word run′ word′ : List ℕ) where
+pub well-formed-stored : {m : Model} → WellFormed m → Stored (storeOf m ++ []) m
+well-formed-stored {m} w = holds→Stored (storeOf m ++ []) m
+    (omega (arith, storeOf-length m w, length-append (storeOf m) [])) (holds-storeOf m [] w)
+
+module _ {s : List ℕ} {m : Model} (st : Stored s m) (det : DeterministicModel m) (run word run′ word′ : List ℕ)
+    {lines : List PageLine} {bytes : List ℕ} (bytes-are : bytes ≡ pageBytes lines)
+    (parted : split lineEnd bytes ≡ map lineText lines ++ ([] ∷ [])) where
   -- what the lines after the states say of a refused model
-  leak-told : (j depth : ℕ) (bytes : List ℕ) (states after : List PageLine) → StateLines m (m .head .states) states
+  leak-page : (j depth : ℕ) (states after : List PageLine) → StateLines m (m .head .states) states
       → RefusedAt m j depth → LeakLines m j depth run word run′ word′ after
-      → bytes ≡ pageBytes ((verdict-line (Refused (record { 0 = j }) depth) ∷ []) ++ states ++ after ++
-      (last-line ∷ []))
-      → LeakTold m bytes word′
-  leak-told j depth bytes states after lines refused x e = go (x .rest) (x .shown) (x .lines-are)
+      → lines ≡ (verdict-line (Refused (record { 0 = j }) depth) ∷ []) ++ states ++ after ++ (last-line ∷ [])
+      → LeakPage m bytes word′
+  leak-page j depth states after state-lines refused x e = go (x .rest) (x .shown) (x .lines-are)
     where
+      page : List PageLine → List PageLine
+      page z = (verdict-line (Refused (record { 0 = j }) depth) ∷ []) ++ states ++ z ++ (last-line ∷ [])
+
+      shown-page : List ℕ → End → List PageLine
+      shown-page w end = page (map run-line (x .steps) ++ (map (nameLine m) w ++ (end-line end ∷ [])))
+
       go : (rest : List PageLine) → LeakShown m j depth word word′ rest → after ≡ map run-line (x .steps) ++ rest
-          → LeakTold m bytes word′
+          → LeakPage m bytes word′
       go _ (by-branch n k) f = absurd (n det)
       go _ (by-word {w = w} {end = end} d y l k) f =
           let shown = sequence-of-shown st refused (record {
@@ -103,60 +117,60 @@ module _ {s : List ℕ} {m : Model} (st : Stored s m) (det : DeterministicModel 
             step = j;
             depth = depth;
             states = states;
-            state-lines = lines;
+            state-lines = state-lines;
             high-step = refused .leak .high-step;
             run = x .steps;
             run-to = x .run-to;
             answer = answers (length w ∷ endNumber end ∷ []);
             shown = shown;
-            bytes-are =
+            lines = lines;
+            lines-are =
                 e
                 ∙ ap page f
-                ∙ ap (λ (z : List ℕ). page (map run-line (x .steps) ++ (map (nameLine m) z ++ (end-line end ∷ []))))
-                (same .0)
-                ∙ ap (λ (z : End).
-                page (map run-line (x .steps) ++ (map (nameLine m) (shown .sequence) ++ (end-line z ∷ [])))) (same .1);
+                ∙ ap (λ (z : List ℕ). shown-page z end) (same .0)
+                ∙ ap (shown-page (shown .sequence)) (same .1);
+            bytes-are = bytes-are;
+            parted = parted;
           }
-        where
-          page : List PageLine → List ℕ
-          page z = pageBytes ((verdict-line (Refused (record { 0 = j }) depth) ∷ []) ++ states ++ z ++ (last-line ∷ []))
 
   -- the page of a verdict
-  verdict-told : (v : Verdict) (bytes : List ℕ) (states after : List PageLine) → StateLines m (m .head .states) states
-      → Judged m v → AfterStates m v run word run′ word′ after
-      → bytes ≡ pageBytes ((verdict-line v ∷ []) ++ states ++ after ++ (last-line ∷ [])) → PageTells m bytes word′
-  verdict-told (Passed rank) bytes states after lines judged x e =
-      let says : SaysPass bytes = subst SaysPass (sym e) (begins-pass rank _) in
+  verdict-page : (v : Verdict) (states after : List PageLine) → StateLines m (m .head .states) states → Judged m v
+      → AfterStates m v run word run′ word′ after
+      → lines ≡ (verdict-line v ∷ []) ++ states ++ after ++ (last-line ∷ []) → PageTells m bytes word′
+  verdict-page (Passed rank) states after state-lines judged x e =
+      let says : SaysPass bytes = subst SaysPass (sym (bytes-are ∙ ap pageBytes e)) (begins-pass rank _) in
       record {
         verdict = inl says;
         pass-iff = (λ _. bnid↔INI st det .0 (judged .bnid), λ _. says);
         leak = λ r. absurd (pass-not-refuse bytes says r);
       }
-  verdict-told (Refused j depth) bytes states after lines judged x e =
-      let says : SaysRefuse bytes = subst SaysRefuse (sym e) (begins-refuse (j .0) depth _) in
+  verdict-page (Refused j depth) states after state-lines judged x e =
+      let says : SaysRefuse bytes = subst SaysRefuse (sym (bytes-are ∙ ap pageBytes e)) (begins-refuse (j .0) depth _)
+      in
       record {
         verdict = inr says;
         pass-iff = (
           λ p. absurd (pass-not-refuse bytes p says),
           λ ini. absurd (no-leak-of-bnid m (bnid↔INI st det .1 ini) (j .0) depth (judged .leak)),
         );
-        leak = λ _. leak-told (j .0) depth bytes states after lines judged x e;
+        leak = λ _. leak-page (j .0) depth states after state-lines judged x e;
       }
 
-  pub page-tells : {outcome : Outcome} {out out′ : List ℕ} (n : ℕ) → outcome ≡ answers (n ∷ [])
-      → PagePrinted m outcome run word out run′ word′ out′ → PageTells m (take n out′) word′
-  page-tells {outcome} {out} {out′} n e x =
-      let l : n ≡ length (pageBytes (x .lines)) = same-number (sym e ∙ x .outcome-is) in
-      let taken : take n out′ ≡ pageBytes (x .lines) =
-      ap (take n) (x .list)
-      ∙ ap (λ (k : ℕ). take k (pageBytes (x .lines) ++ drop (length (pageBytes (x .lines))) out)) l
-      ∙ take-append-seam (pageBytes (x .lines)) (drop (length (pageBytes (x .lines))) out) in
-      let p = x .page in
-      verdict-told (p .verdict) (take n out′) (p .states) (p .after) (p .state-lines) (p .judged) (p .after-states)
-      (taken ∙ ap pageBytes (p .lines-are))
-    where
-      same-number : {a b : ℕ} → answers (a ∷ []) ≡ answers (b ∷ []) → a ≡ b
-      same-number h = cc
+same-number : {a b : ℕ} → answers (a ∷ []) ≡ answers (b ∷ []) → a ≡ b
+same-number h = cc
+
+pub page-tells : {m : Model} → WellFormed m → DeterministicModel m → {outcome : Outcome}
+    {run word out run′ word′ out′ : List ℕ} (n : ℕ) → outcome ≡ answers (n ∷ [])
+    → PagePrinted m outcome run word out run′ word′ out′ → PageTells m (take n out′) word′
+page-tells w det {outcome} {run} {word} {out} {run′} {word′} {out′} n e x =
+    let l : n ≡ length (pageBytes (x .lines)) = same-number (sym e ∙ x .outcome-is) in
+    let taken : take n out′ ≡ pageBytes (x .lines) =
+    ap (take n) (x .list)
+    ∙ ap (λ (k : ℕ). take k (pageBytes (x .lines) ++ drop (length (pageBytes (x .lines))) out)) l
+    ∙ take-append-seam (pageBytes (x .lines)) (drop (length (pageBytes (x .lines))) out) in
+    let p = x .page in
+    verdict-page (well-formed-stored w) det run word run′ word′ taken (ap (split lineEnd) taken ∙ split-page w p)
+    (p .verdict) (p .states) (p .after) (p .state-lines) (p .judged) (p .after-states) (p .lines-are)
 
 -- ---- the claim
 
@@ -182,16 +196,13 @@ fault-begins x e =
     let g = ap (λ (l : List ℕ). getD l 0 0) f in
     omega (arith, g)
 
-pub well-formed-stored : {m : Model} → WellFormed m → Stored (storeOf m ++ []) m
-well-formed-stored {m} w = holds→Stored (storeOf m ++ []) m
-    (omega (arith, storeOf-length m w, length-append (storeOf m) [])) (holds-storeOf m [] w)
-
 module _ {text store distances table run word out : List ℕ} {outcome : Outcome}
     {store′ distances′ table′ run′ word′ out′ : List ℕ}
     (p : PrintPromise text store distances table run word out outcome store′ distances′ table′ run′ word′ out′) where
   lists-none : (n : ℕ) → outcome ≡ answers (n ∷ []) → printLists text store distances table run word out ≡ none
-  lists-none n e = lists-of-notShort (printLists text store distances table run word out) (λ k h. p .short k h .0) (λ k h.
-      let z : _≡_ {A = ℕ} 0 1 = cc in omega arith)
+  lists-none n e =
+      lists-of-notShort (printLists text store distances table run word out) (λ k h. p .short k h .0)
+      (λ k h. let z : _≡_ {A = ℕ} 0 1 = cc in omega arith)
 
   pub print-claim : PrintClaim text outcome word′ out′
   unfolding readingOutcome
@@ -201,7 +212,7 @@ module _ {text store distances table run word out : List ℕ} {outcome : Outcome
       λ (m, s).
           printed-begins (p .read (lists-none n e) m (states→readText s) .printed),
     );
-    tells = λ n e m s det. page-tells (well-formed-stored (s .well-formed)) det run word run′ word′ n e
+    tells = λ n e m s det. page-tells (s .well-formed) det n e
         (p .read (lists-none n e) m (states→readText s) .printed);
   }
     where
