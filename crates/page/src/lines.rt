@@ -1,9 +1,9 @@
 // The lines of a page.
 use judge::judge::Verdict;
 use judge::reach::UNREACHABLE;
+use model::position::Position;
 use text::State;
 use text::Step;
-use model::position::Position;
 use word::word::End;
 ghost use mathlib.Core.Path.{_≡_};
 ghost use Prim.Native.Nat.{ℕ, _+_, _≤_, _<_};
