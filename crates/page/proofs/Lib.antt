@@ -1,1 +1,2 @@
 pub mod PageAnswers
+pub mod PrintAnswers

@@ -2,3 +2,4 @@ pub mod Entries
 pub mod LinesWritten
 pub mod Leak
 pub mod PageLists
+pub mod Refusals

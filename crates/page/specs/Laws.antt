@@ -5,3 +5,5 @@ pub mod LeakLaws
 pub mod LeakShownLaws
 pub mod PageLaws
 pub mod PagePromiseLaws
+pub mod ReadingPlaceLaws
+pub mod PageClaimLaws

@@ -3,4 +3,5 @@ mod class;
 mod leak;
 mod lines;
 pub mod page;
+pub mod print;
 mod states;

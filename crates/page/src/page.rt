@@ -51,7 +51,7 @@ fn judged_page(
 }
 
 // Page on a good store: judged once.
-fn page_good(
+pub fn page_good(
     store: &[u16],
     distances: &mut [u16],
     table: &mut [u8],

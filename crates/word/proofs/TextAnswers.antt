@@ -13,7 +13,7 @@ use Rattle.text.specs.Faults.{answers}
 use Rattle.text.specs.Model.{Model}
 use Rattle.model.specs.Store.{Good}
 use Rattle.model.specs.StoredModel.{modelAt}
-use Rattle.model.specs.Promises.{readOutcome, ReadPromise}
+use Rattle.model.specs.Promises.{readOutcome, ReadPromise, ReadCause}
 use Rattle.model.specs.Laws.ListsLaws.{past-refl}
 use Rattle.model.specs.Laws.Store.StoredModelLaws.{good-of-holds}
 use Rattle.judge.specs.declared.judge.Verdict.{Verdict}
@@ -76,19 +76,19 @@ module _ {m : Model} {v : Verdict} {distances table begins roles distances′ ta
 -- ---- the store that Read left
 
 module _ (store distances table word : List ℕ) (first-long : storeLength ≤ length store) where
-  pub short-distances-told : length distances < distancesLength
+  pub short-distances-answered : length distances < distancesLength
       → JudgedThenShown store distances table word (judgeOutcome (judge.ShortList 2)) (wordOutcome (ShortList 2))
       distances table word
-  short-distances-told h = record {
+  short-distances-answered h = record {
     judge-promise = judge-second-short store distances table first-long h;
     word-promise = short-distances-promised store distances table word first-long h;
   }
 
   module _ (second-long : distancesLength ≤ length distances) where
-    pub short-table-told : length table < tableLength
+    pub short-table-answered : length table < tableLength
         → JudgedThenShown store distances table word (judgeOutcome (judge.ShortList 3)) (wordOutcome (ShortList 3))
         distances table word
-    short-table-told h = record {
+    short-table-answered h = record {
       judge-promise = judge-third-short store distances table first-long second-long h;
       word-promise = short-table-promised store distances table word first-long second-long h;
     }
@@ -97,21 +97,21 @@ module _ (store distances table word : List ℕ) (first-long : storeLength ≤ l
     module _ (third-long : tableLength ≤ length table) (good : Good store) {v : Verdict}
         {begins roles distances′ table′ : List ℕ}
         (x : Judging (modelAt store) v distances table begins roles distances′ table′) where
-      pub short-word-told : length word < wordLength
+      pub short-word-answered : length word < wordLength
           → JudgedThenShown store distances table word (judgeOutcome (judge.Judged v)) (wordOutcome (ShortList 4))
           distances′ table′ word
-      short-word-told h = record {
+      short-word-answered h = record {
         judge-promise =
             judge-done store distances table first-long second-long third-long good v begins roles distances′ table′ x;
         word-promise = short-word-promised store distances′ table′ word first-long
             (distances-long x second-long third-long) (table-long x second-long third-long) h;
       }
 
-      pub done-told : wordLength ≤ length word → (r : WordAnswer) {word′ : List ℕ}
+      pub done-answered : wordLength ≤ length word → (r : WordAnswer) {word′ : List ℕ}
           → WordDone (modelAt store) (wordOutcome r) word word′
           → JudgedThenShown store distances table word (judgeOutcome (judge.Judged v)) (wordOutcome r) distances′ table′
           word′
-      done-told fourth-long r {word′} w = record {
+      done-answered fourth-long r {word′} w = record {
         judge-promise =
             judge-done store distances table first-long second-long third-long good v begins roles distances′ table′ x;
         word-promise = done-promised store distances′ table′ word first-long (distances-long x second-long third-long)
@@ -130,10 +130,11 @@ refused-outcome (read.Faulty fault line) n e = let z : _≡_ {A = ℕ} 0 1 = cc 
 
 module _ {text store exit : List ℕ} {r : ReadAnswer} (p : ReadPromise text store (readOutcome r) exit)
     (n : ¬ (r ≡ read.Done)) where
-  pub unread-promised : (distances table word : List ℕ)
+  pub unread-promised : ReadCause text store r → (distances table word : List ℕ)
       → TellPromise text store distances table word (Unread r) exit distances table word
-  unread-promised distances table word = record {
+  unread-promised cause distances table word = record {
     read-promise = p;
+    read-cause = cause;
     not-read = refused-outcome r n;
     distances-kept = refl;
     table-kept = refl;
@@ -145,6 +146,7 @@ module _ {text store exit : List ℕ} {r : ReadAnswer} (p : ReadPromise text sto
     read-iff = read↔States p;
     judge-tells = λ e. absurd (refused-outcome r n e);
     word-tells = λ e. absurd (refused-outcome r n e);
+    both-tell = λ e. absurd (refused-outcome r n e);
   }
 
 -- ---- Read succeeds

@@ -3,9 +3,10 @@
 -- it.
 --
 -- It shuts out, among others: a Judge that passes or refuses all (`passed-iff`), one that counts unreachable high steps
--- (`step-told`), a depth made up (`depth-is`), a Word that says 24 without having judged (`no-word-iff`), one that
--- names the other end (`possible`), shows a word one too long (`shortest`), the last by action numbers (`first`) or one
--- with a release in it (`low`).
+-- (`step-told`), a depth made up (`depth-is`), a Word that says 24 without having judged (`no-word-iff`,
+-- `passed-no-word`), one that names the other end (`possible`), shows a word one too long (`shortest`), the last by
+-- action numbers (`first`) or one with a release in it (`low`), or a word of a model that it calls branching
+-- (`not-branching`).
 -- Document 01, "Demand 3 is one claim [..]"; DEMANDS, 3. Assumes nothing.
 use mathlib.Core.List.{List, [], _∷_}
 use mathlib.Core.Logic.{_⊎_, _↔_}
@@ -23,14 +24,15 @@ use Rattle.model.specs.WellFormed.{WellFormed}
 use Rattle.word.specs.declared.word.End.{End}
 use Rattle.word.specs.Words.{endNumber, endState, otherState}
 
--- The text has no fault that is listed for Read: it states the model m, line by line.
+-- The text has no fault that is listed for Read: it states the model m, line by line. `states↔readText` shows that the
+-- reading, which tests fault by fault, then finds none; such a text has at most 14,420 bytes (`textOf-length-le`).
 pub record States (text : List ℕ) (m : Model) : Type 0 where
   pub well-formed : WellFormed m
   pub text-is : text ≡ textOf m
 
 -- The call did not give 21: "A call that gives 21 tells none of these."
-abbrev pub Told : Outcome → Type 0
-Told outcome = (k : ℕ) → ¬ (outcome ≡ refuses 21 k)
+abbrev pub NotShort : Outcome → Type 0
+NotShort outcome = (k : ℕ) → ¬ (outcome ≡ refuses 21 k)
 
 -- Judge's answers: passed with a rank; refused with a step and a depth.
 abbrev pub SaysPassed : Outcome → Type 0
@@ -69,18 +71,24 @@ pub record Sequence (m : Model) (j depth : ℕ) (word : Outcome) (list : List �
   -- "The depth told is the number of actions in the sequence shown."
   pub depth-is : depth ≡ length sequence
 
--- What Word tells of a deterministic model beside Judge: 24 exactly when passed, else a sequence, and never 23.
-pub record WordTells (m : Model) (judge word : Outcome) (list : List ℕ) : Type 0 where
-  pub no-word-iff : (word ≡ refuses 24 0) ↔ SaysPassed judge
+-- What Word tells of a deterministic model: never 23, and 24 exactly when every sequence passes the test above.
+pub record WordTells (m : Model) (word : Outcome) : Type 0 where
   pub not-branching : (j : ℕ) → ¬ (word ≡ refuses 23 j)
+  pub no-word-iff : (word ≡ refuses 24 0) ↔ INI (levels m) (Steps m) (Start m)
+
+-- What the two tell together: 24 exactly when passed, else the sequence of Judge's step.
+pub record BothTell (m : Model) (judge word : Outcome) (list : List ℕ) : Type 0 where
+  pub passed-no-word : SaysPassed judge ↔ (word ≡ refuses 24 0)
   pub shown : (j depth : ℕ) → SaysRefused judge j depth → Sequence m j depth word list
 
 -- Each clause holds wherever the calls that it speaks of did not give 21: Judge's also where Word's list is short.
 pub record Claim (text : List ℕ) (read judge word : Outcome) (list : List ℕ) : Type 0 where
   -- "Take every text that is read (each without a fault listed for Read is)"
-  pub read-iff : Told read → (read ≡ answers []) ↔ ((m : Model) × States text m)
+  pub read-iff : NotShort read → (read ≡ answers []) ↔ ((m : Model) × States text m)
   -- "and in which no reachable state has two steps of one action"
-  pub judge-tells : read ≡ answers [] → (m : Model) → States text m → DeterministicModel m → Told judge
+  pub judge-tells : read ≡ answers [] → (m : Model) → States text m → DeterministicModel m → NotShort judge
       → JudgeTells m judge
-  pub word-tells : read ≡ answers [] → (m : Model) → States text m → DeterministicModel m → Told judge → Told word
-      → WordTells m judge word list
+  pub word-tells : read ≡ answers [] → (m : Model) → States text m → DeterministicModel m → NotShort word
+      → WordTells m word
+  pub both-tell : read ≡ answers [] → (m : Model) → States text m → DeterministicModel m → NotShort judge
+      → NotShort word → BothTell m judge word list

@@ -5,18 +5,20 @@ use mathlib.Core.List.{List, []}
 use mathlib.Core.Path.{_≡_}
 use Prim.Native.Nat.{ℕ}
 use Rattle.text.specs.Faults.{Outcome, answers}
-use Rattle.model.specs.Promises.{readOutcome, ReadPromise}
+use Rattle.model.specs.declared.read.ReadAnswer.{ReadAnswer}
+use Rattle.model.specs.Promises.{readOutcome, ReadPromise, ReadCause}
 use Rattle.judge.specs.Promises.{judgeOutcome, JudgePromise}
 use Rattle.word.specs.declared.tell.TextAnswer.{TextAnswer}
 use Rattle.word.specs.declared.tell.TextAnswer.the-variants.{Unread, Judged}
 use Rattle.word.specs.Promises.{wordOutcome, WordPromise}
 use Rattle.word.specs.Claim.{Claim}
 
--- Where Read refuses, the other two are not called.
-pub record NotRead (text store distances table word : List ℕ) (read : Outcome)
+-- Where Read refuses, with its cause, the other two are not called.
+pub record NotRead (text store distances table word : List ℕ) (read : ReadAnswer)
     (store′ distances′ table′ word′ : List ℕ) : Type 0 where
-  pub read-promise : ReadPromise text store read store′
-  pub not-read : ¬ (read ≡ answers [])
+  pub read-promise : ReadPromise text store (readOutcome read) store′
+  pub read-cause : ReadCause text store read
+  pub not-read : ¬ (readOutcome read ≡ answers [])
   pub distances-kept : distances′ ≡ distances
   pub table-kept : table′ ≡ table
   pub word-kept : word′ ≡ word
@@ -32,7 +34,7 @@ pub record ReadJudged (text store distances table word : List ℕ) (judge shown 
 abbrev pub TellPromise : List ℕ → List ℕ → List ℕ → List ℕ → List ℕ → TextAnswer → List ℕ → List ℕ → List ℕ → List ℕ
     → Type 0
 TellPromise text store distances table word (Unread r) store′ distances′ table′ word′ =
-    NotRead text store distances table word (readOutcome r) store′ distances′ table′ word′
+    NotRead text store distances table word r store′ distances′ table′ word′
 TellPromise text store distances table word (Judged j w) store′ distances′ table′ word′ =
     ReadJudged text store distances table word (judgeOutcome j) (wordOutcome w) store′ distances′ table′ word′
 

@@ -17,6 +17,7 @@ use Rattle.page.specs.PageLines.{verdict-line, state-line, run-line, wor
 use Rattle.page.specs.PageLines.{distanceText, endText, lineText, lineBytes}
 use Rattle.word.specs.declared.word.End.{End}
 use Rattle.word.specs.declared.word.End.the-variants.{Source, Target}
+use Rattle.page.specs.Prints.{faultBytes}
 use Rattle.page.specs.Inner.Entries.{distanceOf}
 
 -- ---- lengths
@@ -63,6 +64,16 @@ branch-length = refl
 pub last-length : length (lineBytes last-line) ≡ 2
 unfolding lineText
 last-length = refl
+
+pub fault-length : (number place : ℕ)
+    → length (faultBytes number place) ≡ length (digits number) + length (digits place) + 4
+unfolding faultBytes
+fault-length number place = simp length-append (omega arith)
+
+pub fault-length-le : (number place : ℕ) → length (faultBytes number place) ≤ 14
+unfolding digits
+fault-length-le number place =
+    omega (arith, fault-length number place, digitsUpTo-length-le 5 number, digitsUpTo-length-le 5 place)
 
 -- ---- an entry of the distances
 

@@ -20,17 +20,20 @@ use Rattle.judge.specs.Verdicts.{RefusedAt, Judged}
 use Rattle.judge.specs.Inner.Stored.{Stored}
 use Rattle.judge.specs.Laws.GoodStoredLaws.{holds→Stored}
 use Rattle.judge.specs.Laws.VerdictsLaws.{no-leak-of-bnid}
+use Rattle.judge.specs.Inner.VerdictTest.{verdictOf}
+use Rattle.judge.specs.Laws.VerdictTestLaws.{verdictOf-judged}
 use Rattle.judge.specs.Promises.{verdictOutcome, judgeLists, JudgePromise}
 use Rattle.word.specs.Words.{endNumber, WordShown}
 use Rattle.word.specs.Promises.{wordLists, WordDone, WordPromise}
-use Rattle.word.specs.Claim.{States, Told, SaysPassed, SaysRefused, JudgeTells, Sequence, WordTells, Claim}
+use Rattle.word.specs.Claim.{States, NotShort, SaysPassed, SaysRefused, JudgeTells, Sequence, WordTells}
+use Rattle.word.specs.Claim.{BothTell, Claim}
 use Rattle.word.specs.Laws.LeastLeakLaws.{bnid↔INI, depth-le}
-use Rattle.word.specs.Laws.ReadTextLaws.{lists-of-told, states→readText, read-exit-long, read-holds, read↔States}
+use Rattle.word.specs.Laws.ReadTextLaws.{lists-of-notShort, states→readText, read-exit-long, read-holds, read↔States}
 
 -- ---- one answer does not say two things
 
-passed-not-refused : {judge : Outcome} {j depth : ℕ} → SaysPassed judge → ¬ (SaysRefused judge j depth)
-passed-not-refused (top, e) h = let z : _≡_ {A = ℕ} 0 1 = cc in absurd (omega arith)
+passed-or-refused : {judge : Outcome} {j depth : ℕ} → SaysPassed judge → ¬ (SaysRefused judge j depth)
+passed-or-refused (top, e) h = let z : _≡_ {A = ℕ} 0 1 = cc in absurd (omega arith)
 
 refused-same : {judge : Outcome} {i j d e : ℕ} → SaysRefused judge i d → SaysRefused judge j e → (i ≡ j) × (d ≡ e)
 refused-same {judge} {i} {j} {d} {e} x y =
@@ -56,6 +59,27 @@ module _ {s : List ℕ} {m : Model} (st : Stored s m) where
     depth-is = sym (x .length-is);
   }
 
+  -- ---- Word
+
+  module _ (det : DeterministicModel m) where
+    pub word-tells : {word : Outcome} {entry exit : List ℕ} (v : Verdict) → Judged m v → WordDone m word entry exit
+        → WordTells m word
+    word-tells (Passed top) x w =
+        let none = w .passed det (x .bnid) .0 in
+        record {
+          not-branching = λ j h. let z : _≡_ {A = ℕ} 23 24 = cc in omega arith;
+          no-word-iff = (λ _. bnid↔INI st det .0 (x .bnid), λ _. none);
+        }
+    word-tells (Refused j depth) x w =
+        let answer = w .refused det (j .0) depth x .outcome-is in
+        record {
+          not-branching = λ i h. let z : _≡_ {A = ℕ} 0 1 = cc in omega arith;
+          no-word-iff = (
+            λ h. let z : _≡_ {A = ℕ} 0 1 = cc in absurd (omega arith),
+            λ ini. absurd (no-leak-of-bnid m (bnid↔INI st det .1 ini) (j .0) depth (x .leak)),
+          );
+        }
+
   module _ (det : DeterministicModel m) {judge : Outcome} where
     -- ---- Judge
 
@@ -64,39 +88,35 @@ module _ {s : List ℕ} {m : Model} (st : Stored s m) where
     judge-tells (Passed top) e x = record {
       answered = inl (top, e);
       passed-iff = (λ _. bnid↔INI st det .0 (x .bnid), λ _. (top, e));
-      step-told = λ j depth h. absurd (passed-not-refused (top, e) h);
+      step-told = λ j depth h. absurd (passed-or-refused (top, e) h);
     }
     judge-tells (Refused j depth) e x = record {
       answered = inr (j .0, depth, e);
       passed-iff = (
-        λ p. absurd (passed-not-refused p e),
+        λ p. absurd (passed-or-refused p e),
         λ ini. absurd (no-leak-of-bnid m (bnid↔INI st det .1 ini) (j .0) depth (x .leak)),
       );
       step-told = λ i d h. subst (HighStep m) (refused-same e h .0) (x .leak .high-step);
     }
 
-    -- ---- Word
+    -- ---- both
 
-    pub word-tells : {word : Outcome} {entry exit : List ℕ} (v : Verdict) → judge ≡ verdictOutcome v → Judged m v
-        → WordDone m word entry exit → WordTells m judge word exit
+    pub both-tell : {word : Outcome} {entry exit : List ℕ} (v : Verdict) → judge ≡ verdictOutcome v → Judged m v
+        → WordDone m word entry exit → BothTell m judge word exit
     unfolding verdictOutcome
-    word-tells (Passed top) e x w =
-        let none = w .passed det (x .bnid) .0 in
-        record {
-          no-word-iff = (λ _. (top, e), λ _. none);
-          not-branching = λ j h. let z : _≡_ {A = ℕ} 23 24 = cc in omega arith;
-          shown = λ j depth h. absurd (passed-not-refused (top, e) h);
-        }
-    word-tells {word} {exit = exit} (Refused j depth) e x w =
+    both-tell (Passed top) e x w = record {
+      passed-no-word = (λ _. w .passed det (x .bnid) .0, λ _. (top, e));
+      shown = λ j depth h. absurd (passed-or-refused (top, e) h);
+    }
+    both-tell {word} {exit = exit} (Refused j depth) e x w =
         let shown = w .refused det (j .0) depth x in
         let sequence = sequence-of-shown x shown in
         let answer = shown .outcome-is in
         record {
-          no-word-iff = (
+          passed-no-word = (
+            λ p. absurd (passed-or-refused p e),
             λ h. let z : _≡_ {A = ℕ} 0 1 = cc in absurd (omega arith),
-            λ p. absurd (passed-not-refused p e),
           );
-          not-branching = λ i h. let z : _≡_ {A = ℕ} 0 1 = cc in omega arith;
           shown = λ i d h.
               let same = refused-same e h in
               subst (λ (k : ℕ). Sequence m k d word exit) (same .0)
@@ -123,21 +143,26 @@ module _ {text store₀ store distances table distances′ table′ : List ℕ} 
     abbrev good : Good store
     good = record { text = text; model = m; reads = states→readText s; stored = holds .stored }
 
-    verdict : Told judge → (v : Verdict) × (judge ≡ verdictOutcome v) × Judged m v
+    verdict : NotShort judge → (v : Verdict) × (judge ≡ verdictOutcome v) × Judged m v
     verdict told =
-        let lists = lists-of-told (judgeLists store distances table) (λ k h. judges .short k h .0) told in
+        let lists = lists-of-notShort (judgeLists store distances table) (λ k h. judges .short k h .0) told in
         let x = judges .good lists good in
         (x .0, x .1, x .2)
 
   pub claim-holds : {d t w d′ t′ w′ : List ℕ} {word : Outcome} → WordPromise store d t w word d′ t′ w′
       → Claim text read judge word w′
-  claim-holds {d} {t} {w} words = record {
+  claim-holds {d} {t} {w} {w′ = w′} {word} words = record {
     read-iff = read↔States reads;
     judge-tells = λ e m s det told.
         let x = verdict e m s told in
         judge-tells (stored e m s) det (x .0) (x .1) (x .2);
-    word-tells = λ e m s det told shown.
+    word-tells = λ e m s det shown.
+        word-tells (stored e m s) det (verdictOf m) (verdictOf-judged (stored e m s)) (done e m s shown);
+    both-tell = λ e m s det told shown.
         let x = verdict e m s told in
-        let lists = lists-of-told (wordLists store d t w) (λ k h. words .short k h .0) shown in
-        word-tells (stored e m s) det (x .0) (x .1) (x .2) (words .good lists (good e m s) .1);
+        both-tell (stored e m s) det (x .0) (x .1) (x .2) (done e m s shown);
   }
+    where
+      done : (e : read ≡ answers []) (m : Model) (s : States text m) → NotShort word → WordDone m word w w′
+      done e m s shown =
+          words .good (lists-of-notShort (wordLists store d t w) (λ k h. words .short k h .0) shown) (good e m s) .1

@@ -19,24 +19,27 @@ use Rattle.model.specs.Laws.FirstShortLaws.{firstShort-lt, firstShort-le}
 use Rattle.model.specs.Laws.PromisesLaws.{read-done, read-length}
 use Rattle.model.specs.Laws.Text.ReadingLaws.{readText-iff}
 use Rattle.model.specs.Laws.Store.StoredModelLaws.{holds-storeOf}
-use Rattle.word.specs.Claim.{States, Told}
+use Rattle.word.specs.Claim.{States, NotShort}
 
 -- ---- a call that did not give 21 had all its lists
 
-pub lists-of-told : (lists : Option ℕ) {outcome : Outcome} → ((k : ℕ) → lists ≡ some k → outcome ≡ refuses 21 k)
-    → Told outcome → lists ≡ none
-lists-of-told none short told = refl
-lists-of-told (some k) short told = absurd (told k (short k refl))
+pub lists-of-notShort : (lists : Option ℕ) {outcome : Outcome} → ((k : ℕ) → lists ≡ some k → outcome ≡ refuses 21 k)
+    → NotShort outcome → lists ≡ none
+lists-of-notShort none short told = refl
+lists-of-notShort (some k) short told = absurd (told k (short k refl))
 
 -- ---- a text and the model that it states
 
 pub states→readText : {text : List ℕ} {m : Model} → States text m → readText text ≡ done m
 states→readText {text} {m} s = readText-iff text m .1 (s .well-formed, s .text-is)
 
-readText→states : {text : List ℕ} {m : Model} → readText text ≡ done m → States text m
+pub readText→states : {text : List ℕ} {m : Model} → readText text ≡ done m → States text m
 readText→states {text} {m} e =
     let h = readText-iff text m .0 e in
     record { well-formed = h .0; text-is = h .1 }
+
+pub states↔readText : {text : List ℕ} {m : Model} → States text m ↔ (readText text ≡ done m)
+states↔readText = (states→readText, readText→states)
 
 -- A text states one model.
 pub states-unique : {text : List ℕ} {m n : Model} → States text m → States text n → m ≡ n
@@ -76,11 +79,11 @@ module _ {text store exit : List ℕ} (p : ReadPromise text store (answers []) e
 
 -- ---- Read's answer
 
-pub read↔States : {text store : List ℕ} {read : Outcome} {exit : List ℕ} → ReadPromise text store read exit → Told read
+pub read↔States : {text store : List ℕ} {read : Outcome} {exit : List ℕ} → ReadPromise text store read exit → NotShort read
     → (read ≡ answers []) ↔ ((m : Model) × States text m)
 unfolding readingOutcome
 read↔States {text} {store} {read} {exit} p told = (
   λ e. read-states (subst (λ (x : Outcome). ReadPromise text store x exit) e p),
-  λ (m, s). p .answer (lists-of-told (readLists text store) (λ k h. p .short k h .0) told)
+  λ (m, s). p .answer (lists-of-notShort (readLists text store) (λ k h. p .short k h .0) told)
       ∙ ap readingOutcome (states→readText s),
 )

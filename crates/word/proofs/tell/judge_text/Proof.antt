@@ -2,8 +2,8 @@
 use native.Mathlib.Omega.{arith}
 use borrow.Author.Needs.{needs}
 use Rattle.judge.specs.Laws.GoodStoredLaws.{good→Stored}
-use Rattle.word.proofs.TextAnswers.{judging→Showable, short-distances-told, short-table-told, short-word-told}
-use Rattle.word.proofs.TextAnswers.{done-told}
+use Rattle.word.proofs.TextAnswers.{judging→Showable, short-distances-answered, short-table-answered, short-word-answered}
+use Rattle.word.proofs.TextAnswers.{done-answered}
 use Rattle.word.proofs.tell.judge_text.Statement.{statement}
 use Rattle.word.proofs.tell.judge_text.Tie as tie
 
@@ -11,7 +11,7 @@ returns : tie.Need-returns
 returns c =
     let start = c .before .before .before .before .before in
     let args = start .args in
-    short-distances-told (args .store .now) (args .distances .now) (args .table .now) (args .word .now)
+    short-distances-answered (args .store .now) (args .distances .now) (args .table .now) (args .word .now)
     (start .pre .0) (c .if1 .taken)
 
 returns-2 : tie.Need-returns-2
@@ -19,7 +19,7 @@ returns-2 c =
     let second-long = c .before in
     let start = second-long .before .before .before .before .before in
     let args = start .args in
-    short-table-told (args .store .now) (args .distances .now) (args .table .now) (args .word .now) (start .pre .0)
+    short-table-answered (args .store .now) (args .distances .now) (args .table .now) (args .word .now) (start .pre .0)
     (second-long .if1 .left) (c .if2 .taken)
 
 slice-aggregate-judge-good : tie.Need-slice-aggregate-judge-good
@@ -54,7 +54,7 @@ returns-3 c =
     let second-long = third-long .before in
     let start = second-long .before .before .before .before .before in
     let args = start .args in
-    short-word-told (args .store .now) (args .distances .now) (args .table .now) (args .word .now) (start .pre .0)
+    short-word-answered (args .store .now) (args .distances .now) (args .table .now) (args .word .now) (start .pre .0)
     (second-long .if1 .left) (third-long .if2 .left) (start .pre .1) (judged .judge-good .ensures) (c .if3 .taken)
 
 slice-aggregate-show : tie.Need-slice-aggregate-show
@@ -94,7 +94,7 @@ returns-4 c =
     let second-long = third-long .before in
     let start = second-long .before .before .before .before .before in
     let args = start .args in
-    done-told (args .store .now) (args .distances .now) (args .table .now) (args .word .now) (start .pre .0)
+    done-answered (args .store .now) (args .distances .now) (args .table .now) (args .word .now) (start .pre .0)
     (second-long .if1 .left) (third-long .if2 .left) (start .pre .1) (judged .judge-good .ensures)
     (fourth-long .if3 .left) (shown .show .result) (shown .show .ensures)
 

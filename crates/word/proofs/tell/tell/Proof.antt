@@ -67,7 +67,7 @@ returns-2 c =
     let read = c .before .before .before in
     let promise = read .read .ensures .0 in
     let refused = not-done (read .read .result) (c .match .keys2) in
-    (unread-promised promise refused _ _ _, unread-claimed promise refused _)
+    (unread-promised promise refused (read .read .ensures .1) _ _ _, unread-claimed promise refused _)
 
 pub tell-spec : {M : Type 1} → statement M
 tell-spec =
