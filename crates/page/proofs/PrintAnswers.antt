@@ -1,4 +1,5 @@
--- Each answer of `print` keeps its promise: the lists' lengths decide first, then whether the text is read. Assumes nothing.
+-- Each answer of `print` keeps its promise: the lists' lengths decide first, then whether the text is read. Assumes
+-- nothing.
 use mathlib.Core.List.{List, [], _∷_, _++_}
 use mathlib.Core.Option.{none, some}
 use mathlib.Core.Path.{_≡_, refl, sym, ap, subst, _∙_}
@@ -7,20 +8,22 @@ use native.Mathlib.Omega.{arith}
 use lib.ListN.{length, drop}
 use Rattle.model.specs.declared.read.ReadAnswer.{ReadAnswer}
 use Rattle.model.specs.declared.read.ReadAnswer.the-variants.{Done}
-use Rattle.model.specs.Faults.{answers, refuses}
-use Rattle.model.specs.Limits.{storeLength}
+use Rattle.text.specs.Faults.{answers, refuses}
+use Rattle.text.specs.Limits.{storeLength}
 use Rattle.model.specs.Lists.{distancesLength, tableLength, runLength, wordLength, pageLength}
-use Rattle.model.specs.Model.{Model}
+use Rattle.text.specs.Model.{Model}
 use Rattle.model.specs.Promises.{readOutcome, readingOutcome, readingStore, ReadPromise}
 use Rattle.model.specs.Reading.{Reading, done, tooLong, faulty, readText}
 use Rattle.model.specs.Store.{storeOf, Good}
 use Rattle.model.specs.StoredModel.{modelAt}
-use Rattle.model.specs.Laws.FirstShortLaws.{firstShort-nil, firstShort-lt, firstShort-le}
+use Rattle.model.specs.Laws.FirstShortLaws.{firstShort-nil, firstShort-lt, firstShort-le, second-short, third-short}
+use Rattle.model.specs.Laws.FirstShortLaws.{fourth-short, fifth-short, sixth-short}
 use Rattle.model.specs.Laws.PromisesLaws.{readLists-none}
 use Rattle.model.specs.Laws.Store.StoredModelLaws.{modelAt-storeOf, good-of-holds}
 use Rattle.model.specs.Laws.Text.ReadingLaws.{readText-iff}
 use Rattle.model.specs.Laws.Write.WroteLaws.{wrote-start}
 use Rattle.word.specs.Laws.ReadTextLaws.{read-exit-long, read-states, read-holds}
+use Rattle.page.specs.declared.print.PrintAnswer.{PrintAnswer}
 use Rattle.page.specs.declared.print.PrintAnswer.the-variants.{Printed, ShortList}
 use Rattle.page.specs.Prints.{printOutcome, printLists, Untouched, FaultPrinted, PrintPromise}
 use Rattle.page.specs.Inner.PageLists.{PageMade}
@@ -78,41 +81,32 @@ module _ (text store distances table run word out : List ℕ) where
   abbrev any-text : 0 ≤ length text
   any-text = omega arith
 
-  pub short-store-promised : length store < storeLength → PrintPromise text store distances table run word out
-      (printOutcome (ShortList 2)) store distances table run word out
-  short-store-promised h = short-promised 2 (firstShort-le _ _ _ any-text ∙ firstShort-lt _ _ _ h)
+  -- an answer that leaves all lists as they were
+  abbrev Refused : PrintAnswer → Type 0
+  Refused r = PrintPromise text store distances table run word out (printOutcome r) store distances table run word out
+
+  pub short-store-promised : length store < storeLength → Refused (ShortList 2)
+  short-store-promised h = short-promised 2 (second-short _ _ any-text h)
 
   module _ (store-long : storeLength ≤ length store) where
-    pub short-distances-promised : length distances < distancesLength
-        → PrintPromise text store distances table run word out (printOutcome (ShortList 3)) store distances table run
-        word out
-    short-distances-promised h =
-        short-promised 3 (firstShort-le _ _ _ any-text ∙ firstShort-le _ _ _ store-long ∙ firstShort-lt _ _ _ h)
+    pub short-distances-promised : length distances < distancesLength → Refused (ShortList 3)
+    short-distances-promised h = short-promised 3 (third-short _ _ any-text store-long h)
 
     module _ (distances-long : distancesLength ≤ length distances) where
-      pub short-table-promised : length table < tableLength → PrintPromise text store distances table run word out
-          (printOutcome (ShortList 4)) store distances table run word out
-      short-table-promised h = short-promised 4
-          (firstShort-le _ _ _ any-text ∙ firstShort-le _ _ _ store-long ∙ firstShort-le _ _ _ distances-long
-          ∙ firstShort-lt _ _ _ h)
+      pub short-table-promised : length table < tableLength → Refused (ShortList 4)
+      short-table-promised h = short-promised 4 (fourth-short _ _ any-text store-long distances-long h)
 
       module _ (table-long : tableLength ≤ length table) where
-        pub short-run-promised : length run < runLength → PrintPromise text store distances table run word out
-            (printOutcome (ShortList 5)) store distances table run word out
-        short-run-promised h = short-promised 5
-            (firstShort-le _ _ _ any-text ∙ firstShort-le _ _ _ store-long ∙ firstShort-le _ _ _ distances-long
-            ∙ firstShort-le _ _ _ table-long ∙ firstShort-lt _ _ _ h)
+        pub short-run-promised : length run < runLength → Refused (ShortList 5)
+        short-run-promised h = short-promised 5 (fifth-short _ _ any-text store-long distances-long table-long h)
 
         module _ (run-long : runLength ≤ length run) where
-          pub short-word-promised : length word < wordLength → PrintPromise text store distances table run word out
-              (printOutcome (ShortList 6)) store distances table run word out
-          short-word-promised h = short-promised 6
-              (firstShort-le _ _ _ any-text ∙ firstShort-le _ _ _ store-long ∙ firstShort-le _ _ _ distances-long
-              ∙ firstShort-le _ _ _ table-long ∙ firstShort-le _ _ _ run-long ∙ firstShort-lt _ _ _ h)
+          pub short-word-promised : length word < wordLength → Refused (ShortList 6)
+          short-word-promised h =
+              short-promised 6 (sixth-short _ _ any-text store-long distances-long table-long run-long h)
 
           module _ (word-long : wordLength ≤ length word) where
-            pub short-out-promised : length out < pageLength → PrintPromise text store distances table run word out
-                (printOutcome (ShortList 7)) store distances table run word out
+            pub short-out-promised : length out < pageLength → Refused (ShortList 7)
             short-out-promised h = short-promised 7
                 (firstShort-le _ _ _ any-text ∙ firstShort-le _ _ _ store-long ∙ firstShort-le _ _ _ distances-long
                 ∙ firstShort-le _ _ _ table-long ∙ firstShort-le _ _ _ run-long ∙ firstShort-le _ _ _ word-long
@@ -142,10 +136,12 @@ module _ (text store distances table run word out : List ℕ) where
                 unread-promised end out′ x = record {
                   short = λ k h. absurd (not-short k h);
                   unread = λ h number place e.
-                      let f : refuses (x .number) (x .place) ≡ refuses number place = sym (x .outcome-is) ∙ reading ∙ e in
+                      let f : refuses (x .number) (x .place) ≡ refuses number place = sym (x .outcome-is) ∙ reading ∙ e
+                      in
                       let n : x .number ≡ number = cc in
                       let p : x .place ≡ place = cc in
-                      let w = wrote-start (x .wrote) (omega (arith, fault-length-le (x .number) (x .place), out-long)) in (
+                      let w = wrote-start (x .wrote) (omega (arith, fault-length-le (x .number) (x .place), out-long))
+                      in (
                         record {
                           store-kept =
                               reads .filled (readLists-none text store store-long)
@@ -167,7 +163,8 @@ module _ (text store distances table run word out : List ℕ) where
 
                 pub read-promised : r ≡ Done → (end : ℕ) (distances′ table′ run′ word′ out′ : List ℕ)
                     → PageMade (modelAt store′) end distances table run word out distances′ table′ run′ word′ out′
-                    → PrintPromise text store distances table run word out (printOutcome (Printed end)) store′ distances′
+                    → PrintPromise text store distances table run word out (printOutcome (Printed end)) store′
+                    distances′
                     table′ run′ word′ out′
                 unfolding printOutcome readOutcome readingOutcome readingStore
                 read-promised e end distances′ table′ run′ word′ out′ x = record {

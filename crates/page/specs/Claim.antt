@@ -1,15 +1,15 @@
--- Demand 3 on the bytes of the page, over the whole path from the text: its `V`, `W` and `B` lines tell what Judge and Word
--- answer.
--- Document 01, "the landing that first brings Page to life carries demand 3 on to them, over the whole path from text to
--- page"; DEMANDS, 3. Assumes nothing.
+-- Demand 3 on the bytes of the page, over the whole path from the text: its `V`, `W` and `B` lines tell what Judge and
+-- Word answer.
+-- Document 01, "the landing that first brings Page to life carries demand 3 on to them, over the whole path from text
+-- to page"; DEMANDS, 3. Assumes nothing.
 use mathlib.Core.List.{List, [], _∷_, _++_, map}
 use mathlib.Core.Logic.{_⊎_, _↔_}
 use mathlib.Core.Path.{_≡_}
 use Prim.Native.Nat.{ℕ}
 use lib.ListN.{take}
 use Rattle.lts.specs.Noninterference.{INI}
-use Rattle.model.specs.Faults.{Outcome, answers}
-use Rattle.model.specs.Model.{Model}
+use Rattle.text.specs.Faults.{Outcome, answers}
+use Rattle.text.specs.Model.{Model}
 use Rattle.model.specs.System.{source, levels, Steps, Start, HighStep, DeterministicModel}
 use Rattle.model.specs.Text.{field}
 use Rattle.judge.specs.declared.judge.Verdict.the-variants.{Refused}
@@ -37,8 +37,8 @@ pub record LeakTold (m : Model) (bytes word : List ℕ) : Type 0 where
   -- the run from the start to its source
   pub run : List ℕ
   pub run-to : RunTo m (source m step) run
-  -- "a low sequence is shown", with all that demand 3 says of it: `depth-is`, `low`, `possible`, `not-possible`, `first`
-  -- and `shortest`
+  -- "a low sequence is shown", with all that demand 3 says of it: `depth-is`, `low`, `possible`, `not-possible`,
+  -- `first` and `shortest`
   pub answer : Outcome
   pub shown : Sequence m step depth answer word
   -- `V,refuse,step,depth`, the `C` lines, `R,step` per step, `W,name` per action of the sequence, `B,` and the end, `E`
@@ -48,7 +48,8 @@ pub record LeakTold (m : Model) (bytes word : List ℕ) : Type 0 where
 -- What the page of a deterministic model tells.
 pub record PageTells (m : Model) (bytes word : List ℕ) : Type 0 where
   pub verdict : SaysPass bytes ⊎ SaysRefuse bytes
-  -- "It is passed exactly when this holds of every sequence of actions, however long, that can be run from the start [..]"
+  -- "It is passed exactly when this holds of every sequence of actions, however long, that can be run from the start
+  -- [..]"
   pub pass-iff : SaysPass bytes ↔ INI (levels m) (Steps m) (Start m)
   pub leak : SaysRefuse bytes → LeakTold m bytes word
 

@@ -7,3 +7,4 @@ pub mod PageLaws
 pub mod PagePromiseLaws
 pub mod ReadingPlaceLaws
 pub mod PageClaimLaws
+pub mod PrintPromiseLaws

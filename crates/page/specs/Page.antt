@@ -49,8 +49,8 @@ pub data LeakShown (m : Model) (j depth : ℕ) (word word′ : List ℕ) : List 
       → word′ ≡ w ++ drop (length w) word → LeakShown m j depth word word′ (map (nameLine m) w ++ (end-line end ∷ []))
   by-branch : ¬ (DeterministicModel m) → word′ ≡ word → LeakShown m j depth word word′ (branch-line ∷ [])
 
--- "If refused: `R,step` per step of the run to the source of Judge's step"; then what shows the leak. "Page fills run if
--- the model is refused (as Run does for the source of Judge's step)".
+-- "If refused: `R,step` per step of the run to the source of Judge's step"; then what shows the leak. "Page fills run
+-- if the model is refused (as Run does for the source of Judge's step)".
 pub record LeakLines (m : Model) (j depth : ℕ) (run word run′ word′ : List ℕ) (lines : List PageLine) : Type 0 where
   pub steps : List ℕ
   pub run-to : RunTo m (source m j) steps

@@ -1,16 +1,16 @@
 -- The promise of the path from a text to its page.
--- Document 01, "The page": "The program reads standard input and prints the page, or `F,number,place` if Read refuses; each
--- line ends in byte 10."
+-- Document 01, "The page": "The program reads standard input and prints the page, or `F,number,place` if Read refuses;
+-- each line ends in byte 10."
 use mathlib.Core.List.{List, [], _∷_, _++_}
 use mathlib.Core.Option.{Option, none, some}
 use mathlib.Core.Path.{_≡_}
 use Prim.Native.Nat.{ℕ}
 use lib.ListN.{length, drop}
-use Rattle.model.specs.Faults.{Outcome, answers, refuses, firstShort}
-use Rattle.model.specs.Limits.{storeLength}
+use Rattle.text.specs.Faults.{Outcome, answers, refuses, firstShort}
+use Rattle.text.specs.Limits.{storeLength}
 use Rattle.model.specs.Lists.{distancesLength, tableLength, runLength, wordLength, pageLength}
-use Rattle.model.specs.Model.{Model}
-use Rattle.model.specs.Numbers.{digits}
+use Rattle.text.specs.Model.{Model}
+use Rattle.text.specs.Numbers.{digits}
 use Rattle.model.specs.Promises.{readingOutcome}
 use Rattle.model.specs.Reading.{done, readText}
 use Rattle.model.specs.Store.{storeOf}

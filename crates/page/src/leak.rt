@@ -38,8 +38,8 @@ impl PageEnd {
         requires { ⌜ Writable (now store) ⌝ }
         requires { ⌜ a .0 < length (modelAt (now store) .actions) ⌝ }
         requires { ⌜ self .at .at + 15 ≤ length (now out) ⌝ }
-        ensures { λ r. ⌜ Wrote (now (out .entry)) (self .at .at) (lineBytes (nameLine (modelAt (now (store .entry))) (a .0)))
-            (now (out .exit)) (r .at .at) ⌝ }
+        ensures { λ r. ⌜ Wrote (now (out .entry)) (self .at .at)
+            (lineBytes (nameLine (modelAt (now (store .entry))) (a .0))) (now (out .exit)) (r .at .at) ⌝ }
     {
         let from = model::store::name_place(a);
         let end = from + model::store::name_length(store, a) as usize;
@@ -93,8 +93,8 @@ impl PageEnd {
         run: &mut [u16],
         word: &mut [u16],
     ) -> PageEnd
-        requires { ⌜ JudgedLists (modelAt (now store)) v (now store) (now begins) (now roles) (now distances) (now table)
-            (now run) (now word) ⌝ }
+        requires { ⌜ JudgedLists (modelAt (now store)) v (now store) (now begins) (now roles) (now distances)
+            (now table) (now run) (now word) ⌝ }
         requires { ⌜ v ≡ Refused j depth ⌝ }
         requires { ⌜ self .at .at + 2930 ≤ length (now out) ⌝ }
         ensures { λ r. ⌜ LinesWritten (LeakLines (modelAt (now (store .entry))) (j .0) depth (now (run .entry))
@@ -121,11 +121,12 @@ impl PageEnd {
         run: &mut [u16],
         word: &mut [u16],
     ) -> PageEnd
-        requires { ⌜ JudgedLists (modelAt (now store)) v (now store) (now begins) (now roles) (now distances) (now table)
-            (now run) (now word) ⌝ }
+        requires { ⌜ JudgedLists (modelAt (now store)) v (now store) (now begins) (now roles) (now distances)
+            (now table) (now run) (now word) ⌝ }
         requires { ⌜ self .at .at + 2930 ≤ length (now out) ⌝ }
-        ensures { λ r. ⌜ LinesWritten (AfterStates (modelAt (now (store .entry))) v (now (run .entry)) (now (word .entry))
-            (now (run .exit)) (now (word .exit))) 2930 (now (out .entry)) (self .at .at) (now (out .exit)) (r .at .at) ⌝ }
+        ensures { λ r. ⌜ LinesWritten (AfterStates (modelAt (now (store .entry))) v (now (run .entry))
+            (now (word .entry)) (now (run .exit)) (now (word .exit))) 2930 (now (out .entry)) (self .at .at)
+            (now (out .exit)) (r .at .at) ⌝ }
     {
         match v {
             Verdict::Passed(_) => self,

@@ -16,8 +16,8 @@ ghost use Rattle.page.specs.PageLines.{verdict-line, state-line, run-lin
 ghost use Rattle.page.specs.PageLines.{last-line, distanceText, lineBytes};
 ghost use Rattle.page.specs.Inner.Entries.{distanceOf};
 
-// Where the page ends so far, by value: each writer takes it and hands back where its line or field ended. Each asks for
-// room for just its own bytes.
+// Where the page ends so far, by value: each writer takes it and hands back where its line or field ended. Each asks
+// for room for just its own bytes.
 pub struct PageEnd {
     pub at: Position,
 }

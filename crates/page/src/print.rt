@@ -11,7 +11,7 @@ use word::word::WORD_LENGTH;
 ghost use mathlib.Core.Path.{_≡_};
 ghost use Prim.Native.Nat.{_+_, _≤_};
 ghost use lib.ListN.{length};
-ghost use Rattle.model.specs.Faults.{refuses};
+ghost use Rattle.text.specs.Faults.{refuses};
 ghost use Rattle.model.specs.Lists.{pageLength};
 ghost use Rattle.model.specs.Promises.{readOutcome};
 ghost use Rattle.model.specs.Wrote.{Wrote};
@@ -49,7 +49,7 @@ fn refused_with(read: ReadAnswer) -> Refusal
             place: 0,
         },
         ReadAnswer::Faulty { fault, line } => {
-            let n = model::fault_number(fault);
+            let n = text::fault_number(fault);
             Refusal {
                 number: n,
                 place: line as u16,

@@ -20,7 +20,8 @@ impl PageEnd {
     ) -> PageEnd
         requires { ⌜ ListsOf (modelAt (now store)) (now store) (now distances) (now table) ⌝ }
         requires { ⌜ self .at .at + 14 * modelAt (now store) .head .states ≤ length (now out) ⌝ }
-        ensures { λ r. ⌜ LinesWritten (StateLines (modelAt (now (store .entry))) (modelAt (now (store .entry)) .head .states))
+        ensures { λ r. ⌜ LinesWritten
+            (StateLines (modelAt (now (store .entry))) (modelAt (now (store .entry)) .head .states))
             (14 * modelAt (now (store .entry)) .head .states) (now (out .entry)) (self .at .at) (now (out .exit))
             (r .at .at) ⌝ }
     {

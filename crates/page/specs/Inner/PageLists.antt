@@ -1,4 +1,5 @@
--- The lists that Page is lent, and what it makes of them on a good store. Only the contracts of inner functions cite it.
+-- The lists that Page is lent, and what it makes of them on a good store. Only the contracts of inner functions cite
+-- it.
 -- Document 01, operation 7.
 use mathlib.Core.List.{List, [], _∷_}
 use Prim.Native.Nat.{ℕ, _≤_}

@@ -4,7 +4,7 @@ use mathlib.Core.Path.{_≡_}
 use Prim.Native.Nat.{ℕ, _<_}
 use Rattle.model.specs.declared.read.ReadAnswer.{ReadAnswer}
 use Rattle.model.specs.declared.read.ReadAnswer.the-variants.{Done}
-use Rattle.model.specs.Faults.{Outcome, refuses}
+use Rattle.text.specs.Faults.{Outcome, refuses}
 use Rattle.model.specs.Promises.{readOutcome}
 use Rattle.model.specs.Wrote.{Wrote}
 use Rattle.page.specs.Prints.{faultBytes}

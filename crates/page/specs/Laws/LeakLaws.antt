@@ -22,7 +22,7 @@ use Rattle.page.specs.PageLines.{PageLine, run-line, lineBytes}
 use Rattle.page.specs.Page.{nameOf, nameLine}
 use Rattle.page.specs.Inner.LinesWritten.{LinesWritten}
 use Rattle.page.specs.Laws.PageLinesLaws.{run-length, word-length}
-use Rattle.page.specs.Laws.LinesWrittenLaws.{written-line, written-append, written-of}
+use Rattle.page.specs.Laws.LinesWrittenLaws.{written-line, written-both, written-of}
 
 map-append : {A B : Type 0} (f : A → B) (xs ys : List A) → map f (xs ++ ys) ≡ map f xs ++ map f ys
 map-append f [] ys = refl
@@ -39,9 +39,9 @@ written-next line width l i h k x w =
     let e : width * i + width ≡ width * (i + 1) = sym (rw add-one (mul-suc width i)) in
     let f : map line (take (i + 1) l) ≡ map line (take i l) ++ (line (getD l i 0) ∷ []) =
     ap (map line) (sym (take-next l i h)) ∙ map-append line (take i l) (getD l i 0 ∷ []) in
-    written-of (λ (xs : List PageLine) (y : map line (take (i + 1) l) ≡ xs). y) (omega (arith, e)) (written-append
-    (λ xs ys (p : map line (take i l) ≡ xs) (q : line (getD l i 0) ∷ [] ≡ ys). f ∙ rw (p, q)) x
-    (written-line (line (getD l i 0)) refl k w))
+    let one = written-line {P = _≡_ (line (getD l i 0) ∷ [])} (line (getD l i 0)) refl k w in
+    written-of (λ xs (y : map line (take i l) ++ (line (getD l i 0) ∷ []) ≡ xs). f ∙ y) (omega (arith, e))
+    (written-both x one)
 
 -- `R,step` and the line end
 pub run-length-le : (j : ℕ) → length (lineBytes (run-line j)) ≤ 8

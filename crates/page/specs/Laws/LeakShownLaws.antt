@@ -118,8 +118,10 @@ module _ {s : List ℕ} {m : Model} (st : Stored s m) {j depth : ℕ} (refused :
       by-word-shown =
           subst (λ (e : End). LeakShown m j depth word word′ (map (nameLine m) (take n word′) ++ (end-line e ∷ [])))
           (sym word-end)
-          (subst (λ (w : List ℕ). LeakShown m j depth word word′ (map (nameLine m) w ++ (end-line (word-shown .end) ∷ [])))
-          (sym word-taken) (by-word word-deterministic (word-shown .word-of) (word-shown .length-is) (word-shown .list)))
+          (subst
+          (λ (w : List ℕ). LeakShown m j depth word word′ (map (nameLine m) w ++ (end-line (word-shown .end) ∷ [])))
+          (sym word-taken)
+          (by-word word-deterministic (word-shown .word-of) (word-shown .length-is) (word-shown .list)))
 
     -- ---- no word is shown
 
@@ -130,7 +132,8 @@ module _ {s : List ℕ} {m : Model} (st : Stored s m) {j depth : ℕ} (refused :
           let z : _≡_ {A = ℕ} 0 1 = cc in omega arith
 
       word-kept : word′ ≡ word
-      word-kept = ⊎-elim (λ b. done .branching (b .0) (b .1) .1) (λ det. absurd (not-deterministic det)) (branch-cases st)
+      word-kept =
+          ⊎-elim (λ b. done .branching (b .0) (b .1) .1) (λ det. absurd (not-deterministic det)) (branch-cases st)
 
       by-branch-shown : LeakShown m j depth word word′ (branch-line ∷ [])
       by-branch-shown = by-branch not-deterministic word-kept
@@ -162,7 +165,8 @@ module _ {s : List ℕ} {m : Model} (st : Stored s m) {j depth : ℕ} (refused :
         → LinesWritten (LeakLines m j depth run word run′ word′) 2930 entry at exit next
     leak-lines-written {p} {n} {run = run} {run′} shown e ran done x y =
         let taken : take n run′ ≡ ran .steps =
-        ap (take n) (ran .list) ∙ ap (λ (k : ℕ). take k (ran .steps ++ drop (length (ran .steps)) run)) (sym (ran .length-is))
+        ap (take n) (ran .list)
+        ∙ ap (λ (k : ℕ). take k (ran .steps ++ drop (length (ran .steps)) run)) (sym (ran .length-is))
         ∙ take-append-seam (ran .steps) (drop (length (ran .steps)) run) in
         written-of (λ (zs : List PageLine) (z : LeakLines m j depth run word run′ word′ zs). z)
         (omega (arith, runTo-length st (ran .run-to), ran .length-is)) (written-append

@@ -8,7 +8,7 @@ use Prim.Native.Nat.{ℕ}
 use native.Mathlib.Omega.{arith}
 use lib.ListN.{length, getD, take, drop, length-append}
 use lib.Seq.{take-append-seam}
-use Rattle.model.specs.Faults.{Outcome, answers, faultNumber}
+use Rattle.text.specs.Faults.{Outcome, answers, faultNumber}
 use Rattle.model.specs.Promises.{readingOutcome}
 use Rattle.model.specs.Reading.{Reading, done, tooLong, faulty, readText}
 use Rattle.model.specs.Store.{storeOf}
@@ -16,7 +16,7 @@ use Rattle.model.specs.WellFormed.{WellFormed}
 use Rattle.model.specs.Laws.Store.StoreLaws.{storeOf-length}
 use Rattle.model.specs.Laws.Store.StoredModelLaws.{holds-storeOf}
 use Rattle.model.specs.Laws.Text.ReadingLaws.{readText-iff}
-use Rattle.model.specs.Model.{Model}
+use Rattle.text.specs.Model.{Model}
 use Rattle.model.specs.System.{DeterministicModel}
 use Rattle.judge.specs.declared.judge.Verdict.{Verdict}
 use Rattle.judge.specs.declared.judge.Verdict.the-variants.{Passed, Refused}
@@ -29,7 +29,7 @@ use Rattle.word.specs.Claim.{States, Sequence}
 use Rattle.word.specs.Words.{endNumber}
 use Rattle.word.specs.Laws.WordPromiseLaws.{endNumber-injective}
 use Rattle.word.specs.Laws.ClaimLaws.{sequence-of-shown}
-use Rattle.word.specs.Laws.ReadTextLaws.{lists-of-told, states→readText}
+use Rattle.word.specs.Laws.ReadTextLaws.{lists-of-notShort, states→readText}
 use Rattle.word.specs.Laws.LeastLeakLaws.{bnid↔INI}
 use Rattle.page.specs.Claim.{SaysPass, SaysRefuse, LeakTold, PageTells, PrintClaim}
 use Rattle.page.specs.Page.{nameLine, LeakShown, by-word, by-branch, LeakLines, AfterStates, StateLines}
@@ -66,7 +66,8 @@ begins-refuse j depth rest = refl
 
 -- a sequence and its end are those that the list and the answer hold
 sequence-is : {m : Model} {j depth : ℕ} (w word : List ℕ) {word′ : List ℕ} (end : End)
-    → word′ ≡ w ++ drop (length w) word → (x : Sequence m j depth (answers (length w ∷ endNumber end ∷ [])) word′) → (w ≡ x .sequence) × (end ≡ x .end)
+    → word′ ≡ w ++ drop (length w) word → (x : Sequence m j depth (answers (length w ∷ endNumber end ∷ [])) word′)
+    → (w ≡ x .sequence) × (end ≡ x .end)
 sequence-is w word {word′} end e x =
     let a = x .answer in
     let l : length w ≡ length (x .sequence) = cc in
@@ -80,7 +81,8 @@ module _ {s : List ℕ} {m : Model} (st : Stored s m) (det : DeterministicModel 
   -- what the lines after the states say of a refused model
   leak-told : (j depth : ℕ) (bytes : List ℕ) (states after : List PageLine) → StateLines m (m .head .states) states
       → RefusedAt m j depth → LeakLines m j depth run word run′ word′ after
-      → bytes ≡ pageBytes ((verdict-line (Refused (record { 0 = j }) depth) ∷ []) ++ states ++ after ++ (last-line ∷ []))
+      → bytes ≡ pageBytes ((verdict-line (Refused (record { 0 = j }) depth) ∷ []) ++ states ++ after ++
+      (last-line ∷ []))
       → LeakTold m bytes word′
   leak-told j depth bytes states after lines refused x e = go (x .rest) (x .shown) (x .lines-are)
     where
@@ -180,7 +182,7 @@ fault-begins x e =
     let g = ap (λ (l : List ℕ). getD l 0 0) f in
     omega (arith, g)
 
-well-formed-stored : {m : Model} → WellFormed m → Stored (storeOf m ++ []) m
+pub well-formed-stored : {m : Model} → WellFormed m → Stored (storeOf m ++ []) m
 well-formed-stored {m} w = holds→Stored (storeOf m ++ []) m
     (omega (arith, storeOf-length m w, length-append (storeOf m) [])) (holds-storeOf m [] w)
 
@@ -188,7 +190,7 @@ module _ {text store distances table run word out : List ℕ} {outcome : Outcome
     {store′ distances′ table′ run′ word′ out′ : List ℕ}
     (p : PrintPromise text store distances table run word out outcome store′ distances′ table′ run′ word′ out′) where
   lists-none : (n : ℕ) → outcome ≡ answers (n ∷ []) → printLists text store distances table run word out ≡ none
-  lists-none n e = lists-of-told (printLists text store distances table run word out) (λ k h. p .short k h .0) (λ k h.
+  lists-none n e = lists-of-notShort (printLists text store distances table run word out) (λ k h. p .short k h .0) (λ k h.
       let z : _≡_ {A = ℕ} 0 1 = cc in omega arith)
 
   pub print-claim : PrintClaim text outcome word′ out′

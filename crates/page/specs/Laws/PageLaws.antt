@@ -37,11 +37,13 @@ module _ {m : Model} {run word run′ word′ : List ℕ} where
   pub page-written : (v : Verdict) {a b c d : ℕ} {out out₁ out₂ out₃ out₄ : List ℕ} → m .head .states ≤ stateLimit
       → Judged m v → Wrote out 0 (lineBytes (verdict-line v)) out₁ a
       → LinesWritten (StateLines m (m .head .states)) (14 * m .head .states) out₁ a out₂ b
-      → LinesWritten (AfterStates m v run word run′ word′) 2930 out₂ b out₃ c → Wrote out₃ c (lineBytes last-line) out₄ d
+      → LinesWritten (AfterStates m v run word run′ word′) 2930 out₂ b out₃ c → Wrote out₃ c (lineBytes last-line) out₄
+      d
       → LinesWritten (PageOf m run word run′ word′) pageLength out 0 out₄ d
   page-written v few judged first states after last =
       let whole = written-both (written-both
-      (written-both (written-line {P = _≡_ (verdict-line v ∷ [])} {room = 21} (verdict-line v) refl (verdict-length-le v) first)
+      (written-both (written-line {P = _≡_ (verdict-line v ∷ [])} {room = 21} (verdict-line v) refl
+      (verdict-length-le v) first)
       (written-exact states)) (written-exact after))
       (written-line {P = _≡_ (last-line ∷ [])} {room = 2} last-line refl (omega (arith, last-length)) last) in
       written-of

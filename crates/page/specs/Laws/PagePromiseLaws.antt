@@ -15,7 +15,6 @@ use Rattle.model.specs.Laws.OnStoreLaws.{onStore-unique}
 use Rattle.model.specs.System.{source, target, levels, Steps, Start}
 use Rattle.judge.specs.declared.judge.Verdict.{Verdict}
 use Rattle.judge.specs.declared.judge.Verdict.the-variants.{Passed, Refused}
-use Rattle.judge.specs.Promises.{Filled}
 use Rattle.judge.specs.Laws.JudgeLaws.{filled-unique}
 use Rattle.judge.specs.Laws.ReachLaws.{good-stored}
 use Rattle.judge.specs.Laws.RunsLaws.{runTo-unique}
@@ -26,7 +25,7 @@ use Rattle.word.specs.Laws.WordPromiseLaws.{endNumber-injective, wordShown-uniq
 use Rattle.page.specs.PageLines.{PageLine, verdict-line, run-line, end-line, last-line, pageBytes}
 use Rattle.page.specs.Page.{DistanceField, unreached, reached, ClassOf, StateLines, no-state, next-state}
 use Rattle.page.specs.Page.{nameLine, LeakShown, by-word, by-branch, AfterStates, PageOf}
-use Rattle.page.specs.Promises.{pageLists, PagePrinted, PagePromise}
+use Rattle.page.specs.Promises.{PagePrinted, PagePromise}
 
 -- ---- the `C` lines
 
@@ -55,7 +54,8 @@ stateLines-unique (suc n) (next-state {lines = xs} {distance = d} {class = c} x 
 wordOf-unique : {m : Model} {j : ℕ} {w u : List ℕ} {d e : End} (word : List ℕ) → WordOf m j w d → WordOf m j u e
     → (w ≡ u) × (d ≡ e)
 wordOf-unique {m} {j} {w} {u} {d} {e} word x y =
-    let f : w ≡ u = first-word-unique (levels m) (Steps m) (source m j) (target m j) w u (x .first-word) (y .first-word) in
+    let f : w ≡ u = first-word-unique (levels m) (Steps m) (source m j) (target m j) w u (x .first-word) (y .first-word)
+    in
     let a : WordShown m j (length w) (answers (length w ∷ endNumber d ∷ [])) word (w ++ drop (length w) word) =
     record { word = w; end = d; word-of = x; length-is = refl; outcome-is = refl; list = refl } in
     let b : WordShown m j (length w) (answers (length w ∷ endNumber e ∷ [])) word (u ++ drop (length u) word) =

@@ -7,17 +7,17 @@ use Prim.Native.Nat.{ℕ, zero, suc, _+_, _≤_, _<_}
 use native.Mathlib.Omega.{arith}
 use lib.Dec.{ltb}
 use lib.ListN.{length}
-use Rattle.model.specs.Bytes.{lineEnd}
-use Rattle.model.specs.Faults.{refuses}
-use Rattle.model.specs.Limits.{textLimit}
-use Rattle.model.specs.Lines.{Line, good, bad, headOf, actionOf, stepOf}
-use Rattle.model.specs.Model.{Model, withAction, withStep}
+use Rattle.text.specs.Bytes.{lineEnd}
+use Rattle.text.specs.Faults.{refuses}
+use Rattle.text.specs.Limits.{textLimit}
+use Rattle.text.specs.Lines.{Line, good, bad, headOf, actionOf, stepOf}
+use Rattle.text.specs.Model.{Model, withAction, withStep}
 use Rattle.model.specs.Promises.{readingOutcome}
 use Rattle.model.specs.Reading.{Reading, done, tooLong, faulty, onLine, orFault, readNothing, readEnd, readSteps}
 use Rattle.model.specs.Reading.{readActions, headModel, readModel, readText}
-use Rattle.model.specs.Split.{split, same?}
+use Rattle.text.specs.Split.{split, same?}
 use Rattle.model.specs.Laws.Text.LineTextLaws.{line-of-headOf}
-use Rattle.model.specs.Laws.Text.RangesLaws.{headFits?→HeadRanges}
+use Rattle.text.specs.Laws.RangesLaws.{headFits?→HeadRanges}
 
 module _ (n : ℕ) where
   -- The place of a faulty line is at most n.

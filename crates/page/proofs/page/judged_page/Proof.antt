@@ -19,7 +19,8 @@ verdict-line-requires c κs =
 state-lines-requires : tie.Need-state-lines-requires
 state-lines-requires c κs =
     let first = c .before .before .before in
-    let s = c .before .before .before .before .before .before .before .before .before .before .before .before .before .before in
+    let s = c .before .before .before .before .before .before .before .before .before .before .before .before .before
+    .before in
     let lists = s .pre .0 .showable .lists in (
       listsOf lists,
       omega (
@@ -37,7 +38,8 @@ after-states-requires : tie.Need-after-states-requires
 after-states-requires c κs =
     let states = c .before .before .before .before .before in
     let first = states .before .before .before .before in
-    let s = c .before .before .before .before .before .before .before .before .before .before .before .before .before .before .before .before .before .before .before .before in
+    let s = c .before .before .before .before .before .before .before .before .before .before .before .before .before
+    .before .before .before .before .before .before .before in
     let wrote = states .state-lines .ensures in (
       s .pre .0,
       omega (
@@ -58,7 +60,9 @@ last-line-requires c κs =
     let after = c .before .before .before .before .before .before .before in
     let states = after .before .before .before .before .before .before in
     let first = states .before .before .before .before in
-    let s = c .before .before .before .before .before .before .before .before .before .before .before .before .before .before .before .before .before .before .before .before .before .before .before .before .before .before .before .before in
+    let s = c .before .before .before .before .before .before .before .before .before .before .before .before .before
+    .before .before .before .before .before .before .before .before .before .before .before .before .before .before
+    .before in
     let wrote = states .state-lines .ensures in
     let more = after .after-states .ensures in
     omega (

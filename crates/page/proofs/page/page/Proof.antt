@@ -17,13 +17,20 @@ returns-3 : tie.Need-returns-3
 returns-3 c = short-table-promised _ _ _ _ _ _ (c .before .before .if1 .left) (c .before .if2 .left) (c .if3 .taken)
 
 returns-4 : tie.Need-returns-4
-returns-4 c = short-run-promised _ _ _ _ _ _ (c .before .before .before .if1 .left) (c .before .before .if2 .left) (c .before .if3 .left) (c .if4 .taken)
+returns-4 c =
+    short-run-promised _ _ _ _ _ _ (c .before .before .before .if1 .left) (c .before .before .if2 .left)
+    (c .before .if3 .left) (c .if4 .taken)
 
 returns-5 : tie.Need-returns-5
-returns-5 c = short-word-promised _ _ _ _ _ _ (c .before .before .before .before .if1 .left) (c .before .before .before .if2 .left) (c .before .before .if3 .left) (c .before .if4 .left) (c .if5 .taken)
+returns-5 c =
+    short-word-promised _ _ _ _ _ _ (c .before .before .before .before .if1 .left)
+    (c .before .before .before .if2 .left) (c .before .before .if3 .left) (c .before .if4 .left) (c .if5 .taken)
 
 returns-6 : tie.Need-returns-6
-returns-6 c = short-out-promised _ _ _ _ _ _ (c .before .before .before .before .before .if1 .left) (c .before .before .before .before .if2 .left) (c .before .before .before .if3 .left) (c .before .before .if4 .left) (c .before .if5 .left) (c .if6 .taken)
+returns-6 c =
+    short-out-promised _ _ _ _ _ _ (c .before .before .before .before .before .if1 .left)
+    (c .before .before .before .before .if2 .left) (c .before .before .before .if3 .left) (c .before .before .if4 .left)
+    (c .before .if5 .left) (c .if6 .taken)
 
 good-requires : tie.Need-good-requires
 good-requires c κs = c .before .before .before .before .before .if1 .left
@@ -32,7 +39,9 @@ returns-7 : tie.Need-returns-7
 returns-7 c =
     let tested = c .before .good2 in
     let long = c .before .before in
-    not-good-promised _ _ _ _ _ _ (long .before .before .before .before .before .if1 .left) (long .before .before .before .before .if2 .left) (long .before .before .before .if3 .left) (long .before .before .if4 .left) (long .before .if5 .left) (long .if6 .left)
+    not-good-promised _ _ _ _ _ _ (long .before .before .before .before .before .if1 .left)
+    (long .before .before .before .before .if2 .left) (long .before .before .before .if3 .left)
+    (long .before .before .if4 .left) (long .before .if5 .left) (long .if6 .left)
     (decides-refused (tested .result) _ (tested .ensures) (c .if7 .taken))
 
 page-good-requires : tie.Need-page-good-requires
@@ -71,7 +80,9 @@ returns-8 c =
     let is-good = page .before .before .before .before .before .before in
     let tested = is-good .before .good2 in
     let long = is-good .before .before in
-    printed-promised _ _ _ _ _ _ (long .before .before .before .before .before .if1 .left) (long .before .before .before .before .if2 .left) (long .before .before .before .if3 .left) (long .before .before .if4 .left) (long .before .if5 .left) (long .if6 .left)
+    printed-promised _ _ _ _ _ _ (long .before .before .before .before .before .if1 .left)
+    (long .before .before .before .before .if2 .left) (long .before .before .before .if3 .left)
+    (long .before .before .if4 .left) (long .before .if5 .left) (long .if6 .left)
     (decides-passed (tested .result) _ (tested .ensures) (is-good .if7 .left)) _ _ _ _ _ _ (page .page-good .ensures)
 
 pub page-spec : {M : Type 1} → statement M

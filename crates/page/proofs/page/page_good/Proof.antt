@@ -31,7 +31,8 @@ slice-aggregate-judged-page-2 c = search needs
 
 judged-page-requires : tie.Need-judged-page-requires
 judged-page-requires c κs =
-    let judged = c .before .before .before .before .before .before .before .before .before .before .before .before .before in
+    let judged = c .before .before .before .before .before .before .before .before .before .before .before .before
+    .before in
     let lent = judged .before .before .before .before .before .before .before .before .before .before .before .pre in
     let j = judged .judge-good .ensures in (
       record {
@@ -74,7 +75,8 @@ same-length-5 c = search needs
 returns : tie.Need-returns
 returns c =
     let page = c .before .before .before .before .before .before in
-    let judged = page .before .before .before .before .before .before .before .before .before .before .before .before .before .before in
+    let judged = page .before .before .before .before .before .before .before .before .before .before .before .before
+    .before .before in
     let lent = judged .before .before .before .before .before .before .before .before .before .before .before .pre in
     record {
       filled = judged .judge-good .ensures .filled;

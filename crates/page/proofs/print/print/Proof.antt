@@ -1,5 +1,5 @@
--- Each refusal is a way of the promise; else what Read left is printed as Page does, or why it refused. The claim follows
--- from the promise. Assumes nothing.
+-- Each refusal is a way of the promise; else what Read left is printed as Page does, or why it refused. The claim
+-- follows from the promise. Assumes nothing.
 use mathlib.Core.List.{[], _∷_}
 use mathlib.Core.Logic.{inl, inr}
 use mathlib.Core.Path.{_≡_, subst}
@@ -29,22 +29,27 @@ returns-2 c =
 
 returns-3 : tie.Need-returns-3
 returns-3 c =
-    let promise = short-table-promised _ _ _ _ _ _ _ (c .before .before .if1 .left) (c .before .if2 .left) (c .if3 .taken) in
+    let promise = short-table-promised _ _ _ _ _ _ _ (c .before .before .if1 .left) (c .before .if2 .left)
+    (c .if3 .taken) in
     (promise, print-claim promise)
 
 returns-4 : tie.Need-returns-4
 returns-4 c =
-    let promise = short-run-promised _ _ _ _ _ _ _ (c .before .before .before .if1 .left) (c .before .before .if2 .left) (c .before .if3 .left) (c .if4 .taken) in
+    let promise = short-run-promised _ _ _ _ _ _ _ (c .before .before .before .if1 .left) (c .before .before .if2 .left)
+    (c .before .if3 .left) (c .if4 .taken) in
     (promise, print-claim promise)
 
 returns-5 : tie.Need-returns-5
 returns-5 c =
-    let promise = short-word-promised _ _ _ _ _ _ _ (c .before .before .before .before .if1 .left) (c .before .before .before .if2 .left) (c .before .before .if3 .left) (c .before .if4 .left) (c .if5 .taken) in
+    let promise = short-word-promised _ _ _ _ _ _ _ (c .before .before .before .before .if1 .left)
+    (c .before .before .before .if2 .left) (c .before .before .if3 .left) (c .before .if4 .left) (c .if5 .taken) in
     (promise, print-claim promise)
 
 returns-6 : tie.Need-returns-6
 returns-6 c =
-    let promise = short-out-promised _ _ _ _ _ _ _ (c .before .before .before .before .before .if1 .left) (c .before .before .before .before .if2 .left) (c .before .before .before .if3 .left) (c .before .before .if4 .left) (c .before .if5 .left) (c .if6 .taken) in
+    let promise = short-out-promised _ _ _ _ _ _ _ (c .before .before .before .before .before .if1 .left)
+    (c .before .before .before .before .if2 .left) (c .before .before .before .if3 .left) (c .before .before .if4 .left)
+    (c .before .if5 .left) (c .if6 .taken) in
     (promise, print-claim promise)
 
 read-requires : tie.Need-read-requires
@@ -83,7 +88,8 @@ refused-page-requires c κs =
     let other = c .before in
     let read = other .before .before .before in
     let long = read .before .before in (
-      refuses-of (read .read .ensures .0) (long .before .before .before .before .before .if1 .left) (not-done (read .read .result) (other .match .keys2)),
+      refuses-of (read .read .ensures .0) (long .before .before .before .before .before .if1 .left)
+          (not-done (read .read .result) (other .match .keys2)),
       long .if6 .left,
     )
 
@@ -118,7 +124,9 @@ returns-7 c =
     let read = done .before .before .before .before in
     let long = read .before .before in
     let promise =
-    read-promised _ _ _ _ _ _ _ (long .before .before .before .before .before .if1 .left) (long .before .before .before .before .if2 .left) (long .before .before .before .if3 .left) (long .before .before .if4 .left) (long .before .if5 .left) (long .if6 .left) (read .read .result)
+    read-promised _ _ _ _ _ _ _ (long .before .before .before .before .before .if1 .left)
+    (long .before .before .before .before .if2 .left) (long .before .before .before .if3 .left)
+    (long .before .before .if4 .left) (long .before .if5 .left) (long .if6 .left) (read .read .result)
     (read .read .ensures .0) (done .enum-told .given .1) _ _ _ _ _ _ (page .page-good .ensures)
     in
     (promise, print-claim promise)
@@ -129,7 +137,9 @@ returns-8 c =
     let read = page .before .before .before .before .before in
     let long = read .before .before in
     let promise =
-    unread-promised _ _ _ _ _ _ _ (long .before .before .before .before .before .if1 .left) (long .before .before .before .before .if2 .left) (long .before .before .before .if3 .left) (long .before .before .if4 .left) (long .before .if5 .left) (long .if6 .left) (read .read .result)
+    unread-promised _ _ _ _ _ _ _ (long .before .before .before .before .before .if1 .left)
+    (long .before .before .before .before .if2 .left) (long .before .before .before .if3 .left)
+    (long .before .before .if4 .left) (long .before .if5 .left) (long .if6 .left) (read .read .result)
     (read .read .ensures .0) _ _ (page .refused-page .ensures)
     in
     (promise, print-claim promise)

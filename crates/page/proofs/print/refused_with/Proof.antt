@@ -3,7 +3,7 @@ use mathlib.Core.Path.{sym, ap, _∙_}
 use Prim.Native.Nat.{ℕ}
 use native.Mathlib.Omega.{arith}
 use borrow.Author.Needs.{needs}
-use Rattle.model.specs.Faults.{refuses}
+use Rattle.text.specs.Faults.{refuses}
 use Rattle.model.specs.Promises.{readOutcome}
 use Rattle.page.proofs.print.refused_with.Statement.{statement}
 use Rattle.page.proofs.print.refused_with.Tie as tie

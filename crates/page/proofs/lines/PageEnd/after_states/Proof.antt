@@ -15,7 +15,8 @@ enum-known-v c = search needs
 leak-lines-requires : tie.Need-leak-lines-requires
 leak-lines-requires c κs =
     let arm = c .before .before .before .before in
-    let s = c .before .before .before .before .before .before .before .before .before .before .before .before .before .before in
+    let s = c .before .before .before .before .before .before .before .before .before .before .before .before .before
+    .before in
     (rw (arm .v .given .1) at (s .pre .0), (refl, s .pre .1))
 
 returns : tie.Need-returns

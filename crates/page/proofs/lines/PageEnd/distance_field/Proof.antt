@@ -46,4 +46,13 @@ returns-2 c =
     rw (distanceOf-reachable (s .args .d) (tested .if1 .left)) (field .field .ensures)
 
 pub distance-field-spec : {M : Type 1} → statement M
-distance-field-spec = tie.close (tie.spec slice-aggregate-text text-requires same-length returns field-requires same-length-2 returns-2)
+distance-field-spec =
+    tie.close
+    (tie.spec
+    slice-aggregate-text
+    text-requires
+    same-length
+    returns
+    field-requires
+    same-length-2
+    returns-2)

@@ -48,4 +48,16 @@ returns-2 c =
     rw (line .before .before .before .enum-told2 .given .1) (line .text2 .ensures)
 
 pub end-line-spec : {M : Type 1} → statement M
-end-line-spec = tie.close (tie.spec enum-told slice-aggregate-text text-requires enum-told-2 slice-aggregate-text-2 text-requires-2 same-length returns same-length-2 returns-2)
+end-line-spec =
+    tie.close
+    (tie.spec
+    enum-told
+    slice-aggregate-text
+    text-requires
+    enum-told-2
+    slice-aggregate-text-2
+    text-requires-2
+    same-length
+    returns
+    same-length-2
+    returns-2)

@@ -24,7 +24,8 @@ field-requires-2 c κs =
 
 byte-requires-2 : tie.Need-byte-requires-2
 byte-requires-2 c κs =
-    let s = c .before .before .before .before .before .before .before .before .before .before .before .before .before .before .before in
+    let s = c .before .before .before .before .before .before .before .before .before .before .before .before .before
+    .before .before in
     omega (arith, s .pre, fault-length (s .args .number) (s .args .place))
 
 same-length : tie.Need-same-length

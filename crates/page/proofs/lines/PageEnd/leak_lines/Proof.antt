@@ -27,7 +27,8 @@ fill-run-requires c κs =
     let st = J .showable .lists .stored in
     let refused = refused-of (s .pre .1 .0) (J .showable .verdict) in
     let e =
-    ap (λ (x : State). x .0) (c .before .source .ensures) ∙ stored-source st (s .args .j .0) (refused .leak .high-step .number-lt)
+    ap (λ (x : State). x .0) (c .before .source .ensures) ∙ stored-source st (s .args .j .0)
+    (refused .leak .high-step .number-lt)
     in
     let distances = J .showable .lists in (
       st,
@@ -40,7 +41,8 @@ fill-run-requires c κs =
 run-lines-requires : tie.Need-run-lines-requires
 run-lines-requires c κs =
     let ran = c .before .before .before .before .fill-run .ensures in
-    let s = c .before .before .before .before .before .before .before .before .before .before .before .before .before .before .before in
+    let s = c .before .before .before .before .before .before .before .before .before .before .before .before .before
+    .before .before in
     let J = s .pre .0 in
     let st = J .showable .lists .stored in
     let refused = refused-of (s .pre .1 .0) (J .showable .verdict) in
@@ -55,7 +57,8 @@ shown-lines-requires c κs =
     let shown = c .before .before .before .before .show in
     let run = c .before .before .before .before .before .before .before .before in
     let ran = run .before .before .before .before .before .fill-run .ensures in
-    let s = run .before .before .before .before .before .before .before .before .before .before .before .before .before .before .before .before in
+    let s = run .before .before .before .before .before .before .before .before .before .before .before .before .before
+    .before .before .before in
     let J = s .pre .0 in
     let st = J .showable .lists .stored in
     let refused = refused-of (s .pre .1 .0) (J .showable .verdict) in
@@ -88,7 +91,8 @@ returns c =
     let st = J .showable .lists .stored in
     let refused = refused-of (s .pre .1 .0) (J .showable .verdict) in
     let e =
-    ap (λ (x : State). x .0) (ran .before .before .source .ensures) ∙ stored-source st (s .args .j .0) (refused .leak .high-step .number-lt)
+    ap (λ (x : State). x .0) (ran .before .before .source .ensures) ∙ stored-source st (s .args .j .0)
+    (refused .leak .high-step .number-lt)
     in
     leak-lines-written st refused (shown .show .result) e (ran .fill-run .ensures) (shown .show .ensures)
     (run .run-lines .ensures) (lines .shown-lines .ensures)

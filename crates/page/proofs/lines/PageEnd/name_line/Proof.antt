@@ -16,7 +16,12 @@ use Rattle.page.proofs.lines.PageEnd.name_line.Tie as tie
 name-place-requires : tie.Need-name-place-requires
 name-place-requires c κs =
     let s = c .before .before in
-    omega (arith, name-action-lt (s .pre .0) (s .args .a .0) (s .pre .1 .0), actions-le (now (s .args .store)) (s .pre .0))
+    omega (
+      arith,
+      name-action-lt (s .pre .0) (s .args .a .0) (s .pre .1 .0),
+      actions-le (now (s .args .store))
+          (s .pre .0),
+    )
 
 name-length-requires : tie.Need-name-length-requires
 name-length-requires c κs =

@@ -37,4 +37,12 @@ returns c =
     wrote-append (wrote-append (passed .text .ensures) (rank .field .ensures)) (end .byte .ensures)
 
 pub passed-line-spec : {M : Type 1} → statement M
-passed-line-spec = tie.close (tie.spec slice-aggregate-text text-requires field-requires byte-requires same-length returns)
+passed-line-spec =
+    tie.close
+    (tie.spec
+    slice-aggregate-text
+    text-requires
+    field-requires
+    byte-requires
+    same-length
+    returns)

@@ -27,7 +27,8 @@ field-requires-2 c κs =
 
 byte-requires : tie.Need-byte-requires
 byte-requires c κs =
-    let s = c .before .before .before .before .before .before .before .before .before .before .before .before .before .before .before .before in
+    let s = c .before .before .before .before .before .before .before .before .before .before .before .before .before
+    .before .before .before in
     omega (arith, s .pre, refused-length (s .args .j) (s .args .depth))
 
 same-length : tie.Need-same-length
@@ -44,4 +45,13 @@ returns c =
     (end .byte .ensures)
 
 pub refused-line-spec : {M : Type 1} → statement M
-refused-line-spec = tie.close (tie.spec slice-aggregate-text text-requires field-requires field-requires-2 byte-requires same-length returns)
+refused-line-spec =
+    tie.close
+    (tie.spec
+    slice-aggregate-text
+    text-requires
+    field-requires
+    field-requires-2
+    byte-requires
+    same-length
+    returns)

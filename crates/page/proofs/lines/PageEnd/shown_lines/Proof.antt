@@ -18,7 +18,7 @@ use Rattle.word.specs.declared.word.WordAnswer.the-variants.{Shown, ShortList, 
 use Rattle.page.specs.PageLines.{PageLine, end-line, branch-line, lineBytes}
 use Rattle.page.specs.Inner.Leak.{Letters, Spelled, shownLines}
 use Rattle.page.specs.Inner.LinesWritten.{LinesWritten}
-use Rattle.page.specs.Laws.LinesWrittenLaws.{written-line, written-append, written-of, written-next-le}
+use Rattle.page.specs.Laws.LinesWrittenLaws.{written-line, written-both, written-of, written-next-le}
 use Rattle.page.specs.Laws.PageLinesLaws.{end-length, branch-length}
 use Rattle.page.proofs.lines.PageEnd.shown_lines.Statement.{statement}
 use Rattle.page.proofs.lines.PageEnd.shown_lines.Tie as tie
@@ -44,9 +44,9 @@ with-end : {xs : List PageLine} {n at mid next : ℕ} {entry middle exit : List 
     → LinesWritten (_≡_ xs) (15 * n) entry at middle mid → Wrote middle mid (lineBytes (end-line end)) exit next
     → LinesWritten (_≡_ (xs ++ (end-line end ∷ []))) 1914 entry at exit next
 with-end {xs} end l x w =
-    written-of (λ ys (y : xs ++ (end-line end ∷ []) ≡ ys). y) (omega arith) (written-append
-    (λ ys zs (p : xs ≡ ys) (q : end-line end ∷ [] ≡ zs). rw (p, q)) x
-    (written-line {room = 9} (end-line end) refl (omega (arith, end-length end)) w))
+    let line = written-line {P = _≡_ (end-line end ∷ [])} {room = 9} (end-line end) refl
+    (omega (arith, end-length end)) w in
+    written-of (λ ys (y : xs ++ (end-line end ∷ []) ≡ ys). y) (omega (arith, l)) (written-both x line)
 
 enum-known-shown : tie.Need-enum-known-shown
 enum-known-shown c = search needs

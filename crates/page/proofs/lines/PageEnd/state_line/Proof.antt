@@ -25,12 +25,14 @@ distance-field-requires c κs =
 
 field-requires-2 : tie.Need-field-requires-2
 field-requires-2 c κs =
-    let s = c .before .before .before .before .before .before .before .before .before .before .before .before .before .before .before .before in
+    let s = c .before .before .before .before .before .before .before .before .before .before .before .before .before
+    .before .before .before in
     omega (arith, s .pre, state-length (s .args .p .0) (distanceOf (s .args .d)) (s .args .class .0))
 
 byte-requires-2 : tie.Need-byte-requires-2
 byte-requires-2 c κs =
-    let s = c .before .before .before .before .before .before .before .before .before .before .before .before .before .before .before .before .before .before .before .before in
+    let s = c .before .before .before .before .before .before .before .before .before .before .before .before .before
+    .before .before .before .before .before .before .before in
     omega (arith, s .pre, state-length (s .args .p .0) (distanceOf (s .args .d)) (s .args .class .0))
 
 same-length : tie.Need-same-length
@@ -51,4 +53,13 @@ returns c =
     (end .byte2 .ensures)
 
 pub state-line-spec : {M : Type 1} → statement M
-state-line-spec = tie.close (tie.spec byte-requires field-requires distance-field-requires field-requires-2 byte-requires-2 same-length returns)
+state-line-spec =
+    tie.close
+    (tie.spec
+    byte-requires
+    field-requires
+    distance-field-requires
+    field-requires-2
+    byte-requires-2
+    same-length
+    returns)

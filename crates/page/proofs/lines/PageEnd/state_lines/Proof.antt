@@ -84,7 +84,8 @@ loop-again c =
       omega (arith, in-loop .loop-test .taken),
       search needs,
       state-lines-next (loop .inv .3) distance (class-of-zero L (loop .i) (class .result .0) l (class .ensures))
-          (state-length-le L (loop .i) _ (class .result .0) l distance (class .ensures .le)) (line .state-line .ensures),
+          (state-length-le L (loop .i) _ (class .result .0) l distance (class .ensures .le))
+          (line .state-line .ensures),
     )
 
 same-length : tie.Need-same-length Inv-loop μ-loop

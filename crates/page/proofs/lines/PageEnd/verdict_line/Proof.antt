@@ -36,4 +36,14 @@ returns-2 c =
     rw (line .before .before .before .v2 .given .1) (line .refused-line .ensures)
 
 pub verdict-line-spec : {M : Type 1} → statement M
-verdict-line-spec = tie.close (tie.spec enum-known-v passed-line-requires enum-known-v-2 refused-line-requires same-length returns same-length-2 returns-2)
+verdict-line-spec =
+    tie.close
+    (tie.spec
+    enum-known-v
+    passed-line-requires
+    enum-known-v-2
+    refused-line-requires
+    same-length
+    returns
+    same-length-2
+    returns-2)

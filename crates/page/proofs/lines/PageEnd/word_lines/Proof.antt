@@ -59,7 +59,8 @@ loop-again c =
     let word = s .args .word .now in (
       omega (arith, l),
       search needs,
-      written-next (nameLine (modelAt (s .args .store .now))) 15 word (loop .i) (omega (arith, l, s .pre .1 .0 .list-le))
+      written-next (nameLine (modelAt (s .args .store .now))) 15 word (loop .i)
+          (omega (arith, l, s .pre .1 .0 .list-le))
           (name-line-length-le (s .pre .0) (getD word (loop .i) 0) letter) (loop .inv .2) (line .name-line .ensures),
     )
 
@@ -69,7 +70,8 @@ same-length c = search needs
 returns : tie.Need-returns Inv-loop μ-loop
 returns c =
     let loop = c .before .loop in
-    let e : loop .i ≡ c .before .before .before .before .before .args .n = omega (arith, loop .inv .0, c .loop-test .left) in
+    let e : loop .i ≡ c .before .before .before .before .before .args .n = omega
+    (arith, loop .inv .0, c .loop-test .left) in
     rw (← e) (loop .inv .2)
 
 pub word-lines-spec : {M : Type 1} → statement M
