@@ -52,6 +52,12 @@ TillAnswer till_page(const uint16_t *store, size_t store_len, uint16_t *distance
                      uint8_t *table, size_t table_len, uint16_t *run, size_t run_len, uint16_t *word, size_t word_len,
                      uint8_t *out, size_t out_len);
 
+/* From a text to its page: fills the store as Read does and the other lists as Page does, or only the line `F,number,place`
+   where Read refuses the text. One value: the bytes printed. */
+TillAnswer till_print(const uint8_t *text, size_t text_len, uint16_t *store, size_t store_len, uint16_t *distances,
+                      size_t distances_len, uint8_t *table, size_t table_len, uint16_t *run, size_t run_len,
+                      uint16_t *word, size_t word_len, uint8_t *out, size_t out_len);
+
 /* Fills the text that reads to the store. One value: its length. */
 TillAnswer till_write(const uint16_t *store, size_t store_len, uint8_t *out, size_t out_len);
 
