@@ -21,6 +21,7 @@ typedef struct {
 #define TILL_TABLE 16384
 #define TILL_RUN 127
 #define TILL_WORD 127
+#define TILL_PAGE 5000
 #define TILL_WRITTEN 14420
 
 /* Fills the store from a text. No value. */
@@ -44,6 +45,18 @@ TillAnswer till_run(const uint16_t *store, size_t store_len, uint16_t *distances
    allows. Two values: its length, and the end that allows it, 0 for the source and 1 for the target. */
 TillAnswer till_word(const uint16_t *store, size_t store_len, uint16_t *distances, size_t distances_len,
                      uint8_t *table, size_t table_len, uint16_t *word, size_t word_len);
+
+/* Fills distances and ranks, the run to the source of Judge's step if the model is refused, the word if the page has a `B`
+   line, and the page. One value: the bytes of the page. */
+TillAnswer till_page(const uint16_t *store, size_t store_len, uint16_t *distances, size_t distances_len,
+                     uint8_t *table, size_t table_len, uint16_t *run, size_t run_len, uint16_t *word, size_t word_len,
+                     uint8_t *out, size_t out_len);
+
+/* From a text to its page: fills the store as Read does and the other lists as Page does, or only the line `F,number,place`
+   where Read refuses the text. One value: the bytes printed. */
+TillAnswer till_print(const uint8_t *text, size_t text_len, uint16_t *store, size_t store_len, uint16_t *distances,
+                      size_t distances_len, uint8_t *table, size_t table_len, uint16_t *run, size_t run_len,
+                      uint16_t *word, size_t word_len, uint8_t *out, size_t out_len);
 
 /* Fills the text that reads to the store. One value: its length. */
 TillAnswer till_write(const uint16_t *store, size_t store_len, uint8_t *out, size_t out_len);

@@ -1,6 +1,7 @@
 -- What Judge answers.
--- Document 01, operation 4: "Answers *passed* with the greatest rank in the table, or *refused* with a step and a depth: of
--- the reachable high steps whose ends have a rank above 0, the least rank, and the lowest step number having it."
+-- Document 01, operation 4: "Answers *passed* with the greatest rank in the table, or *refused* with a step and a
+-- depth: of the reachable high steps whose ends have a rank above 0, the least rank, and the lowest step number having
+-- it."
 use Prim.Native.Nat.{ℕ, _≤_, _<_}
 use Rattle.lts.specs.Alike.{Rank}
 use Rattle.lts.specs.Noninterference.{BNID}

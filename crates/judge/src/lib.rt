@@ -13,6 +13,6 @@ pub const INDEX_LENGTH: usize = ranking::classes::INDEX_LENGTH;
 pub const ROLES_LENGTH: usize = model::store::ACTION_LIMIT as usize;
 
 // Roles of actions, as the levels of the store.
-const LOW: u16 = 0;
+pub const LOW: u16 = 0;
 
 const HIGH: u16 = 2;

@@ -24,6 +24,27 @@ pub promise-told-three : (P : List ℕ → List ℕ → List ℕ → List ℕ �
 promise-told-three P {a} {b} {c} {d} {exit} {exit′} {exit″} e p =
     subst (λ (x : Outcome). P a b c d x exit exit′ exit″) e p
 
+-- the same on five
+pub promise-told-five : (P : List ℕ → List ℕ → List ℕ → List ℕ → List ℕ → List ℕ → Outcome
+    → List ℕ → List ℕ → List ℕ → List ℕ → List ℕ → Type 0)
+    {a b c d e f a′ b′ c′ d′ e′ : List ℕ} {t u : Outcome} → t ≡ u → P a b c d e f t a′ b′ c′ d′ e′
+    → P a b c d e f u a′ b′ c′ d′ e′
+promise-told-five P {a} {b} {c} {d} {e} {f} {a′} {b′} {c′} {d′} {e′} q p =
+    subst (λ (x : Outcome). P a b c d e f x a′ b′ c′ d′ e′) q p
+
+-- the same on six
+pub promise-told-six : (P : List ℕ → List ℕ → List ℕ → List ℕ → List ℕ → List ℕ → List ℕ → Outcome
+    → List ℕ → List ℕ → List ℕ → List ℕ → List ℕ → List ℕ → Type 0)
+    {a b c d e f g a′ b′ c′ d′ e′ f′ : List ℕ} {t u : Outcome} → t ≡ u → P a b c d e f g t a′ b′ c′ d′ e′ f′
+    → P a b c d e f g u a′ b′ c′ d′ e′ f′
+promise-told-six P {a} {b} {c} {d} {e} {f} {g} {a′} {b′} {c′} {d′} {e′} {f′} q p =
+    subst (λ (x : Outcome). P a b c d e f g x a′ b′ c′ d′ e′ f′) q p
+
+-- the same of a claim on a text and two lists
+pub claim-told : (P : List ℕ → Outcome → List ℕ → List ℕ → Type 0) {a b c : List ℕ} {t u : Outcome} → t ≡ u
+    → P a t b c → P a u b c
+claim-told P {a} {b} {c} q p = subst (λ (x : Outcome). P a x b c) q p
+
 pub faultNumber-not-zero : (fault : Fault) → faultNumber fault ≡ 0 → ⊥
 faultNumber-not-zero Absent e = omega arith
 faultNumber-not-zero Shape e = omega arith

@@ -6,6 +6,8 @@ use judge::reach::ReachAnswer;
 use judge::run::RunAnswer;
 use model::read::ReadAnswer;
 use model::write::WriteAnswer;
+use page::page::PageAnswer;
+use page::print::PrintAnswer;
 use text::Fault;
 use text::State;
 use word::word::End;
@@ -17,6 +19,9 @@ ghost use Rattle.model.specs.Promises.{ReadPromise, WritePromise};
 ghost use Rattle.judge.specs.Promises.{ReachPromise, RankPromise, JudgePromise, RunPromise, verdictOutcome};
 ghost use Rattle.word.specs.Words.{endNumber};
 ghost use Rattle.word.specs.Promises.{WordPromise};
+ghost use Rattle.page.specs.Promises.{PagePromise};
+ghost use Rattle.page.specs.Prints.{PrintPromise};
+ghost use Rattle.page.specs.Claim.{PrintClaim};
 ghost use Rattle.till_c.specs.Answer.{answerOutcome};
 
 // Number 0 with `count` values, or a refusal's number with its place.
@@ -210,5 +215,48 @@ pub extern "C" fn till_word(
         WordAnswer::NotGood => refusal(22, 0),
         WordAnswer::NotDeterministic(step) => refusal(23, step.0 as usize),
         WordAnswer::NoLeak => refusal(24, 0),
+    }
+}
+
+#[no_mangle]
+pub extern "C" fn till_page(
+    store: &[u16],
+    distances: &mut [u16],
+    table: &mut [u8],
+    run: &mut [u16],
+    word: &mut [u16],
+    out: &mut [u8],
+) -> TillAnswer
+    ensures { λ r. ⌜ PagePromise (now (store .entry)) (now (distances .entry)) (now (table .entry)) (now (run .entry))
+        (now (word .entry)) (now (out .entry)) (answerOutcome r) (now (distances .exit)) (now (table .exit))
+        (now (run .exit)) (now (word .exit)) (now (out .exit)) ⌝ }
+{
+    let answer = page::page::page(store, distances, table, run, word, out);
+    match answer {
+        PageAnswer::Printed(length) => value(length),
+        PageAnswer::ShortList(place) => refusal(21, place),
+        PageAnswer::NotGood => refusal(22, 0),
+    }
+}
+
+#[no_mangle]
+pub extern "C" fn till_print(
+    text: &[u8],
+    store: &mut [u16],
+    distances: &mut [u16],
+    table: &mut [u8],
+    run: &mut [u16],
+    word: &mut [u16],
+    out: &mut [u8],
+) -> TillAnswer
+    ensures { λ r. ⌜ PrintPromise (now (text .entry)) (now (store .entry)) (now (distances .entry)) (now (table .entry))
+        (now (run .entry)) (now (word .entry)) (now (out .entry)) (answerOutcome r) (now (store .exit))
+        (now (distances .exit)) (now (table .exit)) (now (run .exit)) (now (word .exit)) (now (out .exit)) ⌝ }
+    ensures { λ r. ⌜ PrintClaim (now (text .entry)) (answerOutcome r) (now (word .exit)) (now (out .exit)) ⌝ }
+{
+    let answer = page::print::print(text, store, distances, table, run, word, out);
+    match answer {
+        PrintAnswer::Printed(length) => value(length),
+        PrintAnswer::ShortList(place) => refusal(21, place),
     }
 }

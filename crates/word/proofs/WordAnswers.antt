@@ -17,12 +17,13 @@ use Rattle.model.specs.Store.{Good}
 use Rattle.model.specs.StoredModel.{modelAt}
 use Rattle.model.specs.System.{source, target, LowStep, DeterministicModel}
 use Rattle.model.specs.Laws.FirstShortLaws.{first-short, second-short, third-short, fourth-short, none-short-four}
+use Rattle.model.specs.Laws.Store.SystemLaws.{own-step}
 use Rattle.model.specs.Laws.OnStoreLaws.{onStore-short, onStore-not-good, onStore-model}
 use Rattle.judge.specs.declared.judge.Verdict.{Verdict}
 use Rattle.judge.specs.declared.judge.Verdict.the-variants.{Passed, Refused}
 use Rattle.judge.specs.Promises.{Filled}
 use Rattle.judge.specs.Verdicts.{Leak, PassedWith, RefusedAt, Judged}
-use Rattle.judge.specs.Laws.VerdictsLaws.{leak-step, no-leak-of-bnid, passed-not-refused, refusedAt-unique}
+use Rattle.judge.specs.Laws.VerdictsLaws.{no-leak-of-bnid, passed-not-refused, refusedAt-unique}
 use Rattle.word.specs.declared.word.End.{End}
 use Rattle.word.specs.declared.word.End.the-variants.{Source, Target}
 use Rattle.word.specs.declared.word.WordAnswer.{WordAnswer}
@@ -56,7 +57,7 @@ leak-pair {m} {j} {d} {p} {q} det x e f =
     (subst (λ (u : ℕ). SeparatedPair m (source m j) u d) (sym f) (record {
       deterministic = det;
       first-reachable = x .high-step .reachable;
-      second-reachable = onward (x .high-step .reachable) (leak-step x);
+      second-reachable = onward (x .high-step .reachable) (own-step m j (x .high-step .number-lt));
       separated = separated-of-rank (LowStep m) (source m j) (target m j) d (x .above-zero) (x .rank);
     }))
 

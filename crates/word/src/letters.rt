@@ -1,5 +1,6 @@
 // The letters of a word: low steps of one state that another state answers, or has no answer to.
 use crate::branch::Found;
+use judge::judge::ROW;
 use text::Action;
 use text::State;
 use text::Step;
@@ -9,16 +10,14 @@ ghost use lib.ListN.{length};
 ghost use Rattle.text.specs.Decides.{Decides};
 ghost use Rattle.model.specs.StoredModel.{modelAt};
 ghost use Rattle.model.specs.System.{ReachableIn, DeterministicModel};
+ghost use Rattle.ranking.specs.MoveList.{indexLength};
 ghost use Rattle.judge.specs.Inner.Stored.{Stored};
 ghost use Rattle.judge.specs.Inner.Index.{Index};
 ghost use Rattle.word.specs.Inner.Letters.{FoundFirst, StepOf, Unanswered, Alone, Answer, FirstLetter};
 ghost use Rattle.word.specs.Inner.Letters.{StepLists, WordLists, SeparatedPair};
 
 // The role of a low action.
-const LOW: u16 = 0;
-
-// Entry 128 p + q of the table is the rank of p and q.
-const ROW: usize = 128;
+const LOW: u16 = judge::LOW;
 
 // A step, and the other state's step with the same action.
 pub struct Letter {
@@ -29,7 +28,7 @@ pub struct Letter {
 // The step of p with the action a.
 fn find(store: &[u16], begins: &[u16], p: State, a: Action) -> Found
     requires { ⌜ Stored (now store) (modelAt (now store)) ⌝ }
-    requires { ⌜ (129 ≤ length (now begins))
+    requires { ⌜ (indexLength ≤ length (now begins))
         × Index (modelAt (now store)) (modelAt (now store) .head .states) (now begins) ⌝ }
     requires { ⌜ p .0 < modelAt (now store) .head .states ⌝ }
     ensures { λ r. ⌜ FoundFirst (StepOf (modelAt (now (store .entry))) (p .0) (a .0)) r ⌝ }
@@ -146,6 +145,7 @@ pub fn first_letter(
         }
         j += 1;
     }
+    // Does not occur: round k + 1 separates p and q, so some step is answered.
     Letter {
         from: Step(0),
         to: Step(0),

@@ -1,5 +1,7 @@
 // The first shortest word that shows the leak of a deterministic model.
 use crate::branch::Found;
+use judge::INDEX_LENGTH;
+use judge::ROLES_LENGTH;
 use judge::judge::Verdict;
 use judge::rank::TABLE_LENGTH;
 use judge::reach::DISTANCES_LENGTH;
@@ -70,6 +72,7 @@ fn last_letter(store: &[u16], begins: &[u16], roles: &[u16], p: State, q: State)
                 action: model::store::action(store, j),
                 end: End::Target,
             },
+            // Does not occur: round 1 separates p and q, so one of them has such an action.
             Found::Nothing => Last {
                 action: Action(0),
                 end: End::Source,
@@ -163,8 +166,8 @@ pub fn word(store: &[u16], distances: &mut [u16], table: &mut [u8], word: &mut [
     if !model::good::good(store) {
         return WordAnswer::NotGood;
     }
-    let mut begins = [0u16; 129];
-    let mut roles = [0u16; 64];
+    let mut begins = [0u16; INDEX_LENGTH];
+    let mut roles = [0u16; ROLES_LENGTH];
     let verdict = judge::judge::judge_good(store, &mut begins, &mut roles, distances, table);
     show(store, &begins, &roles, distances, table, verdict, word)
 }

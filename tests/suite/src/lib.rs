@@ -57,6 +57,20 @@ extern "C" {
         word: *mut u16,
         word_len: usize,
     ) -> TillAnswer;
+    fn till_page(
+        store: *const u16,
+        store_len: usize,
+        distances: *mut u16,
+        distances_len: usize,
+        table: *mut u8,
+        table_len: usize,
+        run: *mut u16,
+        run_len: usize,
+        word: *mut u16,
+        word_len: usize,
+        out: *mut u8,
+        out_len: usize,
+    ) -> TillAnswer;
 }
 
 impl TillAnswer {
@@ -175,6 +189,35 @@ pub fn word(
         _ => panic!("Word answers its length and an end"),
     };
     Ok((usize::try_from(length).expect("a length fits"), end))
+}
+
+pub fn page(
+    store: &[u16],
+    distances: &mut [u16],
+    table: &mut [u8],
+    run: &mut [u16],
+    word: &mut [u16],
+    out: &mut [u8],
+) -> Result<usize, Refusal> {
+    let answer = unsafe {
+        till_page(
+            store.as_ptr(),
+            store.len(),
+            distances.as_mut_ptr(),
+            distances.len(),
+            table.as_mut_ptr(),
+            table.len(),
+            run.as_mut_ptr(),
+            run.len(),
+            word.as_mut_ptr(),
+            word.len(),
+            out.as_mut_ptr(),
+            out.len(),
+        )
+    };
+    let values = answer.values()?;
+    assert_eq!(values.len(), 1, "Page answers its length");
+    Ok(usize::try_from(values[0]).expect("a length fits"))
 }
 
 /// A rank, a depth or a step number.

@@ -1,6 +1,6 @@
 //! Lists as a caller may lend them.
 use second::gen::Rng;
-use second::store::STORE;
+use second::store::{STORE, WRITTEN};
 use second::Model;
 
 /// A list of some length with anything in it.
@@ -24,4 +24,13 @@ pub fn store_lengths(rng: &mut Rng, model: &Model) -> Vec<Vec<u16>> {
     longer.extend(anything16(rng, 5));
     let shorter = exact[..STORE - 1].to_vec();
     vec![Vec::new(), shorter, exact, longer]
+}
+
+/// A store as a failing test shows it: its text, or its numbers if no text reads to it.
+pub fn shown(store: &[u16]) -> String {
+    let mut out = vec![0; WRITTEN];
+    match second::write(store, &mut out) {
+        Ok(length) => format!("text:\n{}", String::from_utf8_lossy(&out[..length])),
+        Err(_) => format!("store {store:?}"),
+    }
 }

@@ -3,7 +3,7 @@ use second::gen::{self, Rng};
 use second::store::{DISTANCES, RUN, TABLE};
 use second::{Refusal, Verdict};
 use suite::bench::{bench, ACTIONS, CLOSE_IS_LOW};
-use suite::lists::{anything16, anything8, lengths, store_lengths};
+use suite::lists::{anything16, anything8, lengths, shown, store_lengths};
 
 const SEED: u64 = 0x7112;
 
@@ -43,8 +43,8 @@ fn same_reach(before: &Lists, store: &[u16]) -> Result<(), Refusal> {
     let (mut ours, mut theirs) = (before.clone(), before.clone());
     let answer = suite::reach(store, &mut ours.distances);
     let expected = second::reach(store, &mut theirs.distances);
-    assert_eq!(answer, expected, "Reach's answer, store {store:?}");
-    assert!(ours == theirs, "Reach's lists, store {store:?}");
+    assert_eq!(answer, expected, "Reach's answer, {}", shown(store));
+    assert!(ours == theirs, "Reach's lists, {}", shown(store));
     answer
 }
 
@@ -52,8 +52,8 @@ fn same_rank(before: &Lists, store: &[u16]) -> Result<u16, Refusal> {
     let (mut ours, mut theirs) = (before.clone(), before.clone());
     let answer = suite::rank(store, &mut ours.table);
     let expected = second::rank(store, &mut theirs.table);
-    assert_eq!(answer, expected, "Rank's answer, store {store:?}");
-    assert!(ours == theirs, "Rank's lists, store {store:?}");
+    assert_eq!(answer, expected, "Rank's answer, {}", shown(store));
+    assert!(ours == theirs, "Rank's lists, {}", shown(store));
     answer
 }
 
@@ -61,8 +61,8 @@ fn same_judge(before: &Lists, store: &[u16]) -> Result<Verdict, Refusal> {
     let (mut ours, mut theirs) = (before.clone(), before.clone());
     let answer = suite::judge(store, &mut ours.distances, &mut ours.table);
     let expected = second::judge(store, &mut theirs.distances, &mut theirs.table);
-    assert_eq!(answer, expected, "Judge's answer, store {store:?}");
-    assert!(ours == theirs, "Judge's lists, store {store:?}");
+    assert_eq!(answer, expected, "Judge's answer, {}", shown(store));
+    assert!(ours == theirs, "Judge's lists, {}", shown(store));
     answer
 }
 
@@ -71,12 +71,15 @@ fn same_run(before: &Lists, store: &[u16], state: u16) -> Result<usize, Refusal>
     let answer = suite::run(store, &mut ours.distances, &mut ours.run, state);
     let expected = second::run(store, &mut theirs.distances, &mut theirs.run, state);
     assert_eq!(
-        answer, expected,
-        "Run's answer, state {state}, store {store:?}"
+        answer,
+        expected,
+        "Run's answer, state {state}, {}",
+        shown(store)
     );
     assert!(
         ours == theirs,
-        "Run's lists, state {state}, store {store:?}"
+        "Run's lists, state {state}, {}",
+        shown(store)
     );
     answer
 }

@@ -6,7 +6,7 @@ use second::meaning::{self, Deterministic};
 use second::store::{DISTANCES, MOST_STATES, MOST_STEPS, TABLE, WORD};
 use second::{End, Model, Refusal, Step, Verdict};
 use suite::bench::{bench, ACTIONS, CLOSE_IS_LOW};
-use suite::lists::{anything16, anything8, lengths, store_lengths};
+use suite::lists::{anything16, anything8, lengths, shown, store_lengths};
 
 const SEED: u64 = 0x7113;
 
@@ -46,8 +46,8 @@ fn same_word(before: &Lists, store: &[u16]) -> Told {
         &mut theirs.table,
         &mut theirs.word,
     );
-    assert_eq!(answer, expected, "Word's answer, store {store:?}");
-    assert!(ours == theirs, "Word's lists, store {store:?}");
+    assert_eq!(answer, expected, "Word's answer, {}", shown(store));
+    assert!(ours == theirs, "Word's lists, {}", shown(store));
     answer.map(|(length, end)| (ours.word[..length].to_vec(), end))
 }
 

@@ -1,6 +1,6 @@
 -- The computed verdict is the verdict, so every model of a good store has one.
 -- Document 01, operations 3 and 4. Assumes nothing.
-use mathlib.Core.Bool.{Bool, true, false, not, cond}
+use mathlib.Core.Bool.{true, false, not, cond}
 use mathlib.Core.List.{List}
 use mathlib.Core.Logic.{_⊎_, inl, inr, ⊎-elim}
 use mathlib.Core.Path.{_≡_, refl, sym, ap, subst, _∙_}
@@ -12,7 +12,7 @@ use lib.ListN.{length}
 use borrow.Author.Tests.{lt-ltb, le-ltb}
 use Rattle.lts.specs.Alike.{Rank}
 use Rattle.lts.specs.AlikeLaws.{rank-unique}
-use Rattle.lts.specs.TestsLaws.{T-cases, and-intro, and-left, and-right, not-T→false, lt-suc-cases, lt-or-le}
+use Rattle.lts.specs.TestsLaws.{T-cases, T→true, and-intro, and-left, and-right, not-T→false, lt-suc-cases, lt-or-le}
 use Rattle.lts.specs.CheckedLaws.{lowRank→Rank}
 use Rattle.lts.specs.DistanceLaws.{Reachable→within?, within?→Reachable}
 use Rattle.text.specs.Model.{high, Model}
@@ -30,10 +30,6 @@ use Rattle.judge.specs.Laws.LeakSearchLaws.{refused-of-found, no-leak-of
 use Rattle.judge.specs.Inner.VerdictTest.{rankIn, reachable?, greatestBelow, greatestRank, highStep?}
 use Rattle.judge.specs.Inner.VerdictTest.{depthAt, Least}
 use Rattle.judge.specs.Inner.VerdictTest.{lookAt, leastBelow, verdictFrom, verdictOf}
-
-T→true : (b : Bool) → T b → b ≡ true
-T→true true t = refl
-T→true false t = absurd t
 
 not-eqb : (i j : ℕ) → T (not (eqb i j)) → ¬ (i ≡ j)
 not-eqb i j t e = T-not (eqb i j) t (T-eqb e)

@@ -2,7 +2,7 @@
 -- Document 01, operation 4; definition 22 of source 000. Assumes nothing.
 use mathlib.Core.List.{List}
 use mathlib.Core.Logic.{_⊎_, _↔_, ⊎-elim}
-use mathlib.Core.Path.{_≡_, refl, sym, ap, subst, _∙_}
+use mathlib.Core.Path.{_≡_, sym, ap, subst, _∙_}
 use Prim.Native.Nat.{ℕ, _<_}
 use native.Mathlib.Omega.{arith}
 use lib.Dec.{eqb, eqb→eq}
@@ -14,6 +14,7 @@ use Rattle.lts.specs.Checked.{lowRank}
 use Rattle.lts.specs.CheckedLaws.{lowRank→Rank}
 use Rattle.text.specs.Model.{high, Model}
 use Rattle.model.specs.System.{source, action, target, level, levels, Steps, Start, LowStep, HighStep, ReachableIn}
+use Rattle.model.specs.Laws.Store.SystemLaws.{own-step}
 use Rattle.judge.specs.declared.judge.Verdict.{Verdict}
 use Rattle.judge.specs.declared.judge.Verdict.the-variants.{Passed, Refused}
 use Rattle.judge.specs.Inner.Stored.{Stored}
@@ -35,21 +36,11 @@ IsRefused (Refused j d) = Unit {0}
 
 -- ---- leaks and BNID
 
--- the step that is a leak
-pub leak-step : {m : Model} {j d : ℕ} → Leak m j d → Steps m (source m j) (action m j) (target m j)
-leak-step {j = j} x = record {
-  number = j;
-  number-lt = x .high-step .number-lt;
-  source-is = refl;
-  action-is = refl;
-  target-is = refl;
-}
-
 module _ (m : Model) where
   pub no-leak-of-bnid : BNID (levels m) (Steps m) (Start m) → (j d : ℕ) → ¬ (Leak m j d)
   no-leak-of-bnid b j d x =
       let pair = b (source m j) (action m j) (target m j) (x .high-step .reachable) (T-eqb (x .high-step .is-high))
-      (leak-step x) in
+      (own-step m j (x .high-step .number-lt)) in
       let e : d ≡ 0 = rank-unique (LowStep m) (source m j) (target m j) d 0 (x .rank) (bisimilar pair) in
       omega (arith, x .above-zero)
 

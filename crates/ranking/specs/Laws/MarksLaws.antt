@@ -108,7 +108,8 @@ unmarked-of-marked {P} {entry} {middle} {exit} u m w e = record {
 
 -- With the places of q marked and no others, p is answered by q exactly when all places of p are marked.
 pub decides-answered : {Move : Moves} {n : ℕ} {class : List ℕ} → ((p a q : ℕ) → Move p a q → q < n)
-    → StateClasses n class → (p : ℕ) {q : ℕ} {entry marks : List ℕ} → Unmarked entry → Marked (Reaches Move class q) 1 entry marks → (r : Bool)
+    → StateClasses n class → (p : ℕ) {q : ℕ} {entry marks : List ℕ} → Unmarked entry
+    → Marked (Reaches Move class q) 1 entry marks → (r : Bool)
     → Decides r (AllMarked (Reaches Move class p) marks) → Decides r (Answered Move (Same class) p q)
 decides-answered {Move} {n} {class} target-lt B p u m r =
     decides-iff r

@@ -1,16 +1,16 @@
 -- The moves of a move list are decided by a test, so they make a game and all that is shown of ranks holds of them.
 -- Assumes nothing.
-use mathlib.Core.Path.{_≡_, ap, subst}
+use mathlib.Core.Path.{ap, subst}
 use mathlib.Core.Bool.{Bool, _&&_}
 use mathlib.Core.List.{List}
 use Prim.Native.Nat.{ℕ, _+_, _≤_, _<_}
 use native.Mathlib.Numerals.{add-one}
 use native.Mathlib.Omega.{arith}
 use native.Mathlib.Decide.{le-ind}
-use lib.Dec.{T, leb, ltb, eqb, leb→le, le→leb, ltb→lt, lt→ltb, eqb→eq, eqb-refl}
+use lib.Dec.{T, leb, ltb, eqb, leb→le, le→leb, ltb→lt, lt→ltb, eqb→eq}
 use lib.ListN.{getD}
 use Rattle.lts.specs.Tests.{any}
-use Rattle.lts.specs.TestsLaws.{and-intro, and-left, and-right, any→Some, Some→any}
+use Rattle.lts.specs.TestsLaws.{T-eqb, and-intro, and-left, and-right, any→Some, Some→any}
 use Rattle.lts.specs.Game.{Game, Separates}
 use Rattle.lts.specs.ClassesLaws.{rounds-lt}
 use Rattle.lts.specs.Decided.{Decided, answers?}
@@ -26,9 +26,6 @@ listedAt? n first actions targets p a q i =
 -- The test of `Listed`.
 abbrev pub listed? : ℕ → List ℕ → List ℕ → List ℕ → ℕ → ℕ → ℕ → Bool
 listed? n first actions targets p a q = any (getD first (p + 1) 0) (listedAt? n first actions targets p a q)
-
-eq→eqb : {x y : ℕ} → x ≡ y → T (eqb x y)
-eq→eqb {x} e = subst (λ (z : ℕ). T (eqb x z)) e (eqb-refl x)
 
 module _ {n : ℕ} {first actions targets : List ℕ} (L : MoveList n first actions targets) where
   rising-le : (q : ℕ) → q ≤ n → (p : ℕ) → p ≤ q → getD first p 0 ≤ getD first q 0
@@ -72,7 +69,7 @@ module _ {n : ℕ} {first actions targets : List ℕ} (L : MoveList n first acti
       Some→any (getD first (p + 1) 0) (listedAt? n first actions targets p a q) i (m .place-lt)
       (and-intro (ltb p n) (leb (getD first p 0) i && (act && tgt)) (lt→ltb p n (m .source-lt))
       (and-intro (leb (getD first p 0) i) (act && tgt) (le→leb (getD first p 0) i (m .first-le))
-      (and-intro act tgt (eq→eqb (m .action-is)) (eq→eqb (m .target-is)))))
+      (and-intro act tgt (T-eqb (m .action-is)) (T-eqb (m .target-is)))))
 
   pub listed-decided : Decided (Listed n first actions targets) n actionLimit (listed? n first actions targets)
   listed-decided = record {

@@ -10,6 +10,7 @@ use Rattle.text.specs.Limits.{actionLimit}
 use Rattle.model.specs.Lists.{tableLength, wordLength}
 use Rattle.text.specs.Model.{Model}
 use Rattle.model.specs.System.{source, action, target, levels, LowStep, ReachableIn, DeterministicModel}
+use Rattle.ranking.specs.MoveList.{indexLength}
 use Rattle.ranking.specs.Table.{Ranks}
 use Rattle.judge.specs.declared.judge.Verdict.{Verdict}
 use Rattle.judge.specs.Verdicts.{Judged}
@@ -22,11 +23,12 @@ use Rattle.word.specs.declared.branch.Found.the-variants.{At, Nothing}
 
 -- ---- what is found
 
--- The step found is the first that P holds of; nothing is found where P holds of none.
+-- Step j is the first that P holds of.
 pub record First (P : ℕ → Type 0) (j : ℕ) : Type 0 where
   pub holds : P j
   pub first : (i : ℕ) → P i → j ≤ i
 
+-- The step found is the first that P holds of; nothing is found where P holds of none.
 abbrev pub FoundFirst : (ℕ → Type 0) → Found → Type 0
 FoundFirst P (At j) = First P (j .0)
 FoundFirst P Nothing = (j : ℕ) → ¬ (P j)
@@ -73,7 +75,7 @@ pub record FirstLetter (m : Model) (p q k j i : ℕ) : Type 0 where
 -- A good store with the index of its steps and the roles of its actions.
 pub record StepLists (m : Model) (store begins roles : List ℕ) : Type 0 where
   pub stored : Stored store m
-  pub index-length : 129 ≤ length begins
+  pub index-length : indexLength ≤ length begins
   pub index : Index m (m .head .states) begins
   pub roles-length : actionLimit ≤ length roles
   pub roles-are : Roles (levels m) (m .head .actions) roles
@@ -94,7 +96,7 @@ pub record SeparatedPair (m : Model) (p q k : ℕ) : Type 0 where
 -- A good store, judged, with the lists made from it and room for a word.
 pub record Showable (m : Model) (v : Verdict) (store begins roles distances table word : List ℕ) : Type 0 where
   pub lists : ModelLists m store roles distances table
-  pub index-length : 129 ≤ length begins
+  pub index-length : indexLength ≤ length begins
   pub index : Index m (m .head .states) begins
   pub verdict : Judged m v
   pub word-length : wordLength ≤ length word

@@ -1,5 +1,5 @@
--- The joint fact on the starred bench models, by evaluation: each text is read, the computed verdict is the one, and the
--- words and the deterministic models pass their tests.
+-- The joint fact on the starred bench models, by evaluation: each text is read, the computed verdict is the one, and
+-- the words and the deterministic models pass their tests.
 -- Document 01, "Bench models". Assumes nothing.
 use mathlib.Core.Bool.{Bool, _&&_, _||_}
 use mathlib.Core.List.{List, [], _∷_, _++_}

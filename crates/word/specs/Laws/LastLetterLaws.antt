@@ -11,7 +11,7 @@ use Rattle.lts.specs.Run.{Run}
 use Rattle.lts.specs.Word.{OnlyFrom, JustOne, FirstWord}
 use Rattle.text.specs.Model.{Model}
 use Rattle.model.specs.System.{action, target, levels, Steps, Start}
-use Rattle.model.specs.Laws.Store.SystemLaws.{deterministicModel→Deterministic}
+use Rattle.model.specs.Laws.Store.SystemLaws.{own-step, deterministicModel→Deterministic}
 use Rattle.judge.specs.Inner.Stored.{Stored}
 use Rattle.word.specs.declared.word.End.the-variants.{Source, Target}
 use Rattle.word.specs.Inner.Letters.{First, Alone, SeparatedPair}
@@ -33,13 +33,8 @@ module _ {m : Model} {p q : ℕ} where
   )
     where
       own : Steps m p (action m j) (target m j)
-      own = record {
-        number = j;
-        number-lt = x .unanswered .number-lt;
-        source-is = x .source-is;
-        action-is = refl;
-        target-is = refl;
-      }
+      own = subst (λ (o : ℕ). Steps m o (action m j) (target m j)) (x .source-is)
+          (own-step m j (x .unanswered .number-lt))
 
   pub OnlyFrom→alone : {a : ℕ} → T (levels m .low? a) → OnlyFrom (Steps m) p q (a ∷ [])
       → (j : ℕ) × Alone m p q j × (action m j ≡ a)

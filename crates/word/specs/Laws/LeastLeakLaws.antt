@@ -13,9 +13,6 @@ use Rattle.lts.specs.AlikeLaws.{bisimilar-of-rank, separated-of-rank}
 use Rattle.lts.specs.Run.{Bounded}
 use Rattle.lts.specs.Noninterference.{Levelled, low, release, high, LevelledSteps, Low, BNID, INI}
 use Rattle.lts.specs.NoninterferenceLaws as theorem
-use Rattle.lts.specs.Decided.{answers?}
-use Rattle.lts.specs.Checked.{lowMove?}
-use Rattle.lts.specs.CheckedLaws.{low-game}
 use Rattle.lts.specs.LowLaws.{bisimilar→SameLow}
 use Rattle.lts.specs.Word.{JustOne}
 use Rattle.lts.specs.WordLaws.{just-one-not-both, separated-length-le}
@@ -24,9 +21,9 @@ use Rattle.model.specs.System.{source, target, level, levels, Steps, Start, Low
 use Rattle.model.specs.Laws.Store.SystemLaws.{deterministicModel→Deterministic}
 use Rattle.judge.specs.Verdicts.{RefusedAt}
 use Rattle.judge.specs.Inner.Stored.{Stored}
-use Rattle.judge.specs.Inner.StepTest.{step?}
 use Rattle.judge.specs.Laws.StepTestLaws.{decided-steps, decided-start}
 use Rattle.judge.specs.Laws.VerdictsLaws.{rank-of-states}
+use Rattle.word.specs.Laws.LettersLaws.{low-step-game}
 
 -- "An action is low (L), release (D) or high (H)."
 levelled : (m : Model) (a k : ℕ) → level m a ≡ k → k ≤ 2 → Levelled (levels m) a
@@ -45,9 +42,7 @@ module _ {s : List ℕ} {m : Model} (st : Stored s m) where
 
   pub bnid↔INI : DeterministicModel m → BNID (levels m) (Steps m) (Start m) ↔ INI (levels m) (Steps m) (Start m)
   bnid↔INI d = theorem.bnid↔INI (levels m) (Steps m) (Start m) (m .head .states) bounded levelled-steps
-      (deterministicModel→Deterministic m d) (answers? (m .head .states) (m .head .actions)
-      (lowMove? (levels m) (step? m)))
-      (low-game (levels m) (Steps m) (m .head .states) (m .head .actions) (step? m) (decided-steps st))
+      (deterministicModel→Deterministic m d) _ (low-step-game st)
 
   -- Ends of rank 0 allow the same low sequences; ends of a rank above 0 are a leak, and allow the same shorter than
   -- their rank.

@@ -119,9 +119,9 @@ module _ {m : Model} {store begins roles table : List ℕ} (L : WordLists m stor
   separated-of-entry {k} pos z = separated-of-rank (LowStep m) (target m j) (target m i) k pos
       (subst (Rank (LowStep m) (target m j) (target m i)) z target-rank)
 
-  pub entry-of-separated : {k : ℕ} → Separated (LowStep m) (target m j) (target m i) k
+  pub target-entry-of-separated : {k : ℕ} → Separated (LowStep m) (target m j) (target m i) k
       → getD table (pairPlace x y) 0 ≡ k
-  entry-of-separated {k} s = rank-unique (LowStep m) (target m j) (target m i) (getD table (pairPlace x y) 0) k
+  target-entry-of-separated {k} s = rank-unique (LowStep m) (target m j) (target m i) (getD table (pairPlace x y) 0) k
       target-rank (rank-of-separated (LowStep m) (target m j) (target m i) k s)
 
   -- Step i is the one step of q with that action.
@@ -131,7 +131,8 @@ module _ {m : Model} {store begins roles table : List ℕ} (L : WordLists m stor
       let t = h .step-of in
       let same : o ≡ i = d .one-step o i (t .number-lt) n (subst (ReachableIn m) (sym (t .source-is)) r)
       (t .source-is ∙ sym (s .source-is)) (t .action-is ∙ sym g ∙ sym (s .action-is)) in
-      z (entry-of-separated (subst (λ (u : ℕ). Separated (LowStep m) (target m j) (target m u) k) same (h .targets)))
+      z (target-entry-of-separated
+      (subst (λ (u : ℕ). Separated (LowStep m) (target m j) (target m u) k) same (h .targets)))
 
 -- ---- the first letter
 

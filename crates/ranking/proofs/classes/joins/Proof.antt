@@ -40,8 +40,10 @@ returns-3 c =
     let played = c .before .before .answers in
     let else = c .before .before .before .before .before .before .before .before .before in
     let own = sym (else .before .before .before .class-of .ensures) ∙ else .if1 .left in
-    let outcome = played .ensures in
-    (decides-iff (played .result) (λ h. record { represents = own; answers = h }) (λ h. h .answers) (outcome .0), outcome .1)
+    let outcome = played .ensures in (
+      decides-iff (played .result) (λ h. record { represents = own; answers = h }) (λ h. h .answers) (outcome .0),
+      outcome .1,
+    )
 
 pub joins-spec : {M : Type 1} → statement M
 joins-spec =

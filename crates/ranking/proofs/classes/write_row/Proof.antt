@@ -4,7 +4,8 @@ use Prim.Native.Nat.{_≤_, _-_}
 use native.Mathlib.Omega.{arith}
 use lib.ListN.{length}
 use Rattle.ranking.specs.Inner.TableWrites.{Written, RowWritten}
-use Rattle.ranking.specs.Laws.TableWritesLaws.{written-refl, written-trans, row-zero, row-add-one, row-le, row-stays}
+use Rattle.ranking.specs.Laws.TableWritesLaws.{written-refl, written-trans}
+use Rattle.ranking.specs.Laws.TableWritesLaws.{row-zero, row-add-one, row-le, row-stays}
 use borrow.Author.Needs.{needs}
 use Rattle.ranking.proofs.classes.write_row.Statement.{statement}
 use Rattle.ranking.proofs.classes.write_row.Tie as tie

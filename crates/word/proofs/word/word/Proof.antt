@@ -5,6 +5,7 @@ use Rattle.model.specs.Laws.Store.DecidesLaws.{decides-passed, decides-refused}
 use Rattle.judge.specs.Laws.GoodStoredLaws.{good→Stored}
 use Rattle.word.proofs.WordAnswers.{short-store-promised, short-distances-promised, short-table-promised}
 use Rattle.word.proofs.WordAnswers.{short-word-promised, not-good-promised, done-promised}
+use Rattle.word.proofs.TextAnswers.{judging→Showable}
 use Rattle.word.proofs.word.word.Statement.{statement}
 use Rattle.word.proofs.word.word.Tie as tie
 
@@ -68,23 +69,9 @@ show-requires c κs =
     let long = is-good .before .before in
     let first-long = long .before .before .before .if1 .left in
     let good = decides-passed (tested .result) _ (tested .ensures) (is-good .if5 .left) in
-    let j = judged .judge-good .ensures in
-    record {
-      lists = record {
-        stored = good→Stored _ first-long good;
-        roles-length = omega (arith, judged .judge-good .kept);
-        roles-are = j .roles;
-        distances-length =
-            omega (arith, j .filled .distances-filled .past .same-length, long .before .before .if2 .left);
-        distances-are = j .filled .distances-filled .list;
-        table-length = omega (arith, j .filled .table-past .same-length, long .before .if3 .left);
-        ranks = j .filled .ranks;
-      };
-      index-length = omega (arith, judged .judge-good .kept);
-      index = j .index;
-      verdict = j .verdict;
-      word-length = long .if4 .left;
-    }
+    judging→Showable (judged .judge-good .ensures) (long .before .before .if2 .left) (long .before .if3 .left) _ _
+    (good→Stored _ first-long good) (omega (arith, judged .judge-good .kept)) (omega (arith, judged .judge-good .kept))
+    (long .if4 .left)
 
 same-length : tie.Need-same-length
 same-length c = search needs
