@@ -156,8 +156,7 @@ module _ {s : List ℕ} {m : Model} (st : Stored s m) (det : DeterministicModel 
         leak = λ _. leak-page (j .0) depth states after state-lines judged x e;
       }
 
--- an answered number is one
-pub same-number : {a b : ℕ} → answers (a ∷ []) ≡ answers (b ∷ []) → a ≡ b
+same-number : {a b : ℕ} → answers (a ∷ []) ≡ answers (b ∷ []) → a ≡ b
 same-number h = cc
 
 pub page-tells : {m : Model} → WellFormed m → DeterministicModel m → {outcome : Outcome}

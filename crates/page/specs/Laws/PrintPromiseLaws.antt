@@ -1,23 +1,18 @@
--- The promise of `print` pins its answer and the content of each list, and what is printed stands in its list.
+-- The promise of `print` pins its answer and the content of each list.
 -- Document 01, "The page". Assumes nothing.
-use mathlib.Core.List.{List, [], _∷_, _++_}
+use mathlib.Core.List.{List}
 use mathlib.Core.Logic.{_⊎_, inl, inr}
 use mathlib.Core.Option.{none, some}
 use mathlib.Core.Path.{_≡_, refl, sym, ap, _∙_}
-use Prim.Native.Nat.{ℕ, _≤_}
-use native.Mathlib.Omega.{arith}
-use lib.ListN.{length, length-append}
-use Rattle.text.specs.Faults.{Outcome, answers, refuses, faultNumber}
+use Prim.Native.Nat.{ℕ}
+use Rattle.text.specs.Faults.{Outcome, refuses, faultNumber}
 use Rattle.model.specs.Promises.{readingOutcome}
 use Rattle.model.specs.Reading.{Reading, done, tooLong, faulty, readText}
 use Rattle.model.specs.Laws.OnStoreLaws.{option-cases}
 use Rattle.model.specs.Laws.Text.ReadingLaws.{readText-iff}
 use Rattle.judge.specs.Laws.JudgeLaws.{filled-unique}
-use Rattle.page.specs.PageLines.{pageBytes}
-use Rattle.page.specs.declared.print.PrintAnswer.{PrintAnswer}
-use Rattle.page.specs.declared.print.PrintAnswer.the-variants.{Printed}
-use Rattle.page.specs.Prints.{printOutcome, printLists, faultBytes, Untouched, FaultPrinted, PrintPromise}
-use Rattle.page.specs.Laws.PageClaimLaws.{well-formed-stored, same-number}
+use Rattle.page.specs.Prints.{printLists, Untouched, FaultPrinted, PrintPromise}
+use Rattle.page.specs.Laws.PageClaimLaws.{well-formed-stored}
 use Rattle.page.specs.Laws.PagePromiseLaws.{pagePrinted-unique}
 
 faultPrinted-unique : {number place : ℕ} {t u : Outcome} {out out′ out″ : List ℕ}
@@ -74,42 +69,3 @@ module _ {text store distances table run word out : List ℕ} {t u : Outcome}
           let b = y .short k e in
           untouched-same (a .1) (b .1) (a .0 ∙ sym (b .0)) (a .2 ∙ sym (b .2))
       go (inr e) = read-same e (readText text) refl
-
--- ---- what is printed stands in the list
-
-front-le : {n : ℕ} {outcome : Outcome} {out : List ℕ} (bytes rest : List ℕ) → outcome ≡ answers (n ∷ [])
-    → outcome ≡ answers (length bytes ∷ []) → out ≡ bytes ++ rest → n ≤ length out
-front-le bytes rest e f g =
-    omega (arith, same-number (sym e ∙ f), ap length g, length-append bytes rest)
-
--- an answered length is within the list
-pub printed-le : {text store distances table run word out store′ distances′ table′ run′ word′ out′ : List ℕ}
-    {r : PrintAnswer} {n : ℕ} → r ≡ Printed n
-    → PrintPromise text store distances table run word out (printOutcome r) store′ distances′ table′ run′ word′ out′
-    → n ≤ length out′
-unfolding printOutcome readingOutcome
-printed-le {text} {store} {distances} {table} {run} {word} {out} {out′ = out′} {r} {n} e p =
-    go (option-cases (printLists text store distances table run word out))
-  where
-    told : printOutcome r ≡ answers (n ∷ [])
-    told = ap printOutcome e
-
-    read : printLists text store distances table run word out ≡ none → (x : Reading) → readText text ≡ x
-        → n ≤ length out′
-    read long (done m) f =
-        let x = p .read long m f .printed in
-        front-le (pageBytes (x .lines)) _ told (x .outcome-is) (x .list)
-    read long tooLong f =
-        let x = p .unread long 1 0 (ap readingOutcome f) .1 in
-        front-le (faultBytes 1 0) _ told (x .outcome-is) (x .list)
-    read long (faulty fault line) f =
-        let x = p .unread long (faultNumber fault) line (ap readingOutcome f) .1 in
-        front-le (faultBytes (faultNumber fault) line) _ told (x .outcome-is) (x .list)
-
-    go : ((k : ℕ) × (printLists text store distances table run word out ≡ some k))
-        ⊎ (printLists text store distances table run word out ≡ none) → n ≤ length out′
-    go (inl (k, h)) =
-        let f = sym told ∙ p .short k h .0 in
-        let z : _≡_ {A = ℕ} 0 1 = cc in
-        absurd (omega arith)
-    go (inr h) = read h (readText text) refl
