@@ -71,6 +71,22 @@ extern "C" {
         out: *mut u8,
         out_len: usize,
     ) -> TillAnswer;
+    fn till_print(
+        text: *const u8,
+        text_len: usize,
+        store: *mut u16,
+        store_len: usize,
+        distances: *mut u16,
+        distances_len: usize,
+        table: *mut u8,
+        table_len: usize,
+        run: *mut u16,
+        run_len: usize,
+        word: *mut u16,
+        word_len: usize,
+        out: *mut u8,
+        out_len: usize,
+    ) -> TillAnswer;
 }
 
 impl TillAnswer {
@@ -217,6 +233,39 @@ pub fn page(
     };
     let values = answer.values()?;
     assert_eq!(values.len(), 1, "Page answers its length");
+    Ok(usize::try_from(values[0]).expect("a length fits"))
+}
+
+/// From a text to its page.
+pub fn print(
+    text: &[u8],
+    store: &mut [u16],
+    distances: &mut [u16],
+    table: &mut [u8],
+    run: &mut [u16],
+    word: &mut [u16],
+    out: &mut [u8],
+) -> Result<usize, Refusal> {
+    let answer = unsafe {
+        till_print(
+            text.as_ptr(),
+            text.len(),
+            store.as_mut_ptr(),
+            store.len(),
+            distances.as_mut_ptr(),
+            distances.len(),
+            table.as_mut_ptr(),
+            table.len(),
+            run.as_mut_ptr(),
+            run.len(),
+            word.as_mut_ptr(),
+            word.len(),
+            out.as_mut_ptr(),
+            out.len(),
+        )
+    };
+    let values = answer.values()?;
+    assert_eq!(values.len(), 1, "what is printed has a length");
     Ok(usize::try_from(values[0]).expect("a length fits"))
 }
 

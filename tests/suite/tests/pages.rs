@@ -1,4 +1,5 @@
-//! Page against the second checker: every list is compared afterwards, element by element.
+//! Page, and the path from a text to its page, against the second checker: every list is compared afterwards, element by
+//! element.
 use std::collections::BTreeSet;
 use std::path::PathBuf;
 
@@ -70,6 +71,58 @@ fn same_page(before: &Lists, store: &[u16]) -> Told {
 /// Page on a model, with lists that are long enough.
 fn told(rng: &mut Rng, model: &Model) -> String {
     same_page(&Lists::enough(rng), &model.to_store()).expect("the store is good")
+}
+
+/// From a text to its page by the second checker's Read and Page.
+fn expected_print(text: &[u8], store: &mut [u16], lists: &mut Lists) -> Result<usize, Refusal> {
+    let lent = [
+        store.len(),
+        lists.distances.len(),
+        lists.table.len(),
+        lists.run.len(),
+        lists.word.len(),
+        lists.out.len(),
+    ];
+    let least = [STORE, DISTANCES, TABLE, RUN, WORD, PAGE];
+    if let Some(index) = (0..least.len()).find(|&index| lent[index] < least[index]) {
+        return Err(Refusal::new(21, index as u64 + 2));
+    }
+    match second::read(text, store) {
+        Ok(()) => second::page(
+            store,
+            &mut lists.distances,
+            &mut lists.table,
+            &mut lists.run,
+            &mut lists.word,
+            &mut lists.out,
+        ),
+        Err(Refusal { number, place }) => {
+            let line = format!("F,{number},{place}\n");
+            lists.out[..line.len()].copy_from_slice(line.as_bytes());
+            Ok(line.len())
+        }
+    }
+}
+
+fn same_print(rng: &mut Rng, text: &[u8], store: usize, before: &Lists) -> Told {
+    let store = anything16(rng, store);
+    let (mut our_store, mut their_store) = (store.clone(), store);
+    let (mut ours, mut theirs) = (before.clone(), before.clone());
+    let answer = suite::print(
+        text,
+        &mut our_store,
+        &mut ours.distances,
+        &mut ours.table,
+        &mut ours.run,
+        &mut ours.word,
+        &mut ours.out,
+    );
+    let expected = expected_print(text, &mut their_store, &mut theirs);
+    let shown = || String::from_utf8_lossy(text);
+    assert_eq!(answer, expected, "the answer, text:\n{}", shown());
+    assert!(our_store == their_store, "the store, text:\n{}", shown());
+    assert!(ours == theirs, "the lists, text:\n{}", shown());
+    answer.map(|length| String::from_utf8(ours.out[..length].to_vec()).expect("a page is ASCII"))
 }
 
 /// How many lines begin with a letter.
@@ -214,5 +267,52 @@ fn damaged_stores() {
         }
         let scrap = gen::scrap_store(&mut rng);
         let _ = same_page(&before, &scrap);
+    }
+}
+
+#[test]
+fn from_texts_to_pages() {
+    let mut rng = Rng::new(SEED + 6);
+    println!("seed {}", SEED + 6);
+    let (mut pages, mut faults) = (0, 0);
+    for round in 0..1_500 {
+        let text = gen::any_model(&mut rng).to_text();
+        let text = match round % 6 {
+            0 => gen::scrap_text(&mut rng),
+            1..=3 => gen::mutated_text(&mut rng, &text),
+            _ => text,
+        };
+        let before = Lists::enough(&mut rng);
+        let page = same_print(&mut rng, &text, STORE + round % 3, &before).expect("enough");
+        pages += count(&page, 'V');
+        faults += count(&page, 'F');
+    }
+    assert!(pages > 400 && faults > 400, "{pages} {faults}");
+}
+
+#[test]
+fn from_texts_to_pages_with_lists_of_every_length() {
+    let mut rng = Rng::new(SEED + 7);
+    println!("seed {}", SEED + 7);
+    for round in 0..8 {
+        let text = match round % 4 {
+            0 => gen::deep_model(&mut rng, 1 + 15 * round).to_text(),
+            1 => gen::scrap_text(&mut rng),
+            2 => gen::any_model(&mut rng).to_text(),
+            _ => vec![b'0'; 16_385],
+        };
+        for store in lengths(STORE) {
+            for _ in 0..25 {
+                let all = LEAST.map(|least| *rng.pick(&lengths(least)));
+                let before = Lists::anything(&mut rng, all);
+                let _ = same_print(&mut rng, &text, store, &before);
+            }
+            for index in 0..LEAST.len() {
+                let mut all = LEAST;
+                all[index] -= 1;
+                let before = Lists::anything(&mut rng, all);
+                let _ = same_print(&mut rng, &text, store, &before);
+            }
+        }
     }
 }

@@ -1,5 +1,7 @@
 //! The program and the script `till` against the second checker.
+use std::fs;
 use std::io::Write;
+use std::os::unix::fs::symlink;
 use std::path::Path;
 use std::process::{Command, Output, Stdio};
 use std::thread::sleep;
@@ -200,4 +202,35 @@ fn the_script() {
     );
     assert_eq!(script(&[&root()], b""), (Some(3), Vec::new()));
     assert_eq!(script(&[file, file], b""), (Some(3), Vec::new()));
+}
+
+/// Away from the program and with nothing but `dirname` on the PATH, the script says what is missing.
+#[test]
+fn the_script_without_the_kit() {
+    let folder = std::env::temp_dir().join(format!("till_without_the_kit_{}", std::process::id()));
+    let tools = folder.join("tools");
+    fs::create_dir_all(&tools).expect("a folder");
+    let dirname = ["/usr/bin/dirname", "/bin/dirname"].into_iter();
+    let dirname = dirname
+        .map(Path::new)
+        .find(|file| file.exists())
+        .expect("dirname");
+    symlink(dirname, tools.join("dirname")).expect("a link");
+    let script = folder.join("till");
+    fs::copy(root().join("till"), &script).expect("a copy");
+    let mut command = Command::new("/bin/bash");
+    let output = run(
+        command.arg(&script).env("PATH", &tools),
+        &[b""],
+        Duration::ZERO,
+    );
+    fs::remove_dir_all(&folder).expect("the folder goes");
+    assert_eq!(output.status.code(), Some(3), "{output:?}");
+    assert!(output.stdout.is_empty(), "{output:?}");
+    assert!(
+        output
+            .stderr
+            .starts_with(b"till: the Rattle kit is missing"),
+        "{output:?}"
+    );
 }
