@@ -1,37 +1,37 @@
 //! The models that are measured.
+use std::collections::BTreeSet;
+
 use second::gen::{self, Rng};
 use second::{Action, Level, Model, Step};
 
 const SEED: u64 = 0x7113;
 
-/// A model with low actions only, from steps in any order.
+/// A model from low steps in any order. One high step, from the start to the state after it, changes no rank, and lets
+/// Word and Page have something to show.
 fn low(states: u16, start: u16, steps: impl IntoIterator<Item = (u16, u16, u16)>) -> Model {
     let mut steps: Vec<Step> = steps
         .into_iter()
         .map(|(source, action, target)| Step::new(source, action, target))
         .collect();
+    let high = steps.iter().map(|step| step.action + 1).max().unwrap_or(0);
+    steps.push(Step::new(start, high, start + 1));
     steps.sort();
     steps.dedup();
-    let actions = steps.iter().map(|step| step.action).max().unwrap_or(0);
+    let action = |i| Action {
+        level: if i < high { Level::Low } else { Level::High },
+        name: format!("a{i}").into_bytes(),
+    };
     Model {
         states,
         start,
-        actions: (0..=actions)
-            .map(|i| Action {
-                level: Level::Low,
-                name: format!("a{i}").into_bytes(),
-            })
-            .collect(),
+        actions: (0..=high).map(action).collect(),
         steps,
     }
 }
 
-fn chain(actions: u16) -> Model {
-    low(
-        128,
-        0,
-        (0..127).flat_map(|i| (0..actions).map(move |a| (i, a, i + 1))),
-    )
+pub fn chain(states: u16, actions: u16) -> Model {
+    let on = move |i| (0..actions).map(move |a| (i, a, i + 1));
+    low(states, 0, (0..states - 1).flat_map(on))
 }
 
 fn fan() -> Model {
@@ -51,16 +51,15 @@ fn two_wide_states() -> Model {
     low(102, 100, chain.chain(wide))
 }
 
-fn dense() -> Model {
+/// As many random low steps as asked for.
+pub fn dense(states: usize, steps: usize) -> Model {
     let mut rng = Rng::new(SEED);
-    low(
-        128,
-        0,
-        (0..1_024).map(|_| {
-            let (p, a, q) = (rng.below(128), rng.below(3), rng.below(128));
-            (p as u16, a as u16, q as u16)
-        }),
-    )
+    let mut all = BTreeSet::new();
+    while all.len() < steps {
+        let (p, a, q) = (rng.below(states), rng.below(3), rng.below(states));
+        all.insert((p as u16, a as u16, q as u16));
+    }
+    low(states as u16, 0, all)
 }
 
 fn typical() -> Model {
@@ -71,12 +70,12 @@ fn typical() -> Model {
 /// Each model with its name.
 pub fn shapes() -> Vec<(&'static str, Model)> {
     vec![
-        ("chain of 128, 8 parallel actions", chain(8)),
-        ("chain of 128, 1 action", chain(1)),
+        ("chain of 128, 8 parallel actions", chain(128, 8)),
+        ("chain of 128, 1 action", chain(128, 1)),
         ("fan, i to i+1..i+8", fan()),
         ("i to i+1 and to 0..6", on_and_back()),
         ("two states of 400 steps, chain of 100", two_wide_states()),
-        ("dense random, 128 states", dense()),
+        ("dense random, 128 states", dense(128, 1_023)),
         ("typical, 40 states", typical()),
     ]
 }
