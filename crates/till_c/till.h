@@ -41,19 +41,19 @@ TillAnswer till_judge(const uint16_t *store, size_t store_len, uint16_t *distanc
 TillAnswer till_run(const uint16_t *store, size_t store_len, uint16_t *distances, size_t distances_len,
                     uint16_t *run, size_t run_len, uint16_t state);
 
-/* Fills distances and ranks, and the action numbers of the first shortest low sequence that just one end of Judge's step
-   allows. Two values: its length, and the end that allows it, 0 for the source and 1 for the target. */
+/* Fills distances and ranks, and the action numbers of the first shortest low sequence that just one end of Judge's
+   step allows. Two values: its length, and the end that allows it, 0 for the source and 1 for the target. */
 TillAnswer till_word(const uint16_t *store, size_t store_len, uint16_t *distances, size_t distances_len,
                      uint8_t *table, size_t table_len, uint16_t *word, size_t word_len);
 
-/* Fills distances and ranks, the run to the source of Judge's step if the model is refused, the word if the page has a `B`
-   line, and the page. One value: the bytes of the page. */
+/* Fills distances and ranks, the run to the source of Judge's step if the model is refused, the word if the page has a
+   `B` line, and the page. One value: the bytes of the page. */
 TillAnswer till_page(const uint16_t *store, size_t store_len, uint16_t *distances, size_t distances_len,
                      uint8_t *table, size_t table_len, uint16_t *run, size_t run_len, uint16_t *word, size_t word_len,
                      uint8_t *out, size_t out_len);
 
-/* From a text to its page: fills the store as Read does and the other lists as Page does, or only the line `F,number,place`
-   where Read refuses the text. One value: the bytes printed. */
+/* From a text to its page: fills the store as Read does and the other lists as Page does, or only the line
+   `F,number,place` where Read refuses the text. One value: the bytes printed. */
 TillAnswer till_print(const uint8_t *text, size_t text_len, uint16_t *store, size_t store_len, uint16_t *distances,
                       size_t distances_len, uint8_t *table, size_t table_len, uint16_t *run, size_t run_len,
                       uint16_t *word, size_t word_len, uint8_t *out, size_t out_len);

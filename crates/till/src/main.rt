@@ -4,8 +4,8 @@ use libc::STDOUT_FILENO;
 use page::print::PrintAnswer;
 ghost use Rattle.io.specs.Counts.{Counts};
 
-// Puts what is printed of a text at the front of `out`, and answers how many bytes that is. The lists are long enough for
-// any text.
+// Puts what is printed of a text at the front of `out`, and answers how many bytes that is. The lists are long enough
+// for any text.
 fn print(text: &[u8], out: &mut [u8]) -> usize
     ensures { λ r. ⌜ Counts r (now (out .exit)) ⌝ }
 {

@@ -46,7 +46,8 @@ same-length-5 c = search needs
 returns : tie.Need-returns
 unfolding pageOutcome
 returns c =
-    let o = c .before .before .before .before .before .before .before .before .before .before .before .before .before .before .page in
+    let called = c .before .before .before .before .before .before .before .before in
+    let o = called .before .before .before .before .before .before .page in
     promise-told-five PagePromise
     (ap pageOutcome (c .before .before .answer .given .1) ∙ sym (c .value .ensures))
     (o .ensures)
@@ -69,7 +70,8 @@ same-length-10 c = search needs
 returns-2 : tie.Need-returns-2
 unfolding pageOutcome
 returns-2 c =
-    let o = c .before .before .before .before .before .before .before .before .before .before .before .before .before .before .page in
+    let called = c .before .before .before .before .before .before .before .before in
+    let o = called .before .before .before .before .before .before .page in
     promise-told-five PagePromise
     (ap pageOutcome (c .before .before .answer2 .given .1) ∙ sym (c .refusal .ensures))
     (o .ensures)
@@ -92,7 +94,8 @@ same-length-15 c = search needs
 returns-3 : tie.Need-returns-3
 unfolding pageOutcome
 returns-3 c =
-    let o = c .before .before .before .before .before .before .before .before .before .before .before .before .before .page in
+    let called = c .before .before .before .before .before .before .before .before in
+    let o = called .before .before .before .before .before .page in
     promise-told-five PagePromise
     (ap pageOutcome (c .before .enum-told .given .1) ∙ sym (c .refusal2 .ensures))
     (o .ensures)

@@ -44,7 +44,8 @@ same-length-6 c = search needs
 returns : tie.Need-returns
 unfolding printOutcome
 returns c =
-    let o = c .before .before .before .before .before .before .before .before .before .before .before .before .before .before .before .before .print in
+    let called = c .before .before .before .before .before .before .before .before in
+    let o = called .before .before .before .before .before .before .before .before .print in
     let told = ap printOutcome (c .before .before .answer .given .1) ∙ sym (c .value .ensures) in
     (promise-told-six PrintPromise told (o .ensures .0), claim-told PrintClaim told (o .ensures .1))
 
@@ -69,7 +70,8 @@ same-length-12 c = search needs
 returns-2 : tie.Need-returns-2
 unfolding printOutcome
 returns-2 c =
-    let o = c .before .before .before .before .before .before .before .before .before .before .before .before .before .before .before .before .print in
+    let called = c .before .before .before .before .before .before .before .before in
+    let o = called .before .before .before .before .before .before .before .before .print in
     let told = ap printOutcome (c .before .before .answer2 .given .1) ∙ sym (c .refusal .ensures) in
     (promise-told-six PrintPromise told (o .ensures .0), claim-told PrintClaim told (o .ensures .1))
 
