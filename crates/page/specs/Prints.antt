@@ -35,7 +35,7 @@ printLists text store distances table run word out =
 unfoldable pub faultBytes : ℕ → ℕ → List ℕ
 faultBytes number place = (70 ∷ []) ++ field (digits number) ++ field (digits place) ++ (10 ∷ [])
 
--- Nothing but the bytes of a list is changed.
+-- All lists but `out` keep their contents.
 pub record Untouched (store distances table run word store′ distances′ table′ run′ word′ : List ℕ) : Type 0 where
   pub store-kept : store′ ≡ store
   pub distances-kept : distances′ ≡ distances

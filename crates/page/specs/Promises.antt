@@ -1,4 +1,4 @@
--- The promise of Page, and of the path from a text to its page.
+-- The promise of Page.
 -- Document 01, operation 7, "The page" and "Refused because of the state".
 use mathlib.Core.List.{List, [], _∷_, _++_}
 use mathlib.Core.Option.{Option}

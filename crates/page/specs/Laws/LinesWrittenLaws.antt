@@ -27,7 +27,7 @@ pub written-nil : {P : List PageLine → Type 0} {room : ℕ} {out : List ℕ} {
 unfolding pageBytes
 written-nil p = record { lines = []; holds = p; wrote = wrote-nil; length-le = omega arith }
 
--- a line of which Q holds, as lines
+-- a line of which P holds, as lines
 pub written-line : {P : List PageLine → Type 0} {room at next : ℕ} {entry exit : List ℕ} (l : PageLine) → P (l ∷ [])
     → length (lineBytes l) ≤ room → Wrote entry at (lineBytes l) exit next → LinesWritten P room entry at exit next
 written-line l p h w = record {
