@@ -1,4 +1,5 @@
-//! The proved operations as Rust calls them. A slice passes as a pointer and the number of its elements.
+//! The proved operations as Rust calls them. A slice passes as a pointer and the number of its elements. What an operation
+//! only reads is lent as a copy, so that a write into it is seen.
 pub mod bench;
 pub mod lists;
 
@@ -104,51 +105,75 @@ impl TillAnswer {
 }
 
 pub fn read(text: &[u8], store: &mut [u16]) -> Result<(), Refusal> {
-    let answer = unsafe { till_read(text.as_ptr(), text.len(), store.as_mut_ptr(), store.len()) };
+    let mut lent = text.to_vec();
+    let answer = unsafe {
+        till_read(
+            lent.as_mut_ptr(),
+            lent.len(),
+            store.as_mut_ptr(),
+            store.len(),
+        )
+    };
+    assert!(lent == text, "the text is only read");
     let values = answer.values()?;
     assert!(values.is_empty(), "Read answers only that it succeeded");
     Ok(())
 }
 
 pub fn write(store: &[u16], out: &mut [u8]) -> Result<usize, Refusal> {
-    let answer = unsafe { till_write(store.as_ptr(), store.len(), out.as_mut_ptr(), out.len()) };
+    let mut lent = store.to_vec();
+    let answer = unsafe { till_write(lent.as_mut_ptr(), lent.len(), out.as_mut_ptr(), out.len()) };
+    assert!(lent == store, "the store is only read");
     let values = answer.values()?;
     assert_eq!(values.len(), 1, "Write answers its length");
     Ok(usize::try_from(values[0]).expect("a length fits"))
 }
 
 pub fn reach(store: &[u16], distances: &mut [u16]) -> Result<(), Refusal> {
+    let mut lent = store.to_vec();
     let answer = unsafe {
         till_reach(
-            store.as_ptr(),
-            store.len(),
+            lent.as_mut_ptr(),
+            lent.len(),
             distances.as_mut_ptr(),
             distances.len(),
         )
     };
+    assert!(lent == store, "the store is only read");
     let values = answer.values()?;
     assert!(values.is_empty(), "Reach answers only that it succeeded");
     Ok(())
 }
 
 pub fn rank(store: &[u16], table: &mut [u8]) -> Result<u16, Refusal> {
-    let answer = unsafe { till_rank(store.as_ptr(), store.len(), table.as_mut_ptr(), table.len()) };
+    let mut lent = store.to_vec();
+    let answer = unsafe {
+        till_rank(
+            lent.as_mut_ptr(),
+            lent.len(),
+            table.as_mut_ptr(),
+            table.len(),
+        )
+    };
+    assert!(lent == store, "the store is only read");
     let values = answer.values()?;
     assert_eq!(values.len(), 1, "Rank answers its last round");
     Ok(small(values[0]))
 }
 
 pub fn judge(store: &[u16], distances: &mut [u16], table: &mut [u8]) -> Result<Verdict, Refusal> {
+    let mut lent = store.to_vec();
     let answer = unsafe {
         till_judge(
-            store.as_ptr(),
-            store.len(),
+            lent.as_mut_ptr(),
+            lent.len(),
             distances.as_mut_ptr(),
             distances.len(),
             table.as_mut_ptr(),
             table.len(),
         )
     };
+    assert!(lent == store, "the store is only read");
     match answer.values()?[..] {
         [rank] => Ok(Verdict::Passed { rank: small(rank) }),
         [step, depth] => Ok(Verdict::Refused {
@@ -165,10 +190,11 @@ pub fn run(
     run: &mut [u16],
     state: u16,
 ) -> Result<usize, Refusal> {
+    let mut lent = store.to_vec();
     let answer = unsafe {
         till_run(
-            store.as_ptr(),
-            store.len(),
+            lent.as_mut_ptr(),
+            lent.len(),
             distances.as_mut_ptr(),
             distances.len(),
             run.as_mut_ptr(),
@@ -176,6 +202,7 @@ pub fn run(
             state,
         )
     };
+    assert!(lent == store, "the store is only read");
     let values = answer.values()?;
     assert_eq!(values.len(), 1, "Run answers its length");
     Ok(usize::try_from(values[0]).expect("a length fits"))
@@ -187,10 +214,11 @@ pub fn word(
     table: &mut [u8],
     word: &mut [u16],
 ) -> Result<(usize, End), Refusal> {
+    let mut lent = store.to_vec();
     let answer = unsafe {
         till_word(
-            store.as_ptr(),
-            store.len(),
+            lent.as_mut_ptr(),
+            lent.len(),
             distances.as_mut_ptr(),
             distances.len(),
             table.as_mut_ptr(),
@@ -199,6 +227,7 @@ pub fn word(
             word.len(),
         )
     };
+    assert!(lent == store, "the store is only read");
     let (length, end) = match answer.values()?[..] {
         [length, 0] => (length, End::Source),
         [length, 1] => (length, End::Target),
@@ -215,10 +244,11 @@ pub fn page(
     word: &mut [u16],
     out: &mut [u8],
 ) -> Result<usize, Refusal> {
+    let mut lent = store.to_vec();
     let answer = unsafe {
         till_page(
-            store.as_ptr(),
-            store.len(),
+            lent.as_mut_ptr(),
+            lent.len(),
             distances.as_mut_ptr(),
             distances.len(),
             table.as_mut_ptr(),
@@ -231,6 +261,7 @@ pub fn page(
             out.len(),
         )
     };
+    assert!(lent == store, "the store is only read");
     let values = answer.values()?;
     assert_eq!(values.len(), 1, "Page answers its length");
     Ok(usize::try_from(values[0]).expect("a length fits"))
@@ -246,10 +277,11 @@ pub fn print(
     word: &mut [u16],
     out: &mut [u8],
 ) -> Result<usize, Refusal> {
+    let mut lent = text.to_vec();
     let answer = unsafe {
         till_print(
-            text.as_ptr(),
-            text.len(),
+            lent.as_mut_ptr(),
+            lent.len(),
             store.as_mut_ptr(),
             store.len(),
             distances.as_mut_ptr(),
@@ -264,6 +296,7 @@ pub fn print(
             out.len(),
         )
     };
+    assert!(lent == text, "the text is only read");
     let values = answer.values()?;
     assert_eq!(values.len(), 1, "what is printed has a length");
     Ok(usize::try_from(values[0]).expect("a length fits"))
