@@ -1,10 +1,4 @@
-pub mod Stored
 pub mod Listing
-pub mod Index
-pub mod Roles
-pub mod StepTest
-pub mod Waves
-pub mod RunTail
 pub mod ModelLists
 pub mod LeakSearch
 pub mod Judging

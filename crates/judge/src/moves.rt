@@ -7,9 +7,9 @@ ghost use lib.ListN.{length, getD};
 ghost use Rattle.text.specs.Limits.{actionLimit, stepLimit};
 ghost use Rattle.model.specs.StoredModel.{modelAt};
 ghost use Rattle.model.specs.System.{levels, LowStep};
-ghost use Rattle.judge.specs.Inner.Stored.{Stored};
-ghost use Rattle.judge.specs.Inner.Index.{Index};
-ghost use Rattle.judge.specs.Inner.Roles.{Roles};
+ghost use Rattle.reach.specs.Inner.Stored.{Stored};
+ghost use Rattle.reach.specs.Inner.Index.{Index};
+ghost use Rattle.reach.specs.Inner.Roles.{Roles};
 ghost use Rattle.ranking.specs.MoveList.{indexLength, Lists};
 ghost use Rattle.judge.specs.Inner.Listing.{Appended, LowAmong};
 

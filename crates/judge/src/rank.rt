@@ -1,16 +1,16 @@
 // The table of ranks.
-use crate::INDEX_LENGTH;
-use crate::ROLES_LENGTH;
 use ranking::classes::MOVES_LENGTH;
+use reach::INDEX_LENGTH;
+use reach::ROLES_LENGTH;
 ghost use Prim.Native.Nat.{_≤_};
 ghost use lib.ListN.{length};
 ghost use Rattle.text.specs.Limits.{actionLimit};
 ghost use Rattle.model.specs.StoredModel.{modelAt};
 ghost use Rattle.model.specs.System.{levels, LowStep};
-ghost use Rattle.model.specs.Lists.{tableLength};
-ghost use Rattle.judge.specs.Inner.Stored.{Stored};
-ghost use Rattle.judge.specs.Inner.Index.{Index};
-ghost use Rattle.judge.specs.Inner.Roles.{Roles};
+ghost use Rattle.text.specs.Lists.{tableLength};
+ghost use Rattle.reach.specs.Inner.Stored.{Stored};
+ghost use Rattle.reach.specs.Inner.Index.{Index};
+ghost use Rattle.reach.specs.Inner.Roles.{Roles};
 ghost use Rattle.ranking.specs.MoveList.{indexLength};
 ghost use Rattle.ranking.specs.Table.{Ranked};
 ghost use Rattle.judge.specs.Promises.{rankOutcome, RankPromise};
@@ -59,7 +59,7 @@ pub fn rank(store: &[u16], table: &mut [u8]) -> RankAnswer
     }
     let mut begins = [0u16; INDEX_LENGTH];
     let mut roles = [0u16; ROLES_LENGTH];
-    crate::index::index(store, &mut begins);
-    crate::index::roles(store, &mut roles);
+    reach::index::index(store, &mut begins);
+    reach::index::roles(store, &mut roles);
     RankAnswer::Last(fill_table(store, &begins, &roles, table))
 }

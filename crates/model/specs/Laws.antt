@@ -1,9 +1,3 @@
 pub mod Store
 pub mod Text
-pub mod Write
-pub mod PromisesLaws
 pub mod OnStoreLaws
-pub mod Read
-pub mod ListsLaws
-pub mod ClearingLaws
-pub mod FirstShortLaws

@@ -1,7 +1,5 @@
-pub mod Lists
 pub mod Laws
 pub mod Inner
-pub mod Join
 pub mod Reading
 pub mod Store
 pub mod Text
@@ -10,8 +8,7 @@ pub mod GoodTest
 pub mod Above
 pub mod System
 pub mod StoredModel
-pub mod Wrote
-pub mod Promises
 pub mod Examples
 pub mod GoodTestExamples
 pub mod CornerCases
+pub mod OnStore

@@ -1,8 +1,4 @@
 // Whether a store is good: each place is tested, so that no damaged store gets through.
-use crate::store::ACTION_LIMIT;
-use crate::store::NAME_LIMIT;
-use crate::store::STATE_LIMIT;
-use crate::store::STEP_LIMIT;
 use crate::store::STORE_LENGTH;
 use crate::store::action_place;
 use crate::store::head;
@@ -11,8 +7,12 @@ use crate::store::name_length;
 use crate::store::name_place;
 use crate::store::step_line;
 use crate::store::step_place;
+use text::ACTION_LIMIT;
 use text::Action;
 use text::Head;
+use text::NAME_LIMIT;
+use text::STATE_LIMIT;
+use text::STEP_LIMIT;
 use text::Step;
 use text::StepLine;
 use text::bytes::DIGIT;

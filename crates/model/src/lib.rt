@@ -1,10 +1,3 @@
-// Till models: reading and writing their texts, and the store that holds one.
-mod actions;
-mod body;
+// The store that holds a till model, and whether it is good.
 pub mod good;
-pub mod position;
-pub mod read;
-mod reader;
-mod steps;
 pub mod store;
-pub mod write;

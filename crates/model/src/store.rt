@@ -1,4 +1,4 @@
-// The layout of the model store and its limits, each named once, and what stands at its places.
+// The layout of the model store, named once, and what stands at its places.
 use text::Action;
 use text::Head;
 use text::State;
@@ -11,14 +11,6 @@ ghost use Rattle.text.specs.Limits.{actionLimit, stepLimit, storeLength, action
 ghost use Rattle.model.specs.StoredModel.{headAt, actionAt, stepAt};
 
 pub const STORE_LENGTH: usize = 3972;
-
-pub const STATE_LIMIT: u16 = 128;
-
-pub const ACTION_LIMIT: u16 = 64;
-
-pub const STEP_LIMIT: u16 = 1024;
-
-pub const NAME_LIMIT: u16 = 12;
 
 // Action i stands from 4 + 14 i on: its level, the length of its name, and the twelve places of its name.
 pub const ACTIONS_AT: usize = 4;

@@ -6,11 +6,11 @@ use Prim.Native.Nat.{ℕ, _≤_, _<_}
 use lib.ListN.{length}
 use Rattle.text.specs.Faults.{answers}
 use Rattle.text.specs.Limits.{storeLength}
-use Rattle.model.specs.Lists.{distancesLength, tableLength, runLength, wordLength, pageLength}
+use Rattle.text.specs.Lists.{distancesLength, tableLength, runLength, wordLength, pageLength}
 use Rattle.model.specs.Store.{Good}
 use Rattle.model.specs.StoredModel.{modelAt}
-use Rattle.model.specs.Laws.FirstShortLaws.{first-short, second-short, third-short, fourth-short, fifth-short}
-use Rattle.model.specs.Laws.FirstShortLaws.{sixth-short, none-short-six}
+use Rattle.text.specs.Laws.FirstShortLaws.{first-short, second-short, third-short, fourth-short, fifth-short}
+use Rattle.text.specs.Laws.FirstShortLaws.{sixth-short, none-short-six}
 use Rattle.model.specs.Laws.OnStoreLaws.{onStore-short, onStore-not-good, onStore-model}
 use Rattle.judge.specs.Promises.{Filled}
 use Rattle.page.specs.declared.page.PageAnswer.the-variants.{Printed, ShortList, NotGood}

@@ -6,22 +6,22 @@ use mathlib.Core.Path.{_≡_, refl, sym, ap, subst, _∙_}
 use Prim.Native.Nat.{ℕ, _≤_, _<_}
 use native.Mathlib.Omega.{arith}
 use lib.ListN.{length, drop}
-use Rattle.model.specs.declared.read.ReadAnswer.{ReadAnswer}
-use Rattle.model.specs.declared.read.ReadAnswer.the-variants.{Done}
+use Rattle.read.specs.declared.read.ReadAnswer.{ReadAnswer}
+use Rattle.read.specs.declared.read.ReadAnswer.the-variants.{Done}
 use Rattle.text.specs.Faults.{answers, refuses}
 use Rattle.text.specs.Limits.{storeLength}
-use Rattle.model.specs.Lists.{distancesLength, tableLength, runLength, wordLength, pageLength}
+use Rattle.text.specs.Lists.{distancesLength, tableLength, runLength, wordLength, pageLength}
 use Rattle.text.specs.Model.{Model}
-use Rattle.model.specs.Promises.{readOutcome, readingOutcome, readingStore, ReadPromise}
+use Rattle.read.specs.Promises.{readOutcome, readingOutcome, readingStore, ReadPromise}
 use Rattle.model.specs.Reading.{Reading, done, tooLong, faulty, readText}
 use Rattle.model.specs.Store.{storeOf, Good}
 use Rattle.model.specs.StoredModel.{modelAt}
-use Rattle.model.specs.Laws.FirstShortLaws.{firstShort-nil, firstShort-lt, firstShort-le, second-short, third-short}
-use Rattle.model.specs.Laws.FirstShortLaws.{fourth-short, fifth-short, sixth-short}
-use Rattle.model.specs.Laws.PromisesLaws.{readLists-none}
+use Rattle.text.specs.Laws.FirstShortLaws.{firstShort-nil, firstShort-lt, firstShort-le, second-short, third-short}
+use Rattle.text.specs.Laws.FirstShortLaws.{fourth-short, fifth-short, sixth-short}
+use Rattle.read.specs.Laws.PromisesLaws.{readLists-none}
 use Rattle.model.specs.Laws.Store.StoredModelLaws.{modelAt-storeOf, good-of-holds}
 use Rattle.model.specs.Laws.Text.ReadingLaws.{readText-iff}
-use Rattle.model.specs.Laws.Write.WroteLaws.{wrote-start}
+use Rattle.write.specs.Laws.WroteLaws.{wrote-start}
 use Rattle.word.specs.Laws.ReadTextLaws.{read-exit-long, read-states, read-holds}
 use Rattle.page.specs.declared.print.PrintAnswer.{PrintAnswer}
 use Rattle.page.specs.declared.print.PrintAnswer.the-variants.{Printed, ShortList}

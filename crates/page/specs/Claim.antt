@@ -15,7 +15,7 @@ use Rattle.text.specs.Split.{split}
 use Rattle.model.specs.System.{source, levels, Steps, Start, HighStep, DeterministicModel}
 use Rattle.model.specs.Text.{field}
 use Rattle.judge.specs.declared.judge.Verdict.the-variants.{Refused}
-use Rattle.judge.specs.Runs.{RunTo}
+use Rattle.reach.specs.Runs.{RunTo}
 use Rattle.word.specs.Claim.{States, Sequence}
 use Rattle.page.specs.PageLines.{PageLine, verdict-line, run-line, end-line, last-line, passText, refuseText}
 use Rattle.page.specs.PageLines.{lineText, pageBytes}

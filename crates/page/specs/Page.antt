@@ -10,7 +10,7 @@ use Rattle.text.specs.Model.{Model}
 use Rattle.model.specs.System.{source, LowStep, ReachableIn, DistanceIn, DeterministicModel}
 use Rattle.judge.specs.declared.judge.Verdict.{Verdict}
 use Rattle.judge.specs.declared.judge.Verdict.the-variants.{Passed, Refused}
-use Rattle.judge.specs.Runs.{RunTo}
+use Rattle.reach.specs.Runs.{RunTo}
 use Rattle.judge.specs.Verdicts.{Judged}
 use Rattle.word.specs.declared.word.End.{End}
 use Rattle.word.specs.Words.{WordOf}

@@ -8,10 +8,10 @@ use Prim.Native.Nat.{ℕ}
 use lib.ListN.{length, drop}
 use Rattle.text.specs.Faults.{Outcome, answers, refuses, firstShort}
 use Rattle.text.specs.Limits.{storeLength}
-use Rattle.model.specs.Lists.{distancesLength, tableLength, runLength, wordLength, pageLength}
+use Rattle.text.specs.Lists.{distancesLength, tableLength, runLength, wordLength, pageLength}
 use Rattle.text.specs.Model.{Model}
 use Rattle.text.specs.Numbers.{digits}
-use Rattle.model.specs.Promises.{readingOutcome}
+use Rattle.read.specs.Promises.{readingOutcome}
 use Rattle.model.specs.Reading.{done, readText}
 use Rattle.model.specs.Store.{storeOf}
 use Rattle.model.specs.Text.{field}

@@ -6,10 +6,10 @@ use mathlib.Core.Path.{_≡_}
 use Prim.Native.Nat.{ℕ}
 use lib.ListN.{length, drop}
 use Rattle.text.specs.Limits.{storeLength}
-use Rattle.model.specs.Lists.{distancesLength, tableLength, runLength, wordLength, pageLength}
+use Rattle.text.specs.Lists.{distancesLength, tableLength, runLength, wordLength, pageLength}
 use Rattle.text.specs.Faults.{Outcome, answers, refuses, firstShort}
 use Rattle.text.specs.Model.{Model}
-use Rattle.model.specs.Promises.{OnStore}
+use Rattle.model.specs.OnStore.{OnStore}
 use Rattle.judge.specs.Promises.{Filled}
 use Rattle.page.specs.declared.page.PageAnswer.{PageAnswer}
 use Rattle.page.specs.declared.page.PageAnswer.the-variants.{Printed, ShortList, NotGood}

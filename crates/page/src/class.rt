@@ -4,7 +4,7 @@ ghost use mathlib.Core.Path.{_≡_};
 ghost use Prim.Native.Nat.{_≤_, _<_};
 ghost use lib.ListN.{length, getD};
 ghost use Rattle.text.specs.Limits.{stateLimit};
-ghost use Rattle.model.specs.Lists.{tableLength, pairPlace};
+ghost use Rattle.text.specs.Lists.{tableLength, pairPlace};
 ghost use Rattle.page.specs.Inner.Entries.{LowestZero};
 
 // Entry 128 p + q of the table is the rank of p and q.

@@ -9,8 +9,8 @@ ghost use mathlib.Core.Path.{_≡_};
 ghost use Prim.Native.Nat.{ℕ, _+_, _*_, _≤_, _<_};
 ghost use lib.ListN.{length, take};
 ghost use Rattle.model.specs.StoredModel.{modelAt};
-ghost use Rattle.model.specs.Inner.Writable.{Writable};
-ghost use Rattle.model.specs.Wrote.{Wrote};
+ghost use Rattle.write.specs.Inner.Writable.{Writable};
+ghost use Rattle.write.specs.Wrote.{Wrote};
 ghost use Rattle.judge.specs.declared.judge.Verdict.the-variants.{Refused};
 ghost use Rattle.page.specs.PageLines.{run-line, lineBytes};
 ghost use Rattle.page.specs.Page.{nameLine, LeakLines, AfterStates};
@@ -102,7 +102,7 @@ impl PageEnd {
             (now (out .exit)) (r .at .at) ⌝ }
     {
         let p = model::store::source(store, j);
-        let n = judge::run::fill_run(store, distances, run, p);
+        let n = reach::run::fill_run(store, distances, run, p);
         let end = self.run_lines(out, run, n);
         let shown = word::word::show(store, begins, roles, distances, table, v, word);
         end.shown_lines(out, store, word, shown)

@@ -1,16 +1,16 @@
 // The lines of a page.
 use judge::judge::Verdict;
-use judge::reach::UNREACHABLE;
-use model::position::Position;
+use reach::reach::UNREACHABLE;
 use text::State;
 use text::Step;
 use word::word::End;
+use write::position::Position;
 ghost use mathlib.Core.Path.{_≡_};
 ghost use Prim.Native.Nat.{ℕ, _+_, _≤_, _<_};
 ghost use lib.ListN.{length};
 ghost use Rattle.text.specs.All.{All};
 ghost use Rattle.model.specs.Text.{field};
-ghost use Rattle.model.specs.Wrote.{Wrote};
+ghost use Rattle.write.specs.Wrote.{Wrote};
 ghost use Rattle.judge.specs.declared.judge.Verdict.the-variants.{Passed, Refused};
 ghost use Rattle.page.specs.PageLines.{verdict-line, state-line, run-line, word-line, end-line, branch-line};
 ghost use Rattle.page.specs.PageLines.{last-line, distanceText, lineBytes};

@@ -2,13 +2,13 @@
 use crate::lines::PageEnd;
 use judge::judge::Verdict;
 use judge::rank::TABLE_LENGTH;
-use judge::reach::DISTANCES_LENGTH;
-use judge::run::RUN_LENGTH;
 use model::store::STORE_LENGTH;
+use reach::reach::DISTANCES_LENGTH;
+use reach::run::RUN_LENGTH;
 use word::word::WORD_LENGTH;
 ghost use Prim.Native.Nat.{_≤_};
 ghost use lib.ListN.{length};
-ghost use Rattle.model.specs.Lists.{pageLength};
+ghost use Rattle.text.specs.Lists.{pageLength};
 ghost use Rattle.model.specs.StoredModel.{modelAt};
 ghost use Rattle.page.specs.Page.{PageOf};
 ghost use Rattle.page.specs.Promises.{pageOutcome, PagePromise};

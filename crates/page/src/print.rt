@@ -3,18 +3,18 @@ use crate::lines::PageEnd;
 use crate::page::PAGE_LENGTH;
 use crate::page::page_good;
 use judge::rank::TABLE_LENGTH;
-use judge::reach::DISTANCES_LENGTH;
-use judge::run::RUN_LENGTH;
-use model::read::ReadAnswer;
 use model::store::STORE_LENGTH;
+use reach::reach::DISTANCES_LENGTH;
+use reach::run::RUN_LENGTH;
+use read::read::ReadAnswer;
 use word::word::WORD_LENGTH;
 ghost use mathlib.Core.Path.{_≡_};
 ghost use Prim.Native.Nat.{_+_, _≤_};
 ghost use lib.ListN.{length};
 ghost use Rattle.text.specs.Faults.{refuses};
-ghost use Rattle.model.specs.Lists.{pageLength};
-ghost use Rattle.model.specs.Promises.{readOutcome};
-ghost use Rattle.model.specs.Wrote.{Wrote};
+ghost use Rattle.text.specs.Lists.{pageLength};
+ghost use Rattle.read.specs.Promises.{readOutcome};
+ghost use Rattle.write.specs.Wrote.{Wrote};
 ghost use Rattle.page.specs.Claim.{PrintClaim};
 ghost use Rattle.page.specs.Prints.{faultBytes, printOutcome, PrintPromise};
 ghost use Rattle.page.specs.Inner.Refusals.{Refuses, FaultWritten};
@@ -117,7 +117,7 @@ pub fn print(
     if out.len() < PAGE_LENGTH {
         return PrintAnswer::ShortList(7);
     }
-    let read = model::read::read(text, store);
+    let read = read::read::read(text, store);
     match read {
         ReadAnswer::Done => {
             let end = page_good(store, distances, table, run, word, out);

@@ -1,8 +1,8 @@
 // Ranks by classes, over moves given as lists: entry p of a class list is the lowest state of the class of p, and each
 // round compares states by the classes of the round before.
-use model::store::ACTION_LIMIT;
-use model::store::STATE_LIMIT;
-use model::store::STEP_LIMIT;
+use text::ACTION_LIMIT;
+use text::STATE_LIMIT;
+use text::STEP_LIMIT;
 use text::State;
 ghost use mathlib.Core.Path.{_≡_};
 ghost use Prim.Native.Nat.{ℕ, _+_, _≤_, _<_};
@@ -10,8 +10,8 @@ ghost use lib.ListN.{length, getD};
 ghost use Rattle.lts.specs.Alike.{Answered, Answers};
 ghost use Rattle.text.specs.Decides.{Decides};
 ghost use Rattle.text.specs.Limits.{stateLimit};
-ghost use Rattle.model.specs.Lists.{tableLength};
-ghost use Rattle.model.specs.Inner.Clearing.{Cleared};
+ghost use Rattle.text.specs.Lists.{tableLength};
+ghost use Rattle.text.specs.Inner.Clearing.{Cleared};
 ghost use Rattle.ranking.specs.Table.{Ranked};
 ghost use Rattle.ranking.specs.MoveList.{Listed, MoveList};
 ghost use Rattle.ranking.specs.Inner.ClassList.{Same, Refinable, Lowest, Refined, Joins, Moved};

@@ -3,3 +3,4 @@ pub mod PartAnswers
 pub mod Ranges
 pub mod Row
 pub mod Table
+pub mod Clearing

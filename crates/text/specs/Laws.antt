@@ -9,3 +9,11 @@ pub mod RowLaws
 pub mod SameLaws
 pub mod SplitLaws
 pub mod TableLaws
+pub mod ListsLaws
+pub mod ClearingLaws
+pub mod FirstShortLaws
+pub mod DecidesLaws
+pub mod AllLaws
+pub mod DigitsLaws
+pub mod JoinLaws
+pub mod OutcomeLaws

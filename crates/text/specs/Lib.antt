@@ -9,3 +9,5 @@ pub mod Split
 pub mod Model
 pub mod Faults
 pub mod Lines
+pub mod Lists
+pub mod Join

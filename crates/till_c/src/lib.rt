@@ -2,21 +2,23 @@
 use judge::judge::JudgeAnswer;
 use judge::judge::Verdict;
 use judge::rank::RankAnswer;
-use judge::reach::ReachAnswer;
-use judge::run::RunAnswer;
-use model::read::ReadAnswer;
-use model::write::WriteAnswer;
 use page::page::PageAnswer;
 use page::print::PrintAnswer;
+use reach::reach::ReachAnswer;
+use reach::run::RunAnswer;
+use read::read::ReadAnswer;
 use text::Fault;
 use text::State;
 use word::word::End;
 use word::word::WordAnswer;
+use write::write::WriteAnswer;
 ghost use mathlib.Core.Path.{_≡_};
 ghost use mathlib.Core.List.{[], _∷_};
 ghost use Rattle.text.specs.Faults.{answers, refuses, faultNumber};
-ghost use Rattle.model.specs.Promises.{ReadPromise, WritePromise};
-ghost use Rattle.judge.specs.Promises.{ReachPromise, RankPromise, JudgePromise, RunPromise, verdictOutcome};
+ghost use Rattle.read.specs.Promises.{ReadPromise};
+ghost use Rattle.write.specs.Promises.{WritePromise};
+ghost use Rattle.reach.specs.Promises.{ReachPromise, RunPromise};
+ghost use Rattle.judge.specs.Promises.{RankPromise, JudgePromise, verdictOutcome};
 ghost use Rattle.word.specs.Words.{endNumber};
 ghost use Rattle.word.specs.Promises.{WordPromise};
 ghost use Rattle.page.specs.Promises.{PagePromise};
@@ -119,7 +121,7 @@ fn shown(length: usize, end: End) -> TillAnswer
 pub extern "C" fn till_read(text: &[u8], store: &mut [u16]) -> TillAnswer
     ensures { λ r. ⌜ ReadPromise (now (text .entry)) (now (store .entry)) (answerOutcome r) (now (store .exit)) ⌝ }
 {
-    let answer = model::read::read(text, store);
+    let answer = read::read::read(text, store);
     match answer {
         ReadAnswer::Done => done(),
         ReadAnswer::ShortList(place) => refusal(21, place),
@@ -132,7 +134,7 @@ pub extern "C" fn till_read(text: &[u8], store: &mut [u16]) -> TillAnswer
 pub extern "C" fn till_write(store: &[u16], out: &mut [u8]) -> TillAnswer
     ensures { λ r. ⌜ WritePromise (now (store .entry)) (now (out .entry)) (answerOutcome r) (now (out .exit)) ⌝ }
 {
-    let answer = model::write::write(store, out);
+    let answer = write::write::write(store, out);
     match answer {
         WriteAnswer::Written(length) => value(length),
         WriteAnswer::ShortList(place) => refusal(21, place),
@@ -145,7 +147,7 @@ pub extern "C" fn till_reach(store: &[u16], distances: &mut [u16]) -> TillAnswer
     ensures { λ r. ⌜ ReachPromise (now (store .entry)) (now (distances .entry)) (answerOutcome r)
         (now (distances .exit)) ⌝ }
 {
-    let answer = judge::reach::reach(store, distances);
+    let answer = reach::reach::reach(store, distances);
     match answer {
         ReachAnswer::Done => done(),
         ReachAnswer::ShortList(place) => refusal(21, place),
@@ -188,7 +190,7 @@ pub extern "C" fn till_run(
     ensures { λ r. ⌜ RunPromise (now (store .entry)) (now (distances .entry)) (now (run .entry)) state (answerOutcome r)
         (now (distances .exit)) (now (run .exit)) ⌝ }
 {
-    let answer = judge::run::run(store, distances, run, State(state));
+    let answer = reach::run::run(store, distances, run, State(state));
     match answer {
         RunAnswer::Filled(length) => value(length),
         RunAnswer::ShortList(place) => refusal(21, place),

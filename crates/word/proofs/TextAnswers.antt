@@ -5,21 +5,21 @@ use mathlib.Core.Path.{_≡_, refl, subst}
 use Prim.Native.Nat.{ℕ, _≤_, _<_}
 use native.Mathlib.Omega.{arith}
 use lib.ListN.{length}
-use Rattle.model.specs.declared.read.ReadAnswer.{ReadAnswer}
-use Rattle.model.specs.declared.read.ReadAnswer.the-variants as read
+use Rattle.read.specs.declared.read.ReadAnswer.{ReadAnswer}
+use Rattle.read.specs.declared.read.ReadAnswer.the-variants as read
 use Rattle.text.specs.Limits.{actionLimit, storeLength}
-use Rattle.model.specs.Lists.{distancesLength, tableLength, wordLength}
+use Rattle.text.specs.Lists.{distancesLength, tableLength, wordLength}
 use Rattle.text.specs.Faults.{answers}
 use Rattle.text.specs.Model.{Model}
 use Rattle.model.specs.Store.{Good}
 use Rattle.model.specs.StoredModel.{modelAt}
-use Rattle.model.specs.Promises.{readOutcome, ReadPromise, ReadCause}
-use Rattle.model.specs.Laws.ListsLaws.{past-refl}
+use Rattle.read.specs.Promises.{readOutcome, ReadPromise, ReadCause}
+use Rattle.text.specs.Laws.ListsLaws.{past-refl}
 use Rattle.model.specs.Laws.Store.StoredModelLaws.{good-of-holds}
 use Rattle.judge.specs.declared.judge.Verdict.{Verdict}
 use Rattle.judge.specs.declared.judge.JudgeAnswer.the-variants as judge
 use Rattle.judge.specs.Inner.Judging.{Judging}
-use Rattle.judge.specs.Inner.Stored.{Stored}
+use Rattle.reach.specs.Inner.Stored.{Stored}
 use Rattle.judge.specs.Promises.{judgeOutcome, Filled}
 use Rattle.judge.specs.Laws.JudgeLaws.{judge-second-short, judge-third-short, judge-done}
 use Rattle.word.specs.declared.word.WordAnswer.{WordAnswer}

@@ -11,12 +11,12 @@ use Rattle.lts.specs.Run.{onward}
 use Rattle.text.specs.declared.Step.{Step}
 use Rattle.text.specs.Faults.{refuses}
 use Rattle.text.specs.Limits.{storeLength}
-use Rattle.model.specs.Lists.{distancesLength, tableLength, wordLength}
+use Rattle.text.specs.Lists.{distancesLength, tableLength, wordLength}
 use Rattle.text.specs.Model.{Model}
 use Rattle.model.specs.Store.{Good}
 use Rattle.model.specs.StoredModel.{modelAt}
 use Rattle.model.specs.System.{source, target, LowStep, DeterministicModel}
-use Rattle.model.specs.Laws.FirstShortLaws.{first-short, second-short, third-short, fourth-short, none-short-four}
+use Rattle.text.specs.Laws.FirstShortLaws.{first-short, second-short, third-short, fourth-short, none-short-four}
 use Rattle.model.specs.Laws.Store.SystemLaws.{own-step}
 use Rattle.model.specs.Laws.OnStoreLaws.{onStore-short, onStore-not-good, onStore-model}
 use Rattle.judge.specs.declared.judge.Verdict.{Verdict}

@@ -7,11 +7,11 @@ use Prim.Native.Nat.{ℕ}
 use lib.ListN.{length}
 use Rattle.lts.specs.Noninterference.{BNID}
 use Rattle.text.specs.Limits.{storeLength}
-use Rattle.model.specs.Lists.{distancesLength, tableLength, wordLength}
+use Rattle.text.specs.Lists.{distancesLength, tableLength, wordLength}
 use Rattle.text.specs.Faults.{Outcome, answers, refuses, firstShort}
 use Rattle.text.specs.Model.{Model}
 use Rattle.model.specs.System.{levels, Steps, Start, DeterministicModel}
-use Rattle.model.specs.Promises.{OnStore}
+use Rattle.model.specs.OnStore.{OnStore}
 use Rattle.judge.specs.Verdicts.{RefusedAt}
 use Rattle.judge.specs.Promises.{Filled}
 use Rattle.word.specs.declared.word.WordAnswer.{WordAnswer}

@@ -5,8 +5,8 @@ use mathlib.Core.List.{List, []}
 use mathlib.Core.Path.{_≡_}
 use Prim.Native.Nat.{ℕ}
 use Rattle.text.specs.Faults.{Outcome, answers}
-use Rattle.model.specs.declared.read.ReadAnswer.{ReadAnswer}
-use Rattle.model.specs.Promises.{readOutcome, ReadPromise, ReadCause}
+use Rattle.read.specs.declared.read.ReadAnswer.{ReadAnswer}
+use Rattle.read.specs.Promises.{readOutcome, ReadPromise, ReadCause}
 use Rattle.judge.specs.Promises.{judgeOutcome, JudgePromise}
 use Rattle.word.specs.declared.tell.TextAnswer.{TextAnswer}
 use Rattle.word.specs.declared.tell.TextAnswer.the-variants.{Unread, Judged}

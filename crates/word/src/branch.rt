@@ -1,14 +1,14 @@
 // Whether a model is deterministic.
-use judge::reach::UNREACHABLE;
+use reach::reach::UNREACHABLE;
 use text::Step;
 ghost use mathlib.Core.Path.{_≡_};
 ghost use Prim.Native.Nat.{_≤_, _<_};
 ghost use lib.ListN.{length};
 ghost use Rattle.text.specs.Decides.{Decides};
-ghost use Rattle.model.specs.Lists.{distancesLength};
+ghost use Rattle.text.specs.Lists.{distancesLength};
 ghost use Rattle.model.specs.StoredModel.{modelAt};
-ghost use Rattle.judge.specs.Inner.Stored.{Stored};
-ghost use Rattle.judge.specs.Distances.{DistanceList};
+ghost use Rattle.reach.specs.Inner.Stored.{Stored};
+ghost use Rattle.reach.specs.Distances.{DistanceList};
 ghost use Rattle.word.specs.Words.{Branches};
 ghost use Rattle.word.specs.Inner.Letters.{FoundFirst};
 

@@ -11,8 +11,8 @@ ghost use Rattle.text.specs.Decides.{Decides};
 ghost use Rattle.model.specs.StoredModel.{modelAt};
 ghost use Rattle.model.specs.System.{ReachableIn, DeterministicModel};
 ghost use Rattle.ranking.specs.MoveList.{indexLength};
-ghost use Rattle.judge.specs.Inner.Stored.{Stored};
-ghost use Rattle.judge.specs.Inner.Index.{Index};
+ghost use Rattle.reach.specs.Inner.Stored.{Stored};
+ghost use Rattle.reach.specs.Inner.Index.{Index};
 ghost use Rattle.word.specs.Inner.Letters.{FoundFirst, StepOf, Unanswered, Alone, Answer, FirstLetter};
 ghost use Rattle.word.specs.Inner.Letters.{StepLists, WordLists, SeparatedPair};
 

@@ -3,8 +3,8 @@ use crate::word::WORD_LENGTH;
 use crate::word::WordAnswer;
 use judge::judge::JudgeAnswer;
 use judge::rank::TABLE_LENGTH;
-use judge::reach::DISTANCES_LENGTH;
-use model::read::ReadAnswer;
+use reach::reach::DISTANCES_LENGTH;
+use read::read::ReadAnswer;
 ghost use Prim.Native.Nat.{_≤_};
 ghost use lib.ListN.{length};
 ghost use Rattle.text.specs.Limits.{storeLength};
@@ -57,7 +57,7 @@ pub fn tell(
         (now (word .entry)) r (now (store .exit)) (now (distances .exit)) (now (table .exit)) (now (word .exit)) ⌝ }
     ensures { λ r. ⌜ TellClaim (now (text .entry)) r (now (word .exit)) ⌝ }
 {
-    let read = model::read::read(text, store);
+    let read = read::read::read(text, store);
     match read {
         ReadAnswer::Done => judge_text(store, distances, table, word),
         _ => TextAnswer::Unread(read),

@@ -1,18 +1,18 @@
 // The first shortest word that shows the leak of a deterministic model.
 use crate::branch::Found;
-use judge::INDEX_LENGTH;
-use judge::ROLES_LENGTH;
 use judge::judge::Verdict;
 use judge::rank::TABLE_LENGTH;
-use judge::reach::DISTANCES_LENGTH;
 use model::store::STORE_LENGTH;
+use reach::INDEX_LENGTH;
+use reach::ROLES_LENGTH;
+use reach::reach::DISTANCES_LENGTH;
 use text::Action;
 use text::State;
 use text::Step;
 ghost use mathlib.Core.List.{[], _∷_};
 ghost use Prim.Native.Nat.{_≤_, _<_};
 ghost use lib.ListN.{length};
-ghost use Rattle.model.specs.Lists.{wordLength};
+ghost use Rattle.text.specs.Lists.{wordLength};
 ghost use Rattle.model.specs.StoredModel.{modelAt};
 ghost use Rattle.word.specs.Promises.{wordOutcome, WordDone, WordPromise};
 ghost use Rattle.word.specs.Inner.Letters.{Showable, StepLists, WordLists, SeparatedPair};

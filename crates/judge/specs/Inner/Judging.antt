@@ -7,11 +7,11 @@ use Rattle.text.specs.Limits.{actionLimit}
 use Rattle.text.specs.Model.{Model}
 use Rattle.model.specs.System.{levels}
 use Rattle.judge.specs.declared.judge.Verdict.{Verdict}
-use Rattle.model.specs.Lists.{distancesLength, tableLength}
+use Rattle.text.specs.Lists.{distancesLength, tableLength}
 use Rattle.ranking.specs.MoveList.{indexLength}
-use Rattle.judge.specs.Inner.Stored.{Stored}
-use Rattle.judge.specs.Inner.Index.{Index}
-use Rattle.judge.specs.Inner.Roles.{Roles}
+use Rattle.reach.specs.Inner.Stored.{Stored}
+use Rattle.reach.specs.Inner.Index.{Index}
+use Rattle.reach.specs.Inner.Roles.{Roles}
 use Rattle.judge.specs.Verdicts.{Judged}
 use Rattle.judge.specs.Promises.{Filled}
 

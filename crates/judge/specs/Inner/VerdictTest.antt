@@ -10,7 +10,7 @@ use Rattle.text.specs.Model.{high, Model}
 use Rattle.model.specs.System.{source, action, target, level, levels}
 use Rattle.judge.specs.declared.judge.Verdict.{Verdict}
 use Rattle.judge.specs.declared.judge.Verdict.the-variants.{Passed, Refused}
-use Rattle.judge.specs.Inner.StepTest.{step?, start?}
+use Rattle.reach.specs.Inner.StepTest.{step?, start?}
 
 -- The rank of p and q.
 abbrev pub rankIn : Model → ℕ → ℕ → ℕ

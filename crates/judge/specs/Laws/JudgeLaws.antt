@@ -14,11 +14,11 @@ use Rattle.model.specs.Laws.OnStoreLaws.{onStore-short, onStore-not-good, onSto
 use Rattle.model.specs.System.{LowStep}
 use Rattle.judge.specs.declared.judge.Verdict.{Verdict}
 use Rattle.judge.specs.declared.judge.JudgeAnswer.the-variants as judge
-use Rattle.model.specs.Lists.{distancesLength, tableLength}
-use Rattle.model.specs.Laws.FirstShortLaws.{first-short, second-short, third-short, none-short-three}
-use Rattle.judge.specs.Inner.Stored.{Stored}
+use Rattle.text.specs.Lists.{distancesLength, tableLength}
+use Rattle.text.specs.Laws.FirstShortLaws.{first-short, second-short, third-short, none-short-three}
+use Rattle.reach.specs.Inner.Stored.{Stored}
 use Rattle.ranking.specs.Laws.RankedLaws.{ranks-unique}
-use Rattle.judge.specs.Laws.ReachLaws.{distances-unique, good-stored}
+use Rattle.reach.specs.Laws.ReachLaws.{distances-unique, good-stored}
 use Rattle.judge.specs.Verdicts.{Judged}
 use Rattle.judge.specs.Laws.VerdictsLaws.{judged-unique}
 use Rattle.judge.specs.Inner.Judging.{Judging}

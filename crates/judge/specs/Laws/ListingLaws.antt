@@ -11,7 +11,7 @@ use lib.Dec.{T}
 use Rattle.lts.specs.TestsLaws.{lt-or-le}
 use Rattle.text.specs.Model.{Model}
 use Rattle.model.specs.System.{action, target, levels, LowStep}
-use Rattle.judge.specs.Inner.Index.{Begins}
+use Rattle.reach.specs.Inner.Index.{Begins}
 use Rattle.judge.specs.Inner.Listing.{Appended, LowAmong}
 
 -- ---- appended moves

@@ -13,7 +13,7 @@ use Rattle.lts.specs.TestsLaws.{lt-or-le}
 use Rattle.text.specs.Limits.{stepLimit}
 use Rattle.text.specs.Model.{Model}
 use Rattle.model.specs.System.{LowStep}
-use Rattle.judge.specs.Inner.Stored.{Stored}
+use Rattle.reach.specs.Inner.Stored.{Stored}
 use Rattle.ranking.specs.MoveList.{Listed, Lists}
 use Rattle.judge.specs.Inner.Listing.{Appended, StatesListed}
 

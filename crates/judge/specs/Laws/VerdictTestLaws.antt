@@ -17,10 +17,10 @@ use Rattle.lts.specs.CheckedLaws.{lowRank→Rank}
 use Rattle.lts.specs.DistanceLaws.{Reachable→within?, within?→Reachable}
 use Rattle.text.specs.Model.{high, Model}
 use Rattle.model.specs.System.{source, action, target, level, levels, Steps, Start, LowStep, ReachableIn}
-use Rattle.judge.specs.Inner.Stored.{Stored}
-use Rattle.judge.specs.Inner.StepTest.{step?, start?}
+use Rattle.reach.specs.Inner.Stored.{Stored}
+use Rattle.reach.specs.Inner.StepTest.{step?, start?}
 use Rattle.lts.specs.TestsLaws.{T-eqb}
-use Rattle.judge.specs.Laws.StepTestLaws.{decided-steps, decided-start}
+use Rattle.reach.specs.Laws.StepTestLaws.{decided-steps, decided-start}
 use Rattle.ranking.specs.Table.{Greatest}
 use Rattle.judge.specs.Verdicts.{Leak, Judged}
 use Rattle.judge.specs.Laws.VerdictsLaws.{passed-of-no-leak}

@@ -17,10 +17,10 @@ use Rattle.model.specs.System.{source, action, target, level, levels, Steps, St
 use Rattle.model.specs.Laws.Store.SystemLaws.{own-step}
 use Rattle.judge.specs.declared.judge.Verdict.{Verdict}
 use Rattle.judge.specs.declared.judge.Verdict.the-variants.{Passed, Refused}
-use Rattle.judge.specs.Inner.Stored.{Stored}
-use Rattle.judge.specs.Inner.StepTest.{step?}
+use Rattle.reach.specs.Inner.Stored.{Stored}
+use Rattle.reach.specs.Inner.StepTest.{step?}
 use Rattle.lts.specs.TestsLaws.{T-eqb}
-use Rattle.judge.specs.Laws.StepTestLaws.{decided-steps}
+use Rattle.reach.specs.Laws.StepTestLaws.{decided-steps}
 use Rattle.ranking.specs.Table.{Greatest}
 use Rattle.ranking.specs.Laws.RankedLaws.{greatest-unique}
 use Rattle.judge.specs.Verdicts.{Leak, PassedWith, RefusedAt, Judged}

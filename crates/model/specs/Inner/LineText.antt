@@ -8,7 +8,7 @@ use Rattle.text.specs.declared.Head.{Head}
 use Rattle.text.specs.declared.StepLine.{StepLine}
 use Rattle.text.specs.Bytes.{kindOf, digit, smallLetter, lineEnd}
 use Rattle.text.specs.Numbers.{digits}
-use Rattle.model.specs.Join.{join}
+use Rattle.text.specs.Join.{join}
 use Rattle.text.specs.Model.{ActionLine, Model}
 use Rattle.model.specs.Text.{levelByte}
 use Rattle.model.specs.Store.{headPlaces}

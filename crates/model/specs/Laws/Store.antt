@@ -1,4 +1,3 @@
-pub mod DecidesLaws
 pub mod EachFromLaws
 pub mod EachLaws
 pub mod BlocksLaws

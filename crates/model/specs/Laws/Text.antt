@@ -1,6 +1,3 @@
-pub mod AllLaws
-pub mod DigitsLaws
-pub mod JoinLaws
 pub mod JoinedFieldsLaws
 pub mod LineTextLaws
 pub mod ActionLineLaws

@@ -7,12 +7,12 @@ use mathlib.Core.Path.{_≡_}
 use Prim.Native.Nat.{ℕ, _≤_, _<_}
 use lib.Dec.{eqb}
 use lib.ListN.{length, getD}
-use Rattle.model.specs.Lists.{distancesLength, tableLength, pairPlace, unreachable}
+use Rattle.text.specs.Lists.{distancesLength, tableLength, pairPlace, unreachable}
 use Rattle.text.specs.Model.{Model}
 use Rattle.model.specs.System.{LowStep}
 use Rattle.ranking.specs.Table.{Ranks}
-use Rattle.judge.specs.Distances.{DistanceList}
-use Rattle.judge.specs.Inner.Stored.{Stored}
+use Rattle.reach.specs.Distances.{DistanceList}
+use Rattle.reach.specs.Inner.Stored.{Stored}
 
 -- A good store, with the distances and the table of its model.
 pub record ListsOf (m : Model) (store distances table : List ℕ) : Type 0 where

@@ -2,7 +2,7 @@
 use mathlib.Core.List.{List, [], _∷_, _++_, map}
 use Prim.Native.Nat.{ℕ, _≤_, _<_}
 use lib.ListN.{length, getD, take}
-use Rattle.model.specs.Lists.{runLength, wordLength}
+use Rattle.text.specs.Lists.{runLength, wordLength}
 use Rattle.text.specs.Model.{Model}
 use Rattle.model.specs.Store.{Good}
 use Rattle.judge.specs.declared.judge.Verdict.{Verdict}

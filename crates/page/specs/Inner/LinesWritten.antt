@@ -2,7 +2,7 @@
 use mathlib.Core.List.{List}
 use Prim.Native.Nat.{ℕ, _≤_}
 use lib.ListN.{length}
-use Rattle.model.specs.Wrote.{Wrote}
+use Rattle.write.specs.Wrote.{Wrote}
 use Rattle.page.specs.PageLines.{PageLine, pageBytes}
 
 -- Lines that P holds of were written from place `at` on, in at most `room` bytes.

@@ -2,11 +2,11 @@
 use mathlib.Core.List.{List}
 use mathlib.Core.Path.{_≡_}
 use Prim.Native.Nat.{ℕ, _<_}
-use Rattle.model.specs.declared.read.ReadAnswer.{ReadAnswer}
-use Rattle.model.specs.declared.read.ReadAnswer.the-variants.{Done}
+use Rattle.read.specs.declared.read.ReadAnswer.{ReadAnswer}
+use Rattle.read.specs.declared.read.ReadAnswer.the-variants.{Done}
 use Rattle.text.specs.Faults.{Outcome, refuses}
-use Rattle.model.specs.Promises.{readOutcome}
-use Rattle.model.specs.Wrote.{Wrote}
+use Rattle.read.specs.Promises.{readOutcome}
+use Rattle.write.specs.Wrote.{Wrote}
 use Rattle.page.specs.Prints.{faultBytes}
 
 -- Read refused, and the place has 16 bits.

@@ -9,15 +9,15 @@ use native.Mathlib.Numerals.{add-one}
 use lib.ListN.{length, getD, take, drop, length-take}
 use Rattle.text.specs.Model.{ActionLine}
 use Rattle.text.specs.Numbers.{digits}
-use Rattle.model.specs.Laws.Text.DigitsLaws.{digitsUpTo-length-le}
+use Rattle.text.specs.Laws.DigitsLaws.{digitsUpTo-length-le}
 use Rattle.model.specs.StoredModel.{actionAt, modelAt}
 use Rattle.model.specs.Laws.Store.StoredModelLaws.{actionAt-holds, Good→Holds, listed-length}
 use Rattle.text.specs.All.{All}
 use Rattle.text.specs.Limits.{actionPlace, namePlace}
-use Rattle.model.specs.Inner.Writable.{Writable}
-use Rattle.model.specs.Laws.Write.WritableLaws.{name-bytes-at, actionAt-part}
-use Rattle.model.specs.Wrote.{Wrote}
-use Rattle.model.specs.Laws.Write.WroteLaws.{take-next}
+use Rattle.write.specs.Inner.Writable.{Writable}
+use Rattle.write.specs.Laws.WritableLaws.{name-bytes-at, actionAt-part}
+use Rattle.write.specs.Wrote.{Wrote}
+use Rattle.write.specs.Laws.WroteLaws.{take-next}
 use Rattle.page.specs.PageLines.{PageLine, run-line, lineBytes}
 use Rattle.page.specs.Page.{nameOf, nameLine}
 use Rattle.page.specs.Inner.LinesWritten.{LinesWritten}

@@ -14,10 +14,10 @@ use Rattle.lts.specs.TestsLaws.{lt-or-le}
 use Rattle.text.specs.Faults.{answers, refuses}
 use Rattle.text.specs.Model.{low, ActionLine, Model}
 use Rattle.model.specs.System.{source, target, level, levels, LowStep, DeterministicModel}
-use Rattle.judge.specs.Inner.Stored.{Stored}
-use Rattle.judge.specs.Inner.RunTail.{RunWritten}
-use Rattle.judge.specs.Runs.{RunTo}
-use Rattle.judge.specs.Laws.RunsLaws.{runTo-length}
+use Rattle.reach.specs.Inner.Stored.{Stored}
+use Rattle.reach.specs.Inner.RunTail.{RunWritten}
+use Rattle.reach.specs.Runs.{RunTo}
+use Rattle.reach.specs.Laws.RunsLaws.{runTo-length}
 use Rattle.judge.specs.declared.judge.Verdict.{Verdict}
 use Rattle.judge.specs.declared.judge.Verdict.the-variants.{Refused}
 use Rattle.text.specs.declared.Step.{Step}

@@ -5,8 +5,8 @@ use mathlib.Core.Path.{_≡_, refl, sym, ap, _∙_}
 use Prim.Native.Nat.{ℕ, _+_, _≤_}
 use native.Mathlib.Omega.{arith}
 use lib.ListN.{length, length-append}
-use Rattle.model.specs.Wrote.{Wrote}
-use Rattle.model.specs.Laws.Write.WroteLaws.{wrote-nil, wrote-append}
+use Rattle.write.specs.Wrote.{Wrote}
+use Rattle.write.specs.Laws.WroteLaws.{wrote-nil, wrote-append}
 use Rattle.page.specs.PageLines.{PageLine, lineBytes, pageBytes}
 use Rattle.page.specs.Inner.LinesWritten.{LinesWritten}
 

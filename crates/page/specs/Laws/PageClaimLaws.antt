@@ -9,7 +9,7 @@ use native.Mathlib.Omega.{arith}
 use lib.ListN.{length, getD, take, drop, length-append}
 use lib.Seq.{take-append-seam}
 use Rattle.text.specs.Faults.{Outcome, answers, faultNumber}
-use Rattle.model.specs.Promises.{readingOutcome}
+use Rattle.read.specs.Promises.{readingOutcome}
 use Rattle.model.specs.Reading.{Reading, done, tooLong, faulty, readText}
 use Rattle.model.specs.Store.{storeOf}
 use Rattle.model.specs.WellFormed.{WellFormed}
@@ -22,8 +22,8 @@ use Rattle.text.specs.Split.{split}
 use Rattle.model.specs.System.{DeterministicModel}
 use Rattle.judge.specs.declared.judge.Verdict.{Verdict}
 use Rattle.judge.specs.declared.judge.Verdict.the-variants.{Passed, Refused}
-use Rattle.judge.specs.Inner.Stored.{Stored}
-use Rattle.judge.specs.Laws.GoodStoredLaws.{holds→Stored}
+use Rattle.reach.specs.Inner.Stored.{Stored}
+use Rattle.reach.specs.Laws.GoodStoredLaws.{holds→Stored}
 use Rattle.judge.specs.Verdicts.{RefusedAt, Judged}
 use Rattle.judge.specs.Laws.VerdictsLaws.{no-leak-of-bnid}
 use Rattle.word.specs.declared.word.End.{End}

@@ -7,10 +7,10 @@ use native.Mathlib.Omega.{arith}
 use lib.ListN.{length}
 use Rattle.text.specs.Faults.{answers}
 use Rattle.text.specs.Limits.{stateLimit}
-use Rattle.model.specs.Lists.{pageLength}
+use Rattle.text.specs.Lists.{pageLength}
 use Rattle.text.specs.Model.{Model}
-use Rattle.model.specs.Wrote.{Wrote}
-use Rattle.model.specs.Laws.Write.WroteLaws.{wrote-start}
+use Rattle.write.specs.Wrote.{Wrote}
+use Rattle.write.specs.Laws.WroteLaws.{wrote-start}
 use Rattle.judge.specs.declared.judge.Verdict.{Verdict}
 use Rattle.judge.specs.Inner.ModelLists.{ModelLists}
 use Rattle.judge.specs.Verdicts.{Judged}

@@ -8,8 +8,8 @@ use native.Mathlib.Omega.{arith}
 use lib.ListN.{length, length-append}
 use borrow.Author.Tests.{eq-eqb, ne-eqb}
 use Rattle.text.specs.Numbers.{digits}
-use Rattle.model.specs.Laws.Text.DigitsLaws.{digitsUpTo-length-le}
-use Rattle.model.specs.Lists.{unreachable}
+use Rattle.text.specs.Laws.DigitsLaws.{digitsUpTo-length-le}
+use Rattle.text.specs.Lists.{unreachable}
 use Rattle.judge.specs.declared.judge.Verdict.{Verdict}
 use Rattle.judge.specs.declared.judge.Verdict.the-variants.{Passed, Refused}
 use Rattle.text.specs.declared.Step.{Step}

@@ -16,8 +16,8 @@ use Rattle.model.specs.System.{source, target, levels, Steps, Start}
 use Rattle.judge.specs.declared.judge.Verdict.{Verdict}
 use Rattle.judge.specs.declared.judge.Verdict.the-variants.{Passed, Refused}
 use Rattle.judge.specs.Laws.JudgeLaws.{filled-unique}
-use Rattle.judge.specs.Laws.ReachLaws.{good-stored}
-use Rattle.judge.specs.Laws.RunsLaws.{runTo-unique}
+use Rattle.reach.specs.Laws.ReachLaws.{good-stored}
+use Rattle.reach.specs.Laws.RunsLaws.{runTo-unique}
 use Rattle.judge.specs.Laws.VerdictsLaws.{judged-unique}
 use Rattle.word.specs.declared.word.End.{End}
 use Rattle.word.specs.Words.{endNumber, WordOf, WordShown}

@@ -17,15 +17,15 @@ use Rattle.text.specs.Numbers.{digits}
 use Rattle.text.specs.Split.{split}
 use Rattle.text.specs.Laws.SplitLaws.{split-nil}
 use Rattle.model.specs.Inner.LineText.{NameByte}
-use Rattle.model.specs.Join.{Without}
+use Rattle.text.specs.Join.{Without}
 use Rattle.model.specs.System.{levels}
 use Rattle.model.specs.Text.{field}
 use Rattle.model.specs.WellFormed.{WellFormed}
 use Rattle.model.specs.Laws.Store.WellFormedLaws.{action-fits}
 use Rattle.model.specs.Laws.Text.ActionLineLaws.{name-bytes}
-use Rattle.model.specs.Laws.Text.AllLaws.{all-intro, all-append, all-map, all-of-all}
-use Rattle.model.specs.Laws.Text.DigitsLaws.{digits-digit}
-use Rattle.model.specs.Laws.Text.JoinLaws.{split-append}
+use Rattle.text.specs.Laws.AllLaws.{all-intro, all-append, all-map, all-of-all}
+use Rattle.text.specs.Laws.DigitsLaws.{digits-digit}
+use Rattle.text.specs.Laws.JoinLaws.{split-append}
 use Rattle.judge.specs.declared.judge.Verdict.{Verdict}
 use Rattle.judge.specs.declared.judge.Verdict.the-variants.{Passed, Refused}
 use Rattle.word.specs.declared.word.End.{End}

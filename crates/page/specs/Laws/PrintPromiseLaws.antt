@@ -6,7 +6,7 @@ use mathlib.Core.Option.{none, some}
 use mathlib.Core.Path.{_≡_, refl, sym, ap, _∙_}
 use Prim.Native.Nat.{ℕ}
 use Rattle.text.specs.Faults.{Outcome, refuses, faultNumber}
-use Rattle.model.specs.Promises.{readingOutcome}
+use Rattle.read.specs.Promises.{readingOutcome}
 use Rattle.model.specs.Reading.{Reading, done, tooLong, faulty, readText}
 use Rattle.model.specs.Laws.OnStoreLaws.{option-cases}
 use Rattle.model.specs.Laws.Text.ReadingLaws.{readText-iff}

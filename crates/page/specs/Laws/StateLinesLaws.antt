@@ -11,13 +11,13 @@ use lib.ListN.{length, getD}
 use Rattle.lts.specs.Alike.{Rank, bisimilar}
 use Rattle.lts.specs.AlikeLaws.{rank-unique, bisimilar-refl}
 use Rattle.lts.specs.TestsLaws.{eq-or-not}
-use Rattle.model.specs.Lists.{pairPlace, unreachable}
+use Rattle.text.specs.Lists.{pairPlace, unreachable}
 use Rattle.text.specs.Model.{Model}
-use Rattle.model.specs.Laws.Text.DigitsLaws.{digits-length-le}
+use Rattle.text.specs.Laws.DigitsLaws.{digits-length-le}
 use Rattle.model.specs.System.{LowStep}
-use Rattle.model.specs.Wrote.{Wrote}
-use Rattle.judge.specs.Laws.StepTestLaws.{distance-lt}
-use Rattle.judge.specs.Laws.ReachLaws.{list-distance, list-unreachable}
+use Rattle.write.specs.Wrote.{Wrote}
+use Rattle.reach.specs.Laws.StepTestLaws.{distance-lt}
+use Rattle.reach.specs.Laws.ReachLaws.{list-distance, list-unreachable}
 use Rattle.page.specs.Page.{DistanceField, unreached, reached, ClassOf, StateLines, next-state}
 use Rattle.page.specs.PageLines.{PageLine, state-line, distanceText, lineBytes}
 use Rattle.page.specs.Inner.Entries.{ListsOf, distanceOf, LowestZero}

@@ -16,7 +16,7 @@ use Rattle.lts.specs.Alike.{Moves, Answered, Answers, Alike}
 use Rattle.lts.specs.AlikeLaws.{alike-suc, alike-sym, alike-trans, answers-below}
 use Rattle.lts.specs.Game.{Settled, Separates}
 use Rattle.text.specs.Decides.{Decides}
-use Rattle.model.specs.Laws.Store.DecidesLaws.{decides-iff}
+use Rattle.text.specs.Laws.DecidesLaws.{decides-iff}
 use Rattle.ranking.specs.Inner.ClassList.{Same, Classes, Refinable, Lowest, Refined, Joins, Moved}
 
 -- ---- answers inside classes

@@ -12,7 +12,7 @@ use lib.Seq.{getD-set-same, getD-set-other}
 use Rattle.lts.specs.TestsLaws.{lt-suc-cases}
 use Rattle.lts.specs.Alike.{Moves, Answered}
 use Rattle.text.specs.Decides.{Decides}
-use Rattle.model.specs.Laws.Store.DecidesLaws.{decides-iff}
+use Rattle.text.specs.Laws.DecidesLaws.{decides-iff}
 use Rattle.text.specs.Limits.{stateLimit}
 use Rattle.ranking.specs.MoveList.{Listed, MoveList}
 use Rattle.ranking.specs.Laws.MoveListLaws.{place-lt-last}

@@ -10,7 +10,7 @@ use lib.ListN.{length, take, drop, length-append, length-take}
 use Rattle.io.specs.Counts.{Counts}
 use Rattle.text.specs.Faults.{answers, refuses, faultNumber}
 use Rattle.model.specs.Laws.OnStoreLaws.{option-cases}
-use Rattle.model.specs.Promises.{readingOutcome}
+use Rattle.read.specs.Promises.{readingOutcome}
 use Rattle.model.specs.Reading.{Reading, done, tooLong, faulty, readText}
 use Rattle.page.specs.declared.print.PrintAnswer.{PrintAnswer}
 use Rattle.page.specs.declared.print.PrintAnswer.the-variants.{Printed}

@@ -7,17 +7,17 @@ use lib.Dec.{T}
 use lib.ListN.{length}
 use Rattle.lts.specs.Alike.{Separated}
 use Rattle.text.specs.Limits.{actionLimit}
-use Rattle.model.specs.Lists.{tableLength, wordLength}
+use Rattle.text.specs.Lists.{tableLength, wordLength}
 use Rattle.text.specs.Model.{Model}
 use Rattle.model.specs.System.{source, action, target, levels, LowStep, ReachableIn, DeterministicModel}
 use Rattle.ranking.specs.MoveList.{indexLength}
 use Rattle.ranking.specs.Table.{Ranks}
 use Rattle.judge.specs.declared.judge.Verdict.{Verdict}
 use Rattle.judge.specs.Verdicts.{Judged}
-use Rattle.judge.specs.Inner.Index.{Index}
+use Rattle.reach.specs.Inner.Index.{Index}
 use Rattle.judge.specs.Inner.ModelLists.{ModelLists}
-use Rattle.judge.specs.Inner.Roles.{Roles}
-use Rattle.judge.specs.Inner.Stored.{Stored}
+use Rattle.reach.specs.Inner.Roles.{Roles}
+use Rattle.reach.specs.Inner.Stored.{Stored}
 use Rattle.word.specs.declared.branch.Found.{Found}
 use Rattle.word.specs.declared.branch.Found.the-variants.{At, Nothing}
 

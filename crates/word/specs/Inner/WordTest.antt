@@ -8,7 +8,7 @@ use lib.ListN.{length}
 use Rattle.lts.specs.Tests.{all, any}
 use Rattle.text.specs.Model.{Model}
 use Rattle.model.specs.System.{source, action, target, levels}
-use Rattle.judge.specs.Inner.StepTest.{step?}
+use Rattle.reach.specs.Inner.StepTest.{step?}
 use Rattle.word.specs.declared.word.End.{End}
 use Rattle.word.specs.Words.{endState, otherState}
 

@@ -34,10 +34,10 @@ use Rattle.lts.specs.Run.{begin}
 use Rattle.model.specs.System.{levels, Steps, LowStep, ReachableIn, DeterministicModel}
 use Rattle.judge.specs.declared.judge.Verdict.{Verdict}
 use Rattle.judge.specs.declared.judge.Verdict.the-variants.{Passed}
-use Rattle.judge.specs.Inner.Stored.{Stored}
-use Rattle.judge.specs.Laws.GoodStoredLaws.{holds→Stored}
-use Rattle.judge.specs.Inner.StepTest.{step?}
-use Rattle.judge.specs.Laws.StepTestLaws.{decided-steps}
+use Rattle.reach.specs.Inner.Stored.{Stored}
+use Rattle.reach.specs.Laws.GoodStoredLaws.{holds→Stored}
+use Rattle.reach.specs.Inner.StepTest.{step?}
+use Rattle.reach.specs.Laws.StepTestLaws.{decided-steps}
 use Rattle.judge.specs.Verdicts.{Judged}
 use Rattle.judge.specs.Inner.VerdictTest.{greatestBelow, leastBelow, verdictOf}
 use Rattle.judge.specs.Laws.VerdictTestLaws.{verdictOf-judged, Reachable→reachable?}

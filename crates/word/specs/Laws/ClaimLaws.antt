@@ -10,15 +10,15 @@ use lib.ListN.{length, take}
 use lib.Seq.{take-at}
 use Rattle.text.specs.Faults.{Outcome, answers}
 use Rattle.text.specs.Model.{Model}
-use Rattle.model.specs.Promises.{ReadPromise}
+use Rattle.read.specs.Promises.{ReadPromise}
 use Rattle.model.specs.Store.{Good}
 use Rattle.model.specs.StoredModel.{Holds}
 use Rattle.model.specs.System.{HighStep, DeterministicModel}
 use Rattle.judge.specs.declared.judge.Verdict.{Verdict}
 use Rattle.judge.specs.declared.judge.Verdict.the-variants.{Passed, Refused}
 use Rattle.judge.specs.Verdicts.{RefusedAt, Judged}
-use Rattle.judge.specs.Inner.Stored.{Stored}
-use Rattle.judge.specs.Laws.GoodStoredLaws.{holds→Stored}
+use Rattle.reach.specs.Inner.Stored.{Stored}
+use Rattle.reach.specs.Laws.GoodStoredLaws.{holds→Stored}
 use Rattle.judge.specs.Laws.VerdictsLaws.{no-leak-of-bnid}
 use Rattle.judge.specs.Inner.VerdictTest.{verdictOf}
 use Rattle.judge.specs.Laws.VerdictTestLaws.{verdictOf-judged}

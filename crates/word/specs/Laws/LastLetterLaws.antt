@@ -12,7 +12,7 @@ use Rattle.lts.specs.Word.{OnlyFrom, JustOne, FirstWord}
 use Rattle.text.specs.Model.{Model}
 use Rattle.model.specs.System.{action, target, levels, Steps, Start}
 use Rattle.model.specs.Laws.Store.SystemLaws.{own-step, deterministicModel→Deterministic}
-use Rattle.judge.specs.Inner.Stored.{Stored}
+use Rattle.reach.specs.Inner.Stored.{Stored}
 use Rattle.word.specs.declared.word.End.the-variants.{Source, Target}
 use Rattle.word.specs.Inner.Letters.{First, Alone, SeparatedPair}
 use Rattle.word.specs.Inner.WordHead.{WordFrom}

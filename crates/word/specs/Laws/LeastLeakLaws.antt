@@ -20,8 +20,8 @@ use Rattle.text.specs.Model.{Model}
 use Rattle.model.specs.System.{source, target, level, levels, Steps, Start, LowStep, HighStep, DeterministicModel}
 use Rattle.model.specs.Laws.Store.SystemLaws.{deterministicModel→Deterministic}
 use Rattle.judge.specs.Verdicts.{RefusedAt}
-use Rattle.judge.specs.Inner.Stored.{Stored}
-use Rattle.judge.specs.Laws.StepTestLaws.{decided-steps, decided-start}
+use Rattle.reach.specs.Inner.Stored.{Stored}
+use Rattle.reach.specs.Laws.StepTestLaws.{decided-steps, decided-start}
 use Rattle.judge.specs.Laws.VerdictsLaws.{rank-of-states}
 use Rattle.word.specs.Laws.LettersLaws.{low-step-game}
 

@@ -17,16 +17,16 @@ use Rattle.lts.specs.FirstWordLaws.{letter-of-separated}
 use Rattle.lts.specs.Game.{Game}
 use Rattle.lts.specs.TestsLaws.{lt-or-le}
 use Rattle.text.specs.declared.Step.{Step}
-use Rattle.model.specs.Lists.{pairPlace}
+use Rattle.text.specs.Lists.{pairPlace}
 use Rattle.text.specs.Model.{Model, low}
 use Rattle.model.specs.System.{source, action, target, levels, Steps, Start, LowStep, ReachableIn, DeterministicModel}
 use Rattle.model.specs.Laws.Store.SystemLaws.{deterministicModel→Deterministic}
-use Rattle.judge.specs.Inner.Index.{Index}
-use Rattle.judge.specs.Inner.Stored.{Stored}
-use Rattle.judge.specs.Inner.StepTest.{step?}
-use Rattle.judge.specs.Laws.RolesLaws.{low-of-role, role-of-low}
-use Rattle.judge.specs.Laws.StepTestLaws.{decided-steps}
-use Rattle.judge.specs.Laws.WavesLaws.{begins-source}
+use Rattle.reach.specs.Inner.Index.{Index}
+use Rattle.reach.specs.Inner.Stored.{Stored}
+use Rattle.reach.specs.Inner.StepTest.{step?}
+use Rattle.reach.specs.Laws.RolesLaws.{low-of-role, role-of-low}
+use Rattle.reach.specs.Laws.StepTestLaws.{decided-steps}
+use Rattle.reach.specs.Laws.WavesLaws.{begins-source}
 use Rattle.word.specs.declared.branch.Found.{Found}
 use Rattle.word.specs.declared.branch.Found.the-variants.{At, Nothing}
 use Rattle.word.specs.Inner.Letters.{First, FoundFirst, StepOf, Unanswered, Answer, HasAnswer}

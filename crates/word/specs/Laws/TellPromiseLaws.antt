@@ -9,11 +9,11 @@ use native.Mathlib.Omega.{arith}
 use Rattle.text.specs.declared.Fault.{Fault}
 use Rattle.text.specs.declared.Fault.the-variants.{Absent, Shape, Digits, Range, Repeated, Order}
 use Rattle.text.specs.Faults.{Outcome, answers, refuses, faultNumber}
-use Rattle.model.specs.declared.read.ReadAnswer.{ReadAnswer}
-use Rattle.model.specs.declared.read.ReadAnswer.the-variants as read
-use Rattle.model.specs.Promises.{readOutcome, readLists, ReadPromise, ReadCause}
+use Rattle.read.specs.declared.read.ReadAnswer.{ReadAnswer}
+use Rattle.read.specs.declared.read.ReadAnswer.the-variants as read
+use Rattle.read.specs.Promises.{readOutcome, readLists, ReadPromise, ReadCause}
 use Rattle.model.specs.Laws.OnStoreLaws.{option-cases}
-use Rattle.model.specs.Laws.PromisesLaws.{readPromise-unique}
+use Rattle.read.specs.Laws.PromisesLaws.{readPromise-unique}
 use Rattle.judge.specs.declared.judge.JudgeAnswer.{JudgeAnswer}
 use Rattle.judge.specs.Promises.{judgeOutcome, JudgePromise}
 use Rattle.judge.specs.Laws.PromiseOutcomeLaws.{judgeOutcome-injective}

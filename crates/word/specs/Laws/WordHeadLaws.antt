@@ -17,8 +17,8 @@ use Rattle.lts.specs.WordLaws.{only-from-cons}
 use Rattle.text.specs.Model.{Model}
 use Rattle.model.specs.System.{action, target, levels, Steps, Start, LowStep, ReachableIn}
 use Rattle.model.specs.Laws.Store.SystemLaws.{deterministicModel→Deterministic}
-use Rattle.judge.specs.Inner.Stored.{Stored}
-use Rattle.judge.specs.Laws.StepTestLaws.{reachable-state}
+use Rattle.reach.specs.Inner.Stored.{Stored}
+use Rattle.reach.specs.Laws.StepTestLaws.{reachable-state}
 use Rattle.word.specs.declared.word.End.{End}
 use Rattle.word.specs.declared.word.End.the-variants.{Source, Target}
 use Rattle.word.specs.Inner.Letters.{FirstLetter, SeparatedPair}

@@ -18,12 +18,12 @@ use Rattle.model.specs.System.{source, action, target, levels, Steps, Reachable
 use Rattle.model.specs.Laws.OnStoreLaws.{onStore-unique}
 use Rattle.judge.specs.declared.judge.Verdict.{Verdict}
 use Rattle.judge.specs.declared.judge.Verdict.the-variants.{Passed, Refused}
-use Rattle.judge.specs.Inner.Stored.{Stored}
+use Rattle.reach.specs.Inner.Stored.{Stored}
 use Rattle.judge.specs.Inner.VerdictTest.{verdictOf}
 use Rattle.judge.specs.Verdicts.{Judged}
 use Rattle.judge.specs.Laws.JudgeLaws.{filled-unique}
-use Rattle.judge.specs.Laws.ReachLaws.{good-stored}
-use Rattle.judge.specs.Laws.StepTestLaws.{reachable-cases}
+use Rattle.reach.specs.Laws.ReachLaws.{good-stored}
+use Rattle.reach.specs.Laws.StepTestLaws.{reachable-cases}
 use Rattle.judge.specs.Laws.VerdictTestLaws.{verdictOf-judged}
 use Rattle.word.specs.declared.word.End.{End}
 use Rattle.word.specs.declared.word.End.the-variants.{Source, Target}

@@ -18,9 +18,9 @@ use Rattle.lts.specs.RunLaws.{allows-cons}
 use Rattle.lts.specs.Word.{OnlyFrom, JustOne, NotAfter}
 use Rattle.text.specs.Model.{Model}
 use Rattle.model.specs.System.{source, action, target, levels, Steps, DeterministicModel}
-use Rattle.judge.specs.Inner.Stored.{Stored}
-use Rattle.judge.specs.Inner.StepTest.{step?}
-use Rattle.judge.specs.Laws.StepTestLaws.{decided-steps}
+use Rattle.reach.specs.Inner.Stored.{Stored}
+use Rattle.reach.specs.Inner.StepTest.{step?}
+use Rattle.reach.specs.Laws.StepTestLaws.{decided-steps}
 use Rattle.word.specs.declared.word.End.{End}
 use Rattle.word.specs.declared.word.End.the-variants.{Source, Target}
 use Rattle.word.specs.Words.{endState, otherState, WordOf}

@@ -9,7 +9,7 @@ use lib.ListN.{length}
 use Rattle.lts.specs.TestsLaws.{lt-or-le}
 use Rattle.text.specs.Model.{Model}
 use Rattle.model.specs.System.{source, action, ReachableIn, DeterministicModel}
-use Rattle.judge.specs.Inner.Stored.{Stored}
+use Rattle.reach.specs.Inner.Stored.{Stored}
 use Rattle.word.specs.Words.{Branches}
 
 -- ---- branches

@@ -6,7 +6,7 @@ use lib.ListN.{length, getD, length-set}
 use borrow.Author.Needs.{needs}
 use Rattle.model.specs.StoredModel.{modelAt}
 use Rattle.model.specs.System.{LowStep}
-use Rattle.judge.specs.Laws.StoredLaws.{stored-states}
+use Rattle.reach.specs.Laws.StoredLaws.{stored-states}
 use Rattle.judge.specs.Inner.Listing.{StatesListed}
 use Rattle.judge.specs.Laws.StatesListedLaws.{statesListed-zero, statesListed-suc, lists-of-statesListed}
 use Rattle.judge.proofs.moves.list_moves.Statement.{statement}

@@ -4,8 +4,8 @@ use native.Mathlib.Omega.{arith}
 use borrow.Author.Needs.{needs}
 use Rattle.text.specs.declared.State.{State}
 use Rattle.text.specs.declared.Action.{Action}
-use Rattle.judge.specs.Laws.StoredLaws.{stored-action, stored-target}
-use Rattle.judge.specs.Laws.RolesLaws.{low-of-role, role-of-low}
+use Rattle.reach.specs.Laws.StoredLaws.{stored-action, stored-target}
+use Rattle.reach.specs.Laws.RolesLaws.{low-of-role, role-of-low}
 use Rattle.judge.specs.Laws.ListingLaws.{appended-not-low, appended-low}
 use Rattle.judge.proofs.moves.list_step.Statement.{statement}
 use Rattle.judge.proofs.moves.list_step.Tie as tie

@@ -2,7 +2,7 @@
 use mathlib.Core.Path.{_∙_}
 use native.Mathlib.Omega.{arith}
 use borrow.Author.Needs.{needs}
-use Rattle.judge.specs.Laws.StoredLaws.{stored-states}
+use Rattle.reach.specs.Laws.StoredLaws.{stored-states}
 use Rattle.ranking.specs.Laws.RankedLaws.{moveList-of-lists, ranked-of-listed}
 use Rattle.judge.proofs.rank.fill_table.Statement.{statement}
 use Rattle.judge.proofs.rank.fill_table.Tie as tie

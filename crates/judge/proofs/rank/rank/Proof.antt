@@ -6,11 +6,11 @@ use native.Mathlib.Omega.{arith}
 use borrow.Author.Needs.{needs}
 use Rattle.text.specs.Faults.{Outcome, answers}
 use Rattle.model.specs.System.{LowStep}
-use Rattle.model.specs.Laws.FirstShortLaws.{first-short, second-short, none-short-two}
+use Rattle.text.specs.Laws.FirstShortLaws.{first-short, second-short, none-short-two}
 use Rattle.model.specs.Laws.OnStoreLaws.{onStore-short, onStore-not-good, onStore-model}
-use Rattle.model.specs.Laws.Store.DecidesLaws.{decides-passed, decides-refused}
+use Rattle.text.specs.Laws.DecidesLaws.{decides-passed, decides-refused}
 use Rattle.ranking.specs.Table.{Ranked}
-use Rattle.judge.specs.Laws.GoodStoredLaws.{passed→Stored}
+use Rattle.reach.specs.Laws.GoodStoredLaws.{passed→Stored}
 use Rattle.judge.specs.Promises.{rankOutcome}
 use Rattle.judge.proofs.rank.rank.Statement.{statement}
 use Rattle.judge.proofs.rank.rank.Tie as tie

@@ -1,6 +1,6 @@
 -- Each test decides one of the conditions on an action's places.
 use native.Mathlib.Omega.{arith}
-use Rattle.model.specs.Laws.Store.DecidesLaws.{decides-passed, decides-refused, decides-iff}
+use Rattle.text.specs.Laws.DecidesLaws.{decides-passed, decides-refused, decides-iff}
 use borrow.Author.Needs.{needs}
 use Rattle.model.proofs.good.action_good.Statement.{statement}
 use Rattle.model.proofs.good.action_good.Tie as tie

@@ -3,7 +3,7 @@ use Prim.Native.Nat.{_-_}
 use native.Mathlib.Omega.{arith}
 use Rattle.model.specs.Inner.EachFrom.{EachFrom}
 use Rattle.model.specs.Laws.Store.EachFromLaws.{each-from-nil, each-from-snoc, each-from-le}
-use Rattle.model.specs.Laws.Store.DecidesLaws.{decides-passed, decides-refused}
+use Rattle.text.specs.Laws.DecidesLaws.{decides-passed, decides-refused}
 use Rattle.model.specs.Inner.GoodPlaces.{GoodAction}
 use borrow.Author.Needs.{needs}
 use Rattle.model.proofs.good.actions_good.Statement.{statement}

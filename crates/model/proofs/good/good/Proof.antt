@@ -1,5 +1,5 @@
 -- A store is good exactly if its places are.
-use Rattle.model.specs.Laws.Store.DecidesLaws.{decides-iff}
+use Rattle.text.specs.Laws.DecidesLaws.{decides-iff}
 use Rattle.model.specs.Laws.Store.GoodLaws.{GoodPlaces→Good, Good→GoodPlaces}
 use borrow.Author.Needs.{needs}
 use Rattle.model.proofs.good.good.Statement.{statement}

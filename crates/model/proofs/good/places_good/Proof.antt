@@ -3,7 +3,7 @@ use mathlib.Core.Path.{ap}
 use native.Mathlib.Omega.{arith}
 use Rattle.text.specs.declared.Head.{Head}
 use Rattle.text.specs.Laws.RangesLaws.{headFits?→HeadRanges}
-use Rattle.model.specs.Laws.Store.DecidesLaws.{decides-passed, decides-refused, decides-iff}
+use Rattle.text.specs.Laws.DecidesLaws.{decides-passed, decides-refused, decides-iff}
 use borrow.Author.Needs.{needs}
 use Rattle.model.proofs.good.places_good.Statement.{statement}
 use Rattle.model.proofs.good.places_good.Tie as tie

@@ -6,7 +6,7 @@ use lib.Dec.{T}
 use Rattle.text.specs.declared.Head.{Head}
 use Rattle.text.specs.declared.StepLine.{StepLine}
 use Rattle.text.specs.Decides.{Decides}
-use Rattle.model.specs.Laws.Store.DecidesLaws.{decides-passed, decides-refused, T-of-true, not-T-of-false}
+use Rattle.text.specs.Laws.DecidesLaws.{decides-passed, decides-refused, T-of-true, not-T-of-false}
 use Rattle.text.specs.Model.{above?}
 use Rattle.text.specs.Lines.{stepFits?}
 use borrow.Author.Needs.{needs}

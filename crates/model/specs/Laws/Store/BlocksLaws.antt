@@ -8,7 +8,7 @@ use native.Mathlib.Nat.{mul-suc, mul-zero}
 use lib.ListN.{length, getD, drop, replicate, length-append, length-replicate}
 use lib.Seq.{drop-append-add}
 use Rattle.text.specs.All.{All}
-use Rattle.model.specs.Laws.Text.AllLaws.{all-append, all-replicate}
+use Rattle.text.specs.Laws.AllLaws.{all-append, all-replicate}
 use Rattle.model.specs.Store.{padded}
 
 -- ---- zeros behind

@@ -10,7 +10,7 @@ use lib.Seq.{drop-append-add}
 use Rattle.text.specs.declared.StepLine.{StepLine}
 use Rattle.text.specs.Limits.{actionLimit, stepLimit, nameLimit, storeLength, actionPlace, stepPlace}
 use Rattle.text.specs.All.{All}
-use Rattle.model.specs.Laws.Text.AllLaws.{all-intro, all-of-all, all-append}
+use Rattle.text.specs.Laws.AllLaws.{all-intro, all-of-all, all-append}
 use Rattle.text.specs.Model.{ActionLine, Model}
 use Rattle.model.specs.Store.{padded, actionNumbers, actionsNumbers, stepsNumbers, headPlaces, storeOf}
 use Rattle.model.specs.WellFormed.{EachAfter, ActionFits, StepFits, WellFormed}

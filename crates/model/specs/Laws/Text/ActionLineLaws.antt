@@ -17,7 +17,7 @@ use Rattle.text.specs.Laws.BytesLaws.{between?→le, digit-within, smallLetter-
 use Rattle.text.specs.Split.{same?}
 use Rattle.text.specs.Laws.SameLaws.{same?→eq}
 use Rattle.text.specs.All.{All}
-use Rattle.model.specs.Laws.Text.AllLaws.{all-of-all}
+use Rattle.text.specs.Laws.AllLaws.{all-of-all}
 use Rattle.text.specs.Model.{low, release, high, ActionLine}
 use Rattle.text.specs.Lines.{Line, good, bad, fieldsOf, levelOf, allOf, nameByte?, name?, nameFrom, used?}
 use Rattle.text.specs.Lines.{actionFields, actionFrom, actionOf}

@@ -16,14 +16,14 @@ use Rattle.text.specs.declared.number.Number.the-variants.{Value, Bad}
 use Rattle.text.specs.Bytes.{kindOf, digit, comma}
 use Rattle.text.specs.Laws.BytesLaws.{comma-only}
 use Rattle.text.specs.Numbers.{numberOf, digits}
-use Rattle.model.specs.Laws.Text.DigitsLaws.{digits-digit, numberOf-digits, digits-of-numberOf}
+use Rattle.text.specs.Laws.DigitsLaws.{digits-digit, numberOf-digits, digits-of-numberOf}
 use Rattle.text.specs.Split.{same?}
 use Rattle.text.specs.Laws.SplitLaws.{split-first}
 use Rattle.text.specs.Laws.SameLaws.{same?→eq, same?-refl}
 use Rattle.text.specs.All.{All}
-use Rattle.model.specs.Laws.Text.AllLaws.{all-of-all}
-use Rattle.model.specs.Join.{join, Without}
-use Rattle.model.specs.Laws.Text.JoinLaws.{split-join, join-split}
+use Rattle.text.specs.Laws.AllLaws.{all-of-all}
+use Rattle.text.specs.Join.{join, Without}
+use Rattle.text.specs.Laws.JoinLaws.{split-join, join-split}
 use Rattle.text.specs.Lines.{Line, good, bad, checked, fieldsFrom, fieldsOf, consNumber, numbersOf, numbersFrom}
 use Rattle.text.specs.Lines.{numbersLine}
 use Rattle.text.specs.Inner.Ranges.{Small}

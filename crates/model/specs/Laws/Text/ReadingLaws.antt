@@ -14,8 +14,8 @@ use Rattle.text.specs.Laws.BytesLaws.{lineEnd-only}
 use Rattle.text.specs.Limits.{textLimit, outLength}
 use Rattle.text.specs.Split.{split}
 use Rattle.text.specs.All.{All}
-use Rattle.model.specs.Join.{join}
-use Rattle.model.specs.Laws.Text.JoinLaws.{all-join, split-join, join-split}
+use Rattle.text.specs.Join.{join}
+use Rattle.text.specs.Laws.JoinLaws.{all-join, split-join, join-split}
 use Rattle.text.specs.Model.{Model}
 use Rattle.model.specs.Reading.{done, tooLong, readModel, readText}
 use Rattle.model.specs.Text.{textOf}

@@ -13,11 +13,11 @@ use Rattle.text.specs.declared.StepLine.{StepLine}
 use Rattle.text.specs.Bytes.{kindOf, digit, capital}
 use Rattle.text.specs.Laws.BytesLaws.{digit-within, smallLetter-within, capital-within}
 use Rattle.text.specs.Numbers.{digits}
-use Rattle.model.specs.Laws.Text.DigitsLaws.{digits-digit}
+use Rattle.text.specs.Laws.DigitsLaws.{digits-digit}
 use Rattle.text.specs.All.{All}
-use Rattle.model.specs.Laws.Text.AllLaws.{all-intro, all-append, all-map, all-of-all}
-use Rattle.model.specs.Join.{join}
-use Rattle.model.specs.Laws.Text.JoinLaws.{join-cons, all-join}
+use Rattle.text.specs.Laws.AllLaws.{all-intro, all-append, all-map, all-of-all}
+use Rattle.text.specs.Join.{join}
+use Rattle.text.specs.Laws.JoinLaws.{join-cons, all-join}
 use Rattle.text.specs.Model.{ActionLine, Model}
 use Rattle.text.specs.Lines.{good, headFits?, headOf, name?, actionOf, stepOf}
 use Rattle.model.specs.Text.{headText, levelByte, actionText, stepText, actionsText, stepsText, textOf}

@@ -8,7 +8,7 @@ use lib.ListN.{length, length-append}
 use Rattle.text.specs.declared.Head.{Head}
 use Rattle.text.specs.declared.StepLine.{StepLine}
 use Rattle.text.specs.Limits.{outLength}
-use Rattle.model.specs.Laws.Text.DigitsLaws.{digits-length-le}
+use Rattle.text.specs.Laws.DigitsLaws.{digits-length-le}
 use Rattle.text.specs.Model.{ActionLine, Model}
 use Rattle.text.specs.Lines.{name?}
 use Rattle.model.specs.Text.{headText, actionText, stepText, actionsText, stepsText, textOf}

@@ -5,7 +5,7 @@ use native.Mathlib.Omega.{arith}
 use lib.ListN.{getD}
 use borrow.Author.Count.{below-more}
 use borrow.Author.Needs.{needs}
-use Rattle.model.specs.Lists.{pairPlace}
+use Rattle.text.specs.Lists.{pairPlace}
 use Rattle.page.proofs.class.class_of.Statement.{statement}
 use Rattle.page.proofs.class.class_of.Tie as tie
 

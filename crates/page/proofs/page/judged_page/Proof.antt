@@ -1,6 +1,6 @@
 -- The verdict, the states, what follows them and the end, each from where the last one ended. Assumes nothing.
 use native.Mathlib.Omega.{arith}
-use Rattle.model.specs.Laws.Write.WroteLaws.{wrote-length}
+use Rattle.write.specs.Laws.WroteLaws.{wrote-length}
 use Rattle.page.specs.Laws.PageLinesLaws.{verdict-length-le, last-length}
 use Rattle.page.specs.Laws.LinesWrittenLaws.{written-next-le}
 use Rattle.page.specs.Laws.PageLaws.{listsOf, page-written}

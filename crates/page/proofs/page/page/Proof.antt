@@ -1,5 +1,5 @@
 -- Each refusal is a way of the promise; on a good store it is what `page_good` makes. Assumes nothing.
-use Rattle.model.specs.Laws.Store.DecidesLaws.{decides-passed, decides-refused}
+use Rattle.text.specs.Laws.DecidesLaws.{decides-passed, decides-refused}
 use Rattle.page.proofs.PageAnswers.{short-store-promised, short-distances-promised, short-table-promised}
 use Rattle.page.proofs.PageAnswers.{short-run-promised, short-word-promised, short-out-promised}
 use Rattle.page.proofs.PageAnswers.{not-good-promised, printed-promised}

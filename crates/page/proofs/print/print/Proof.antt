@@ -7,9 +7,9 @@ use native.Mathlib.Omega.{arith}
 use borrow.Author.Needs.{needs}
 use denote.Enum.Declared.{tagOf}
 use types.Run.{OneOf}
-use Rattle.model.proofs.read.ReadAnswer.{the-type}
-use Rattle.model.specs.declared.read.ReadAnswer.{ReadAnswer}
-use Rattle.model.specs.declared.read.ReadAnswer.the-variants.{Done}
+use Rattle.read.proofs.read.ReadAnswer.{the-type}
+use Rattle.read.specs.declared.read.ReadAnswer.{ReadAnswer}
+use Rattle.read.specs.declared.read.ReadAnswer.the-variants.{Done}
 use Rattle.page.specs.Laws.PageClaimLaws.{print-claim}
 use Rattle.page.proofs.PrintAnswers.{short-store-promised, short-distances-promised, short-table-promised}
 use Rattle.page.proofs.PrintAnswers.{short-run-promised, short-word-promised, short-out-promised}

@@ -4,7 +4,7 @@ use Prim.Native.Nat.{ℕ}
 use native.Mathlib.Omega.{arith}
 use borrow.Author.Needs.{needs}
 use Rattle.text.specs.Faults.{refuses}
-use Rattle.model.specs.Promises.{readOutcome}
+use Rattle.read.specs.Promises.{readOutcome}
 use Rattle.page.proofs.print.refused_with.Statement.{statement}
 use Rattle.page.proofs.print.refused_with.Tie as tie
 

@@ -1,7 +1,7 @@
 -- Answers is Answered both ways.
 use native.Mathlib.Omega.{arith}
 use Rattle.lts.specs.Alike.{Answered}
-use Rattle.model.specs.Laws.Store.DecidesLaws.{decides-true, decides-false, decides-iff}
+use Rattle.text.specs.Laws.DecidesLaws.{decides-true, decides-false, decides-iff}
 use Rattle.ranking.specs.MoveList.{Listed}
 use Rattle.ranking.specs.Inner.ClassList.{Same}
 use Rattle.ranking.specs.Laws.ClassListLaws.{answers-of-both, answered-back}

@@ -1,6 +1,6 @@
 -- A state of another old class cannot answer.
 use mathlib.Core.Path.{sym, _∙_}
-use Rattle.model.specs.Laws.Store.DecidesLaws.{decides-iff}
+use Rattle.text.specs.Laws.DecidesLaws.{decides-iff}
 use Rattle.ranking.specs.Laws.MarksLaws.{stateClasses-of-refinable}
 use borrow.Author.Needs.{needs}
 use Rattle.ranking.proofs.classes.joins.Statement.{statement}

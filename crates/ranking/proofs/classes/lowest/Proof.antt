@@ -4,7 +4,7 @@ use Prim.Native.Nat.{ℕ, _≤_, _<_, _-_}
 use native.Mathlib.Omega.{arith}
 use lib.ListN.{length}
 use Rattle.lts.specs.Alike.{Answers}
-use Rattle.model.specs.Laws.Store.DecidesLaws.{decides-true, decides-false}
+use Rattle.text.specs.Laws.DecidesLaws.{decides-true, decides-false}
 use Rattle.ranking.specs.MoveList.{Listed}
 use Rattle.ranking.specs.Inner.ClassList.{Same}
 use Rattle.ranking.specs.Laws.ClassListLaws.{none-below-class, none-lower-suc, answers-refl}

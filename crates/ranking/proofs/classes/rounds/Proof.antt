@@ -7,7 +7,7 @@ use lib.ListN.{length, length-replicate}
 use Rattle.lts.specs.Alike.{Moves}
 use Rattle.lts.specs.Game.{Separates}
 use Rattle.text.specs.Limits.{stateLimit}
-use Rattle.model.specs.Laws.Store.DecidesLaws.{decides-true, decides-false}
+use Rattle.text.specs.Laws.DecidesLaws.{decides-true, decides-false}
 use Rattle.ranking.specs.MoveList.{Listed}
 use Rattle.ranking.specs.Laws.MoveListLaws.{listed-target-lt, listed-rounds-lt}
 use Rattle.ranking.specs.Inner.ClassList.{Classes}

@@ -4,8 +4,8 @@ use native.Mathlib.Omega.{arith}
 use borrow.Author.Needs.{needs}
 use Rattle.text.specs.declared.State.{State}
 use Rattle.text.specs.declared.Action.{Action}
-use Rattle.judge.specs.Laws.StoredLaws.{stored-source, stored-action}
-use Rattle.judge.specs.Laws.ReachLaws.{list-reachable, list-unreachable}
+use Rattle.reach.specs.Laws.StoredLaws.{stored-source, stored-action}
+use Rattle.reach.specs.Laws.ReachLaws.{list-reachable, list-unreachable}
 use Rattle.word.specs.Laws.WordsLaws.{branches-source, branches-action, branches-reachable, branches-of}
 use Rattle.word.proofs.branch.branches.Statement.{statement}
 use Rattle.word.proofs.branch.branches.Tie as tie

@@ -6,8 +6,8 @@ use lib.ListN.{length}
 use borrow.Author.Count.{below-more}
 use borrow.Author.Needs.{needs}
 use Rattle.model.specs.StoredModel.{modelAt}
-use Rattle.model.specs.Laws.Store.DecidesLaws.{decides-true, decides-false}
-use Rattle.judge.specs.Laws.StoredLaws.{stored-steps}
+use Rattle.text.specs.Laws.DecidesLaws.{decides-true, decides-false}
+use Rattle.reach.specs.Laws.StoredLaws.{stored-steps}
 use Rattle.word.specs.Words.{Branches}
 use Rattle.word.specs.Laws.WordsLaws.{not-first-branches}
 use Rattle.word.specs.Laws.LettersLaws.{first-found}

@@ -6,7 +6,7 @@ use lib.ListN.{getD}
 use borrow.Author.Count.{below-more}
 use borrow.Author.Needs.{needs}
 use Rattle.model.specs.StoredModel.{modelAt}
-use Rattle.model.specs.Laws.Store.DecidesLaws.{decides-true, decides-false}
+use Rattle.text.specs.Laws.DecidesLaws.{decides-true, decides-false}
 use Rattle.word.specs.Inner.Letters.{Alone}
 use Rattle.word.specs.Laws.LettersLaws.{own-of-index, none-before, none-after, first-found}
 use Rattle.word.proofs.letters.alone.Statement.{statement}

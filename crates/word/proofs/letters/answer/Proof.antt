@@ -4,8 +4,8 @@ use native.Mathlib.Omega.{arith}
 use borrow.Author.Needs.{needs}
 use Rattle.text.specs.declared.State.{State}
 use Rattle.text.specs.declared.Action.{Action}
-use Rattle.judge.specs.Laws.StepTestLaws.{reachable-state}
-use Rattle.judge.specs.Laws.StoredLaws.{stored-action, stored-target}
+use Rattle.reach.specs.Laws.StepTestLaws.{reachable-state}
+use Rattle.reach.specs.Laws.StoredLaws.{stored-action, stored-target}
 use Rattle.word.specs.Laws.LettersLaws.{found-at, found-nothing, stepOf-at, role-fits, letter-low, letter-role}
 use Rattle.word.specs.Laws.LettersLaws.{entry-fits, separated-of-entry, not-answer}
 use Rattle.word.proofs.letters.answer.Statement.{statement}

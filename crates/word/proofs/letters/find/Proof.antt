@@ -7,7 +7,7 @@ use borrow.Author.Count.{below-more}
 use borrow.Author.Needs.{needs}
 use Rattle.text.specs.declared.Action.{Action}
 use Rattle.model.specs.StoredModel.{modelAt}
-use Rattle.judge.specs.Laws.StoredLaws.{stored-action}
+use Rattle.reach.specs.Laws.StoredLaws.{stored-action}
 use Rattle.word.specs.Inner.Letters.{StepOf}
 use Rattle.word.specs.Laws.LettersLaws.{own-of-index, none-before, none-after, first-found}
 use Rattle.word.proofs.letters.find.Statement.{statement}

@@ -6,7 +6,7 @@ use lib.ListN.{getD}
 use borrow.Author.Count.{below-more}
 use borrow.Author.Needs.{needs}
 use Rattle.model.specs.StoredModel.{modelAt}
-use Rattle.judge.specs.Laws.StepTestLaws.{reachable-state}
+use Rattle.reach.specs.Laws.StepTestLaws.{reachable-state}
 use Rattle.word.specs.Inner.Letters.{HasAnswer}
 use Rattle.word.specs.Laws.LettersLaws.{own-of-index, none-before, none-after, found-at, found-nothing}
 use Rattle.word.specs.Laws.LettersLaws.{has-answer-some, first-letter-of}

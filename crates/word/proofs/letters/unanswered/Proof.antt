@@ -3,7 +3,7 @@ use mathlib.Core.Path.{ap, _∙_}
 use native.Mathlib.Omega.{arith}
 use borrow.Author.Needs.{needs}
 use Rattle.text.specs.declared.Action.{Action}
-use Rattle.judge.specs.Laws.StoredLaws.{stored-action}
+use Rattle.reach.specs.Laws.StoredLaws.{stored-action}
 use Rattle.word.specs.Laws.LettersLaws.{found-at, found-nothing, stepOf-at, role-fits, letter-role}
 use Rattle.word.specs.Laws.LettersLaws.{unanswered-of}
 use Rattle.word.proofs.letters.unanswered.Statement.{statement}

@@ -1,7 +1,7 @@
 -- Each list that is short is a way of both promises; the rest is what `judge_good` leaves and what `show` finds.
 use native.Mathlib.Omega.{arith}
 use borrow.Author.Needs.{needs}
-use Rattle.judge.specs.Laws.GoodStoredLaws.{good→Stored}
+use Rattle.reach.specs.Laws.GoodStoredLaws.{good→Stored}
 use Rattle.word.proofs.TextAnswers.{judging→Showable, short-distances-answered, short-table-answered, short-word-answered}
 use Rattle.word.proofs.TextAnswers.{done-answered}
 use Rattle.word.proofs.tell.judge_text.Statement.{statement}

@@ -6,9 +6,9 @@ use native.Mathlib.Omega.{arith}
 use borrow.Author.Needs.{needs}
 use denote.Enum.Declared.{tagOf}
 use types.Run.{OneOf}
-use Rattle.model.proofs.read.ReadAnswer.{the-type}
-use Rattle.model.specs.declared.read.ReadAnswer.{ReadAnswer}
-use Rattle.model.specs.declared.read.ReadAnswer.the-variants.{Done}
+use Rattle.read.proofs.read.ReadAnswer.{the-type}
+use Rattle.read.specs.declared.read.ReadAnswer.{ReadAnswer}
+use Rattle.read.specs.declared.read.ReadAnswer.the-variants.{Done}
 use Rattle.word.proofs.TextAnswers.{unread-promised, unread-claimed, read-long-good, judged-promised}
 use Rattle.word.proofs.TextAnswers.{judged-claimed}
 use Rattle.word.proofs.tell.tell.Statement.{statement}

@@ -8,7 +8,7 @@ use Rattle.lts.specs.AlikeLaws.{separated-pos}
 use Rattle.text.specs.declared.State.{State}
 use Rattle.text.specs.declared.Action.{Action}
 use Rattle.model.specs.StoredModel.{modelAt}
-use Rattle.judge.specs.Laws.StoredLaws.{stored-action, stored-target}
+use Rattle.reach.specs.Laws.StoredLaws.{stored-action, stored-target}
 use Rattle.word.specs.Inner.Letters.{SeparatedPair}
 use Rattle.word.specs.Inner.WordHead.{WordHead}
 use Rattle.word.specs.Laws.WordHeadLaws.{pair-at, pair-lt, pair-next, head-none, head-next, head-end}

@@ -3,8 +3,8 @@ use mathlib.Core.Path.{ap, _∙_}
 use native.Mathlib.Omega.{arith}
 use borrow.Author.Needs.{needs}
 use Rattle.text.specs.declared.Action.{Action}
-use Rattle.judge.specs.Laws.StepTestLaws.{reachable-state}
-use Rattle.judge.specs.Laws.StoredLaws.{stored-action}
+use Rattle.reach.specs.Laws.StepTestLaws.{reachable-state}
+use Rattle.reach.specs.Laws.StoredLaws.{stored-action}
 use Rattle.word.specs.Laws.LettersLaws.{found-at, found-nothing}
 use Rattle.word.specs.Laws.LastLetterLaws.{first-alone-le, source-letter, target-letter, alone-some}
 use Rattle.word.proofs.word.last_letter.Statement.{statement}

@@ -3,7 +3,7 @@ use mathlib.Core.Path.{ap, _∙_}
 use native.Mathlib.Omega.{arith}
 use borrow.Author.Needs.{needs}
 use Rattle.text.specs.declared.State.{State}
-use Rattle.judge.specs.Laws.StoredLaws.{stored-source, stored-target}
+use Rattle.reach.specs.Laws.StoredLaws.{stored-source, stored-target}
 use Rattle.word.specs.Laws.LettersLaws.{found-at, found-nothing}
 use Rattle.word.specs.Laws.WordsLaws.{deterministic-of-no-branch}
 use Rattle.word.proofs.WordAnswers.{showable→WordLists, leak-pair, judged-passed, judged-refused}

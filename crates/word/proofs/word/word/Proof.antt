@@ -1,8 +1,8 @@
 -- Each refusal is a way of the promise; on a good store it is what `judge_good` fills and `show` shows.
 use native.Mathlib.Omega.{arith}
 use borrow.Author.Needs.{needs}
-use Rattle.model.specs.Laws.Store.DecidesLaws.{decides-passed, decides-refused}
-use Rattle.judge.specs.Laws.GoodStoredLaws.{good→Stored}
+use Rattle.text.specs.Laws.DecidesLaws.{decides-passed, decides-refused}
+use Rattle.reach.specs.Laws.GoodStoredLaws.{good→Stored}
 use Rattle.word.proofs.WordAnswers.{short-store-promised, short-distances-promised, short-table-promised}
 use Rattle.word.proofs.WordAnswers.{short-word-promised, not-good-promised, done-promised}
 use Rattle.word.proofs.TextAnswers.{judging→Showable}

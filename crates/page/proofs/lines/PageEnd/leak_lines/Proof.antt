@@ -4,9 +4,9 @@ use native.Mathlib.Omega.{arith}
 use borrow.Author.Needs.{needs}
 use Rattle.text.specs.declared.State.{State}
 use Rattle.model.specs.System.{ReachableIn}
-use Rattle.model.specs.Laws.Write.WroteLaws.{wrote-length}
-use Rattle.judge.specs.Laws.RunsLaws.{runTo-length}
-use Rattle.judge.specs.Laws.StoredLaws.{stored-source}
+use Rattle.write.specs.Laws.WroteLaws.{wrote-length}
+use Rattle.reach.specs.Laws.RunsLaws.{runTo-length}
+use Rattle.reach.specs.Laws.StoredLaws.{stored-source}
 use Rattle.page.specs.Laws.LinesWrittenLaws.{written-next-le}
 use Rattle.page.specs.Laws.LeakShownLaws.{refused-of, runWritten-le, spelled-of, leak-lines-written}
 use Rattle.page.proofs.lines.PageEnd.leak_lines.Statement.{statement}

@@ -7,10 +7,10 @@ use native.Mathlib.Omega.{arith}
 use types.Run.{OneOf}
 use denote.Enum.Declared.{tagOf}
 use borrow.Author.Needs.{needs}
-use Rattle.model.specs.Lists.{wordLength}
+use Rattle.text.specs.Lists.{wordLength}
 use Rattle.text.specs.Model.{Model}
-use Rattle.model.specs.Wrote.{Wrote}
-use Rattle.model.specs.Laws.Write.WroteLaws.{wrote-length}
+use Rattle.write.specs.Wrote.{Wrote}
+use Rattle.write.specs.Laws.WroteLaws.{wrote-length}
 use Rattle.word.proofs.word.WordAnswer.{the-type}
 use Rattle.word.specs.declared.word.End.{End}
 use Rattle.word.specs.declared.word.WordAnswer.{WordAnswer}

@@ -1,7 +1,7 @@
 -- Each field goes on from where the last one ended; the line's length is what its fields ask for. Assumes nothing.
 use borrow.Author.Needs.{needs}
 use native.Mathlib.Omega.{arith}
-use Rattle.model.specs.Laws.Write.WroteLaws.{wrote-append}
+use Rattle.write.specs.Laws.WroteLaws.{wrote-append}
 use Rattle.page.specs.PageLines.{lineText}
 use Rattle.page.specs.Laws.PageLinesLaws.{state-length}
 use Rattle.page.specs.Inner.Entries.{distanceOf}

@@ -5,7 +5,7 @@ use native.Mathlib.Omega.{arith}
 use lib.ListN.{length}
 use borrow.Author.Needs.{needs}
 use Rattle.model.specs.StoredModel.{modelAt}
-use Rattle.judge.specs.Laws.StoredLaws.{stored-states}
+use Rattle.reach.specs.Laws.StoredLaws.{stored-states}
 use Rattle.page.specs.Page.{StateLines, no-state}
 use Rattle.page.specs.Inner.LinesWritten.{LinesWritten}
 use Rattle.page.specs.Laws.LinesWrittenLaws.{written-nil, written-next-le}

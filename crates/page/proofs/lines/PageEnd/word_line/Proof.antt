@@ -2,7 +2,7 @@
 use borrow.Author.Needs.{needs}
 use native.Mathlib.Omega.{arith}
 use denote.Ref.{now}
-use Rattle.model.specs.Laws.Write.WroteLaws.{wrote-append}
+use Rattle.write.specs.Laws.WroteLaws.{wrote-append}
 use Rattle.page.specs.PageLines.{lineText}
 use Rattle.page.specs.Laws.PageLinesLaws.{word-length}
 use Rattle.page.proofs.lines.PageEnd.word_line.Statement.{statement}

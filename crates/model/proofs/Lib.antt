@@ -1,2 +1,0 @@
-pub mod WriteAnswers
-pub mod ReaderParts

@@ -1,5 +1,0 @@
-pub mod FillLaws
-pub mod ReadLaws
-pub mod ReadStepsLaws
-pub mod ReadAnswerLaws
-pub mod NameLaws

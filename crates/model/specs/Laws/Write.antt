@@ -1,3 +1,0 @@
-pub mod WroteLaws
-pub mod WritableLaws
-pub mod WritingLaws

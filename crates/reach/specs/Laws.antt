@@ -1,0 +1,12 @@
+pub mod StoredLaws
+pub mod GoodStoredLaws
+pub mod IndexLaws
+pub mod RolesLaws
+pub mod StepTestLaws
+pub mod WavesLaws
+pub mod WaveKeptLaws
+pub mod RunTailLaws
+pub mod ReachLaws
+pub mod RunsLaws
+pub mod RunPromiseLaws
+pub mod PromiseOutcomeLaws

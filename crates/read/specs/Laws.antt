@@ -1,0 +1,6 @@
+pub mod PromisesLaws
+pub mod FillLaws
+pub mod ReadLaws
+pub mod ReadStepsLaws
+pub mod ReadAnswerLaws
+pub mod NameLaws

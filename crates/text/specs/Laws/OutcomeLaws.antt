@@ -1,0 +1,8 @@
+-- When equal outcomes come from equal answers. Assumes nothing.
+use mathlib.Core.Path.{_≡_, sym, ap, _∙_}
+use Rattle.text.specs.Faults.{Outcome}
+
+-- A function that takes each outcome back to its answer shows that no two answers share one.
+pub injective-of-inverse : {A : Type 0} (f : A → Outcome) (back : Outcome → A) → ((a : A) → back (f a) ≡ a)
+    → (a b : A) → f a ≡ f b → a ≡ b
+injective-of-inverse f back inverse a b e = sym (inverse a) ∙ ap back e ∙ inverse b

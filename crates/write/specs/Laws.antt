@@ -1,0 +1,4 @@
+pub mod PromisesLaws
+pub mod WroteLaws
+pub mod WritableLaws
+pub mod WritingLaws
