@@ -1,2 +1,1 @@
 pub mod PageAnswers
-pub mod PrintAnswers

@@ -2,4 +2,3 @@ pub mod Entries
 pub mod LinesWritten
 pub mod Leak
 pub mod PageLists
-pub mod Refusals

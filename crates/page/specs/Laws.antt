@@ -5,7 +5,3 @@ pub mod LeakLaws
 pub mod LeakShownLaws
 pub mod PageLaws
 pub mod PagePromiseLaws
-pub mod ReadingPlaceLaws
-pub mod PageSplitLaws
-pub mod PageClaimLaws
-pub mod PrintPromiseLaws

@@ -59,3 +59,7 @@ lineBytes l = lineText l ++ (10 ∷ [])
 unfoldable pub pageBytes : List PageLine → List ℕ
 pageBytes [] = []
 pageBytes (l ∷ ls) = lineBytes l ++ pageBytes ls
+
+-- `F,number,place` and its end
+unfoldable pub faultBytes : ℕ → ℕ → List ℕ
+faultBytes number place = (70 ∷ []) ++ field (digits number) ++ field (digits place) ++ (10 ∷ [])

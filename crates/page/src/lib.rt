@@ -1,7 +1,6 @@
 // The page of a model.
 mod class;
 mod leak;
-mod lines;
+pub mod lines;
 pub mod page;
-pub mod print;
 mod states;

@@ -13,7 +13,7 @@ ghost use Rattle.model.specs.Text.{field};
 ghost use Rattle.write.specs.Wrote.{Wrote};
 ghost use Rattle.judge.specs.declared.judge.Verdict.the-variants.{Passed, Refused};
 ghost use Rattle.page.specs.PageLines.{verdict-line, state-line, run-line, word-line, end-line, branch-line};
-ghost use Rattle.page.specs.PageLines.{last-line, distanceText, lineBytes};
+ghost use Rattle.page.specs.PageLines.{last-line, distanceText, lineBytes, faultBytes};
 ghost use Rattle.page.specs.Inner.Entries.{distanceOf};
 
 // Where the page ends so far, by value: each writer takes it and hands back where its line or field ended. Each asks
@@ -167,5 +167,19 @@ impl PageEnd {
         let at = self.at;
         let p = at.text(out, b"E\n");
         PageEnd { at: p }
+    }
+
+    // `F,number,place` and the line end.
+    pub fn fault_line(self, out: &mut [u8], number: u16, place: u16) -> PageEnd
+        requires { ⌜ self .at .at + length (faultBytes number place) ≤ length (now out) ⌝ }
+        ensures { λ r. ⌜ Wrote (now (out .entry)) (self .at .at) (faultBytes number place) (now (out .exit))
+            (r .at .at) ⌝ }
+    {
+        let at = self.at;
+        let p = at.byte(out, b'F');
+        let q = p.field(out, number);
+        let u = q.field(out, place);
+        let v = u.byte(out, b'\n');
+        PageEnd { at: v }
     }
 }

@@ -1,7 +1,7 @@
 // Standard input to standard output: the page of a text, or the line that says why it is not read.
 use libc::STDIN_FILENO;
 use libc::STDOUT_FILENO;
-use page::print::PrintAnswer;
+use print::print::PrintAnswer;
 ghost use Rattle.io.specs.Counts.{Counts};
 
 // Puts what is printed of a text at the front of `out`, and answers how many bytes that is. The lists are long enough
@@ -14,7 +14,7 @@ fn print(text: &[u8], out: &mut [u8]) -> usize
     let mut table = [0u8; 16384];
     let mut run = [0u16; 127];
     let mut word = [0u16; 127];
-    let answer = page::print::print(
+    let answer = print::print::print(
         text,
         &mut store,
         &mut distances,

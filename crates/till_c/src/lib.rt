@@ -3,7 +3,7 @@ use judge::judge::JudgeAnswer;
 use judge::judge::Verdict;
 use judge::rank::RankAnswer;
 use page::page::PageAnswer;
-use page::print::PrintAnswer;
+use print::print::PrintAnswer;
 use reach::reach::ReachAnswer;
 use reach::run::RunAnswer;
 use read::read::ReadAnswer;
@@ -22,8 +22,8 @@ ghost use Rattle.judge.specs.Promises.{RankPromise, JudgePromise, verdictOutcom
 ghost use Rattle.word.specs.Words.{endNumber};
 ghost use Rattle.word.specs.Promises.{WordPromise};
 ghost use Rattle.page.specs.Promises.{PagePromise};
-ghost use Rattle.page.specs.Prints.{PrintPromise};
-ghost use Rattle.page.specs.Claim.{PrintClaim};
+ghost use Rattle.print.specs.Promises.{PrintPromise};
+ghost use Rattle.print.specs.Claim.{PrintClaim};
 ghost use Rattle.till_c.specs.Answer.{answerOutcome};
 
 // Number 0 with `count` values, or a refusal's number with its place.
@@ -256,7 +256,7 @@ pub extern "C" fn till_print(
         (now (distances .exit)) (now (table .exit)) (now (run .exit)) (now (word .exit)) (now (out .exit)) ⌝ }
     ensures { λ r. ⌜ PrintClaim (now (text .entry)) (answerOutcome r) (now (word .exit)) (now (out .exit)) ⌝ }
 {
-    let answer = page::print::print(text, store, distances, table, run, word, out);
+    let answer = print::print::print(text, store, distances, table, run, word, out);
     match answer {
         PrintAnswer::Printed(length) => value(length),
         PrintAnswer::ShortList(place) => refusal(21, place),

@@ -1,2 +1,1 @@
 pub mod WordAnswers
-pub mod TextAnswers

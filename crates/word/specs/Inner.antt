@@ -1,4 +1,2 @@
 pub mod Letters
 pub mod WordHead
-pub mod Telling
-pub mod WordTest

@@ -4,8 +4,4 @@ pub mod LastLetterLaws
 pub mod WordHeadLaws
 pub mod WordPromiseLaws
 pub mod LeastLeakLaws
-pub mod ReadTextLaws
-pub mod ClaimLaws
-pub mod WordTestLaws
-pub mod BenchLaws
-pub mod TellPromiseLaws
+pub mod ShowableLaws

@@ -1,7 +1,6 @@
 // Whether a model is deterministic.
 use reach::reach::UNREACHABLE;
 use text::Step;
-ghost use mathlib.Core.Path.{_≡_};
 ghost use Prim.Native.Nat.{_≤_, _<_};
 ghost use lib.ListN.{length};
 ghost use Rattle.text.specs.Decides.{Decides};

@@ -4,7 +4,6 @@ use judge::judge::ROW;
 use text::Action;
 use text::State;
 use text::Step;
-ghost use mathlib.Core.Path.{_≡_};
 ghost use Prim.Native.Nat.{_+_, _≤_, _<_};
 ghost use lib.ListN.{length};
 ghost use Rattle.text.specs.Decides.{Decides};

@@ -1,5 +1,4 @@
-// The word that shows a leak, and what is told of a text.
+// Word: the sequence that shows a leak.
 mod branch;
 mod letters;
-pub mod tell;
 pub mod word;

@@ -17,7 +17,7 @@ use Rattle.page.specs.PageLines.{verdict-line, state-line, run-line, wor
 use Rattle.page.specs.PageLines.{distanceText, endText, lineText, lineBytes}
 use Rattle.word.specs.declared.word.End.{End}
 use Rattle.word.specs.declared.word.End.the-variants.{Source, Target}
-use Rattle.page.specs.Prints.{faultBytes}
+use Rattle.page.specs.PageLines.{faultBytes}
 use Rattle.page.specs.Inner.Entries.{distanceOf}
 
 -- ---- lengths

@@ -12,10 +12,11 @@ use Rattle.text.specs.Faults.{answers, refuses, faultNumber}
 use Rattle.model.specs.Laws.OnStoreLaws.{option-cases}
 use Rattle.read.specs.Promises.{readingOutcome}
 use Rattle.model.specs.Reading.{Reading, done, tooLong, faulty, readText}
-use Rattle.page.specs.declared.print.PrintAnswer.{PrintAnswer}
-use Rattle.page.specs.declared.print.PrintAnswer.the-variants.{Printed}
+use Rattle.print.specs.declared.print.PrintAnswer.{PrintAnswer}
+use Rattle.print.specs.declared.print.PrintAnswer.the-variants.{Printed}
 use Rattle.page.specs.PageLines.{pageBytes}
-use Rattle.page.specs.Prints.{faultBytes, printOutcome, printLists, PrintPromise}
+use Rattle.page.specs.PageLines.{faultBytes}
+use Rattle.print.specs.Promises.{printOutcome, printLists, PrintPromise}
 use Rattle.till.proofs.print.Statement.{statement}
 use Rattle.till.proofs.print.Tie as tie
 

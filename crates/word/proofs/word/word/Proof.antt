@@ -5,7 +5,7 @@ use Rattle.text.specs.Laws.DecidesLaws.{decides-passed, decides-refused}
 use Rattle.reach.specs.Laws.GoodStoredLaws.{good→Stored}
 use Rattle.word.proofs.WordAnswers.{short-store-promised, short-distances-promised, short-table-promised}
 use Rattle.word.proofs.WordAnswers.{short-word-promised, not-good-promised, done-promised}
-use Rattle.word.proofs.TextAnswers.{judging→Showable}
+use Rattle.word.specs.Laws.ShowableLaws.{judging→Showable}
 use Rattle.word.proofs.word.word.Statement.{statement}
 use Rattle.word.proofs.word.word.Tie as tie
 

@@ -2,7 +2,7 @@
 use borrow.Author.Needs.{needs}
 use native.Mathlib.Omega.{arith}
 use Rattle.write.specs.Laws.WroteLaws.{wrote-append}
-use Rattle.page.specs.Prints.{faultBytes}
+use Rattle.page.specs.PageLines.{faultBytes}
 use Rattle.page.specs.Laws.PageLinesLaws.{fault-length}
 use Rattle.page.proofs.lines.PageEnd.fault_line.Statement.{statement}
 use Rattle.page.proofs.lines.PageEnd.fault_line.Tie as tie

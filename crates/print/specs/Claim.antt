@@ -1,0 +1,68 @@
+-- Demand 3 on the bytes of the page, over the whole path from the text: its `V`, `W` and `B` lines tell what Judge and
+-- Word answer.
+-- Document 01, "the landing that first brings Page to life carries demand 3 on to them, over the whole path from text
+-- to page"; DEMANDS, 3. Assumes nothing.
+use mathlib.Core.List.{List, [], _∷_, _++_, map}
+use mathlib.Core.Logic.{_⊎_, _↔_}
+use mathlib.Core.Path.{_≡_}
+use Prim.Native.Nat.{ℕ}
+use lib.ListN.{take}
+use Rattle.lts.specs.Noninterference.{INI}
+use Rattle.text.specs.Bytes.{lineEnd}
+use Rattle.text.specs.Faults.{Outcome, answers}
+use Rattle.text.specs.Model.{Model}
+use Rattle.text.specs.Split.{split}
+use Rattle.model.specs.System.{source, levels, Steps, Start, HighStep, DeterministicModel}
+use Rattle.model.specs.Text.{field}
+use Rattle.judge.specs.declared.judge.Verdict.the-variants.{Refused}
+use Rattle.reach.specs.Runs.{RunTo}
+use Rattle.tell.specs.Claim.{States, Sequence}
+use Rattle.page.specs.PageLines.{PageLine, verdict-line, run-line, end-line, last-line, passText, refuseText}
+use Rattle.page.specs.PageLines.{lineText, pageBytes}
+use Rattle.page.specs.Page.{StateLines, nameLine}
+
+-- The page begins with `V,pass,`, or with `V,refuse,`.
+abbrev pub SaysPass : List ℕ → Type 0
+SaysPass bytes = take 7 bytes ≡ (86 ∷ []) ++ field passText ++ (44 ∷ [])
+
+abbrev pub SaysRefuse : List ℕ → Type 0
+SaysRefuse bytes = take 9 bytes ≡ (86 ∷ []) ++ field refuseText ++ (44 ∷ [])
+
+-- What the page of a refused deterministic model tells, line by line. `word` is the list that Page filled.
+pub record LeakPage (m : Model) (bytes word : List ℕ) : Type 0 where
+  pub step : ℕ
+  pub depth : ℕ
+  pub states : List PageLine
+  pub state-lines : StateLines m (m .head .states) states
+  -- "the step told, a reachable high step"
+  pub high-step : HighStep m step
+  -- the run from the start to its source
+  pub run : List ℕ
+  pub run-to : RunTo m (source m step) run
+  -- "a low sequence is shown", with all that demand 3 says of it: `depth-is`, `low`, `possible`, `not-possible`,
+  -- `first` and `shortest`
+  pub answer : Outcome
+  pub shown : Sequence m step depth answer word
+  -- `V,refuse,step,depth`, the `C` lines, `R,step` per step, `W,name` per action of the sequence, `B,` and the end, `E`
+  pub lines : List PageLine
+  pub lines-are : lines ≡ (verdict-line (Refused (record { 0 = step }) depth) ∷ []) ++ states
+      ++ (map run-line run ++ (map (nameLine m) (shown .sequence) ++ (end-line (shown .end) ∷ []))) ++ (last-line ∷ [])
+  -- these are the lines of the page: its bytes are theirs, and part at the line ends into their texts
+  pub bytes-are : bytes ≡ pageBytes lines
+  pub parted : split lineEnd bytes ≡ map lineText lines ++ ([] ∷ [])
+
+-- What the page of a deterministic model tells.
+pub record PageTells (m : Model) (bytes word : List ℕ) : Type 0 where
+  pub verdict : SaysPass bytes ⊎ SaysRefuse bytes
+  -- "It is passed exactly when this holds of every sequence of actions, however long, that can be run from the start
+  -- [..]"
+  pub pass-iff : SaysPass bytes ↔ INI (levels m) (Steps m) (Start m)
+  pub leak : SaysRefuse bytes → LeakPage m bytes word
+
+-- A call that gives 21 tells nothing; any other leaves its bytes at the front of `out`.
+pub record PrintClaim (text : List ℕ) (outcome : Outcome) (word out : List ℕ) : Type 0 where
+  -- "Take every text that is read (each without a fault listed for Read is)": what is printed then begins with `V`
+  pub read-iff : (n : ℕ) → outcome ≡ answers (n ∷ []) → (take 1 out ≡ 86 ∷ []) ↔ ((m : Model) × States text m)
+  -- "and in which no reachable state has two steps of one action"
+  pub tells : (n : ℕ) → outcome ≡ answers (n ∷ []) → (m : Model) → States text m → DeterministicModel m
+      → PageTells m (take n out) word

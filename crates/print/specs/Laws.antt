@@ -1,0 +1,4 @@
+pub mod ReadingPlaceLaws
+pub mod PageSplitLaws
+pub mod PageClaimLaws
+pub mod PrintPromiseLaws

@@ -1,0 +1,2 @@
+// From a text to its page.
+pub mod print;

@@ -1,0 +1,85 @@
+-- A refusal of Read is told as it is; what Read has left is judged, and demand 3 follows from the three promises.
+use mathlib.Core.List.{[], _∷_}
+use mathlib.Core.Logic.{inl, inr}
+use mathlib.Core.Path.{_≡_, subst}
+use native.Mathlib.Omega.{arith}
+use borrow.Author.Needs.{needs}
+use denote.Enum.Declared.{tagOf}
+use types.Run.{OneOf}
+use Rattle.read.proofs.read.ReadAnswer.{the-type}
+use Rattle.read.specs.declared.read.ReadAnswer.{ReadAnswer}
+use Rattle.read.specs.declared.read.ReadAnswer.the-variants.{Done}
+use Rattle.tell.proofs.TextAnswers.{unread-promised, unread-claimed, read-long-good, judged-promised}
+use Rattle.tell.proofs.TextAnswers.{judged-claimed}
+use Rattle.tell.proofs.tell.tell.Statement.{statement}
+use Rattle.tell.proofs.tell.tell.Tie as tie
+
+read-requires : tie.Need-read-requires
+read-requires c κs = search needs
+
+enum-told : tie.Need-enum-told
+enum-told c = search needs
+
+judge-text-requires : tie.Need-judge-text-requires
+judge-text-requires c κs =
+    let done = c .before .before .before .before in
+    let read = done .before .before .before .before in
+    read-long-good (read .read .ensures .0) (done .enum-told .given .1)
+
+same-length : tie.Need-same-length
+same-length c = search needs
+
+same-length-2 : tie.Need-same-length-2
+same-length-2 c = search needs
+
+same-length-3 : tie.Need-same-length-3
+same-length-3 c = search needs
+
+same-length-4 : tie.Need-same-length-4
+same-length-4 c = search needs
+
+returns : tie.Need-returns
+returns c =
+    let judged = c .before .before .before .before .before .before in
+    let done = judged .before .before .before .before .before in
+    let read = done .before .before .before .before in
+    let promise = read .read .ensures .0 in
+    let is-done = done .enum-told .given .1 in
+    let r = judged .judge-text .result in (
+      judged-promised promise is-done r _ _ _ _ _ _ (judged .judge-text .ensures),
+      judged-claimed promise is-done r _ _ _ _ _ _ (judged .judge-text .ensures),
+    )
+
+same-length-5 : tie.Need-same-length-5
+same-length-5 c = search needs
+
+-- The last arm has the variants after the first.
+not-done : (r : ReadAnswer) → OneOf (1 ∷ 2 ∷ 3 ∷ []) (tagOf the-type r) → ¬ (r ≡ Done)
+not-done r k e = go (subst (λ (x : ReadAnswer). OneOf (1 ∷ 2 ∷ 3 ∷ []) (tagOf the-type x)) e k)
+  where
+    go : OneOf (1 ∷ 2 ∷ 3 ∷ []) 0 → ⊥
+    go (inl h) = omega arith
+    go (inr (inl h)) = omega arith
+    go (inr (inr h)) = omega arith
+
+returns-2 : tie.Need-returns-2
+returns-2 c =
+    let read = c .before .before .before in
+    let promise = read .read .ensures .0 in
+    let refused = not-done (read .read .result) (c .match .keys2) in
+    (unread-promised promise refused (read .read .ensures .1) _ _ _, unread-claimed promise refused _)
+
+pub tell-spec : {M : Type 1} → statement M
+tell-spec =
+    tie.close
+    (tie.spec
+    read-requires
+    enum-told
+    judge-text-requires
+    same-length
+    same-length-2
+    same-length-3
+    same-length-4
+    returns
+    same-length-5
+    returns-2)

@@ -1,0 +1,61 @@
+-- The starred bench models as one joint fact on the definitions, from their texts on.
+-- Document 01, "Bench models": "Those marked * are shown of the definitions as one joint fact". Where a model is
+-- deterministic that is part of it: "24 (Word): deterministic and passed".
+use mathlib.Core.List.{List, [], _∷_}
+use mathlib.Core.Path.{_≡_}
+use Prim.Native.Nat.{ℕ}
+use Rattle.lts.specs.Noninterference.{thin, SameLow}
+use Rattle.text.specs.Model.{Model}
+use Rattle.model.specs.Reading.{done, readText}
+use Rattle.model.specs.System.{source, target, levels, Steps, ReachableIn, DeterministicModel}
+use Rattle.judge.specs.declared.judge.Verdict.{Verdict}
+use Rattle.judge.specs.declared.judge.Verdict.the-variants.{Passed, Refused}
+use Rattle.judge.specs.Verdicts.{Judged}
+use Rattle.word.specs.declared.word.End.the-variants.{Source, Target}
+use Rattle.word.specs.Words.{FirstBranch, WordOf}
+use Rattle.tell.specs.BenchModels.{scan, print, close}
+use Rattle.tell.specs.BenchModels.{worked, workedText, scannedOnce, scannedOnceText, released, releasedText}
+use Rattle.tell.specs.BenchModels.{closeLow, closeLowText, branching, branchingText, noSteps, noStepsText}
+use Rattle.tell.specs.BenchModels.{printLoop, printLoopText, unreachedPrint, unreachedPrintText}
+
+-- The text reads to the model, whose verdict is v.
+pub record ReadsAndJudged (text : List ℕ) (m : Model) (v : Verdict) : Type 0 where
+  pub reads : readText text ≡ done m
+  pub judged : Judged m v
+
+-- Refused at a step, with a depth.
+abbrev pub refusedAt : ℕ → ℕ → Verdict
+refusedAt j depth = Refused (record { 0 = j }) depth
+
+pub record JointFact : Type 0 where
+  -- "The model above: refused, step 1, depth 2."; its page: "W,scan", "W,scan", "B,source"
+  pub worked-refused : ReadsAndJudged workedText worked (refusedAt 1 2)
+  pub worked-deterministic : DeterministicModel worked
+  pub worked-word : WordOf worked 1 (scan ∷ scan ∷ []) Source
+  -- "passed, rank 1"
+  pub scanned-once-passed : ReadsAndJudged scannedOnceText scannedOnce (Passed 1)
+  pub scanned-once-deterministic : DeterministicModel scannedOnce
+  -- "passed"
+  pub released-passed : ReadsAndJudged releasedText released (Passed 1)
+  pub released-deterministic : DeterministicModel released
+  -- "The same with close low: refused, step 0, depth 1."; document 01 names no word here
+  pub close-low-refused : ReadsAndJudged closeLowText closeLow (refusedAt 0 1)
+  pub close-low-deterministic : DeterministicModel closeLow
+  pub close-low-word : WordOf closeLow 0 (close ∷ []) Target
+  -- "refused, step 2, depth 2, though both ends allow the same words; Word gives 23 at 1."
+  pub branching-refused : ReadsAndJudged branchingText branching (refusedAt 2 2)
+  pub branching-same-words : SameLow (levels branching) (Steps branching) (source branching 2) (target branching 2)
+  pub branching-not-deterministic : ¬ (DeterministicModel branching)
+  pub branching-first : FirstBranch branching 1
+  -- "One state, no steps: passed, rank 0." "One state, 0 print 0: passed, rank 0."
+  pub no-steps-passed : ReadsAndJudged noStepsText noSteps (Passed 0)
+  pub no-steps-deterministic : DeterministicModel noSteps
+  pub print-loop-passed : ReadsAndJudged printLoopText printLoop (Passed 0)
+  pub print-loop-deterministic : DeterministicModel printLoop
+  -- "passed, rank 1, the print step being unreachable"
+  pub unreached-print-passed : ReadsAndJudged unreachedPrintText unreachedPrint (Passed 1)
+  pub unreached-print-deterministic : DeterministicModel unreachedPrint
+  pub print-unreachable : ¬ (ReachableIn unreachedPrint (source unreachedPrint 0))
+  -- "print scan close print scan thins to print scan close scan. The empty sequence thins to itself."
+  pub thinned : thin (levels worked) (print ∷ scan ∷ close ∷ print ∷ scan ∷ []) ≡ print ∷ scan ∷ close ∷ scan ∷ []
+  pub thinned-empty : thin (levels worked) [] ≡ []

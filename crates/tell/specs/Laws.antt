@@ -1,0 +1,5 @@
+pub mod ReadTextLaws
+pub mod ClaimLaws
+pub mod TellPromiseLaws
+pub mod WordTestLaws
+pub mod BenchLaws

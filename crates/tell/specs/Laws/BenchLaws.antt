@@ -1,0 +1,226 @@
+-- The joint fact on the starred bench models, by evaluation: each text is read, the computed verdict is the one, and
+-- the words and the deterministic models pass their tests.
+-- Document 01, "Bench models". Assumes nothing.
+use mathlib.Core.Bool.{Bool, _&&_, _||_}
+use mathlib.Core.List.{List, [], _∷_, _++_}
+use mathlib.Core.Path.{_≡_, refl, subst}
+use Prim.Native.Nat.{ℕ, _<_, _≤_}
+use native.Mathlib.Omega.{arith}
+use lib.Dec.{T, eqb}
+use lib.ListN.{length, length-append}
+use Rattle.lts.specs.Tests.{all, any}
+use Rattle.lts.specs.Game.{alike?, rankBelow}
+use Rattle.lts.specs.Noninterference.{released?, thin, SameLow}
+use Rattle.lts.specs.LowLaws.{simulation-allows}
+use Rattle.lts.specs.Decided.{Decided, answered?, answers?, simulation?, within?}
+use Rattle.lts.specs.DecidedLaws.{simulation?→Answered}
+use Rattle.lts.specs.Checked.{lowMove?}
+use Rattle.lts.specs.CheckedLaws.{decided-low}
+use Rattle.text.specs.Limits.{storeLength}
+use Rattle.text.specs.Bytes.{kindOf}
+use Rattle.text.specs.Numbers.{digitsValue, numberShape?, numberOf}
+use Rattle.text.specs.Split.{consFirst, split, same?}
+use Rattle.text.specs.Model.{Model, above?, aboveLast?}
+use Rattle.text.specs.Lines.{checked, fieldsFrom, fieldsOf, consNumber, numbersOf, numbersFrom, numbersLine}
+use Rattle.text.specs.Lines.{headFits?, headFrom, headOf, levelOf, allOf, nameByte?, name?, nameFrom, actionFields}
+use Rattle.text.specs.Lines.{used?, actionFrom, actionOf, stepFits?, rising, stepFrom, stepOf}
+use Rattle.model.specs.Reading.{done, onLine, orFault, readNothing, readEnd, readSteps, readActions}
+use Rattle.model.specs.Reading.{readModel, readText}
+use Rattle.model.specs.Laws.Text.ReadingLaws.{textOf-of-readText}
+use Rattle.model.specs.Store.{storeOf}
+use Rattle.model.specs.Laws.Store.StoreLaws.{storeOf-length}
+use Rattle.model.specs.Laws.Store.StoredModelLaws.{holds-storeOf}
+use Rattle.lts.specs.Run.{begin}
+use Rattle.model.specs.System.{levels, Steps, LowStep, ReachableIn, DeterministicModel}
+use Rattle.judge.specs.declared.judge.Verdict.{Verdict}
+use Rattle.judge.specs.declared.judge.Verdict.the-variants.{Passed}
+use Rattle.reach.specs.Inner.Stored.{Stored}
+use Rattle.reach.specs.Laws.GoodStoredLaws.{holds→Stored}
+use Rattle.reach.specs.Inner.StepTest.{step?}
+use Rattle.reach.specs.Laws.StepTestLaws.{decided-steps}
+use Rattle.judge.specs.Verdicts.{Judged}
+use Rattle.judge.specs.Inner.VerdictTest.{greatestBelow, leastBelow, verdictOf}
+use Rattle.judge.specs.Laws.VerdictTestLaws.{verdictOf-judged, Reachable→reachable?}
+use Rattle.tell.specs.BenchModels.{worked, workedText, scannedOnce, scannedOnceText, released, releasedText}
+use Rattle.tell.specs.BenchModels.{scan, close}
+use Rattle.tell.specs.BenchModels.{closeLow, closeLowText, branching, branchingText, noSteps, noStepsText}
+use Rattle.tell.specs.BenchModels.{printLoop, printLoopText, unreachedPrint, unreachedPrintText}
+use Rattle.tell.specs.Bench.{ReadsAndJudged, refusedAt, JointFact}
+use Rattle.word.specs.declared.word.End.the-variants.{Source, Target}
+use Rattle.word.specs.Words.{FirstBranch, WordOf}
+use Rattle.tell.specs.Inner.WordTest.{unbranched?, low?, allows?, notAfter?, eachWord?, wordOf?}
+use Rattle.tell.specs.Laws.WordTestLaws.{unbranched?→DeterministicModel, wordOf?→WordOf}
+
+-- ---- what evaluation finds
+
+record Read : Type 0 where
+  worked : readText workedText ≡ done worked
+  scanned-once : readText scannedOnceText ≡ done scannedOnce
+  released : readText releasedText ≡ done released
+  close-low : readText closeLowText ≡ done closeLow
+  branching : readText branchingText ≡ done branching
+  no-steps : readText noStepsText ≡ done noSteps
+  print-loop : readText printLoopText ≡ done printLoop
+  unreached-print : readText unreachedPrintText ≡ done unreachedPrint
+
+read : Read
+unfolding readText readModel readActions readSteps readEnd readNothing orFault onLine stepOf stepFrom rising stepFits?
+    actionOf actionFrom used? actionFields nameFrom name? nameByte? allOf levelOf headOf headFrom headFits? numbersLine
+    numbersFrom numbersOf consNumber fieldsOf fieldsFrom checked above? aboveLast? same? split consFirst digitsValue
+    numberShape? numberOf kindOf
+read = record {
+  worked = refl;
+  scanned-once = refl;
+  released = refl;
+  close-low = refl;
+  branching = refl;
+  no-steps = refl;
+  print-loop = refl;
+  unreached-print = refl;
+}
+
+record Computed : Type 0 where
+  worked : verdictOf worked ≡ refusedAt 1 2
+  scanned-once : verdictOf scannedOnce ≡ Passed 1
+  released : verdictOf released ≡ Passed 1
+  close-low : verdictOf closeLow ≡ refusedAt 0 1
+  branching : verdictOf branching ≡ refusedAt 2 2
+  no-steps : verdictOf noSteps ≡ Passed 0
+  print-loop : verdictOf printLoop ≡ Passed 0
+  unreached-print : verdictOf unreachedPrint ≡ Passed 1
+
+computed : Computed
+unfolding greatestBelow leastBelow step? rankBelow alike? answers? answered? within? all any
+computed = record {
+  worked = refl;
+  scanned-once = refl;
+  released = refl;
+  close-low = refl;
+  branching = refl;
+  no-steps = refl;
+  print-loop = refl;
+  unreached-print = refl;
+}
+
+record Words : Type 0 where
+  worked : T (wordOf? worked 1 (scan ∷ scan ∷ []) Source)
+  close-low : T (wordOf? closeLow 0 (close ∷ []) Target)
+
+words : Words
+unfolding wordOf? eachWord? notAfter? allows? low? step? all any
+words = record { worked = tt; close-low = tt }
+
+record Unbranched : Type 0 where
+  worked : T (unbranched? worked)
+  scanned-once : T (unbranched? scannedOnce)
+  released : T (unbranched? released)
+  close-low : T (unbranched? closeLow)
+  no-steps : T (unbranched? noSteps)
+  print-loop : T (unbranched? printLoop)
+  unreached-print : T (unbranched? unreachedPrint)
+
+unbranched : Unbranched
+unfolding unbranched? all
+unbranched = record {
+  worked = tt;
+  scanned-once = tt;
+  released = tt;
+  close-low = tt;
+  no-steps = tt;
+  print-loop = tt;
+  unreached-print = tt;
+}
+
+-- ---- and so the definitions say
+
+module _ (text : List ℕ) (m : Model) (e : readText text ≡ done m) where
+  stored-of-read : Stored (storeOf m ++ []) m
+  stored-of-read =
+      let w = textOf-of-readText text m e .0 in
+      let l : storeLength ≤ length (storeOf m ++ []) =
+      omega (arith, storeOf-length m w, length-append (storeOf m) []) in
+      holds→Stored (storeOf m ++ []) m l (holds-storeOf m [] w)
+
+  judged-of-computed : (v : Verdict) → verdictOf m ≡ v → ReadsAndJudged text m v
+  judged-of-computed v f = record { reads = e; judged = subst (Judged m) f (verdictOf-judged stored-of-read) }
+
+-- Each end of the print step follows the other: where 0 stops in 3, 1 goes on to 2.
+branching-same-words : SameLow (levels branching) (Steps branching) 0 1
+unfolding simulation? answered? all any step?
+branching-same-words w l = (
+  simulation-allows (levels branching) (Steps branching) (λ x y. (x < 4) × (y < 4) × T (there x y))
+      (simulation?→Answered (LowStep branching) 4 3 moved? decides there tt) w l 0 1 (omega arith, omega arith, tt),
+  simulation-allows (levels branching) (Steps branching) (λ x y. (x < 4) × (y < 4) × T (back x y))
+      (simulation?→Answered (LowStep branching) 4 3 moved? decides back tt) w l 1 0 (omega arith, omega arith, tt),
+)
+  where
+    moved? : ℕ → ℕ → ℕ → Bool
+    moved? = lowMove? (levels branching) (step? branching)
+
+    decides : Decided (LowStep branching) 4 3 moved?
+    decides = decided-low (levels branching) (Steps branching) 4 3 (step? branching)
+        (decided-steps (stored-of-read branchingText branching (read .branching)))
+
+    there : ℕ → ℕ → Bool
+    there x y = (eqb x 0 && eqb y 1) || ((eqb x 2 && eqb y 2) || eqb x 3)
+
+    back : ℕ → ℕ → Bool
+    back x y = (eqb x 1 && eqb y 0) || ((eqb x 2 && eqb y 2) || eqb x 3)
+
+-- Steps 0 and 1 leave the start with scan.
+branching-not-deterministic : ¬ (DeterministicModel branching)
+branching-not-deterministic det =
+    let e = det .one-step 0 1 (omega arith) (omega arith) (begin refl) refl refl in
+    omega arith
+
+branching-first : FirstBranch branching 1
+branching-first = record {
+  branches = record {
+    before = 0;
+    next-is = refl;
+    number-lt = omega arith;
+    reachable = begin refl;
+    same-source = refl;
+    same-action = refl;
+  };
+  first = λ i b. omega (arith, b .next-is);
+}
+
+print-unreachable : ¬ (ReachableIn unreachedPrint 1)
+unfolding within? all any step?
+print-unreachable r =
+    Reachable→reachable? (stored-of-read unreachedPrintText unreachedPrint (read .unreached-print)) 1 r
+
+pub joint-fact : JointFact
+unfolding thin released?
+joint-fact = record {
+  worked-refused = judged-of-computed workedText worked (read .worked) (refusedAt 1 2) (computed .worked);
+  worked-deterministic = unbranched?→DeterministicModel worked (unbranched .worked);
+  worked-word = wordOf?→WordOf (stored-of-read workedText worked (read .worked)) 1 (scan ∷ scan ∷ []) Source
+      (words .worked);
+  scanned-once-passed =
+      judged-of-computed scannedOnceText scannedOnce (read .scanned-once) (Passed 1) (computed .scanned-once);
+  scanned-once-deterministic = unbranched?→DeterministicModel scannedOnce (unbranched .scanned-once);
+  released-passed = judged-of-computed releasedText released (read .released) (Passed 1) (computed .released);
+  released-deterministic = unbranched?→DeterministicModel released (unbranched .released);
+  close-low-refused = judged-of-computed closeLowText closeLow (read .close-low) (refusedAt 0 1) (computed .close-low);
+  close-low-deterministic = unbranched?→DeterministicModel closeLow (unbranched .close-low);
+  close-low-word = wordOf?→WordOf (stored-of-read closeLowText closeLow (read .close-low)) 0 (close ∷ []) Target
+      (words .close-low);
+  branching-refused =
+      judged-of-computed branchingText branching (read .branching) (refusedAt 2 2) (computed .branching);
+  branching-same-words = branching-same-words;
+  branching-not-deterministic = branching-not-deterministic;
+  branching-first = branching-first;
+  no-steps-passed = judged-of-computed noStepsText noSteps (read .no-steps) (Passed 0) (computed .no-steps);
+  no-steps-deterministic = unbranched?→DeterministicModel noSteps (unbranched .no-steps);
+  print-loop-passed = judged-of-computed printLoopText printLoop (read .print-loop) (Passed 0) (computed .print-loop);
+  print-loop-deterministic = unbranched?→DeterministicModel printLoop (unbranched .print-loop);
+  unreached-print-passed =
+      judged-of-computed unreachedPrintText unreachedPrint (read .unreached-print) (Passed 1)
+      (computed .unreached-print);
+  unreached-print-deterministic = unbranched?→DeterministicModel unreachedPrint (unbranched .unreached-print);
+  print-unreachable = print-unreachable;
+  thinned = refl;
+  thinned-empty = refl;
+}

@@ -1,0 +1,168 @@
+-- The promises of Read, Judge and Word give demand 3: Read leaves the text's model in the store, Judge's verdict on it
+-- is INI by theorem 4, and the word's length is the least rank, below which no low sequence tells two such ends apart.
+-- Document 01, "Demand 3 is one claim [..]"; DEMANDS, 3. Assumes nothing.
+use mathlib.Core.List.{List, [], _∷_}
+use mathlib.Core.Logic.{inl, inr, _↔_}
+use mathlib.Core.Path.{_≡_, refl, sym, ap, subst, _∙_}
+use Prim.Native.Nat.{ℕ, _≤_}
+use native.Mathlib.Omega.{arith}
+use lib.ListN.{length, take}
+use lib.Seq.{take-at}
+use Rattle.text.specs.Faults.{Outcome, answers}
+use Rattle.text.specs.Model.{Model}
+use Rattle.read.specs.Promises.{ReadPromise}
+use Rattle.model.specs.Store.{Good}
+use Rattle.model.specs.StoredModel.{Holds}
+use Rattle.model.specs.System.{HighStep, DeterministicModel}
+use Rattle.judge.specs.declared.judge.Verdict.{Verdict}
+use Rattle.judge.specs.declared.judge.Verdict.the-variants.{Passed, Refused}
+use Rattle.judge.specs.Verdicts.{RefusedAt, Judged}
+use Rattle.reach.specs.Inner.Stored.{Stored}
+use Rattle.reach.specs.Laws.GoodStoredLaws.{holds→Stored}
+use Rattle.judge.specs.Laws.VerdictsLaws.{no-leak-of-bnid}
+use Rattle.judge.specs.Inner.VerdictTest.{verdictOf}
+use Rattle.judge.specs.Laws.VerdictTestLaws.{verdictOf-judged}
+use Rattle.judge.specs.Promises.{verdictOutcome, judgeLists, JudgePromise}
+use Rattle.word.specs.Words.{endNumber, WordShown}
+use Rattle.word.specs.Promises.{wordLists, WordDone, WordPromise}
+use Rattle.tell.specs.Claim.{States, NotShort, SaysPassed, SaysRefused, JudgeTells, Sequence, WordTells}
+use Rattle.tell.specs.Claim.{BothTell, Claim}
+use Rattle.word.specs.Laws.LeastLeakLaws.{bnid↔INI, depth-le}
+use Rattle.tell.specs.Laws.ReadTextLaws.{lists-of-notShort, states→readText, read-exit-long, read-holds, read↔States}
+
+-- ---- one answer does not say two things
+
+passed-or-refused : {judge : Outcome} {j depth : ℕ} → SaysPassed judge → ¬ (SaysRefused judge j depth)
+passed-or-refused (top, e) h = let z : _≡_ {A = ℕ} 0 1 = cc in absurd (omega arith)
+
+refused-same : {judge : Outcome} {i j d e : ℕ} → SaysRefused judge i d → SaysRefused judge j e → (i ≡ j) × (d ≡ e)
+refused-same {judge} {i} {j} {d} {e} x y =
+    let a : i ≡ j = cc in
+    let b : d ≡ e = cc in
+    (a, b)
+
+-- ---- the sequence
+
+module _ {s : List ℕ} {m : Model} (st : Stored s m) where
+  pub sequence-of-shown : {j depth : ℕ} {word : Outcome} {entry exit : List ℕ} → RefusedAt m j depth
+      → WordShown m j depth word entry exit → Sequence m j depth word exit
+  sequence-of-shown refused x = record {
+    sequence = x .word;
+    end = x .end;
+    answer = x .outcome-is ∙ ap (λ (n : ℕ). answers (n ∷ endNumber (x .end) ∷ [])) (sym (x .length-is));
+    filled = ap (take (length (x .word))) (x .list) ∙ take-at (x .word) _ (length (x .word)) refl;
+    low = x .word-of .first-word .is-low;
+    possible = x .word-of .only-from-end .0;
+    not-possible = x .word-of .only-from-end .1;
+    first = x .word-of .first-word;
+    shortest = λ i h v l one. subst (λ (n : ℕ). n ≤ length v) (sym (x .length-is)) (depth-le st refused i h v l one);
+    depth-is = sym (x .length-is);
+  }
+
+  -- ---- Word
+
+  module _ (det : DeterministicModel m) where
+    pub word-tells : {word : Outcome} {entry exit : List ℕ} (v : Verdict) → Judged m v → WordDone m word entry exit
+        → WordTells m word
+    word-tells (Passed top) x w =
+        let none = w .passed det (x .bnid) .0 in
+        record {
+          not-branching = λ j h. let z : _≡_ {A = ℕ} 23 24 = cc in omega arith;
+          no-word-iff = (λ _. bnid↔INI st det .0 (x .bnid), λ _. none);
+        }
+    word-tells (Refused j depth) x w =
+        let answer = w .refused det (j .0) depth x .outcome-is in
+        record {
+          not-branching = λ i h. let z : _≡_ {A = ℕ} 0 1 = cc in omega arith;
+          no-word-iff = (
+            λ h. let z : _≡_ {A = ℕ} 0 1 = cc in absurd (omega arith),
+            λ ini. absurd (no-leak-of-bnid m (bnid↔INI st det .1 ini) (j .0) depth (x .leak)),
+          );
+        }
+
+  module _ (det : DeterministicModel m) {judge : Outcome} where
+    -- ---- Judge
+
+    pub judge-tells : (v : Verdict) → judge ≡ verdictOutcome v → Judged m v → JudgeTells m judge
+    unfolding verdictOutcome
+    judge-tells (Passed top) e x = record {
+      answered = inl (top, e);
+      passed-iff = (λ _. bnid↔INI st det .0 (x .bnid), λ _. (top, e));
+      step-told = λ j depth h. absurd (passed-or-refused (top, e) h);
+    }
+    judge-tells (Refused j depth) e x = record {
+      answered = inr (j .0, depth, e);
+      passed-iff = (
+        λ p. absurd (passed-or-refused p e),
+        λ ini. absurd (no-leak-of-bnid m (bnid↔INI st det .1 ini) (j .0) depth (x .leak)),
+      );
+      step-told = λ i d h. subst (HighStep m) (refused-same e h .0) (x .leak .high-step);
+    }
+
+    -- ---- both
+
+    pub both-tell : {word : Outcome} {entry exit : List ℕ} (v : Verdict) → judge ≡ verdictOutcome v → Judged m v
+        → WordDone m word entry exit → BothTell m judge word exit
+    unfolding verdictOutcome
+    both-tell (Passed top) e x w = record {
+      passed-no-word = (λ _. w .passed det (x .bnid) .0, λ _. (top, e));
+      shown = λ j depth h. absurd (passed-or-refused (top, e) h);
+    }
+    both-tell {word} {exit = exit} (Refused j depth) e x w =
+        let shown = w .refused det (j .0) depth x in
+        let sequence = sequence-of-shown x shown in
+        let answer = shown .outcome-is in
+        record {
+          passed-no-word = (
+            λ p. absurd (passed-or-refused p e),
+            λ h. let z : _≡_ {A = ℕ} 0 1 = cc in absurd (omega arith),
+          );
+          shown = λ i d h.
+              let same = refused-same e h in
+              subst (λ (k : ℕ). Sequence m k d word exit) (same .0)
+              (subst (λ (k : ℕ). Sequence m (j .0) k word exit) (same .1) sequence);
+        }
+
+-- ---- the claim
+
+module _ {text store₀ store distances table distances′ table′ : List ℕ} {read judge : Outcome}
+    (reads : ReadPromise text store₀ read store)
+    (judges : JudgePromise store distances table judge distances′ table′) where
+  -- ---- after a successful Read, for the model that the text states
+
+  module _ (e : read ≡ answers []) (m : Model) (s : States text m) where
+    successful : ReadPromise text store₀ (answers []) store
+    successful = subst (λ (x : Outcome). ReadPromise text store₀ x store) e reads
+
+    holds : Holds store m
+    holds = read-holds successful m s
+
+    stored : Stored store m
+    stored = holds→Stored store m (read-exit-long successful) holds
+
+    abbrev good : Good store
+    good = record { text = text; model = m; reads = states→readText s; stored = holds .stored }
+
+    verdict : NotShort judge → (v : Verdict) × (judge ≡ verdictOutcome v) × Judged m v
+    verdict told =
+        let lists = lists-of-notShort (judgeLists store distances table) (λ k h. judges .short k h .0) told in
+        let x = judges .good lists good in
+        (x .0, x .1, x .2)
+
+  pub claim-holds : {d t w d′ t′ w′ : List ℕ} {word : Outcome} → WordPromise store d t w word d′ t′ w′
+      → Claim text read judge word w′
+  claim-holds {d} {t} {w} {w′ = w′} {word} words = record {
+    read-iff = read↔States reads;
+    judge-tells = λ e m s det told.
+        let x = verdict e m s told in
+        judge-tells (stored e m s) det (x .0) (x .1) (x .2);
+    word-tells = λ e m s det shown.
+        word-tells (stored e m s) det (verdictOf m) (verdictOf-judged (stored e m s)) (done e m s shown);
+    both-tell = λ e m s det told shown.
+        let x = verdict e m s told in
+        both-tell (stored e m s) det (x .0) (x .1) (x .2) (done e m s shown);
+  }
+    where
+      done : (e : read ≡ answers []) (m : Model) (s : States text m) → NotShort word → WordDone m word w w′
+      done e m s shown =
+          words .good (lists-of-notShort (wordLists store d t w) (λ k h. words .short k h .0) shown) (good e m s) .1

@@ -1,0 +1,173 @@
+-- A word that passes the test is the word; where no state has two steps of one action the model is deterministic.
+-- Document 01, operation 6, "Deterministic" and "Possible". Assumes nothing.
+use mathlib.Core.Bool.{Bool, not, _&&_}
+use mathlib.Core.List.{List, [], _∷_}
+use mathlib.Core.Logic.{_⊎_, inl, inr}
+use mathlib.Core.Path.{_≡_, refl}
+use Prim.Native.Nat.{ℕ, zero, suc, _≤_, _<_}
+use native.Mathlib.Omega.{arith}
+use lib.Dec.{T, T-not, not-T, eqb, ltb, eqb→eq, ltb→lt}
+use lib.ListN.{length}
+use Rattle.lts.specs.Tests.{all}
+use Rattle.lts.specs.TestsLaws.{T-eqb, and-intro, and-left, and-right, or-left, or-right, or-cases, implies-elim}
+use Rattle.lts.specs.TestsLaws.{lt-or-le, all→Each, any→Some, Some→any}
+use Rattle.lts.specs.Decided.{Decided}
+use Rattle.lts.specs.Noninterference.{Low}
+use Rattle.lts.specs.Run.{Run, Allows}
+use Rattle.lts.specs.RunLaws.{allows-cons}
+use Rattle.lts.specs.Word.{OnlyFrom, JustOne, NotAfter}
+use Rattle.text.specs.Model.{Model}
+use Rattle.model.specs.System.{source, action, target, levels, Steps, DeterministicModel}
+use Rattle.reach.specs.Inner.Stored.{Stored}
+use Rattle.reach.specs.Inner.StepTest.{step?}
+use Rattle.reach.specs.Laws.StepTestLaws.{decided-steps}
+use Rattle.word.specs.declared.word.End.{End}
+use Rattle.word.specs.declared.word.End.the-variants.{Source, Target}
+use Rattle.word.specs.Words.{endState, otherState, WordOf}
+use Rattle.tell.specs.Inner.WordTest.{onlyStep?, unbranched?, low?, allows?, onlyFrom?, justOne?, notAfter?}
+use Rattle.tell.specs.Inner.WordTest.{eachWord?, later?, wordOf?}
+
+pub unbranched?→DeterministicModel : (m : Model) → T (unbranched? m) → DeterministicModel m
+unfolding unbranched?
+unbranched?→DeterministicModel m t = record {
+  one-step = λ i j li lj r s a.
+      let n = length (m .steps) in
+      let u = all→Each n (onlyStep? m i) (all→Each n (λ i. all n (onlyStep? m i)) t i li) j lj in
+      eqb→eq i j (implies-elim (eqb (source m i) (source m j) && eqb (action m i) (action m j)) (eqb i j) u
+      (and-intro (eqb (source m i) (source m j)) (eqb (action m i) (action m j)) (T-eqb s) (T-eqb a)));
+}
+
+-- ---- low sequences and their order
+
+module _ (m : Model) where
+  low?→Low : (w : List ℕ) → T (low? m w) → Low (levels m) w
+  unfolding low? Low
+  low?→Low [] t = tt
+  low?→Low (a ∷ w) t =
+      (and-left (levels m .low? a) (low? m w) t, low?→Low w (and-right (levels m .low? a) (low? m w) t))
+
+  Low→low? : (w : List ℕ) → Low (levels m) w → T (low? m w)
+  unfolding low? Low
+  Low→low? [] l = tt
+  Low→low? (a ∷ w) l = and-intro (levels m .low? a) (low? m w) (l .0) (Low→low? w (l .1))
+
+notAfter?→NotAfter : (u v : List ℕ) → T (notAfter? u v) → NotAfter u v
+unfolding notAfter? NotAfter
+notAfter?→NotAfter [] v t = tt
+notAfter?→NotAfter (a ∷ u) [] t = t
+notAfter?→NotAfter (a ∷ u) (b ∷ v) t = go (notAfter?→NotAfter u v) (or-cases (ltb a b) (eqb a b && notAfter? u v) t)
+  where
+    go : (T (notAfter? u v) → NotAfter u v) → T (ltb a b) ⊎ T (eqb a b && notAfter? u v)
+        → (a < b) ⊎ ((a ≡ b) × NotAfter u v)
+    go f (inl x) = inl (ltb→lt a b x)
+    go f (inr x) = inr
+        (eqb→eq a b (and-left (eqb a b) (notAfter? u v) x), f (and-right (eqb a b) (notAfter? u v) x))
+
+module _ {s : List ℕ} {m : Model} (st : Stored s m) where
+  decided : Decided (Steps m) (m .head .states) (m .head .actions) (step? m)
+  decided = decided-steps st
+
+  -- ---- possible sequences
+
+  allows?→Allows : (w : List ℕ) (p : ℕ) → T (allows? m p w) → Allows (Steps m) p w
+  unfolding allows? Run
+  allows?→Allows [] p t = (p, refl)
+  allows?→Allows (a ∷ w) p t =
+      let x = any→Some (m .head .states) (λ q. step? m p a q && allows? m q w) t in
+      let q = x .0 in
+      allows-cons (Steps m) p a q w
+      (decided .move?→Move p a q (and-left (step? m p a q) (allows? m q w) (x .2)))
+      (allows?→Allows w q (and-right (step? m p a q) (allows? m q w) (x .2)))
+
+  Allows→allows? : (w : List ℕ) (p : ℕ) → Allows (Steps m) p w → T (allows? m p w)
+  unfolding allows? Run
+  Allows→allows? [] p h = tt
+  Allows→allows? (a ∷ w) p (e, h) =
+      let q = h .0 in
+      Some→any (m .head .states) (λ q. step? m p a q && allows? m q w) q (decided .target-lt p a q (h .1))
+      (and-intro (step? m p a q) (allows? m q w) (decided .Move→move? p a q (h .1)) (Allows→allows? w q (e, h .2)))
+
+  onlyFrom?→OnlyFrom : (p q : ℕ) (w : List ℕ) → T (onlyFrom? m p q w) → OnlyFrom (Steps m) p q w
+  onlyFrom?→OnlyFrom p q w t = (
+    allows?→Allows w p (and-left (allows? m p w) (not (allows? m q w)) t),
+    λ h. T-not (allows? m q w) (and-right (allows? m p w) (not (allows? m q w)) t) (Allows→allows? w q h),
+  )
+
+  OnlyFrom→onlyFrom? : (p q : ℕ) (w : List ℕ) → OnlyFrom (Steps m) p q w → T (onlyFrom? m p q w)
+  OnlyFrom→onlyFrom? p q w (x, y) = and-intro (allows? m p w) (not (allows? m q w)) (Allows→allows? w p x)
+      (not-T (allows? m q w) (λ t. y (allows?→Allows w q t)))
+
+  JustOne→justOne? : (p q : ℕ) (w : List ℕ) → JustOne (Steps m) p q w → T (justOne? m p q w)
+  JustOne→justOne? p q w (inl x) = or-left (onlyFrom? m p q w) (onlyFrom? m q p w) (OnlyFrom→onlyFrom? p q w x)
+  JustOne→justOne? p q w (inr x) = or-right (onlyFrom? m p q w) (onlyFrom? m q p w) (OnlyFrom→onlyFrom? q p w x)
+
+  -- What each sequence passes, each possible one does: it has actions of the model only.
+  possible-passes : (k : ℕ) (f : List ℕ → Bool) → T (eachWord? (m .head .actions) k f) → (v : List ℕ) (p : ℕ)
+      → length v ≡ k → Allows (Steps m) p v → T (f v)
+  unfolding eachWord? Run
+  possible-passes zero f t [] p e h = t
+  possible-passes zero f t (a ∷ v) p e h = absurd (omega arith)
+  possible-passes (suc k) f t [] p e h = absurd (omega arith)
+  possible-passes (suc k) f t (a ∷ v) p e (z, h) =
+      let l = m .head .actions in
+      let u = all→Each l (λ a. eachWord? l k (λ w. f (a ∷ w))) t a (decided .label-lt p a (h .0) (h .1)) in
+      possible-passes k (λ w. f (a ∷ w)) u v (h .0) (omega arith) (z, h .2)
+
+  -- ---- the word
+
+  module _ (j : ℕ) (w : List ℕ) where
+    abbrev p : ℕ
+    p = source m j
+
+    abbrev q : ℕ
+    q = target m j
+
+    just-one : (end : End) → OnlyFrom (Steps m) (endState m j end) (otherState m j end) w → JustOne (Steps m) p q w
+    just-one Source x = inl x
+    just-one Target x = inr x
+
+    abbrev first? : ℕ → Bool
+    first? k = eachWord? (m .head .actions) k (later? m p q w)
+
+    passes : T (all (suc (length w)) first?) → (v : List ℕ) → length v ≤ length w → JustOne (Steps m) p q v
+        → T (later? m p q w v)
+    passes t v l (inl x) = possible-passes (length v) (later? m p q w)
+        (all→Each (suc (length w)) first? t (length v) (omega arith)) v p refl (x .0)
+    passes t v l (inr x) = possible-passes (length v) (later? m p q w)
+        (all→Each (suc (length w)) first? t (length v) (omega arith)) v q refl (x .0)
+
+    later : T (all (suc (length w)) first?) → (v : List ℕ) → length v ≤ length w → Low (levels m) v
+        → JustOne (Steps m) p q v → (length v ≡ length w) × NotAfter w v
+    later t v l lv x =
+        let u = implies-elim (low? m v && justOne? m p q v) (eqb (length v) (length w) && notAfter? w v)
+        (passes t v l x)
+        (and-intro (low? m v) (justOne? m p q v) (Low→low? m v lv) (JustOne→justOne? p q v x)) in (
+          eqb→eq (length v) (length w) (and-left (eqb (length v) (length w)) (notAfter? w v) u),
+          notAfter?→NotAfter w v (and-right (eqb (length v) (length w)) (notAfter? w v) u),
+        )
+
+    shortest : T (all (suc (length w)) first?) → (v : List ℕ) → Low (levels m) v → JustOne (Steps m) p q v
+        → length w ≤ length v
+    shortest t v lv x = go (lt-or-le (length v) (length w))
+      where
+        go : (length v < length w) ⊎ (length w ≤ length v) → length w ≤ length v
+        go (inl l) = omega (arith, later t v (omega arith) lv x .0)
+        go (inr l) = l
+
+    pub wordOf?→WordOf : (end : End) → T (wordOf? m j w end) → WordOf m j w end
+    unfolding wordOf?
+    wordOf?→WordOf end t =
+        let only? = onlyFrom? m (endState m j end) (otherState m j end) w in
+        let u = and-right (low? m w) (only? && all (suc (length w)) first?) t in
+        let only = onlyFrom?→OnlyFrom (endState m j end) (otherState m j end) w
+        (and-left only? (all (suc (length w)) first?) u) in
+        let firsts = and-right only? (all (suc (length w)) first?) u in
+        record {
+          first-word = record {
+            is-low = low?→Low m w (and-left (low? m w) (only? && all (suc (length w)) first?) t);
+            just-one = just-one end only;
+            shortest = shortest firsts;
+            first = λ v lv x e. later firsts v (omega arith) lv x .1;
+          };
+          only-from-end = only;
+        }

@@ -1,0 +1,6 @@
+pub mod Inner
+pub mod Laws
+pub mod Claim
+pub mod Promises
+pub mod BenchModels
+pub mod Bench

@@ -1,0 +1,2 @@
+// From a text to what is told of it.
+pub mod tell;
