@@ -129,6 +129,7 @@ pub fn svg(panels: &[Panel]) -> String {
         .collect();
     format!(
         "<svg xmlns=\"http://www.w3.org/2000/svg\" viewBox=\"0 0 {width} {height}\" font-family=\"sans-serif\" \
-         font-size=\"11\" fill=\"#222\">\n<rect width=\"{width}\" height=\"{height}\" fill=\"white\"/>\n{panels}</svg>\n"
+         font-size=\"11\" fill=\"#222\">\n\
+         <rect width=\"{width}\" height=\"{height}\" fill=\"white\"/>\n{panels}</svg>\n"
     )
 }

@@ -1,5 +1,5 @@
-//! The proved operations with nothing around them, as `crates/till_c/till.h` declares them: the tests lend copies of what
-//! is only read, and a copy would count in a time.
+//! The proved operations with nothing around them, as `crates/till_c/till.h` declares them: the tests lend copies of
+//! what is only read, and a copy would count in a time.
 
 /// Number 0 with `count` values, or a refusal's number with its place.
 #[repr(C)]

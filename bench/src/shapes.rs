@@ -1,7 +1,7 @@
 //! The models that are measured.
 use std::collections::BTreeSet;
 
-use second::gen::{self, Rng};
+use second::gen::Rng;
 use second::{Action, Level, Model, Step};
 
 const SEED: u64 = 0x7113;
@@ -58,8 +58,8 @@ fn two_wide_states() -> Model {
     low(102, 100, chain.chain(wide))
 }
 
-/// A chain of 100, and two states with as many steps to it as a deterministic state can have beside a high one. The last
-/// of them lead to states 0 and 1, which only 99 further steps tell apart.
+/// A chain of 100, and two states with as many steps to it as a deterministic state can have beside a high one. The
+/// last of them lead to states 0 and 1, which only 99 further steps tell apart.
 fn two_states_of_63_steps() -> Model {
     let chain = (0..99).map(|i| (i, 0, i + 1));
     let alike = (0..62).flat_map(|a| [(100, a, a), (101, a, a)]);
@@ -92,16 +92,38 @@ fn dense_deterministic() -> Model {
     )
 }
 
-/// A random model whose page shows a run and a word.
+/// A till of 20 stages of a sale, its printer free or busy. Printing starts up to stage 10; at the last stage a busy
+/// printer stops the display, which 9 scans and a look at the display show.
 fn typical() -> Model {
-    let mut rng = Rng::new(SEED + 1);
-    loop {
-        let model = gen::random_model(&mut rng, 40, 12, 120, true);
-        let page = second::program(&model.to_text());
-        let page = String::from_utf8(page).expect("a page is ASCII");
-        if page.contains("\nR,") && page.contains("\nW,") {
-            return model;
-        }
+    let actions = [
+        (Level::Low, "scan"),
+        (Level::Low, "show"),
+        (Level::Low, "void"),
+        (Level::High, "print"),
+        (Level::Release, "close"),
+    ];
+    let steps = (0..40u16).flat_map(|here| {
+        let (busy, stage) = (here / 20, here % 20);
+        let possible = [
+            (stage < 19, here + 1),
+            (here < 39, here),
+            (stage > 0, here.saturating_sub(1)),
+            (busy == 0 && stage <= 10, here + 20),
+            (true, 0),
+        ];
+        let steps = (0..).zip(possible).filter(|(_, (there, _))| *there);
+        steps.map(move |(action, (_, target))| Step::new(here, action, target))
+    });
+    Model {
+        states: 40,
+        start: 0,
+        steps: steps.collect(),
+        actions: actions
+            .map(|(level, name)| Action {
+                level,
+                name: name.as_bytes().to_vec(),
+            })
+            .to_vec(),
     }
 }
 
@@ -124,8 +146,9 @@ pub fn shapes() -> Vec<(&'static str, Model)> {
 
 /// What the names mean.
 pub const LEGEND: &str = "\
-All but the typical model have one high step, from the start to the state after it. Chain: from each state to the next.
-Fan: from i to i+1 up to i+8. On and back: from i to i+1 and to 0 up to 6. Two states of 400 steps: they lead to each
-state of a chain of 100 with 4 actions. Two states of 63 steps: the same without branching, as wide as 64 actions allow.
-Dense: 128 states with 1,023 random steps. Typical: random, 40 states, 12 actions, refused with a run and a word.
+Chain: from each state to the next. Fan: from i to i+1 up to i+8. On and back: from i to i+1 and to 0 up to 6. Two
+states of 400 steps: they lead to each state of a chain of 100 with 4 actions; two of 63 steps: to states of such a
+chain, as wide as 64 actions allow without branching. Dense: 128 states, 1,023 random steps. These have one high step,
+from the start to the state after it. Typical: a till of 20 stages of a sale, its printer free or busy, 40 states; its
+leak is 10 steps from the start.
 ";

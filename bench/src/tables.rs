@@ -2,7 +2,7 @@
 use crate::growth::Panel;
 use crate::process;
 use crate::shapes::{self, LEGEND};
-use crate::times::{best, Lists, Times, NAMES, RANK, WORDS};
+use crate::times::{best_of_turns, Lists, Times, NAMES, RANK, WORDS};
 
 /// A model with its times.
 struct Measured {
@@ -30,7 +30,7 @@ pub fn measure() -> Report {
             times: lists.times(),
         }
     };
-    let empty = |program| best(|| process::run(program, b""));
+    let empty = |program| best_of_turns(|| process::run(program, b""));
     Report {
         models: shapes::shapes().into_iter().map(measured).collect(),
         empty: [process::PROGRAM, process::SECOND].map(empty),
@@ -83,6 +83,16 @@ impl Measured {
         row
     }
 
+    /// Our time by the second checker's, none where Word refuses; after the last, Rank's by the plain ranking's.
+    fn ratio(&self, index: usize) -> Option<f64> {
+        let times = &self.times;
+        match index {
+            WORDS if self.letters.is_err() => None,
+            _ if index == NAMES.len() => Some(times.ours[RANK] / times.plain),
+            _ => Some(times.ours[index] / times.second[index]),
+        }
+    }
+
     fn second_row(&self) -> Vec<String> {
         let cell = |index: usize| {
             let second = self.times.second[index];
@@ -108,26 +118,30 @@ impl Measured {
     }
 }
 
-/// A line on the machine, and how the times were taken.
+/// The machine, and how the times were taken.
 fn how() -> String {
     let cores = std::thread::available_parallelism().map_or(1, usize::from);
     let machine = std::env::consts::ARCH.replace('_', "-");
     format!(
-        "Microseconds, the best of many calls, in one run on a machine of {cores} cores, {machine}. No list is cleared between\n\
-         calls: each call fills its lists over what the call before it left.\n"
+        "Microseconds, the best of many calls, all in one run, on a machine of {cores} cores, {machine}. \
+         No list is cleared\nbetween calls: each call fills its lists over what the call before it left.\n"
     )
 }
 
 const COLUMNS: &str = "\
-The column `letters` has the length of the word that Word shows. *: the model branches, Word refuses it with 23, and its
-time is that of the refusal. Run goes to a reachable state as far from the start as any. Path is the way from the text
-to the page in one call; program is the same with its process, from its start to its end.
+Letters: the length of the word that Word shows. *: the model branches and has no word; Word's time is that of refusal
+23. Run goes to a reachable state as far from the start as any. Path is the way from the text to the page in one call;
+program is the same with its process, from its start to its end.
 ";
 
-const ALIKE: &str = "\
-Every operation but Read and path tests within its time that the store is good, and so do those of the second checker,
-which is written to be clear and not fast. The plain ranking, a ranking by classes in Rust written for speed, takes that
-for granted.
+const RATIOS: &str = "\
+Our times by those of the second checker (Word's without refusals), and Rank's by that of a plain ranking by classes:
+";
+
+const SECOND: &str = "\
+The second checker is written to be clear and not fast; its program is timed with its process too. All operations but
+Read and path test within their time that the store is good, and so does the second checker. The plain ranking is
+written for speed in Rust, is not proved, and takes a good store for granted.
 ";
 
 impl Report {
@@ -137,17 +151,11 @@ impl Report {
         table(&head, self.models.iter().map(Measured::row))
     }
 
-    /// Our times by the second checker's, and Rank's by the plain ranking's: the least and the greatest of all models.
+    /// The least and the greatest ratios of all models.
     fn ratios(&self) -> String {
-        let ratios = |times: &Times| -> Vec<f64> {
-            let pairs = times.ours.iter().zip(&times.second);
-            let ratios = pairs.map(|(ours, second)| ours / second);
-            ratios.chain([times.ours[RANK] / times.plain]).collect()
-        };
-        let all: Vec<Vec<f64>> = self.models.iter().map(|m| ratios(&m.times)).collect();
         let over = |index: usize, choose: fn(f64, f64) -> f64| {
-            let ratios = all.iter().map(|ratios| ratios[index]);
-            ratios.reduce(choose).expect("there are models")
+            let ratios = self.models.iter().filter_map(|model| model.ratio(index));
+            ratios.reduce(choose).expect("some model has a word")
         };
         let row = |name: &str, choose: fn(f64, f64) -> f64| {
             let cells = (0..=NAMES.len()).map(|index| digits(over(index, choose)));
@@ -159,11 +167,16 @@ impl Report {
 
     /// What the README shows.
     pub fn short(&self) -> String {
-        let (how, ours, ratios) = (how(), self.ours(), self.ratios());
-        format!(
-            "{how}\n{ours}\n{LEGEND}\n{COLUMNS}\nOur times by those of the second checker, and Rank's by that of a plain ranking, over all \
-             these models:\n\n{ratios}\n{ALIKE}"
-        )
+        let parts = [
+            &how(),
+            &self.ours(),
+            LEGEND,
+            COLUMNS,
+            RATIOS,
+            &self.ratios(),
+            SECOND,
+        ];
+        parts.join("\n")
     }
 
     /// All tables but the growth.
@@ -176,7 +189,7 @@ impl Report {
         let short = self.short();
         format!(
             "# Times\n\nMade by `bash bench/run --write`.\n\n{short}\n\
-             On an empty text the program takes {program}, the second checker's {second_program}: that is what a process costs.\n\n\
+             A process alone: on an empty text the program takes {program}, the second checker's {second_program}.\n\n\
              ## The second checker (in brackets: our time by its time)\n\n{second}\n\
              ## Rank beside the plain ranking\n\n{plain}\n"
         )

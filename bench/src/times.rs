@@ -29,7 +29,7 @@ pub const WORDS: usize = 5;
 pub type Each = [f64; NAMES.len()];
 
 /// The best time of many calls, in microseconds.
-pub fn best<T>(mut call: impl FnMut() -> T) -> f64 {
+fn best<T>(mut call: impl FnMut() -> T) -> f64 {
     let began = Instant::now();
     let mut best = Duration::MAX;
     let mut calls = 0;
@@ -40,6 +40,11 @@ pub fn best<T>(mut call: impl FnMut() -> T) -> f64 {
         calls += 1;
     }
     best.as_secs_f64() * 1e6
+}
+
+/// The best time of one call that is timed alone.
+pub fn best_of_turns<T>(mut call: impl FnMut() -> T) -> f64 {
+    (0..TURNS).map(|_| best(&mut call)).fold(f64::MAX, f64::min)
 }
 
 /// The less of two times, place by place.
@@ -123,9 +128,7 @@ impl Lists {
     /// Judge alone.
     pub fn judge(&mut self) -> f64 {
         let l = self;
-        let mut turn =
-            || best(|| proved::judge(black_box(&l.store), &mut l.distances, &mut l.table));
-        (0..TURNS).map(|_| turn()).fold(f64::MAX, f64::min)
+        best_of_turns(|| proved::judge(black_box(&l.store), &mut l.distances, &mut l.table))
     }
 
     pub fn times(&mut self) -> Times {
