@@ -129,9 +129,9 @@ fn how() -> String {
 }
 
 const COLUMNS: &str = "\
-Letters: the length of the word that Word shows. *: the model branches and has no word; Word's time is that of refusal
-23. Run goes to a reachable state as far from the start as any. Path is the way from the text to the page in one call;
-program is the same with its process, from its start to its end.
+Letters: the length of the word that Word shows. *: the model branches and has no word, and Word's time is that of its
+refusal, 23. Run goes to a reachable state as far from the start as any. Path is the way from the text to the page in
+one call; program is the same with its process, from its start to its end.
 ";
 
 const RATIOS: &str = "\
@@ -139,8 +139,8 @@ Our times by those of the second checker (Word's without refusals), and Rank's b
 ";
 
 const SECOND: &str = "\
-The second checker is written to be clear and not fast; its program is timed with its process too. All operations but
-Read and path test within their time that the store is good, and so does the second checker. The plain ranking is
+The second checker is written to be clear and not fast; its program is timed with its process too. Every operation that
+takes a store tests within its time that the store is good, and so does the second checker's. The plain ranking is
 written for speed in Rust, is not proved, and takes a good store for granted.
 ";
 
