@@ -38,12 +38,11 @@ struct Frame<'a> {
 
 impl Frame<'_> {
     fn new(panel: &Panel, left: f64) -> Frame<'_> {
-        let points = || panel.lines.iter().flat_map(|line| &line.points);
-        let (highest, parts) = rounded(points().map(|&(_, time)| time).fold(0.0, f64::max));
+        let (highest, parts) = rounded(panel.points().map(|point| point.time).fold(0.0, f64::max));
         Frame {
             panel,
             left,
-            widest: points().map(|&(size, _)| size as f64).fold(0.0, f64::max),
+            widest: panel.sizes().max().unwrap_or(1) as f64,
             highest,
             parts,
         }
@@ -98,7 +97,7 @@ impl Frame<'_> {
         let at: Vec<(f64, f64)> = line
             .points
             .iter()
-            .map(|&(size, time)| (self.x(size), self.y(time)))
+            .map(|point| (self.x(point.size), self.y(point.time)))
             .collect();
         let path: Vec<String> = at.iter().map(|(x, y)| format!("{x:.1},{y:.1}")).collect();
         let circle = |&(x, y): &(f64, f64)| {

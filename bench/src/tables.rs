@@ -1,5 +1,5 @@
 //! The tables as text.
-use crate::growth::Panel;
+use crate::growth::{Line, Panel};
 use crate::process;
 use crate::shapes::{self, LEGEND};
 use crate::times::{best_of_turns, Lists, Times, NAMES, RANK, WORDS};
@@ -215,8 +215,8 @@ fn growth_table(panel: &Panel) -> String {
         .into_iter()
         .chain(sizes.iter().map(String::as_str))
         .collect();
-    let row = |line: &crate::growth::Line| {
-        let times = line.points.iter().map(|&(_, time)| digits(time));
+    let row = |line: &Line| {
+        let times = line.points.iter().map(|point| digits(point.time));
         [line.name.to_string()].into_iter().chain(times).collect()
     };
     table(&head, panel.lines.iter().map(row))
