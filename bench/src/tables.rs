@@ -130,8 +130,9 @@ fn how() -> String {
 
 const COLUMNS: &str = "\
 Letters: the length of the word that Word shows. *: the model branches and has no word, and Word's time is that of its
-refusal, 23. Run goes to a reachable state as far from the start as any. Path is the way from the text to the page in
-one call; program is the same with its process, from its start to its end.
+refusal, 23; the row below it has its deterministic variant, which is refused with a word. Run goes to a reachable state
+as far from the start as any. Path is the way from the text to the page in one call; program is the same with its
+process, from its start to its end.
 ";
 
 const RATIOS: &str = "\
