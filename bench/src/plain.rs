@@ -1,5 +1,5 @@
-//! Ranking by classes in plain Rust, written for speed and not proved: the class of a state is the lowest state alike to
-//! it, a state's moves are compared through marks, and only the rows of states that left their class are written.
+//! Ranking by classes in plain Rust, written for speed and not proved: the class of a state is the lowest state alike
+//! to it, a state's moves are compared through marks, and only the rows of states that left their class are written.
 use second::store::{action_place, step_place, TABLE};
 
 const ROW: usize = 128;

@@ -1,7 +1,7 @@
 //! The models that are measured.
 use std::collections::BTreeSet;
 
-use second::gen::{self, Rng};
+use second::gen::Rng;
 use second::{Action, Level, Model, Step};
 
 const SEED: u64 = 0x7113;
@@ -29,26 +29,45 @@ fn low(states: u16, start: u16, steps: impl IntoIterator<Item = (u16, u16, u16)>
     }
 }
 
+/// From each state to the next, with each action.
 pub fn chain(states: u16, actions: u16) -> Model {
     let on = move |i| (0..actions).map(move |a| (i, a, i + 1));
     low(states, 0, (0..states - 1).flat_map(on))
 }
 
-fn fan() -> Model {
-    let steps = (0..127u16).flat_map(|i| (i + 1..=i + 8).map(move |q| (i, 0, q)));
-    low(128, 0, steps.filter(|&(_, _, q)| q < 128))
+/// From i to i+1..i+8, all with one action, or each with its own.
+fn fan(one_action: bool) -> Model {
+    let action = move |k| if one_action { 0 } else { k - 1 };
+    let steps = (0..127).flat_map(|i| (1..=8).map(move |k| (i, action(k), i + k)));
+    low(128, 0, steps.filter(|&(_, _, target)| target < 128))
 }
 
-fn on_and_back() -> Model {
-    let steps = (0..127u16).flat_map(|i| (0..7).chain([i + 1]).map(move |q| (i, 0, q)));
+/// From i to i+1 and back to 0..6, all with one action, or each with its own.
+fn on_and_back(one_action: bool) -> Model {
+    let action = move |k| if one_action { 0 } else { k };
+    let back = move |i| (1..8).map(move |k| (i, action(k), k - 1));
+    let steps = (0..127).flat_map(|i| [(i, action(0), i + 1)].into_iter().chain(back(i)));
     low(128, 0, steps)
 }
 
+/// A chain of 100, and two states with 4 actions to each of its states.
 fn two_wide_states() -> Model {
-    let chain = (0..99u16).map(|i| (i, 0, i + 1));
+    let chain = (0..99).map(|i| (i, 0, i + 1));
     let wide = [100, 101].into_iter();
     let wide = wide.flat_map(|p| (0..4).flat_map(move |a| (0..100).map(move |q| (p, a, q))));
     low(102, 100, chain.chain(wide))
+}
+
+/// A chain of 100, and two states with as many steps to it as a deterministic state can have beside a high one. The
+/// last of them lead to states 0 and 1, which only 99 further steps tell apart.
+fn two_states_of_63_steps() -> Model {
+    let chain = (0..99).map(|i| (i, 0, i + 1));
+    let alike = (0..62).flat_map(|a| [(100, a, a), (101, a, a)]);
+    low(
+        102,
+        100,
+        chain.chain(alike).chain([(100, 62, 0), (101, 62, 1)]),
+    )
 }
 
 /// As many random low steps as asked for.
@@ -62,20 +81,74 @@ pub fn dense(states: usize, steps: usize) -> Model {
     low(states as u16, 0, all)
 }
 
+/// From each state a step of each of 8 actions to a random state; the last step is left out.
+fn dense_deterministic() -> Model {
+    let mut rng = Rng::new(SEED);
+    let all = (0..128).flat_map(|p| (0..8).map(move |a| (p, a)));
+    low(
+        128,
+        0,
+        all.take(1_023).map(|(p, a)| (p, a, rng.below(128) as u16)),
+    )
+}
+
+/// A till of 20 stages of a sale, its printer free or busy. Printing starts up to stage 10; at the last stage a busy
+/// printer stops the display, which 9 scans and a look at the display show.
 fn typical() -> Model {
-    let mut rng = Rng::new(SEED + 1);
-    gen::random_model(&mut rng, 40, 12, 120, true)
+    let actions = [
+        (Level::Low, "scan"),
+        (Level::Low, "show"),
+        (Level::Low, "void"),
+        (Level::High, "print"),
+        (Level::Release, "close"),
+    ];
+    let steps = (0..40u16).flat_map(|here| {
+        let (busy, stage) = (here / 20, here % 20);
+        let possible = [
+            (stage < 19, here + 1),
+            (here < 39, here),
+            (stage > 0, here.saturating_sub(1)),
+            (busy == 0 && stage <= 10, here + 20),
+            (true, 0),
+        ];
+        let steps = (0..).zip(possible).filter(|(_, (there, _))| *there);
+        steps.map(move |(action, (_, target))| Step::new(here, action, target))
+    });
+    Model {
+        states: 40,
+        start: 0,
+        steps: steps.collect(),
+        actions: actions
+            .map(|(level, name)| Action {
+                level,
+                name: name.as_bytes().to_vec(),
+            })
+            .to_vec(),
+    }
 }
 
 /// Each model with its name.
 pub fn shapes() -> Vec<(&'static str, Model)> {
     vec![
-        ("chain of 128, 8 parallel actions", chain(128, 8)),
+        ("chain of 128, 8 actions", chain(128, 8)),
         ("chain of 128, 1 action", chain(128, 1)),
-        ("fan, i to i+1..i+8", fan()),
-        ("i to i+1 and to 0..6", on_and_back()),
-        ("two states of 400 steps, chain of 100", two_wide_states()),
-        ("dense random, 128 states", dense(128, 1_023)),
-        ("typical, 40 states", typical()),
+        ("fan, 1 action", fan(true)),
+        ("fan, 8 actions", fan(false)),
+        ("on and back, 1 action", on_and_back(true)),
+        ("on and back, 8 actions", on_and_back(false)),
+        ("two states of 400 steps", two_wide_states()),
+        ("two states of 63 steps", two_states_of_63_steps()),
+        ("dense random", dense(128, 1_023)),
+        ("dense deterministic", dense_deterministic()),
+        ("typical", typical()),
     ]
 }
+
+/// What the names mean.
+pub const LEGEND: &str = "\
+Chain: from each state to the next. Fan: from i to i+1 up to i+8. On and back: from i to i+1 and to 0 up to 6. Two
+states of 400 steps: they lead to each state of a chain of 100 with 4 actions; two of 63 steps: to states of such a
+chain, as wide as 64 actions allow without branching. Dense: 128 states, 1,023 random steps. These have one high step,
+from the start to the state after it. Typical: a till of 20 stages of a sale, its printer free or busy, 40 states; its
+leak is 10 steps from the start.
+";

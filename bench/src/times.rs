@@ -1,31 +1,35 @@
 //! The best times of all calls on one model.
 use std::hint::black_box;
-use std::io::Write;
-use std::path::Path;
-use std::process::{Command, Stdio};
 use std::time::{Duration, Instant};
 
-use second::store::{DISTANCES, PAGE, RUN, STORE, TABLE, WORD};
+use second::store::{DISTANCES, PAGE, RUN, STORE, TABLE, WORD, WRITTEN};
 use second::Model;
 
 use crate::plain;
+use crate::process;
+use crate::proved;
 
 /// How long each call is repeated at a time, and how often at least.
 const LONG_ENOUGH: Duration = Duration::from_millis(40);
 const AT_LEAST: usize = 2;
 
 /// How often all calls take turns, so that other work on the machine slows none of them alone.
-const TURNS: usize = 5;
+pub const TURNS: usize = 5;
 
 const UNREACHABLE: u16 = 65_535;
 
-/// The operations in the order of the tables.
-pub const NAMES: [&str; 8] = [
-    "Read", "Reach", "Rank", "Judge", "Run", "Word", "Page", "Print",
+/// What is timed, in the order of the tables.
+pub const NAMES: [&str; 10] = [
+    "Read", "Reach", "Rank", "Judge", "Run", "Word", "Page", "Write", "path", "program",
 ];
+pub const RANK: usize = 2;
+pub const WORDS: usize = 5;
+
+/// Microseconds in the order of `NAMES`.
+pub type Each = [f64; NAMES.len()];
 
 /// The best time of many calls, in microseconds.
-pub fn best<T>(mut call: impl FnMut() -> T) -> f64 {
+fn best<T>(mut call: impl FnMut() -> T) -> f64 {
     let began = Instant::now();
     let mut best = Duration::MAX;
     let mut calls = 0;
@@ -38,23 +42,21 @@ pub fn best<T>(mut call: impl FnMut() -> T) -> f64 {
     best.as_secs_f64() * 1e6
 }
 
-/// The best of some turns, place by place.
-fn turns<const N: usize>(mut turn: impl FnMut() -> [f64; N]) -> [f64; N] {
-    let mut all = [f64::MAX; N];
-    for _ in 0..TURNS {
-        for (time, new) in all.iter_mut().zip(turn()) {
-            *time = time.min(new);
-        }
-    }
-    all
+/// The best time of one call that is timed alone.
+pub fn best_of_turns<T>(mut call: impl FnMut() -> T) -> f64 {
+    (0..TURNS).map(|_| best(&mut call)).fold(f64::MAX, f64::min)
 }
 
-/// The best times, in microseconds.
+/// The less of two times, place by place.
+fn least<const N: usize>(one: [f64; N], other: [f64; N]) -> [f64; N] {
+    std::array::from_fn(|place| one[place].min(other[place]))
+}
+
+/// The best times of one model.
 pub struct Times {
-    pub ours: [f64; 8],
-    pub second: [f64; 8],
+    pub ours: Each,
+    pub second: Each,
     pub plain: f64,
-    pub program: f64,
 }
 
 /// The lists of one model, filled over and over.
@@ -66,10 +68,15 @@ pub struct Lists {
     run: Vec<u16>,
     word: Vec<u16>,
     out: Vec<u8>,
+    written: Vec<u8>,
+    /// A reachable state as far from the start as any: Run goes there.
+    furthest: u16,
+    /// The letters of Word's answer, or its refusal's number.
+    pub letters: Result<u64, u64>,
 }
 
 impl Lists {
-    /// Lists of least length, filled once; what the three rankings fill is the same, and both pages are.
+    /// Lists of least length, filled once.
     pub fn of(model: &Model) -> Lists {
         let mut lists = Lists {
             text: model.to_text(),
@@ -79,54 +86,84 @@ impl Lists {
             run: vec![0; RUN],
             word: vec![0; WORD],
             out: vec![0; PAGE],
+            written: vec![0; WRITTEN],
+            furthest: 0,
+            letters: Ok(0),
         };
-        let length = lists.print();
-        let mut plain = vec![2; TABLE];
-        plain::rank(&lists.store, &mut plain);
-        assert!(lists.table == plain, "one table");
-        assert!(
-            second::program(&lists.text) == lists.out[..length],
-            "one page"
-        );
+        lists.fill();
+        lists.succeed();
         lists
     }
 
-    /// From the text to the page; answers the bytes printed.
-    fn print(&mut self) -> usize {
-        suite::print(
-            &self.text,
-            &mut self.store,
-            &mut self.distances,
-            &mut self.table,
-            &mut self.run,
-            &mut self.word,
-            &mut self.out,
-        )
-        .expect("the lists are long enough")
+    /// What the three rankings fill is the same, both pages are, and what is written is the text.
+    fn fill(&mut self) {
+        let l = &mut *self;
+        let page = proved::print(
+            &l.text,
+            &mut l.store,
+            &mut l.distances,
+            &mut l.table,
+            &mut l.run,
+            &mut l.word,
+            &mut l.out,
+        );
+        let page = &l.out[..page.first as usize];
+        assert!(second::program(&l.text) == page, "one page");
+        let mut plain = vec![2; TABLE];
+        plain::rank(&l.store, &mut plain);
+        assert!(l.table == plain, "one table");
+        let length = proved::write(&l.store, &mut l.written).first as usize;
+        assert!(l.written[..length] == l.text, "one text");
+        let word = proved::word(&l.store, &mut l.distances, &mut l.table, &mut l.word);
+        l.letters = match word.number {
+            0 => Ok(word.first),
+            refusal => Err(refusal),
+        };
+        let distance = |&p: &u16| l.distances[usize::from(p)];
+        l.furthest = (0..l.store[0])
+            .filter(|p| distance(p) != UNREACHABLE)
+            .max_by_key(distance)
+            .expect("the start is reachable");
     }
 
-    /// A reachable state as far from the start as any.
-    fn furthest(&self) -> u16 {
-        let reachable =
-            (0..self.store[0]).filter(|&p| self.distances[usize::from(p)] != UNREACHABLE);
-        reachable
-            .max_by_key(|&p| self.distances[usize::from(p)])
-            .expect("the start is reachable")
+    /// No operation but Word is timed on a refusal.
+    fn succeed(&mut self) {
+        let l = self;
+        let (store, distances, table) = (&mut l.store, &mut l.distances, &mut l.table);
+        let answers = [
+            proved::read(&l.text, store),
+            proved::reach(store, distances),
+            proved::rank(store, table),
+            proved::judge(store, distances, table),
+            proved::run(store, distances, &mut l.run, l.furthest),
+            proved::page(store, distances, table, &mut l.run, &mut l.word, &mut l.out),
+        ];
+        assert_eq!(answers.map(|answer| answer.number), [0; 6]);
     }
 
-    /// Judge alone.
+    /// One turn of Judge alone.
     pub fn judge(&mut self) -> f64 {
-        let Lists {
-            store,
-            distances,
-            table,
-            ..
-        } = self;
-        turns(|| [best(|| suite::judge(black_box(store), distances, table))])[0]
+        let l = self;
+        best(|| proved::judge(black_box(&l.store), &mut l.distances, &mut l.table))
     }
 
     pub fn times(&mut self) -> Times {
-        let state = self.furthest();
+        let mut times = Times {
+            ours: [f64::MAX; NAMES.len()],
+            second: [f64::MAX; NAMES.len()],
+            plain: f64::MAX,
+        };
+        for _ in 0..TURNS {
+            times.ours = least(times.ours, self.ours());
+            times.second = least(times.second, self.second());
+            let plain = best(|| plain::rank(black_box(&self.store), &mut self.table));
+            times.plain = times.plain.min(plain);
+        }
+        times
+    }
+
+    /// One turn of the proved operations and the program.
+    fn ours(&mut self) -> Each {
         let Lists {
             text,
             store,
@@ -135,56 +172,49 @@ impl Lists {
             run,
             word,
             out,
+            written,
+            furthest,
+            ..
         } = self;
-        let [plain, program] = turns(|| {
-            [
-                best(|| plain::rank(black_box(store), table)),
-                best(|| program(text)),
-            ]
-        });
-        let ours = turns(|| {
-            [
-                best(|| suite::read(black_box(text), store)),
-                best(|| suite::reach(black_box(store), distances)),
-                best(|| suite::rank(black_box(store), table)),
-                best(|| suite::judge(black_box(store), distances, table)),
-                best(|| suite::run(black_box(store), distances, run, state)),
-                best(|| suite::word(black_box(store), distances, table, word)),
-                best(|| suite::page(black_box(store), distances, table, run, word, out)),
-                best(|| suite::print(black_box(text), store, distances, table, run, word, out)),
-            ]
-        });
-        let second = turns(|| {
-            [
-                best(|| second::read(black_box(text), store)),
-                best(|| second::reach(black_box(store), distances)),
-                best(|| second::rank(black_box(store), table)),
-                best(|| second::judge(black_box(store), distances, table)),
-                best(|| second::run(black_box(store), distances, run, state)),
-                best(|| second::word(black_box(store), distances, table, word)),
-                best(|| second::page(black_box(store), distances, table, run, word, out)),
-                best(|| second::program(black_box(text))),
-            ]
-        });
-        Times {
-            ours,
-            second,
-            plain,
-            program,
-        }
+        [
+            best(|| proved::read(black_box(text), store)),
+            best(|| proved::reach(black_box(store), distances)),
+            best(|| proved::rank(black_box(store), table)),
+            best(|| proved::judge(black_box(store), distances, table)),
+            best(|| proved::run(black_box(store), distances, run, *furthest)),
+            best(|| proved::word(black_box(store), distances, table, word)),
+            best(|| proved::page(black_box(store), distances, table, run, word, out)),
+            best(|| proved::write(black_box(store), written)),
+            best(|| proved::print(black_box(text), store, distances, table, run, word, out)),
+            best(|| process::run(process::PROGRAM, text)),
+        ]
     }
-}
 
-/// The program on a text, from its start to its end.
-fn program(text: &[u8]) {
-    let path = Path::new(env!("CARGO_MANIFEST_DIR")).join("../target/bin/till");
-    let mut child = Command::new(path)
-        .stdin(Stdio::piped())
-        .stdout(Stdio::null())
-        .spawn()
-        .expect("`rt check till` makes the program");
-    let mut input = child.stdin.take().expect("standard input is piped");
-    input.write_all(text).expect("the program takes its input");
-    drop(input);
-    assert!(child.wait().expect("the program ends").success());
+    /// One turn of the second checker and its process.
+    fn second(&mut self) -> Each {
+        let Lists {
+            text,
+            store,
+            distances,
+            table,
+            run,
+            word,
+            out,
+            written,
+            furthest,
+            ..
+        } = self;
+        [
+            best(|| second::read(black_box(text), store)),
+            best(|| second::reach(black_box(store), distances)),
+            best(|| second::rank(black_box(store), table)),
+            best(|| second::judge(black_box(store), distances, table)),
+            best(|| second::run(black_box(store), distances, run, *furthest)),
+            best(|| second::word(black_box(store), distances, table, word)),
+            best(|| second::page(black_box(store), distances, table, run, word, out)),
+            best(|| second::write(black_box(store), written)),
+            best(|| second::program(black_box(text))),
+            best(|| process::run(process::SECOND, text)),
+        ]
+    }
 }

@@ -1,0 +1,224 @@
+//! The tables as text.
+use crate::growth::{Line, Panel};
+use crate::process;
+use crate::shapes::{self, LEGEND};
+use crate::times::{best_of_turns, Lists, Times, NAMES, RANK, WORDS};
+
+/// A model with its times.
+struct Measured {
+    name: &'static str,
+    states: u16,
+    steps: usize,
+    letters: Result<u64, u64>,
+    times: Times,
+}
+
+/// All models with their times, and the times of both programs on an empty text.
+pub struct Report {
+    models: Vec<Measured>,
+    empty: [f64; 2],
+}
+
+pub fn measure() -> Report {
+    let measured = |(name, model): (_, second::Model)| {
+        let mut lists = Lists::of(&model);
+        Measured {
+            name,
+            states: model.states,
+            steps: model.steps.len(),
+            letters: lists.letters,
+            times: lists.times(),
+        }
+    };
+    let empty = |program| best_of_turns(|| process::run(program, b""));
+    Report {
+        models: shapes::shapes().into_iter().map(measured).collect(),
+        empty: [process::PROGRAM, process::SECOND].map(empty),
+    }
+}
+
+/// A table; the first column stands left, the others right.
+fn table(head: &[&str], rows: impl IntoIterator<Item = Vec<String>>) -> String {
+    let mut text = format!("| {} |\n", head.join(" | "));
+    text += &format!("|---|{}\n", "--:|".repeat(head.len() - 1));
+    for row in rows {
+        text += &format!("| {} |\n", row.join(" | "));
+    }
+    text
+}
+
+/// Three digits, or all that stand before the point.
+fn digits(value: f64) -> String {
+    match value {
+        _ if value >= 100.0 => format!("{value:.0}"),
+        _ if value >= 10.0 => format!("{value:.1}"),
+        _ if value >= 1.0 => format!("{value:.2}"),
+        _ => format!("{value:.3}"),
+    }
+}
+
+impl Measured {
+    /// A time of ours; Word's is marked where it is the time of a refusal.
+    fn ours(&self, index: usize) -> String {
+        let mark = if index == WORDS && self.letters.is_err() {
+            "*"
+        } else {
+            ""
+        };
+        digits(self.times.ours[index]) + mark
+    }
+
+    fn row(&self) -> Vec<String> {
+        let letters = match self.letters {
+            Ok(letters) => letters.to_string(),
+            Err(refusal) => format!("{refusal}*"),
+        };
+        let mut row = vec![
+            self.name.to_string(),
+            self.states.to_string(),
+            self.steps.to_string(),
+            letters,
+        ];
+        row.extend((0..NAMES.len()).map(|index| self.ours(index)));
+        row
+    }
+
+    /// Our time by the second checker's, none where Word refuses; after the last, Rank's by the plain ranking's.
+    fn ratio(&self, index: usize) -> Option<f64> {
+        let times = &self.times;
+        match index {
+            WORDS if self.letters.is_err() => None,
+            _ if index == NAMES.len() => Some(times.ours[RANK] / times.plain),
+            _ => Some(times.ours[index] / times.second[index]),
+        }
+    }
+
+    fn second_row(&self) -> Vec<String> {
+        let cell = |index: usize| {
+            let second = self.times.second[index];
+            format!(
+                "{} ({})",
+                digits(second),
+                digits(self.times.ours[index] / second)
+            )
+        };
+        let mut row = vec![self.name.to_string()];
+        row.extend((0..NAMES.len()).map(cell));
+        row
+    }
+
+    fn plain_row(&self) -> Vec<String> {
+        let (rank, plain) = (self.times.ours[RANK], self.times.plain);
+        vec![
+            self.name.to_string(),
+            digits(rank),
+            digits(plain),
+            digits(rank / plain),
+        ]
+    }
+}
+
+/// The machine, and how the times were taken.
+fn how() -> String {
+    let cores = std::thread::available_parallelism().map_or(1, usize::from);
+    let machine = std::env::consts::ARCH.replace('_', "-");
+    format!(
+        "Microseconds, the best of many calls, all in one run, on a machine of {cores} cores, {machine}. \
+         No list is cleared\nbetween calls: each call fills its lists over what the call before it left.\n"
+    )
+}
+
+const COLUMNS: &str = "\
+Letters: the length of the word that Word shows. *: the model branches and has no word, and Word's time is that of its
+refusal, 23; the row below it has its deterministic variant, which is refused with a word. Run goes to a reachable state
+as far from the start as any. Path is the way from the text to the page in one call; program is the same with its
+process, from its start to its end.
+";
+
+const RATIOS: &str = "\
+Our times by those of the second checker (Word's without refusals), and Rank's by that of a plain ranking by classes:
+";
+
+const SECOND: &str = "\
+The second checker is written to be clear and not fast; its program is timed with its process too. Every operation that
+takes a store tests within its time that the store is good, and so does the second checker's. The plain ranking is
+written for speed in Rust, is not proved, and takes a good store for granted.
+";
+
+impl Report {
+    /// The times of the proved operations and of the program.
+    fn ours(&self) -> String {
+        let head = [&["model", "states", "steps", "letters"], &NAMES[..]].concat();
+        table(&head, self.models.iter().map(Measured::row))
+    }
+
+    /// The least and the greatest ratios of all models.
+    fn ratios(&self) -> String {
+        let over = |index: usize, choose: fn(f64, f64) -> f64| {
+            let ratios = self.models.iter().filter_map(|model| model.ratio(index));
+            ratios.reduce(choose).expect("some model has a word")
+        };
+        let row = |name: &str, choose: fn(f64, f64) -> f64| {
+            let cells = (0..=NAMES.len()).map(|index| digits(over(index, choose)));
+            [name.to_string()].into_iter().chain(cells).collect()
+        };
+        let head = [&["ratio"], &NAMES[..], &["Rank to plain"]].concat();
+        table(&head, [row("least", f64::min), row("greatest", f64::max)])
+    }
+
+    /// What the README shows.
+    pub fn short(&self) -> String {
+        let parts = [
+            &how(),
+            &self.ours(),
+            LEGEND,
+            COLUMNS,
+            RATIOS,
+            &self.ratios(),
+            SECOND,
+        ];
+        parts.join("\n")
+    }
+
+    /// All tables but the growth.
+    pub fn whole(&self) -> String {
+        let head = [&["model"], &NAMES[..]].concat();
+        let second = table(&head, self.models.iter().map(Measured::second_row));
+        let head = ["model", "Rank", "plain", "Rank / plain"];
+        let plain = table(&head, self.models.iter().map(Measured::plain_row));
+        let [program, second_program] = self.empty.map(digits);
+        let short = self.short();
+        format!(
+            "# Times\n\nMade by `bash bench/run --write`.\n\n{short}\n\
+             A process alone: on an empty text the program takes {program}, the second checker's {second_program}.\n\n\
+             ## The second checker (in brackets: our time by its time)\n\n{second}\n\
+             ## Rank beside the plain ranking\n\n{plain}\n"
+        )
+    }
+}
+
+/// How Judge's time grows.
+pub fn growth(panels: &[Panel]) -> String {
+    let mut text = String::from(
+        "## How Judge's time grows\n\n![Judge's time by states and by steps](growth.svg)\n\n\
+         Each random model takes a number of rounds of its own, so its times do not rise evenly.\n",
+    );
+    for panel in panels {
+        text += &format!("\n{}", growth_table(panel));
+    }
+    text
+}
+
+fn growth_table(panel: &Panel) -> String {
+    let first = format!("by {}", panel.axis);
+    let sizes: Vec<String> = panel.sizes().map(|size| size.to_string()).collect();
+    let head: Vec<&str> = [first.as_str()]
+        .into_iter()
+        .chain(sizes.iter().map(String::as_str))
+        .collect();
+    let row = |line: &Line| {
+        let times = line.points.iter().map(|point| digits(point.time));
+        [line.name.to_string()].into_iter().chain(times).collect()
+    };
+    table(&head, panel.lines.iter().map(row))
+}
