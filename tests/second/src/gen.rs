@@ -4,9 +4,11 @@
 //! tests sees the same inputs. Models are made here, damage in the modules
 //! below.
 
+mod cases;
 mod stores;
 mod texts;
 
+pub use cases::{case, model_case, seeded, shown, shown_numbers, shown_store, text_case, Case};
 pub use stores::{bad_stores, mutated_store, scrap_store};
 pub use texts::{faults, mutated_text, scrap_text, Fault};
 
@@ -25,6 +27,11 @@ pub struct Rng {
 impl Rng {
     pub fn new(seed: u64) -> Rng {
         Rng { state: seed }
+    }
+
+    /// The seed of a generator that draws what this one draws from here on.
+    pub fn seed(&self) -> u64 {
+        self.state
     }
 
     pub fn draw(&mut self) -> u64 {
@@ -417,6 +424,23 @@ pub fn deep_model(rng: &mut Rng, depth: usize) -> Model {
         model
     };
     shuffle(rng, &model)
+}
+
+/// A model refused with a depth from 1 to 127 that is not deterministic: two
+/// steps of a release leave the start, and lead to no state that was
+/// unreachable.
+pub fn branching_deep_model(rng: &mut Rng, depth: usize) -> Model {
+    let mut model = deep_model(rng, depth);
+    let release = of_level(&model.actions, Level::Release)[0];
+    let near = |step: &&Step| step.source == model.start && step.target != model.start;
+    let next = model.steps.iter().find(near).map(|step| step.target);
+    let next = next.expect("some step leads on from the start");
+    let mut steps: BTreeSet<Step> = model.steps.iter().copied().collect();
+    for target in [model.start, next] {
+        steps.insert(Step::new(model.start, release, target));
+    }
+    model.steps = steps.into_iter().collect();
+    model
 }
 
 /// The same model with further states that nothing leads to, and with steps
