@@ -1,0 +1,297 @@
+//! Every refusal because of the state in its turn, with the numbers that the scope document gives, and with what it leaves
+//! in the lists. Each call is also compared with the second checker's.
+use second::gen;
+use second::store::{action_place, DISTANCES, STORE};
+use second::{Model, Refusal};
+use suite::bench::{store_of, text_of, ACTIONS, WORKED};
+use suite::lists::{every_length, lengths, Lent, Lists, LEAST, LISTS};
+use suite::same;
+use suite::stores::{self, Store};
+
+const SEED: u64 = 7_600;
+
+/// The refusal of a call, if it is one, and what the lists hold afterwards.
+type Refused = (Option<Refusal>, Lists);
+
+/// An operation on a store.
+struct Operation {
+    name: &'static str,
+    /// The lists that it is lent after the store, by their index.
+    lent: &'static [usize],
+    /// Only Run takes a state.
+    call: fn(&Store, &Lists, u16) -> Refused,
+}
+
+fn refusal<A>((answer, lists): (Result<A, Refusal>, Lists)) -> Refused {
+    (answer.err(), lists)
+}
+
+const OPERATIONS: [Operation; 7] = [
+    Operation {
+        name: "Reach",
+        lent: &[0],
+        call: |store, lists, _| refusal(same::reach(store, lists)),
+    },
+    Operation {
+        name: "Rank",
+        lent: &[1],
+        call: |store, lists, _| refusal(same::rank(store, lists)),
+    },
+    Operation {
+        name: "Judge",
+        lent: &[0, 1],
+        call: |store, lists, _| refusal(same::judge(store, lists)),
+    },
+    Operation {
+        name: "Run",
+        lent: &[0, 2],
+        call: |store, lists, state| refusal(same::run(store, lists, state)),
+    },
+    Operation {
+        name: "Word",
+        lent: &[0, 1, 3],
+        call: |store, lists, _| refusal(same::word(store, lists)),
+    },
+    Operation {
+        name: "Page",
+        lent: &[0, 1, 2, 3, 4],
+        call: |store, lists, _| refusal(same::page(store, lists)),
+    },
+    Operation {
+        name: "Write",
+        lent: &[5],
+        call: |store, lists, _| refusal(same::write(store, lists)),
+    },
+];
+
+/// The first of some lists, counted from 1, that is too short; the lists lent before them are long enough.
+fn first_short(before: usize, lent: &[usize], lengths: &[usize; LISTS]) -> Option<Refusal> {
+    let short = |&list: &usize| lengths[list] < LEAST[list];
+    let index = lent.iter().position(short)?;
+    Some(Refusal::new(21, (before + index + 1) as u64))
+}
+
+/// A call that must be refused so, and leave every list as it was.
+fn refused(
+    operation: &Operation,
+    store: &Store,
+    lists: &Lists,
+    state: u16,
+    number: u16,
+    place: u64,
+) {
+    let (answer, after) = (operation.call)(store, lists, state);
+    let name = operation.name;
+    let _case = gen::case(|| format!("{name}, state {state}, {store}\n{lists}"));
+    assert_eq!(answer, Some(Refusal::new(number, place)));
+    assert!(after == *lists, "a list was changed");
+}
+
+/// A state that no model has.
+const NO_STATE: u16 = 128;
+
+/// A damaged store of a model: its first action has a level that is none.
+fn damaged(model: &Model) -> Store {
+    Store::of(model).damaged("no such level", &[(action_place(0), 3)])
+}
+
+/// 21 before all else, at the first list that is too short.
+#[test]
+fn lists_of_every_length() {
+    let mut rng = gen::seeded("refusals::lists_of_every_length", SEED);
+    for round in 0..6 {
+        let model = match round % 3 {
+            0 => gen::deep_model(&mut rng, 1 + 25 * round),
+            1 => gen::branching_deep_model(&mut rng, 1 + 9 * round),
+            _ => gen::any_model(&mut rng),
+        };
+        let longest = Lists::anything(&mut rng, LEAST);
+        for store in [Store::of(&model), damaged(&model)] {
+            for store in store.of_every_length(&mut rng) {
+                for operation in &OPERATIONS {
+                    every_choice(operation, &store, &longest);
+                }
+            }
+        }
+    }
+}
+
+fn every_choice(operation: &Operation, store: &Store, lists: &Lists) {
+    for lengths in every_length(operation.lent) {
+        let lists = lists.of_lengths(lengths);
+        let short = match store.is_short() {
+            true => Some(Refusal::new(21, 1)),
+            false => first_short(1, operation.lent, &lengths),
+        };
+        if let Some(short) = short {
+            refused(operation, store, &lists, NO_STATE, 21, short.place);
+        } else if store.wrong.is_some() {
+            refused(operation, store, &lists, NO_STATE, 22, 0);
+        } else {
+            let (answer, _) = (operation.call)(store, &lists, 0);
+            let numbers = answer.map_or(0, |refusal| refusal.number);
+            assert!([0, 23, 24, 26].contains(&numbers), "{numbers}, {store}");
+        }
+    }
+}
+
+/// 22 at stores that are damaged at every kind of place, and before 23 to 26.
+#[test]
+fn damaged_stores() {
+    let mut rng = gen::seeded("refusals::damaged_stores", SEED + 1);
+    let (mut good, mut bad) = (0, 0);
+    for _ in 0..40 {
+        let lists = Lists::enough(&mut rng);
+        for store in stores::damaged(&mut rng) {
+            let state = *rng.pick(&[0, 1, NO_STATE, 65_535]);
+            for operation in &OPERATIONS {
+                if store.wrong.is_some() {
+                    refused(operation, &store, &lists, state, 22, 0);
+                    bad += 1;
+                } else if (operation.call)(&store, &lists, state).0.is_none() {
+                    good += 1;
+                }
+            }
+        }
+    }
+    assert!(good > 500 && bad > 30_000, "{good} {bad}");
+}
+
+/// The index of an operation's name.
+fn operation(name: &str) -> &'static Operation {
+    let found = OPERATIONS.iter().find(|operation| operation.name == name);
+    found.expect("an operation")
+}
+
+/// The distances and the table are as Judge leaves them; the rest is as it was.
+fn as_judged(store: &Store, before: &Lists, after: &Lists) {
+    let mut expected = before.clone();
+    let verdict = suite::judge(&store.numbers, &mut expected.distances, &mut expected.table);
+    assert!(verdict.is_ok(), "{store}");
+    assert!(*after == expected, "{store}");
+}
+
+/// Word: 22 before 23 and 24, and 23 before 24.
+#[test]
+fn word_in_order() {
+    let mut rng = gen::seeded("refusals::word_in_order", SEED + 2);
+    let word = operation("Word");
+    let branching_and_passed = text_of(2, ACTIONS, &[(0, 2, 0), (0, 2, 1)]);
+    let branching_and_refused = text_of(2, ACTIONS, &[(0, 0, 0), (0, 0, 1), (0, 1, 1)]);
+    let deterministic_and_passed = text_of(2, ACTIONS, &[(0, 0, 1)]);
+    for (text, number, place) in [
+        (branching_and_passed, 23, 1),
+        (branching_and_refused, 23, 1),
+        (deterministic_and_passed, 24, 0),
+    ] {
+        let (store, lists) = (store_of(&text), Lists::enough(&mut rng));
+        let (answer, after) = (word.call)(&store, &lists, 0);
+        assert_eq!(answer, Some(Refusal::new(number, place)), "{store}");
+        as_judged(&store, &lists, &after);
+        let damaged = store.damaged("unused step", &[(STORE - 1, 1)]);
+        refused(word, &damaged, &lists, 0, 22, 0);
+        for short in [0, 1, 3] {
+            let mut lengths = LEAST;
+            lengths[short] -= 1;
+            let lists = lists.of_lengths(lengths);
+            let place = first_short(1, word.lent, &lengths).expect("short").place;
+            refused(word, &store, &lists, 0, 21, place);
+            refused(word, &damaged, &lists, 0, 21, place);
+        }
+    }
+}
+
+/// Run: 21 before 22 before 25, and 25 before 26; after 26 the distances are as Reach leaves them.
+#[test]
+fn run_in_order() {
+    let mut rng = gen::seeded("refusals::run_in_order", SEED + 3);
+    let run = operation("Run");
+    // nothing leads to state 2
+    let store = store_of(&text_of(3, ACTIONS, &[(0, 0, 1), (2, 0, 0)]));
+    let lists = Lists::enough(&mut rng);
+    let damaged = store.damaged("start not below states", &[(3, 3)]);
+    for state in [3, 4, 127, 128, 129, 32_768, 65_535] {
+        refused(run, &store, &lists, state, 25, u64::from(state));
+        refused(run, &damaged, &lists, state, 22, 0);
+        for (list, place) in [(0, 2), (2, 3)] {
+            let mut lengths = LEAST;
+            lengths[list] -= 1;
+            let lists = lists.of_lengths(lengths);
+            refused(run, &store, &lists, state, 21, place);
+            refused(run, &damaged, &lists, state, 21, place);
+        }
+    }
+    let (answer, after) = (run.call)(&store, &lists, 2);
+    assert_eq!(answer, Some(Refusal::new(26, 2)));
+    let mut expected = lists.clone();
+    expected.distances[..DISTANCES].fill(65_535);
+    expected.distances[..2].copy_from_slice(&[0, 1]);
+    assert!(after == expected);
+}
+
+/// 22 before 25 wherever the store is damaged, for states below the damaged number and not.
+#[test]
+fn damage_comes_before_the_state() {
+    let mut rng = gen::seeded("refusals::damage_comes_before_the_state", SEED + 4);
+    let run = operation("Run");
+    for _ in 0..10 {
+        let lists = Lists::enough(&mut rng);
+        for store in stores::damaged(&mut rng) {
+            if store.wrong.is_some() {
+                for state in [0, store.numbers[0], NO_STATE, 65_535] {
+                    refused(run, &store, &lists, state, 22, 0);
+                }
+            }
+        }
+    }
+}
+
+/// Read: 21 before 1 to 5.
+#[test]
+fn a_short_store_comes_before_every_fault() {
+    let mut rng = gen::seeded("refusals::a_short_store_comes_before_every_fault", SEED + 5);
+    let mut numbers = [0; 6];
+    for _ in 0..4 {
+        let model = gen::any_model(&mut rng);
+        for length in [0, STORE - 1] {
+            let before = Lent::anything(&mut rng, STORE, length);
+            for fault in gen::faults(&model) {
+                let _case = gen::text_case(&fault.text);
+                let (answer, after) = same::read(&fault.text, &before);
+                assert_eq!(answer, Err(Refusal::new(21, 2)), "{}", fault.what);
+                assert!(after == before);
+                numbers[usize::from(fault.refusal.number)] += 1;
+            }
+        }
+    }
+    assert!(numbers[1..].iter().all(|&count| count > 10), "{numbers:?}");
+}
+
+/// From a text to its page: 21 at the first list that is too short, whatever the text is.
+#[test]
+fn from_a_text_with_lists_of_every_length() {
+    let mut rng = gen::seeded("refusals::from_a_text_with_lists_of_every_length", SEED + 6);
+    let texts = [
+        WORKED.to_vec(),
+        gen::branching_deep_model(&mut rng, 9).to_text(),
+        b"M,1,1,0,0\nA,L,a\nE".to_vec(),
+        vec![b'0'; 16_385],
+    ];
+    for text in texts {
+        let _case = gen::text_case(&text);
+        let store = Lent::anything(&mut rng, STORE, STORE);
+        let lists = Lists::anything(&mut rng, LEAST);
+        for store_length in lengths(STORE) {
+            for choice in every_length(&[0, 1, 2, 3, 4]) {
+                let before = (store.of_length(store_length), lists.of_lengths(choice));
+                let (answer, after) = same::print(&text, &before);
+                let short = match store_length < STORE {
+                    true => Some(Refusal::new(21, 2)),
+                    false => first_short(2, &[0, 1, 2, 3, 4], &choice),
+                };
+                assert_eq!(answer.err(), short, "{choice:?}");
+                assert!(short.is_none() || after == before, "{choice:?}");
+            }
+        }
+    }
+}
