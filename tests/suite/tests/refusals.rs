@@ -157,7 +157,23 @@ fn damaged_stores() {
     assert!(good > 500 && bad > 30_000, "{good} {bad}");
 }
 
-/// The index of an operation's name.
+/// 22 where any one number of a store is too large for its place.
+#[test]
+fn damage_at_every_place() {
+    let mut rng = gen::seeded("refusals::damage_at_every_place", SEED + 7);
+    let full = gen::limit_models(&mut rng).swap_remove(0).1;
+    let models = [gen::chain(3), gen::any_model(&mut rng), full];
+    for (round, model) in models.iter().enumerate() {
+        let (store, lists) = (Store::of(model), Lists::enough(&mut rng));
+        for place in 0..STORE {
+            let damaged = store.damaged("a number too large", &[(place, 65_535)]);
+            let operation = &OPERATIONS[(place + round) % OPERATIONS.len()];
+            refused(operation, &damaged, &lists, 0, 22, 0);
+        }
+    }
+}
+
+/// The operation of a name.
 fn operation(name: &str) -> &'static Operation {
     let found = OPERATIONS.iter().find(|operation| operation.name == name);
     found.expect("an operation")

@@ -35,10 +35,13 @@ pub fn shown(text: &[u8]) -> String {
 /// A store as a failing test shows it: the text of the model that it was made
 /// of, and the numbers that were changed or added.
 pub fn shown_store(model: &Model, store: &[u16]) -> String {
-    let changed = differing(store, &model.to_store());
-    let text = shown(&model.to_text());
-    let length = store.len();
-    format!("store of {text}\nwith {length} numbers, otherwise at (place, number): {changed:?}")
+    let good = model.to_store();
+    let made = format!("store of {}", shown(&model.to_text()));
+    if store == good {
+        return made;
+    }
+    let (length, changed) = (store.len(), differing(store, &good));
+    format!("{made}\nof {length} numbers, changed at (place, number): {changed:?}")
 }
 
 /// A store that was made of no model.
