@@ -2,7 +2,7 @@
 //!
 //! Everything is drawn from a small generator with a seed, so each run of the
 //! tests sees the same inputs. Models are made here, damage in the modules
-//! below.
+//! below, and so is what a test shows of its cases.
 
 mod cases;
 mod stores;

@@ -188,9 +188,13 @@ fn every_fault_of_a_text() {
     for model in [gen::small_model(&mut rng, false), gen::chain(3)] {
         gen::faults(&model).iter().for_each(refused);
     }
+    let mut tried = 0;
     for model in models_to_damage(&mut rng, 30) {
-        one_of_each(&mut rng, &model).iter().for_each(refused);
+        let faults = one_of_each(&mut rng, &model);
+        faults.iter().for_each(refused);
+        tried += faults.len();
     }
+    assert!(tried > 3_000, "{tried}");
 }
 
 /// The script's status and what it prints; it speaks for itself only where it fails.

@@ -217,7 +217,7 @@ fn word_in_order() {
     }
 }
 
-/// Run: 21 before 22 before 25, and 25 before 26; after 26 the distances are as Reach leaves them.
+/// Run: 21 before 22, 22 before 25 and 26, and 25 before 26; after 26 the distances are as Reach leaves them.
 #[test]
 fn run_in_order() {
     let mut rng = gen::seeded("refusals::run_in_order", SEED + 3);
@@ -226,8 +226,10 @@ fn run_in_order() {
     let store = store_of(&text_of(3, ACTIONS, &[(0, 0, 1), (2, 0, 0)]));
     let lists = Lists::enough(&mut rng);
     let damaged = store.damaged("start not below states", &[(3, 3)]);
-    for state in [3, 4, 127, 128, 129, 32_768, 65_535] {
-        refused(run, &store, &lists, state, 25, u64::from(state));
+    for state in [2, 3, 4, 127, 128, 129, 32_768, 65_535] {
+        if state > 2 {
+            refused(run, &store, &lists, state, 25, u64::from(state));
+        }
         refused(run, &damaged, &lists, state, 22, 0);
         for (list, place) in [(0, 2), (2, 3)] {
             let mut lengths = LEAST;
