@@ -129,14 +129,40 @@ pub struct Lists {
     pub written: Lent<u8>,
 }
 
-/// The number of these lists.
-pub const LISTS: usize = 6;
+/// One of these lists.
+#[derive(Clone, Copy)]
+pub enum List {
+    Distances,
+    Table,
+    Run,
+    Word,
+    Page,
+    Written,
+}
 
-/// Their least lengths.
-pub const LEAST: [usize; LISTS] = [DISTANCES, TABLE, RUN, WORD, PAGE, WRITTEN];
+/// A length of each list, in this order.
+pub type Lengths = [usize; 6];
+
+pub const LEAST: Lengths = [DISTANCES, TABLE, RUN, WORD, PAGE, WRITTEN];
+
+/// Lengths of which one is another.
+pub fn with_length(lengths: Lengths, list: List, length: usize) -> Lengths {
+    let mut lengths = lengths;
+    lengths[list as usize] = length;
+    lengths
+}
+
+/// Every choice of lengths around the least ones for some of the lists; the others are exact.
+pub fn every_length(of: &[List]) -> Vec<Lengths> {
+    of.iter().fold(vec![LEAST], |choices, &list| {
+        let around = lengths(LEAST[list as usize]);
+        let extended = |choice| around.map(|length| with_length(choice, list, length));
+        choices.into_iter().flat_map(extended).collect()
+    })
+}
 
 impl Lists {
-    pub fn anything(rng: &mut Rng, lengths: [usize; LISTS]) -> Lists {
+    pub fn anything(rng: &mut Rng, lengths: Lengths) -> Lists {
         let [distances, table, run, word, page, written] = lengths;
         Lists {
             distances: Lent::anything(rng, DISTANCES, distances),
@@ -155,7 +181,7 @@ impl Lists {
     }
 
     /// The same lists, but more or less of them lent.
-    pub fn of_lengths(&self, lengths: [usize; LISTS]) -> Lists {
+    pub fn of_lengths(&self, lengths: Lengths) -> Lists {
         let [distances, table, run, word, page, written] = lengths;
         Lists {
             distances: self.distances.of_length(distances),
@@ -194,18 +220,4 @@ impl fmt::Display for Lists {
         writeln!(f, "page: {}", self.page)?;
         write!(f, "written: {}", self.written)
     }
-}
-
-/// Every choice of lengths around the least ones for some of the lists, by their index; the others are exact.
-pub fn every_length(of: &[usize]) -> Vec<[usize; LISTS]> {
-    of.iter().fold(vec![LEAST], |choices, &index| {
-        let extended = |choice: [usize; LISTS]| {
-            lengths(LEAST[index]).map(|length| {
-                let mut choice = choice;
-                choice[index] = length;
-                choice
-            })
-        };
-        choices.into_iter().flat_map(extended).collect()
-    })
 }

@@ -3,7 +3,7 @@ use second::gen::{self, Rng};
 use second::store::{STORE, WRITTEN};
 use second::{Model, Refusal};
 use suite::bench::WORKED;
-use suite::lists::{lengths, Lent, Lists, LEAST};
+use suite::lists::{lengths, with_length, Lent, List, Lists, LEAST};
 use suite::same;
 use suite::stores::Store;
 use suite::texts::models_to_damage;
@@ -86,9 +86,7 @@ fn there_and_back(rng: &mut Rng, model: &Model) {
         assert_eq!(after[STORE..], before[STORE..]);
         let store = Store::made_of(model, after.to_vec());
         for out in lengths(WRITTEN) {
-            let mut lengths = LEAST;
-            lengths[5] = out;
-            let before = lists.of_lengths(lengths);
+            let before = lists.of_lengths(with_length(LEAST, List::Written, out));
             if out < WRITTEN {
                 let (answer, after) = same::write(&store, &before);
                 assert_eq!(answer.map(|_| ()), short);

@@ -4,87 +4,115 @@ use second::gen;
 use second::store::{action_place, DISTANCES, STORE};
 use second::{Model, Refusal};
 use suite::bench::{store_of, text_of, ACTIONS, WORKED};
-use suite::lists::{every_length, lengths, Lent, Lists, LEAST, LISTS};
+use suite::lists::List::{self, Distances, Page, Run, Table, Word, Written};
+use suite::lists::{every_length, lengths, with_length, Lengths, Lent, Lists, LEAST};
 use suite::same;
 use suite::stores::{self, Store};
 
 const SEED: u64 = 7_600;
 
-/// The refusal of a call, if it is one, and what the lists hold afterwards.
-type Refused = (Option<Refusal>, Lists);
-
 /// An operation on a store.
 struct Operation {
     name: &'static str,
-    /// The lists that it is lent after the store, by their index.
-    lent: &'static [usize],
-    /// Only Run takes a state.
-    call: fn(&Store, &Lists, u16) -> Refused,
+    /// The lists that it is lent after the store.
+    lent: &'static [List],
+    /// The refusal, if the call is refused, and the lists afterwards. Only Run takes a state.
+    call: fn(&Store, &Lists, u16) -> (Option<Refusal>, Lists),
 }
 
-fn refusal<A>((answer, lists): (Result<A, Refusal>, Lists)) -> Refused {
+fn refusal<A>((answer, lists): (Result<A, Refusal>, Lists)) -> (Option<Refusal>, Lists) {
     (answer.err(), lists)
 }
 
-const OPERATIONS: [Operation; 7] = [
-    Operation {
-        name: "Reach",
-        lent: &[0],
-        call: |store, lists, _| refusal(same::reach(store, lists)),
-    },
-    Operation {
-        name: "Rank",
-        lent: &[1],
-        call: |store, lists, _| refusal(same::rank(store, lists)),
-    },
-    Operation {
-        name: "Judge",
-        lent: &[0, 1],
-        call: |store, lists, _| refusal(same::judge(store, lists)),
-    },
-    Operation {
-        name: "Run",
-        lent: &[0, 2],
-        call: |store, lists, state| refusal(same::run(store, lists, state)),
-    },
-    Operation {
-        name: "Word",
-        lent: &[0, 1, 3],
-        call: |store, lists, _| refusal(same::word(store, lists)),
-    },
-    Operation {
-        name: "Page",
-        lent: &[0, 1, 2, 3, 4],
-        call: |store, lists, _| refusal(same::page(store, lists)),
-    },
-    Operation {
-        name: "Write",
-        lent: &[5],
-        call: |store, lists, _| refusal(same::write(store, lists)),
-    },
-];
+const REACH: Operation = Operation {
+    name: "Reach",
+    lent: &[Distances],
+    call: |store, lists, _| refusal(same::reach(store, lists)),
+};
+const RANK: Operation = Operation {
+    name: "Rank",
+    lent: &[Table],
+    call: |store, lists, _| refusal(same::rank(store, lists)),
+};
+const JUDGE: Operation = Operation {
+    name: "Judge",
+    lent: &[Distances, Table],
+    call: |store, lists, _| refusal(same::judge(store, lists)),
+};
+const RUN: Operation = Operation {
+    name: "Run",
+    lent: &[Distances, Run],
+    call: |store, lists, state| refusal(same::run(store, lists, state)),
+};
+const WORD: Operation = Operation {
+    name: "Word",
+    lent: &[Distances, Table, Word],
+    call: |store, lists, _| refusal(same::word(store, lists)),
+};
+const PAGE: Operation = Operation {
+    name: "Page",
+    lent: &[Distances, Table, Run, Word, Page],
+    call: |store, lists, _| refusal(same::page(store, lists)),
+};
+const WRITE: Operation = Operation {
+    name: "Write",
+    lent: &[Written],
+    call: |store, lists, _| refusal(same::write(store, lists)),
+};
+const OPERATIONS: [Operation; 7] = [REACH, RANK, JUDGE, RUN, WORD, PAGE, WRITE];
 
-/// The first of some lists, counted from 1, that is too short; the lists lent before them are long enough.
-fn first_short(before: usize, lent: &[usize], lengths: &[usize; LISTS]) -> Option<Refusal> {
-    let short = |&list: &usize| lengths[list] < LEAST[list];
+/// 21 at the first of some lists that is too short. Those that are lent before them are long enough.
+fn first_short(before: u64, lent: &[List], lengths: &Lengths) -> Option<Refusal> {
+    let short = |&list: &List| lengths[list as usize] < LEAST[list as usize];
     let index = lent.iter().position(short)?;
-    Some(Refusal::new(21, (before + index + 1) as u64))
+    Some(Refusal::new(21, before + index as u64 + 1))
 }
 
-/// A call that must be refused so, and leave every list as it was.
-fn refused(
-    operation: &Operation,
-    store: &Store,
-    lists: &Lists,
-    state: u16,
-    number: u16,
-    place: u64,
-) {
-    let (answer, after) = (operation.call)(store, lists, state);
-    let name = operation.name;
-    let _case = gen::case(|| format!("{name}, state {state}, {store}\n{lists}"));
-    assert_eq!(answer, Some(Refusal::new(number, place)));
-    assert!(after == *lists, "a list was changed");
+const NOT_GOOD: Refusal = Refusal {
+    number: 22,
+    place: 0,
+};
+
+impl Operation {
+    /// The call is refused so, and leaves every list as it was.
+    fn refuses(&self, store: &Store, lists: &Lists, state: u16, expected: Refusal) {
+        let (answer, after) = (self.call)(store, lists, state);
+        let name = self.name;
+        let _case = gen::case(|| format!("{name}, state {state}, {store}\n{lists}"));
+        assert_eq!(answer, Some(expected));
+        assert!(after == *lists, "a list was changed");
+    }
+
+    /// The call is refused with 21 where one of the lists is one element too short.
+    fn refuses_short_lists(&self, store: &Store, lists: &Lists, state: u16) {
+        for (index, &list) in self.lent.iter().enumerate() {
+            let short = with_length(LEAST, list, LEAST[list as usize] - 1);
+            let expected = Refusal::new(21, index as u64 + 2);
+            self.refuses(store, &lists.of_lengths(short), state, expected);
+        }
+    }
+
+    /// Lists of every length, for a store of any length.
+    fn with_every_length(&self, store: &Store, lists: &Lists) {
+        for lengths in every_length(self.lent) {
+            let lists = lists.of_lengths(lengths);
+            let short_store = store.is_short().then_some(Refusal::new(21, 1));
+            let short = short_store.or(first_short(1, self.lent, &lengths));
+            let not_good = store.wrong.map(|_| NOT_GOOD);
+            match short.or(not_good) {
+                Some(expected) => self.refuses(store, &lists, NO_STATE, expected),
+                None => {
+                    let number = (self.call)(store, &lists, 0)
+                        .0
+                        .map(|refusal| refusal.number);
+                    assert!(
+                        matches!(number, None | Some(23 | 24 | 26)),
+                        "{number:?}, {store}"
+                    );
+                }
+            }
+        }
+    }
 }
 
 /// A state that no model has.
@@ -105,32 +133,13 @@ fn lists_of_every_length() {
             1 => gen::branching_deep_model(&mut rng, 1 + 9 * round),
             _ => gen::any_model(&mut rng),
         };
-        let longest = Lists::anything(&mut rng, LEAST);
+        let lists = Lists::anything(&mut rng, LEAST);
         for store in [Store::of(&model), damaged(&model)] {
             for store in store.of_every_length(&mut rng) {
                 for operation in &OPERATIONS {
-                    every_choice(operation, &store, &longest);
+                    operation.with_every_length(&store, &lists);
                 }
             }
-        }
-    }
-}
-
-fn every_choice(operation: &Operation, store: &Store, lists: &Lists) {
-    for lengths in every_length(operation.lent) {
-        let lists = lists.of_lengths(lengths);
-        let short = match store.is_short() {
-            true => Some(Refusal::new(21, 1)),
-            false => first_short(1, operation.lent, &lengths),
-        };
-        if let Some(short) = short {
-            refused(operation, store, &lists, NO_STATE, 21, short.place);
-        } else if store.wrong.is_some() {
-            refused(operation, store, &lists, NO_STATE, 22, 0);
-        } else {
-            let (answer, _) = (operation.call)(store, &lists, 0);
-            let numbers = answer.map_or(0, |refusal| refusal.number);
-            assert!([0, 23, 24, 26].contains(&numbers), "{numbers}, {store}");
         }
     }
 }
@@ -146,7 +155,7 @@ fn damaged_stores() {
             let state = *rng.pick(&[0, 1, NO_STATE, 65_535]);
             for operation in &OPERATIONS {
                 if store.wrong.is_some() {
-                    refused(operation, &store, &lists, state, 22, 0);
+                    operation.refuses(&store, &lists, state, NOT_GOOD);
                     bad += 1;
                 } else if (operation.call)(&store, &lists, state).0.is_none() {
                     good += 1;
@@ -168,15 +177,9 @@ fn damage_at_every_place() {
         for place in 0..STORE {
             let damaged = store.damaged("a number too large", &[(place, 65_535)]);
             let operation = &OPERATIONS[(place + round) % OPERATIONS.len()];
-            refused(operation, &damaged, &lists, 0, 22, 0);
+            operation.refuses(&damaged, &lists, 0, NOT_GOOD);
         }
     }
-}
-
-/// The operation of a name.
-fn operation(name: &str) -> &'static Operation {
-    let found = OPERATIONS.iter().find(|operation| operation.name == name);
-    found.expect("an operation")
 }
 
 /// The distances and the table are as Judge leaves them; the rest is as it was.
@@ -191,7 +194,6 @@ fn as_judged(store: &Store, before: &Lists, after: &Lists) {
 #[test]
 fn word_in_order() {
     let mut rng = gen::seeded("refusals::word_in_order", SEED + 2);
-    let word = operation("Word");
     let branching_and_passed = text_of(2, ACTIONS, &[(0, 2, 0), (0, 2, 1)]);
     let branching_and_refused = text_of(2, ACTIONS, &[(0, 0, 0), (0, 0, 1), (0, 1, 1)]);
     let deterministic_and_passed = text_of(2, ACTIONS, &[(0, 0, 1)]);
@@ -201,19 +203,13 @@ fn word_in_order() {
         (deterministic_and_passed, 24, 0),
     ] {
         let (store, lists) = (store_of(&text), Lists::enough(&mut rng));
-        let (answer, after) = (word.call)(&store, &lists, 0);
+        let (answer, after) = (WORD.call)(&store, &lists, 0);
         assert_eq!(answer, Some(Refusal::new(number, place)), "{store}");
         as_judged(&store, &lists, &after);
         let damaged = store.damaged("unused step", &[(STORE - 1, 1)]);
-        refused(word, &damaged, &lists, 0, 22, 0);
-        for short in [0, 1, 3] {
-            let mut lengths = LEAST;
-            lengths[short] -= 1;
-            let lists = lists.of_lengths(lengths);
-            let place = first_short(1, word.lent, &lengths).expect("short").place;
-            refused(word, &store, &lists, 0, 21, place);
-            refused(word, &damaged, &lists, 0, 21, place);
-        }
+        WORD.refuses(&damaged, &lists, 0, NOT_GOOD);
+        WORD.refuses_short_lists(&store, &lists, 0);
+        WORD.refuses_short_lists(&damaged, &lists, 0);
     }
 }
 
@@ -221,25 +217,20 @@ fn word_in_order() {
 #[test]
 fn run_in_order() {
     let mut rng = gen::seeded("refusals::run_in_order", SEED + 3);
-    let run = operation("Run");
     // nothing leads to state 2
     let store = store_of(&text_of(3, ACTIONS, &[(0, 0, 1), (2, 0, 0)]));
     let lists = Lists::enough(&mut rng);
     let damaged = store.damaged("start not below states", &[(3, 3)]);
     for state in [2, 3, 4, 127, 128, 129, 32_768, 65_535] {
         if state > 2 {
-            refused(run, &store, &lists, state, 25, u64::from(state));
+            let expected = Refusal::new(25, u64::from(state));
+            RUN.refuses(&store, &lists, state, expected);
         }
-        refused(run, &damaged, &lists, state, 22, 0);
-        for (list, place) in [(0, 2), (2, 3)] {
-            let mut lengths = LEAST;
-            lengths[list] -= 1;
-            let lists = lists.of_lengths(lengths);
-            refused(run, &store, &lists, state, 21, place);
-            refused(run, &damaged, &lists, state, 21, place);
-        }
+        RUN.refuses(&damaged, &lists, state, NOT_GOOD);
+        RUN.refuses_short_lists(&store, &lists, state);
+        RUN.refuses_short_lists(&damaged, &lists, state);
     }
-    let (answer, after) = (run.call)(&store, &lists, 2);
+    let (answer, after) = (RUN.call)(&store, &lists, 2);
     assert_eq!(answer, Some(Refusal::new(26, 2)));
     let mut expected = lists.clone();
     expected.distances[..DISTANCES].fill(65_535);
@@ -251,13 +242,12 @@ fn run_in_order() {
 #[test]
 fn damage_comes_before_the_state() {
     let mut rng = gen::seeded("refusals::damage_comes_before_the_state", SEED + 4);
-    let run = operation("Run");
     for _ in 0..10 {
         let lists = Lists::enough(&mut rng);
         for store in stores::damaged(&mut rng) {
             if store.wrong.is_some() {
                 for state in [0, store.numbers[0], NO_STATE, 65_535] {
-                    refused(run, &store, &lists, state, 22, 0);
+                    RUN.refuses(&store, &lists, state, NOT_GOOD);
                 }
             }
         }
@@ -295,18 +285,17 @@ fn from_a_text_with_lists_of_every_length() {
         b"M,1,1,0,0\nA,L,a\nE".to_vec(),
         vec![b'0'; 16_385],
     ];
+    let lent = PAGE.lent;
     for text in texts {
         let _case = gen::text_case(&text);
         let store = Lent::anything(&mut rng, STORE, STORE);
         let lists = Lists::anything(&mut rng, LEAST);
         for store_length in lengths(STORE) {
-            for choice in every_length(&[0, 1, 2, 3, 4]) {
+            for choice in every_length(lent) {
                 let before = (store.of_length(store_length), lists.of_lengths(choice));
                 let (answer, after) = same::print(&text, &before);
-                let short = match store_length < STORE {
-                    true => Some(Refusal::new(21, 2)),
-                    false => first_short(2, &[0, 1, 2, 3, 4], &choice),
-                };
+                let short_store = (store_length < STORE).then_some(Refusal::new(21, 2));
+                let short = short_store.or(first_short(2, lent, &choice));
                 assert_eq!(answer.err(), short, "{choice:?}");
                 assert!(short.is_none() || after == before, "{choice:?}");
             }
