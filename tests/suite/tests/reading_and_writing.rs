@@ -1,6 +1,7 @@
 //! Read and Write against the second checker, and against each other.
 use second::gen::{self, Rng};
 use second::store::{STORE, WRITTEN};
+use second::text::TEXT;
 use second::{Model, Refusal};
 use suite::bench::WORKED;
 use suite::lists::{lengths, with_length, Lent, List, Lists, LEAST};
@@ -53,6 +54,20 @@ fn damaged_texts() {
         refused += usize::from(answer.is_err());
     }
     assert!(read > 150 && refused > 3_000, "{read} {refused}");
+}
+
+#[test]
+fn sizes() {
+    let mut rng = gen::seeded("reading_and_writing::sizes", SEED + 3);
+    let before = Lent::anything(&mut rng, STORE, STORE);
+    assert_eq!(same::read(b"", &before).0, Err(Refusal::new(2, 1)));
+    for byte in 0..=255 {
+        for (length, number, place) in [(1, 2, 1), (TEXT, 2, 1), (TEXT + 1, 1, 0), (20_000, 1, 0)] {
+            let (answer, store) = same::read(&vec![byte; length], &before);
+            assert_eq!(answer, Err(Refusal::new(number, place)), "{byte} {length}");
+            assert!(store == before, "{byte} {length}");
+        }
+    }
 }
 
 /// What Write makes of a store that was read, with an out list of this length, and what Read makes of it again.

@@ -502,7 +502,11 @@ fn bad_lines(lines: &[Vec<u8>], model: &Model) -> Vec<(usize, Vec<u8>, u16)> {
     let last = first_step + model.steps.len();
     let outside = model.states.to_string().into_bytes();
     let changed = |index: usize, field: usize, new: &[u8]| with_field(&lines[index], field, new);
-    let mut bad = vec![(0, changed(0, 1, b"x"), 2), (0, changed(0, 1, b"999"), 3)];
+    let mut bad = vec![
+        (0, b"x".to_vec(), 2),
+        (0, changed(0, 1, b"x"), 2),
+        (0, changed(0, 1, b"999"), 3),
+    ];
     for index in some_of(1, first_step) {
         bad.push((index, changed(index, 1, b"x"), 2));
         if index > 1 {
