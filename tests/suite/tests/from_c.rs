@@ -24,7 +24,7 @@ fn the_worked_example() {
     }
     let program = root().join("tests/suite/tests/worked.c");
     fs::copy(program, folder.0.join("program.c")).expect("a copy");
-    let line = link_line() + " -std=c11 -Wall -Wextra -Werror -pedantic";
+    let line = link_line() + " -std=c11 -Wall -Wextra -Werror";
     let words: Vec<&str> = line.split_whitespace().collect();
     let mut compiler = Command::new(words[0]);
     let made = compiler.args(&words[1..]).current_dir(&folder.0).output();
