@@ -342,6 +342,22 @@ pub fn chain(states: u16) -> Model {
     }
 }
 
+/// The chain of the bench with the longest names and behind so many releases,
+/// each from one state to the next.
+fn chain_behind_releases(releases: u16) -> Model {
+    let mut model = chain(128);
+    let letter = |target: u16| if target <= releases { 2 } else { 0 };
+    model.steps = (1..128)
+        .map(|target| Step::new(target - 1, letter(target), target))
+        .collect();
+    model.steps.push(Step::new(releases, 1, releases + 1));
+    model.steps.sort();
+    for action in &mut model.actions {
+        action.name.resize(LONGEST_NAME, b'9');
+    }
+    model
+}
+
 /// A deterministic model that is refused with a depth from 1 to 127.
 ///
 /// Either one chain that a high step shifts by one, or two chains of the same
@@ -660,6 +676,10 @@ pub fn limit_models(rng: &mut Rng) -> Vec<(&'static str, Model)> {
             ..chain(128)
         },
     ));
+
+    // The longest word, and a page with a long run and a long word.
+    models.push(("longest word", chain_behind_releases(0)));
+    models.push(("long run and word", chain_behind_releases(63)));
     models
 }
 

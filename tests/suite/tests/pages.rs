@@ -111,12 +111,17 @@ fn every_depth() {
 #[test]
 fn models_at_the_limits() {
     let mut rng = gen::seeded("pages::models_at_the_limits", SEED + 2);
+    let mut most = [0; 3];
     for (what, model) in gen::limit_models(&mut rng) {
         let page = told(&mut rng, &model);
         assert_eq!(count(&page, 'C'), usize::from(model.states), "{what}");
         let text = model.to_text();
         assert_eq!(printed(&text, &to_print(&mut rng)), page, "{what}");
+        let sizes = [page.len(), count(&page, 'R'), count(&page, 'W')];
+        most = [0, 1, 2].map(|index| most[index].max(sizes[index]));
     }
+    // 3,393 bytes: a verdict of 15, 1,462 for the states, 127 letters of 15, 11 for the end
+    assert!(most[0] >= 3_393 && most[1..] == [127, 127], "{most:?}");
 }
 
 #[test]
