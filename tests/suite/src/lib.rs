@@ -1,5 +1,5 @@
-//! The proved operations as Rust calls them. A slice passes as a pointer and the number of its elements. What an operation
-//! only reads is lent as a copy, so that a write into it is seen.
+//! The proved operations as Rust calls them. A slice passes as a pointer and the number of its elements. What an
+//! operation only reads is lent as a copy, so that a write into it is seen.
 pub mod bench;
 pub mod lists;
 pub mod same;

@@ -32,8 +32,8 @@ impl Element for u16 {
     }
 }
 
-/// A list to lend, with anything in it. It is a part of a longer one, so that a write outside it is seen. The seed makes
-/// the contents again.
+/// A list to lend, with anything in it. It is a part of a longer one, so that a write outside it is seen. The seed
+/// makes the contents again.
 #[derive(Clone, PartialEq)]
 pub struct Lent<T> {
     whole: Vec<T>,

@@ -1,5 +1,5 @@
-//! Each operation beside the second checker's, on one case: the answers are the same, and so is every list afterwards. A
-//! case that fails is shown.
+//! Each operation beside the second checker's, on one case: the answers are the same, and so is every list afterwards.
+//! A case that fails is shown.
 use second::gen::{self, shown};
 use second::store::STORE;
 use second::{End, Refusal, Verdict};

@@ -3,7 +3,8 @@ use second::gen::{self, Fault, Rng};
 use second::Model;
 use std::collections::BTreeSet;
 
-/// Models of every kind whose texts are to be damaged: small ones, the longest, one with no step, one with a single state.
+/// Models of every kind whose texts are to be damaged: random ones, the longest, one with no step, one with a single
+/// state.
 pub fn models_to_damage(rng: &mut Rng, random: usize) -> Vec<Model> {
     let mut models = vec![gen::chain(2)];
     for (what, model) in gen::limit_models(rng) {

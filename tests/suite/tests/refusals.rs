@@ -1,5 +1,5 @@
-//! Every refusal because of the state in its turn, with the numbers that the scope document gives, and with what it leaves
-//! in the lists. Each call is also compared with the second checker's.
+//! Every refusal because of the state in its turn, with the numbers that the scope document gives, and with what it
+//! leaves in the lists. Each call is also compared with the second checker's.
 use second::gen;
 use second::store::{action_place, DISTANCES, STORE};
 use second::{Model, Refusal};

@@ -1,5 +1,5 @@
-/* The worked example through the operations as a C program calls them. It prints the page. Every number here is from the
-   scope document; the first that differs is told, and the program then ends with 1. */
+/* The worked example through the operations as a C program calls them. It prints the page. The numbers are the scope
+   document's; the first that differs is told, and the program then ends with 1. */
 #include <stdio.h>
 #include <stdlib.h>
 #include <string.h>
