@@ -109,6 +109,19 @@ fn every_depth() {
 }
 
 #[test]
+fn twins() {
+    let mut rng = gen::seeded("pages::twins", SEED + 5);
+    let mut branching = 0;
+    for depth in 1..=127 {
+        let model = gen::deep_model(&mut rng, depth);
+        let twin = gen::with_twin(&mut rng, &model);
+        let twin = gen::shuffle(&mut rng, &twin);
+        branching += count(&told(&mut rng, &twin), 'N');
+    }
+    assert!(branching > 60, "{branching}");
+}
+
+#[test]
 fn models_at_the_limits() {
     let mut rng = gen::seeded("pages::models_at_the_limits", SEED + 2);
     let mut most = [0; 3];

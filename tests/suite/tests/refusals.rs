@@ -149,7 +149,7 @@ fn lists_of_every_length() {
 fn damaged_stores() {
     let mut rng = gen::seeded("refusals::damaged_stores", SEED + 1);
     let (mut good, mut bad) = (0, 0);
-    for _ in 0..40 {
+    for _ in 0..60 {
         let lists = Lists::enough(&mut rng);
         for store in stores::damaged(&mut rng) {
             let state = *rng.pick(&[0, 1, NO_STATE, 65_535]);
