@@ -2,11 +2,13 @@
 //!
 //! Everything is drawn from a small generator with a seed, so each run of the
 //! tests sees the same inputs. Models are made here, damage in the modules
-//! below.
+//! below, and so is what a test shows of its cases.
 
+mod cases;
 mod stores;
 mod texts;
 
+pub use cases::{case, model_case, seeded, shown, shown_numbers, shown_store, text_case, Case};
 pub use stores::{bad_stores, mutated_store, scrap_store};
 pub use texts::{faults, mutated_text, scrap_text, Fault};
 
@@ -25,6 +27,11 @@ pub struct Rng {
 impl Rng {
     pub fn new(seed: u64) -> Rng {
         Rng { state: seed }
+    }
+
+    /// The seed of a generator that draws what this one draws from here on.
+    pub fn seed(&self) -> u64 {
+        self.state
     }
 
     pub fn draw(&mut self) -> u64 {
@@ -335,6 +342,22 @@ pub fn chain(states: u16) -> Model {
     }
 }
 
+/// The chain of the bench with the longest names and behind so many releases,
+/// each from one state to the next.
+fn chain_behind_releases(releases: u16) -> Model {
+    let mut model = chain(128);
+    let letter = |target: u16| if target <= releases { 2 } else { 0 };
+    model.steps = (1..128)
+        .map(|target| Step::new(target - 1, letter(target), target))
+        .collect();
+    model.steps.push(Step::new(releases, 1, releases + 1));
+    model.steps.sort();
+    for action in &mut model.actions {
+        action.name.resize(LONGEST_NAME, b'9');
+    }
+    model
+}
+
 /// A deterministic model that is refused with a depth from 1 to 127.
 ///
 /// Either one chain that a high step shifts by one, or two chains of the same
@@ -417,6 +440,23 @@ pub fn deep_model(rng: &mut Rng, depth: usize) -> Model {
         model
     };
     shuffle(rng, &model)
+}
+
+/// A model refused with a depth from 1 to 127 that is not deterministic: two
+/// steps of a release leave the start, and lead to no state that was
+/// unreachable.
+pub fn branching_deep_model(rng: &mut Rng, depth: usize) -> Model {
+    let mut model = deep_model(rng, depth);
+    let release = of_level(&model.actions, Level::Release)[0];
+    let near = |step: &&Step| step.source == model.start && step.target != model.start;
+    let next = model.steps.iter().find(near).map(|step| step.target);
+    let next = next.expect("some step leads on from the start");
+    let mut steps: BTreeSet<Step> = model.steps.iter().copied().collect();
+    for target in [model.start, next] {
+        steps.insert(Step::new(model.start, release, target));
+    }
+    model.steps = steps.into_iter().collect();
+    model
 }
 
 /// The same model with further states that nothing leads to, and with steps
@@ -636,6 +676,10 @@ pub fn limit_models(rng: &mut Rng) -> Vec<(&'static str, Model)> {
             ..chain(128)
         },
     ));
+
+    // The longest word, and a page with a long run and a long word.
+    models.push(("longest word", chain_behind_releases(0)));
+    models.push(("long run and word", chain_behind_releases(63)));
     models
 }
 

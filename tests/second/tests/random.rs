@@ -5,7 +5,7 @@ mod common;
 use std::collections::BTreeSet;
 
 use common::Lists;
-use second::gen::{self, Rng};
+use second::gen;
 use second::meaning::{self, possible, thin, Deterministic};
 use second::{judge, program, rank, reach, run, word, End, Level, Model, Refusal, Verdict};
 
@@ -31,9 +31,10 @@ fn told(model: &Model) -> Told {
 
 /// Checks Judge and Word on a deterministic model by exploration.
 fn check_meaning(model: &Model) -> Verdict {
+    let _case = gen::model_case(model);
     let exact = Deterministic::new(model).expect("deterministic");
     let Told { verdict, word } = told(model);
-    assert_eq!(exact.verdict_holds(verdict), Ok(()), "{model:?}");
+    assert_eq!(exact.verdict_holds(verdict), Ok(()));
     match (verdict, word) {
         (Verdict::Refused { step, depth }, Ok((word, end))) => {
             assert_eq!(exact.word_holds(step, depth, &word, end), Ok(()));
@@ -46,7 +47,10 @@ fn check_meaning(model: &Model) -> Verdict {
 
 #[test]
 fn deterministic_models_mean_what_is_told() {
-    let mut rng = Rng::new(201);
+    let mut rng = gen::seeded(
+        "second::random::deterministic_models_mean_what_is_told",
+        201,
+    );
     let (mut passed, mut refused, mut small) = (0, 0, 0);
     let mut depths = BTreeSet::new();
     for _ in 0..3_000 {
@@ -67,10 +71,11 @@ fn deterministic_models_mean_what_is_told() {
 
 #[test]
 fn every_depth_is_told() {
-    let mut rng = Rng::new(202);
+    let mut rng = gen::seeded("second::random::every_depth_is_told", 202);
     for depth in 1..=127 {
         for _ in 0..1 + usize::from(depth % 4 == 0) {
             let model = gen::deep_model(&mut rng, depth);
+            let _case = gen::model_case(&model);
             match check_meaning(&model) {
                 Verdict::Refused { depth: told, .. } => assert_eq!(usize::from(told), depth),
                 verdict => panic!("{verdict:?} at {depth}"),
@@ -81,11 +86,12 @@ fn every_depth_is_told() {
 
 #[test]
 fn twins_keep_the_depth() {
-    let mut rng = Rng::new(212);
+    let mut rng = gen::seeded("second::random::twins_keep_the_depth", 212);
     let mut doubles = 0;
     for depth in (1..=126).step_by(5) {
         let model = gen::deep_model(&mut rng, depth);
         let model = gen::with_twin(&mut rng, &model);
+        let _case = gen::model_case(&model);
         let Told { verdict, word } = told(&model);
         match verdict {
             Verdict::Refused { depth: told, .. } => assert_eq!(usize::from(told), depth),
@@ -98,7 +104,7 @@ fn twins_keep_the_depth() {
 
 #[test]
 fn passing_models_pass() {
-    let mut rng = Rng::new(203);
+    let mut rng = gen::seeded("second::random::passing_models_pass", 203);
     for round in 0..600 {
         let deterministic = round % 2 == 0;
         let states = if round % 20 == 0 {
@@ -107,8 +113,9 @@ fn passing_models_pass() {
             rng.between(1, 12)
         };
         let model = gen::passing_model(&mut rng, states, deterministic);
+        let _case = gen::model_case(&model);
         let verdict = told(&model).verdict;
-        assert!(matches!(verdict, Verdict::Passed { .. }), "{model:?}");
+        assert!(matches!(verdict, Verdict::Passed { .. }), "{verdict:?}");
         if deterministic {
             check_meaning(&model);
         }
@@ -117,8 +124,9 @@ fn passing_models_pass() {
 
 #[test]
 fn limits_mean_what_is_told() {
-    let mut rng = Rng::new(204);
+    let mut rng = gen::seeded("second::random::limits_mean_what_is_told", 204);
     for (what, model) in gen::limit_models(&mut rng) {
+        let _case = gen::model_case(&model);
         if meaning::deterministic(&model) {
             check_meaning(&model);
         }
@@ -155,7 +163,7 @@ fn sequences(actions: &[u16], longest: usize) -> Vec<Vec<u16>> {
 /// differ, if there is one, is met within 6 actions in each model here.
 #[test]
 fn tiny_models_sequence_by_sequence() {
-    let mut rng = Rng::new(205);
+    let mut rng = gen::seeded("second::random::tiny_models_sequence_by_sequence", 205);
     let (mut seen, mut interfering) = (0, 0);
     while seen < 1_500 {
         let states = rng.between(2, 3);
@@ -165,6 +173,7 @@ fn tiny_models_sequence_by_sequence() {
         model.actions[0].level = Level::Low;
         model.actions[1].level = Level::High;
         let model = gen::shuffle(&mut rng, &model);
+        let _case = gen::model_case(&model);
         seen += 1;
         let numbers: Vec<u16> = (0..actions as u16).collect();
         let low: Vec<u16> = numbers
@@ -186,11 +195,7 @@ fn tiny_models_sequence_by_sequence() {
                     }))
         });
         let verdict = check_meaning(&model);
-        assert_eq!(
-            found,
-            matches!(verdict, Verdict::Refused { .. }),
-            "{model:?}"
-        );
+        assert_eq!(found, matches!(verdict, Verdict::Refused { .. }));
         interfering += usize::from(found);
     }
     assert!(interfering > 150, "{interfering}");
@@ -199,13 +204,14 @@ fn tiny_models_sequence_by_sequence() {
 /// Word, found by trying all low sequences in order.
 #[test]
 fn tiny_words_by_trying_all() {
-    let mut rng = Rng::new(206);
+    let mut rng = gen::seeded("second::random::tiny_words_by_trying_all", 206);
     let mut words = 0;
     for _ in 0..3_000 {
         let states = rng.between(2, 5);
         let actions = rng.between(2, 4);
         let steps = rng.below(states * actions + 2);
         let model = gen::random_model(&mut rng, states, actions, steps, true);
+        let _case = gen::model_case(&model);
         let Told { verdict, word } = told(&model);
         let Verdict::Refused { step, depth } = verdict else {
             continue;
@@ -232,10 +238,11 @@ fn tiny_words_by_trying_all() {
 
 #[test]
 fn lists_hold_on_all_models() {
-    let mut rng = Rng::new(207);
+    let mut rng = gen::seeded("second::random::lists_hold_on_all_models", 207);
     let (mut doubles, mut passed) = (0, 0);
     for _ in 0..1_000 {
         let model = gen::any_model(&mut rng);
+        let _case = gen::model_case(&model);
         let store = model.to_store();
         let mut lists = Lists::new();
         reach(&store, &mut lists.distances).unwrap();
@@ -277,9 +284,10 @@ fn lists_hold_on_all_models() {
 
 #[test]
 fn pages_hold() {
-    let mut rng = Rng::new(208);
+    let mut rng = gen::seeded("second::random::pages_hold", 208);
     for _ in 0..1_500 {
         let model = gen::any_model(&mut rng);
+        let _case = gen::model_case(&model);
         if model.states <= 60 {
             let text = model.to_text();
             let page = program(&text);
@@ -288,13 +296,19 @@ fn pages_hold() {
     }
 }
 
+fn refused(text: &[u8], page: &[u8]) {
+    let holds = meaning::page_holds(text, page).is_ok();
+    assert!(!holds, "page: {}", gen::shown(page));
+}
+
 /// A page in which any byte is changed, missing or added does not hold.
 #[test]
 fn changed_pages_do_not_hold() {
-    let mut rng = Rng::new(209);
+    let mut rng = gen::seeded("second::random::changed_pages_do_not_hold", 209);
     let mut tried = 0;
     while tried < 12 {
         let model = gen::small_model(&mut rng, tried % 5 != 0);
+        let _case = gen::model_case(&model);
         let text = model.to_text();
         let page = program(&text);
         if !page.starts_with(b"V,refuse") && tried % 3 == 0 {
@@ -306,15 +320,15 @@ fn changed_pages_do_not_hold() {
                 let mut changed = page.clone();
                 changed[place] = *byte;
                 if changed != page {
-                    assert!(meaning::page_holds(&text, &changed).is_err());
+                    refused(&text, &changed);
                 }
                 let mut longer = page.clone();
                 longer.insert(place, *byte);
-                assert!(meaning::page_holds(&text, &longer).is_err());
+                refused(&text, &longer);
             }
             let mut shorter = page.clone();
             shorter.remove(place);
-            assert!(meaning::page_holds(&text, &shorter).is_err());
+            refused(&text, &shorter);
         }
     }
 }
@@ -322,10 +336,11 @@ fn changed_pages_do_not_hold() {
 /// The checks of the meaning refuse every other answer.
 #[test]
 fn wrong_answers_do_not_hold() {
-    let mut rng = Rng::new(210);
+    let mut rng = gen::seeded("second::random::wrong_answers_do_not_hold", 210);
     let mut refused = 0;
     for _ in 0..400 {
         let model = gen::small_model(&mut rng, true);
+        let _case = gen::model_case(&model);
         let exact = Deterministic::new(&model).expect("deterministic");
         let Told { verdict, word } = told(&model);
         let passes = matches!(verdict, Verdict::Passed { .. });
@@ -355,9 +370,10 @@ fn wrong_answers_do_not_hold() {
 /// Neither list can have a wrong number in it.
 #[test]
 fn wrong_lists_do_not_hold() {
-    let mut rng = Rng::new(211);
+    let mut rng = gen::seeded("second::random::wrong_lists_do_not_hold", 211);
     for _ in 0..60 {
         let model = gen::small_model(&mut rng, false);
+        let _case = gen::model_case(&model);
         let store = model.to_store();
         let mut lists = Lists::new();
         reach(&store, &mut lists.distances).unwrap();

@@ -3,12 +3,13 @@
 mod common;
 
 use common::{store_of, till, Lists, CLOSE, EXAMPLE, PRINT, SCAN};
-use second::gen::{self, Rng};
+use second::gen;
 use second::store::{DISTANCES, PAGE, RUN, STORE, TABLE, WORD, WRITTEN};
 use second::{judge, page, program, rank, reach, read, run, word, write, Refusal, Verdict};
 
 /// Reads a text that must be refused, and checks that the store is kept.
 fn refusal(text: &[u8]) -> (u16, u64) {
+    let _case = gen::text_case(text);
     let old = vec![4_321; STORE + 1];
     let mut store = old.clone();
     let refusal = read(text, &mut store).expect_err("the text is bad");
@@ -108,7 +109,7 @@ fn a_short_store_comes_before_a_long_text() {
 
 #[test]
 fn faults_in_many_texts() {
-    let mut rng = Rng::new(11);
+    let mut rng = gen::seeded("second::refusals::faults_in_many_texts", 11);
     let mut models = vec![
         gen::chain(4),
         gen::chain(2),
@@ -123,10 +124,10 @@ fn faults_in_many_texts() {
     let mut numbers = [0; 6];
     for model in &models {
         for fault in gen::faults(model) {
+            let _case = gen::text_case(&fault.text);
             let mut store = vec![4_321; STORE];
             let answer = read(&fault.text, &mut store);
-            let shown = String::from_utf8_lossy(&fault.text);
-            assert_eq!(answer, Err(fault.refusal), "{}: {shown}", fault.what);
+            assert_eq!(answer, Err(fault.refusal), "{}", fault.what);
             assert!(store.iter().all(|&number| number == 4_321));
             numbers[usize::from(fault.refusal.number)] += 1;
         }
@@ -209,7 +210,7 @@ fn padded<T>(lists: &mut [Vec<T>]) -> Vec<&mut [T]> {
 
 #[test]
 fn bad_stores_change_nothing() {
-    let mut rng = Rng::new(22);
+    let mut rng = gen::seeded("second::refusals::bad_stores_change_nothing", 22);
     let mut models = vec![gen::chain(5), second::text::parse(&till(1, &[])).unwrap()];
     for _ in 0..6 {
         models.push(gen::small_model(&mut rng, true));
@@ -217,6 +218,7 @@ fn bad_stores_change_nothing() {
     let bad = Some(Refusal::new(22, 0));
     for model in &models {
         for (what, store) in gen::bad_stores(model) {
+            let _case = gen::case(|| gen::shown_store(model, &store));
             let old = Lists::new();
             let mut lists = old.clone();
             let Lists {
@@ -323,7 +325,7 @@ fn page_fills_only_what_it_prints() {
 
 #[test]
 fn nothing_panics() {
-    let mut rng = Rng::new(33);
+    let mut rng = gen::seeded("second::refusals::nothing_panics", 33);
     let mut good = 0;
     for round in 0..4_000 {
         let model = gen::any_model(&mut rng);
@@ -332,6 +334,7 @@ fn nothing_panics() {
         } else {
             gen::mutated_text(&mut rng, &model.to_text())
         };
+        let _case = gen::text_case(&text);
         let page = program(&text);
         if page[0] == b'V' {
             good += 1;
@@ -348,6 +351,7 @@ fn nothing_panics() {
             let model = gen::any_model(&mut rng);
             gen::mutated_store(&mut rng, &model)
         };
+        let _case = gen::case(|| gen::shown_numbers(&store));
         let mut lists = Lists::new();
         let answer = judge(&store, &mut lists.distances, &mut lists.table);
         let state = rng.below(140) as u16;

@@ -5,7 +5,7 @@ mod common;
 use std::collections::BTreeSet;
 
 use common::Lists;
-use second::gen::{self, Rng};
+use second::gen;
 use second::store::{good, STORE, WRITTEN};
 use second::{read, write, Model, Refusal};
 
@@ -61,6 +61,7 @@ fn follows_the_rules(store: &[u16]) -> bool {
 
 /// Writes a model's store, reads that text, and compares both ways.
 fn round_trip(model: &Model) -> usize {
+    let _case = gen::model_case(model);
     let store = model.to_store();
     assert!(follows_the_rules(&store));
     assert_eq!(good(&store).as_ref(), Ok(model));
@@ -80,7 +81,7 @@ fn round_trip(model: &Model) -> usize {
 
 #[test]
 fn written_texts_read_back() {
-    let mut rng = Rng::new(101);
+    let mut rng = gen::seeded("second::stores::written_texts_read_back", 101);
     for _ in 0..4_000 {
         round_trip(&gen::any_model(&mut rng));
     }
@@ -88,7 +89,7 @@ fn written_texts_read_back() {
 
 #[test]
 fn limits_read_back() {
-    let mut rng = Rng::new(102);
+    let mut rng = gen::seeded("second::stores::limits_read_back", 102);
     for (what, model) in gen::limit_models(&mut rng) {
         let length = round_trip(&model);
         assert_eq!(
@@ -101,10 +102,11 @@ fn limits_read_back() {
 
 #[test]
 fn bad_stores_break_the_rules() {
-    let mut rng = Rng::new(103);
+    let mut rng = gen::seeded("second::stores::bad_stores_break_the_rules", 103);
     for _ in 0..30 {
         let model = gen::small_model(&mut rng, false);
         for (what, store) in gen::bad_stores(&model) {
+            let _case = gen::case(|| gen::shown_store(&model, &store));
             assert!(!follows_the_rules(&store), "{what}");
             assert_eq!(good(&store), Err(Refusal::new(22, 0)), "{what}");
         }
@@ -113,7 +115,10 @@ fn bad_stores_break_the_rules() {
 
 #[test]
 fn good_stores_are_those_that_follow_the_rules() {
-    let mut rng = Rng::new(104);
+    let mut rng = gen::seeded(
+        "second::stores::good_stores_are_those_that_follow_the_rules",
+        104,
+    );
     let mut count = [0, 0];
     for round in 0..12_000 {
         let store = if round % 10 == 0 {
@@ -122,6 +127,7 @@ fn good_stores_are_those_that_follow_the_rules() {
             let model = gen::small_model(&mut rng, false);
             gen::mutated_store(&mut rng, &model)
         };
+        let _case = gen::case(|| gen::shown_numbers(&store));
         let is_good = good(&store).is_ok();
         assert_eq!(is_good, follows_the_rules(&store));
         count[usize::from(is_good)] += 1;
@@ -141,11 +147,12 @@ fn a_store_is_judged_by_its_first_numbers_alone() {
 
 #[test]
 fn read_texts_write_back() {
-    let mut rng = Rng::new(105);
+    let mut rng = gen::seeded("second::stores::read_texts_write_back", 105);
     let mut count = 0;
     for _ in 0..6_000 {
         let model = gen::small_model(&mut rng, false);
         let text = gen::mutated_text(&mut rng, &model.to_text());
+        let _case = gen::text_case(&text);
         let mut store = vec![8; STORE];
         if read(&text, &mut store).is_ok() {
             let mut lists = Lists::new();

@@ -1,22 +1,101 @@
-//! The bench models.
-use second::store::STORE;
+//! The bench models of the scope document, and the examples.
+use second::store::{DISTANCES, STORE, TABLE};
+use second::{text, End, Refusal, Verdict};
 use std::fs;
 use std::path::{Path, PathBuf};
 
-/// Action lines of the bench models: 0 is scan, 1 is print, 2 is close.
-pub const ACTIONS: &str = "A,L,scan\nA,H,print\nA,D,close\n";
-pub const CLOSE_IS_LOW: &str = "A,L,scan\nA,H,print\nA,L,close\n";
+use crate::stores::Store;
 
-/// The store of a bench model: start 0, steps as written.
-pub fn bench(states: usize, actions: &str, steps: &[(u16, u16, u16)]) -> Vec<u16> {
-    let mut text = format!("M,{states},3,{},0\n{actions}", steps.len());
+/// The worked example.
+pub const WORKED: &[u8] =
+    b"M,4,3,4,0\nA,L,scan\nA,H,print\nA,D,close\nS,0,0,1\nS,0,1,2\nS,1,0,1\nS,2,0,3\nE\n";
+pub const WORKED_PAGE: &[u8] =
+    b"V,refuse,1,2\nC,0,0,0\nC,1,1,0\nC,2,1,2\nC,3,2,3\nW,scan\nW,scan\nB,source\nE\n";
+
+/// The distances of the worked example.
+pub fn worked_distances() -> Vec<u16> {
+    let mut distances = vec![65_535; DISTANCES];
+    distances[..4].copy_from_slice(&[0, 1, 1, 2]);
+    distances
+}
+
+/// The ranks of the worked example: 0 and 1 scan for ever, 2 scans once, 3 never.
+pub fn worked_table() -> Vec<u8> {
+    let mut table = vec![0; TABLE];
+    for (p, q, rank) in [(0, 2, 2), (0, 3, 1), (1, 2, 2), (1, 3, 1), (2, 3, 1)] {
+        table[128 * p + q] = rank;
+        table[128 * q + p] = rank;
+    }
+    table
+}
+
+/// The store of a text that both checkers read.
+pub fn store_of(text: &[u8]) -> Store {
+    let model = text::parse(text).expect("the text is good");
+    let mut numbers = vec![7; STORE];
+    assert_eq!(crate::read(text, &mut numbers), Ok(()));
+    let store = Store::of(&model);
+    assert_eq!(numbers, store.numbers);
+    store
+}
+
+/// A text with start 0 and these action lines and steps.
+pub fn text_of(states: u16, actions: &str, steps: &[(u16, u16, u16)]) -> Vec<u8> {
+    let count = actions.lines().count();
+    let mut text = format!("M,{states},{count},{},0\n{actions}", steps.len());
     for (source, action, target) in steps {
         text += &format!("S,{source},{action},{target}\n");
     }
-    text += "E\n";
-    let mut store = vec![0; STORE];
-    assert_eq!(crate::read(text.as_bytes(), &mut store), Ok(()), "{text}");
-    store
+    (text + "E\n").into_bytes()
+}
+
+/// Action lines of the bench models: 0 is scan, 1 is print, 2 is close.
+pub const ACTIONS: &str = "A,L,scan\nA,H,print\nA,D,close\n";
+const CLOSE_IS_LOW: &str = "A,L,scan\nA,H,print\nA,L,close\n";
+
+/// The letters that Word shows and the end that allows them, or its refusal.
+pub type WordTold = Result<(Vec<u16>, End), Refusal>;
+
+/// A bench model, what Judge tells of it and what Word does.
+pub struct BenchModel {
+    pub store: Store,
+    pub verdict: Verdict,
+    pub word: WordTold,
+}
+
+fn passed(rank: u16) -> (Verdict, WordTold) {
+    (Verdict::Passed { rank }, Err(Refusal::new(24, 0)))
+}
+
+fn refused(step: u16, depth: u16, word: WordTold) -> (Verdict, WordTold) {
+    (Verdict::Refused { step, depth }, word)
+}
+
+/// The bench models in the scope document's order, except for the long chain.
+pub fn models() -> Vec<BenchModel> {
+    let scanned_once: &[_] = &[(0, 0, 1), (0, 1, 2), (2, 0, 3), (2, 2, 0)];
+    let released: &[_] = &[(0, 1, 1), (1, 2, 2), (2, 0, 2)];
+    let branching: &[_] = &[(0, 0, 2), (0, 0, 3), (0, 1, 1), (1, 0, 2), (2, 0, 3)];
+    let worked = refused(1, 2, Ok((vec![0, 0], End::Source)));
+    let close_low = refused(0, 1, Ok((vec![2], End::Target)));
+    let not_deterministic = refused(2, 2, Err(Refusal::new(23, 1)));
+    [
+        (WORKED.to_vec(), worked),
+        (text_of(4, ACTIONS, scanned_once), passed(1)),
+        (text_of(3, ACTIONS, released), passed(1)),
+        (text_of(3, CLOSE_IS_LOW, released), close_low),
+        (text_of(4, ACTIONS, branching), not_deterministic),
+        (text_of(1, ACTIONS, &[]), passed(0)),
+        (text_of(1, ACTIONS, &[(0, 1, 0)]), passed(0)),
+        (text_of(3, ACTIONS, &[(1, 1, 2), (2, 0, 2)]), passed(1)),
+    ]
+    .into_iter()
+    .map(|(text, (verdict, word))| BenchModel {
+        store: store_of(&text),
+        verdict,
+        word,
+    })
+    .collect()
 }
 
 /// The repository's folder.
@@ -37,4 +116,21 @@ pub fn examples() -> Vec<(PathBuf, Vec<u8>, Vec<u8>)> {
         (file, text, page)
     };
     files.into_iter().map(with_page).collect()
+}
+
+/// A folder of a test's own, which goes with this value.
+pub struct Folder(pub PathBuf);
+
+impl Folder {
+    pub fn new(name: &str) -> Folder {
+        let folder = std::env::temp_dir().join(format!("till_{name}_{}", std::process::id()));
+        fs::create_dir_all(&folder).expect("a folder");
+        Folder(folder)
+    }
+}
+
+impl Drop for Folder {
+    fn drop(&mut self) {
+        let _ = fs::remove_dir_all(&self.0);
+    }
 }

@@ -1,8 +1,12 @@
-//! The proved operations as Rust calls them. A slice passes as a pointer and the number of its elements. What an operation
-//! only reads is lent as a copy, so that a write into it is seen.
+//! The proved operations as Rust calls them. A slice passes as a pointer and the number of its elements. What an
+//! operation only reads is lent as a copy, so that a write into it is seen.
 pub mod bench;
 pub mod lists;
+pub mod same;
+pub mod stores;
+pub mod texts;
 
+use second::gen::{shown, shown_numbers};
 use second::{End, Refusal, Verdict};
 
 /// Number 0 with `count` values, or a refusal's number with its place.
@@ -114,7 +118,7 @@ pub fn read(text: &[u8], store: &mut [u16]) -> Result<(), Refusal> {
             store.len(),
         )
     };
-    assert!(lent == text, "the text is only read");
+    assert!(lent == text, "only read, text: {}", shown(text));
     let values = answer.values()?;
     assert!(values.is_empty(), "Read answers only that it succeeded");
     Ok(())
@@ -123,7 +127,7 @@ pub fn read(text: &[u8], store: &mut [u16]) -> Result<(), Refusal> {
 pub fn write(store: &[u16], out: &mut [u8]) -> Result<usize, Refusal> {
     let mut lent = store.to_vec();
     let answer = unsafe { till_write(lent.as_mut_ptr(), lent.len(), out.as_mut_ptr(), out.len()) };
-    assert!(lent == store, "the store is only read");
+    assert!(lent == store, "only read, {}", shown_numbers(store));
     let values = answer.values()?;
     assert_eq!(values.len(), 1, "Write answers its length");
     Ok(usize::try_from(values[0]).expect("a length fits"))
@@ -139,7 +143,7 @@ pub fn reach(store: &[u16], distances: &mut [u16]) -> Result<(), Refusal> {
             distances.len(),
         )
     };
-    assert!(lent == store, "the store is only read");
+    assert!(lent == store, "only read, {}", shown_numbers(store));
     let values = answer.values()?;
     assert!(values.is_empty(), "Reach answers only that it succeeded");
     Ok(())
@@ -155,7 +159,7 @@ pub fn rank(store: &[u16], table: &mut [u8]) -> Result<u16, Refusal> {
             table.len(),
         )
     };
-    assert!(lent == store, "the store is only read");
+    assert!(lent == store, "only read, {}", shown_numbers(store));
     let values = answer.values()?;
     assert_eq!(values.len(), 1, "Rank answers its last round");
     Ok(small(values[0]))
@@ -173,7 +177,7 @@ pub fn judge(store: &[u16], distances: &mut [u16], table: &mut [u8]) -> Result<V
             table.len(),
         )
     };
-    assert!(lent == store, "the store is only read");
+    assert!(lent == store, "only read, {}", shown_numbers(store));
     match answer.values()?[..] {
         [rank] => Ok(Verdict::Passed { rank: small(rank) }),
         [step, depth] => Ok(Verdict::Refused {
@@ -202,7 +206,7 @@ pub fn run(
             state,
         )
     };
-    assert!(lent == store, "the store is only read");
+    assert!(lent == store, "only read, {}", shown_numbers(store));
     let values = answer.values()?;
     assert_eq!(values.len(), 1, "Run answers its length");
     Ok(usize::try_from(values[0]).expect("a length fits"))
@@ -227,7 +231,7 @@ pub fn word(
             word.len(),
         )
     };
-    assert!(lent == store, "the store is only read");
+    assert!(lent == store, "only read, {}", shown_numbers(store));
     let (length, end) = match answer.values()?[..] {
         [length, 0] => (length, End::Source),
         [length, 1] => (length, End::Target),
@@ -261,7 +265,7 @@ pub fn page(
             out.len(),
         )
     };
-    assert!(lent == store, "the store is only read");
+    assert!(lent == store, "only read, {}", shown_numbers(store));
     let values = answer.values()?;
     assert_eq!(values.len(), 1, "Page answers its length");
     Ok(usize::try_from(values[0]).expect("a length fits"))
@@ -296,7 +300,7 @@ pub fn print(
             out.len(),
         )
     };
-    assert!(lent == text, "the text is only read");
+    assert!(lent == text, "only read, text: {}", shown(text));
     let values = answer.values()?;
     assert_eq!(values.len(), 1, "what is printed has a length");
     Ok(usize::try_from(values[0]).expect("a length fits"))

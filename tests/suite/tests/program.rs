@@ -7,10 +7,11 @@ use std::process::{Command, Output, Stdio};
 use std::thread::sleep;
 use std::time::Duration;
 
-use second::gen::{self, Rng};
-use suite::bench::{examples, root};
+use second::gen::{self, shown, Fault, Rng};
+use suite::bench::{examples, root, Folder, WORKED, WORKED_PAGE};
+use suite::texts::{models_to_damage, one_of_each};
 
-const SEED: u64 = 0x7115;
+const SEED: u64 = 7_500;
 
 /// The most bytes that a text may have.
 const LONGEST: usize = 16_384;
@@ -52,14 +53,20 @@ fn printed(text: &[u8]) -> Vec<u8> {
 
 /// The program prints what the second checker prints.
 fn same(text: &[u8]) -> Vec<u8> {
-    let page = printed(text);
-    let expected = second::program(text);
+    same_in_pieces(&[text], Duration::ZERO)
+}
+
+fn same_in_pieces(pieces: &[&[u8]], pause: Duration) -> Vec<u8> {
+    let text = pieces.concat();
+    let lengths = || pieces.iter().map(|piece| piece.len()).collect::<Vec<_>>();
+    let _case = gen::case(|| format!("text: {}\nin pieces of {:?}", shown(&text), lengths()));
+    let page = in_pieces(pieces, pause);
+    let expected = second::program(&text);
     assert!(
         page == expected,
-        "printed:\n{}\nexpected:\n{}\ntext:\n{}",
-        String::from_utf8_lossy(&page),
-        String::from_utf8_lossy(&expected),
-        String::from_utf8_lossy(text)
+        "printed:\n{}\nexpected:\n{}",
+        shown(&page),
+        shown(&expected)
     );
     page
 }
@@ -79,8 +86,7 @@ fn sizes() {
         assert_eq!(same(&[byte; LONGEST + 1]), b"F,1,0\n");
         assert_eq!(same(&[byte; 20_000]), b"F,1,0\n");
     }
-    let mut rng = Rng::new(SEED);
-    println!("seed {SEED}");
+    let mut rng = gen::seeded("program::sizes", SEED);
     for (_, model) in gen::limit_models(&mut rng) {
         let mut text = model.to_text();
         let page = same(&text);
@@ -92,72 +98,103 @@ fn sizes() {
     }
 }
 
+/// A text in pieces of up to so many bytes.
+fn cut<'a>(rng: &mut Rng, text: &'a [u8], most: usize) -> Vec<&'a [u8]> {
+    let (mut pieces, mut rest): (Vec<&[u8]>, &[u8]) = (Vec::new(), text);
+    while !rest.is_empty() {
+        let (piece, after) = rest.split_at(rng.between(1, most).min(rest.len()));
+        pieces.push(piece);
+        rest = after;
+    }
+    pieces
+}
+
 #[test]
 fn a_slow_pipe() {
-    let mut rng = Rng::new(SEED + 1);
-    println!("seed {}", SEED + 1);
-    let mut texts: Vec<Vec<u8>> = vec![vec![b'\n'; LONGEST], vec![b'\n'; LONGEST + 1]];
-    texts.extend((0..6).map(|_| gen::any_model(&mut rng).to_text()));
-    texts.extend(
-        gen::limit_models(&mut rng)
-            .into_iter()
-            .take(2)
-            .map(|(_, model)| model.to_text()),
-    );
+    let mut rng = gen::seeded("program::a_slow_pipe", SEED + 1);
+    let pause = Duration::from_millis(7);
+    let mut texts: Vec<Vec<u8>> = [LONGEST, LONGEST + 1, 20_000]
+        .map(|length| vec![b'\n'; length])
+        .to_vec();
+    texts.extend((0..10).map(|_| gen::any_model(&mut rng).to_text()));
+    let limits = gen::limit_models(&mut rng).into_iter().take(4);
+    texts.extend(limits.map(|(_, model)| model.to_text()));
     for text in texts {
-        let most = 1 + text.len() / 8;
-        let (mut pieces, mut rest): (Vec<&[u8]>, &[u8]) = (Vec::new(), &text);
-        while !rest.is_empty() {
-            let (piece, after) = rest.split_at(rng.between(1, most).min(rest.len()));
-            pieces.push(piece);
-            rest = after;
-        }
-        let page = in_pieces(&pieces, Duration::from_millis(7));
-        assert!(
-            page == second::program(&text),
-            "{}",
-            String::from_utf8_lossy(&text)
-        );
+        let pieces = cut(&mut rng, &text, 1 + text.len() / 8);
+        same_in_pieces(&pieces, pause);
+    }
+    // nothing at all, each byte by itself, and bytes that come after all else
+    assert_eq!(same_in_pieces(&[b"", b""], pause), b"F,2,1\n");
+    let bytes: Vec<&[u8]> = WORKED.chunks(1).collect();
+    assert_eq!(same_in_pieces(&bytes, pause), WORKED_PAGE);
+    assert_eq!(same_in_pieces(&[WORKED, b"\n"], pause), b"F,2,10\n");
+    let full = [b'\n'; LONGEST];
+    assert_eq!(same_in_pieces(&[&full, b"\n"], pause), b"F,1,0\n");
+    let (first, last) = WORKED.split_at(WORKED.len() - 1);
+    assert_eq!(same_in_pieces(&[first, last], pause), WORKED_PAGE);
+}
+
+/// The depth that a page tells, 0 if it is a page of a passed model.
+fn depth(page: &[u8]) -> usize {
+    let page = String::from_utf8(page.to_vec()).expect("a page is ASCII");
+    let first: Vec<&str> = page.lines().next().expect("a line").split(',').collect();
+    match first[..] {
+        ["V", "refuse", _, depth] => depth.parse().expect("a depth"),
+        ["V", "pass", _] => 0,
+        _ => panic!("no verdict: {page}"),
     }
 }
 
 #[test]
 fn random_models() {
-    let mut rng = Rng::new(SEED + 2);
-    println!("seed {}", SEED + 2);
-    let (mut passed, mut refused) = (0, 0);
-    for round in 0..800 {
+    let mut rng = gen::seeded("program::random_models", SEED + 2);
+    let mut depths = [0; 128];
+    for round in 0..4_000 {
         let model = match round % 8 {
-            0 => gen::deep_model(&mut rng, 1 + round % 127),
-            1..=4 => gen::deterministic_model(&mut rng),
+            0 => gen::deep_model(&mut rng, 1 + round / 8 % 127),
+            1 => gen::branching_deep_model(&mut rng, 1 + round / 8 % 127),
+            2..=4 => gen::deterministic_model(&mut rng),
             _ => gen::any_model(&mut rng),
         };
-        let page = same(&model.to_text());
-        passed += usize::from(page.starts_with(b"V,pass,"));
-        refused += usize::from(page.starts_with(b"V,refuse,"));
+        depths[depth(&same(&model.to_text()))] += 1;
     }
-    assert_eq!(passed + refused, 800);
-    assert!(passed > 150 && refused > 150, "{passed} {refused}");
+    assert!(depths[0] > 800, "{} are passed", depths[0]);
+    assert!(depths.iter().all(|&count| count > 3), "{depths:?}");
 }
 
 #[test]
 fn damaged_texts() {
-    let mut rng = Rng::new(SEED + 3);
-    println!("seed {}", SEED + 3);
-    let faults = gen::faults(&gen::small_model(&mut rng, false));
-    for fault in faults {
-        let line = format!("F,{},{}\n", fault.refusal.number, fault.refusal.place);
-        assert_eq!(printed(&fault.text), line.into_bytes(), "{}", fault.what);
-    }
-    for round in 0..800 {
-        let text = if round % 5 == 0 {
-            gen::scrap_text(&mut rng)
-        } else {
-            let text = gen::any_model(&mut rng).to_text();
-            gen::mutated_text(&mut rng, &text)
+    let mut rng = gen::seeded("program::damaged_texts", SEED + 3);
+    for round in 0..4_000 {
+        let text = gen::any_model(&mut rng).to_text();
+        let text = match round % 5 {
+            0 => gen::scrap_text(&mut rng),
+            _ => gen::mutated_text(&mut rng, &text),
         };
         let _ = same(&text);
     }
+}
+
+fn refused(fault: &Fault) {
+    let _case = gen::text_case(&fault.text);
+    let line = format!("F,{},{}\n", fault.refusal.number, fault.refusal.place);
+    assert_eq!(printed(&fault.text), line.into_bytes(), "{}", fault.what);
+}
+
+/// Every fault of two texts, and one of each kind at each kind of line of many more.
+#[test]
+fn every_fault_of_a_text() {
+    let mut rng = gen::seeded("program::every_fault_of_a_text", SEED + 4);
+    for model in [gen::small_model(&mut rng, false), gen::chain(3)] {
+        gen::faults(&model).iter().for_each(refused);
+    }
+    let mut tried = 0;
+    for model in models_to_damage(&mut rng, 30) {
+        let faults = one_of_each(&mut rng, &model);
+        faults.iter().for_each(refused);
+        tried += faults.len();
+    }
+    assert!(tried > 3_000, "{tried}");
 }
 
 /// The script's status and what it prints; it speaks for itself only where it fails.
@@ -207,16 +244,13 @@ fn the_script() {
 /// Away from the program and with nothing but `dirname` on the PATH, the script says what is missing.
 #[test]
 fn the_script_without_the_kit() {
-    let folder = std::env::temp_dir().join(format!("till_without_the_kit_{}", std::process::id()));
-    let tools = folder.join("tools");
-    fs::create_dir_all(&tools).expect("a folder");
-    let dirname = ["/usr/bin/dirname", "/bin/dirname"].into_iter();
-    let dirname = dirname
-        .map(Path::new)
-        .find(|file| file.exists())
-        .expect("dirname");
-    symlink(dirname, tools.join("dirname")).expect("a link");
-    let script = folder.join("till");
+    let folder = Folder::new("without_the_kit");
+    let tools = folder.0.join("tools");
+    fs::create_dir(&tools).expect("a folder");
+    let dirname = ["/usr/bin/dirname", "/bin/dirname"].map(Path::new);
+    let dirname = dirname.into_iter().find(|file| file.exists());
+    symlink(dirname.expect("dirname"), tools.join("dirname")).expect("a link");
+    let script = folder.0.join("till");
     fs::copy(root().join("till"), &script).expect("a copy");
     let mut command = Command::new("/bin/bash");
     let output = run(
@@ -224,13 +258,8 @@ fn the_script_without_the_kit() {
         &[b""],
         Duration::ZERO,
     );
-    fs::remove_dir_all(&folder).expect("the folder goes");
     assert_eq!(output.status.code(), Some(3), "{output:?}");
     assert!(output.stdout.is_empty(), "{output:?}");
-    assert!(
-        output
-            .stderr
-            .starts_with(b"till: the Rattle kit is missing"),
-        "{output:?}"
-    );
+    let missing = b"till: the Rattle kit is missing";
+    assert!(output.stderr.starts_with(missing), "{output:?}");
 }

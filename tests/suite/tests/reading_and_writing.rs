@@ -1,46 +1,15 @@
-//! Read and Write against the second checker: every list is compared afterwards, element by element.
+//! Read and Write against the second checker, and against each other.
 use second::gen::{self, Rng};
 use second::store::{STORE, WRITTEN};
-use second::Refusal;
-use suite::lists::{anything16, anything8, lengths};
+use second::text::TEXT;
+use second::{Model, Refusal};
+use suite::bench::WORKED;
+use suite::lists::{lengths, with_length, Lent, List, Lists, LEAST};
+use suite::same;
+use suite::stores::Store;
+use suite::texts::models_to_damage;
 
-const SEED: u64 = 0x7111;
-
-const WORKED: &[u8] =
-    b"M,4,3,4,0\nA,L,scan\nA,H,print\nA,D,close\nS,0,0,1\nS,0,1,2\nS,1,0,1\nS,2,0,3\nE\n";
-
-fn same_read(rng: &mut Rng, text: &[u8], length: usize) -> Result<(), Refusal> {
-    let before = anything16(rng, length);
-    let (mut ours, mut theirs) = (before.clone(), before);
-    let answer = suite::read(text, &mut ours);
-    let expected = second::read(text, &mut theirs);
-    let shown = String::from_utf8_lossy(text);
-    assert_eq!(
-        answer, expected,
-        "Read's answer, store of {length}, text:\n{shown}"
-    );
-    assert!(
-        ours == theirs,
-        "Read's store, store of {length}, text:\n{shown}"
-    );
-    answer
-}
-
-fn same_write(rng: &mut Rng, store: &[u16], length: usize) -> Result<usize, Refusal> {
-    let before = anything8(rng, length);
-    let (mut ours, mut theirs) = (before.clone(), before);
-    let answer = suite::write(store, &mut ours);
-    let expected = second::write(store, &mut theirs);
-    assert_eq!(
-        answer, expected,
-        "Write's answer, out of {length}, store {store:?}"
-    );
-    assert!(
-        ours == theirs,
-        "Write's out, out of {length}, store {store:?}"
-    );
-    answer
-}
+const SEED: u64 = 7_100;
 
 #[test]
 fn the_worked_example_reads_and_writes_back() {
@@ -57,76 +26,104 @@ fn the_worked_example_reads_and_writes_back() {
 
 #[test]
 fn every_fault_of_a_text() {
-    let mut rng = Rng::new(SEED);
-    println!("seed {SEED}");
-    for _ in 0..40 {
-        let model = gen::any_model(&mut rng);
+    let mut rng = gen::seeded("reading_and_writing::every_fault_of_a_text", SEED);
+    for model in models_to_damage(&mut rng, 60) {
+        let before = Lent::anything(&mut rng, STORE, STORE + 1);
         for fault in gen::faults(&model) {
-            let answer = same_read(&mut rng, &fault.text, STORE);
+            let _case = gen::text_case(&fault.text);
+            let (answer, store) = same::read(&fault.text, &before);
             assert_eq!(answer, Err(fault.refusal), "{}", fault.what);
+            assert!(store == before, "{}", fault.what);
         }
     }
 }
 
 #[test]
 fn damaged_texts() {
-    let mut rng = Rng::new(SEED + 1);
-    println!("seed {}", SEED + 1);
-    for round in 0..3_000 {
-        let model = gen::any_model(&mut rng);
-        let text = if round % 5 == 0 {
-            gen::scrap_text(&mut rng)
-        } else {
-            gen::mutated_text(&mut rng, &model.to_text())
+    let mut rng = gen::seeded("reading_and_writing::damaged_texts", SEED + 1);
+    let (mut read, mut refused) = (0, 0);
+    for round in 0..6_000 {
+        let text = gen::any_model(&mut rng).to_text();
+        let text = match round % 5 {
+            0 => gen::scrap_text(&mut rng),
+            _ => gen::mutated_text(&mut rng, &text),
         };
-        let _ = same_read(&mut rng, &text, STORE);
+        let length = STORE + round % 3;
+        let (answer, _) = same::read(&text, &Lent::anything(&mut rng, STORE, length));
+        read += usize::from(answer.is_ok());
+        refused += usize::from(answer.is_err());
+    }
+    assert!(read > 150 && refused > 3_000, "{read} {refused}");
+}
+
+#[test]
+fn sizes() {
+    let mut rng = gen::seeded("reading_and_writing::sizes", SEED + 3);
+    let before = Lent::anything(&mut rng, STORE, STORE);
+    assert_eq!(same::read(b"", &before).0, Err(Refusal::new(2, 1)));
+    for byte in 0..=255 {
+        for (length, number, place) in [(1, 2, 1), (TEXT, 2, 1), (TEXT + 1, 1, 0), (20_000, 1, 0)] {
+            let (answer, store) = same::read(&vec![byte; length], &before);
+            assert_eq!(answer, Err(Refusal::new(number, place)), "{byte} {length}");
+            assert!(store == before, "{byte} {length}");
+        }
+    }
+}
+
+/// What Write makes of a store that was read, with an out list of this length, and what Read makes of it again.
+fn back(rng: &mut Rng, text: &[u8], store: &Store, before: &Lists) {
+    let (answer, after) = same::write(store, before);
+    let length = text.len();
+    assert_eq!(answer, Ok(length));
+    assert_eq!(&after.written[..length], text);
+    assert_eq!(after.written[length..], before.written[length..]);
+    let (answer, again) = same::read(&after.written[..length], &Lent::anything(rng, STORE, STORE));
+    assert_eq!(answer, Ok(()));
+    assert_eq!(again[..], store.numbers[..STORE]);
+}
+
+/// From a text to its store and back, with both lists of every length.
+fn there_and_back(rng: &mut Rng, model: &Model) {
+    let _case = gen::model_case(model);
+    let text = model.to_text();
+    let lists = Lists::anything(rng, LEAST);
+    let short = Err(Refusal::new(21, 2));
+    for length in lengths(STORE) {
+        let before = Lent::anything(rng, STORE, length);
+        let (answer, after) = same::read(&text, &before);
+        if length < STORE {
+            assert_eq!(answer, short);
+            assert!(after == before);
+            continue;
+        }
+        assert_eq!(answer, Ok(()));
+        assert_eq!(after[..STORE], model.to_store());
+        assert_eq!(after[STORE..], before[STORE..]);
+        let store = Store::made_of(model, after.to_vec());
+        for out in lengths(WRITTEN) {
+            let before = lists.of_lengths(with_length(LEAST, List::Written, out));
+            if out < WRITTEN {
+                let (answer, after) = same::write(&store, &before);
+                assert_eq!(answer.map(|_| ()), short);
+                assert!(after == before);
+            } else {
+                back(rng, &text, &store, &before);
+            }
+        }
     }
 }
 
 #[test]
 fn models_there_and_back_with_lists_of_every_length() {
-    let mut rng = Rng::new(SEED + 2);
-    println!("seed {}", SEED + 2);
-    let mut models: Vec<_> = gen::limit_models(&mut rng)
-        .into_iter()
-        .map(|(_, model)| model)
-        .collect();
-    models.extend((0..300).map(|_| gen::any_model(&mut rng)));
-    for model in models {
-        let text = model.to_text();
-        for length in lengths(STORE) {
-            let _ = same_read(&mut rng, &text, length);
-        }
-        let mut store = model.to_store();
-        for length in lengths(WRITTEN) {
-            if same_write(&mut rng, &store, length).is_ok() {
-                let mut again = vec![0; STORE];
-                assert_eq!(suite::read(&text, &mut again), Ok(()));
-                assert_eq!(again, store);
-            }
-        }
-        store.extend(anything16(&mut rng, 5));
-        assert_eq!(same_write(&mut rng, &store, WRITTEN), Ok(text.len()));
-        store.truncate(STORE - 1);
-        assert_eq!(same_write(&mut rng, &store, 0), Err(Refusal::new(21, 1)));
+    let mut rng = gen::seeded(
+        "reading_and_writing::models_there_and_back_with_lists_of_every_length",
+        SEED + 2,
+    );
+    for (_, model) in gen::limit_models(&mut rng) {
+        there_and_back(&mut rng, &model);
     }
-}
-
-#[test]
-fn damaged_stores() {
-    let mut rng = Rng::new(SEED + 3);
-    println!("seed {}", SEED + 3);
-    for _ in 0..60 {
+    for _ in 0..1_000 {
         let model = gen::any_model(&mut rng);
-        for (what, store) in gen::bad_stores(&model) {
-            let answer = same_write(&mut rng, &store, WRITTEN);
-            assert!(answer.is_err(), "{what}");
-        }
-        for _ in 0..20 {
-            let store = gen::mutated_store(&mut rng, &model);
-            let _ = same_write(&mut rng, &store, WRITTEN);
-        }
-        let scrap = gen::scrap_store(&mut rng);
-        let _ = same_write(&mut rng, &scrap, WRITTEN);
+        there_and_back(&mut rng, &model);
     }
 }

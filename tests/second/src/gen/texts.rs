@@ -92,6 +92,7 @@ pub fn faults(model: &Model) -> Vec<Fault> {
     }
     end_faults(&mut list, &text, last);
     size_faults(&mut list, &text, last);
+    first_of_two_faults(&mut list, model);
     list.faults
 }
 
@@ -493,6 +494,53 @@ fn size_faults(list: &mut Faults, text: &[u8], last: usize) {
     list.add("long last line", long_line.clone(), 2, last + 1);
     long_line.push(b'\n');
     list.add("long last line, too long", long_line, 1, 0);
+}
+
+/// Bad lines of every kind, by index, each with its number.
+fn bad_lines(lines: &[Vec<u8>], model: &Model) -> Vec<(usize, Vec<u8>, u16)> {
+    let first_step = 1 + model.actions.len();
+    let last = first_step + model.steps.len();
+    let outside = model.states.to_string().into_bytes();
+    let changed = |index: usize, field: usize, new: &[u8]| with_field(&lines[index], field, new);
+    let mut bad = vec![
+        (0, b"x".to_vec(), 2),
+        (0, changed(0, 1, b"x"), 2),
+        (0, changed(0, 1, b"999"), 3),
+    ];
+    for index in some_of(1, first_step) {
+        bad.push((index, changed(index, 1, b"x"), 2));
+        if index > 1 {
+            let name = fields_of(&lines[1])[2].clone();
+            bad.push((index, changed(index, 2, &name), 4));
+        }
+    }
+    for index in some_of(first_step, last) {
+        bad.push((index, changed(index, 3, b""), 2));
+        bad.push((index, changed(index, 3, &outside), 3));
+        if index > first_step {
+            bad.push((index, lines[index - 1].clone(), 5));
+        }
+    }
+    bad.push((last, b"e".to_vec(), 2));
+    bad
+}
+
+/// Of two bad lines the first decides, and a text that is too long has no
+/// lines to decide.
+fn first_of_two_faults(list: &mut Faults, model: &Model) {
+    let bad = bad_lines(list.lines, model);
+    for (index, line, number) in &bad {
+        let mut lines = list.lines.to_vec();
+        lines[*index] = line.clone();
+        let mut too_long = join(&lines);
+        too_long.resize(TEXT + 1, b'\n');
+        list.add("too long, and a bad line", too_long, 1, 0);
+        for (later, line, _) in bad.iter().filter(|(later, ..)| later > index) {
+            let mut lines = lines.clone();
+            lines[*later] = line.clone();
+            list.add("two bad lines", join(&lines), *number, index + 1);
+        }
+    }
 }
 
 /// A text with a few random changes. It may still be a good one.

@@ -1,0 +1,101 @@
+//! What a failing test shows can be run again.
+
+mod common;
+
+use std::collections::BTreeSet;
+use std::process::Command;
+
+use common::Lists;
+use second::{gen, judge, meaning, Level, Model, Step, Verdict};
+
+/// What a command prints.
+fn printed(command: &str) -> Vec<u8> {
+    let shell = Command::new("bash").args(["-c", command]).output();
+    let output = shell.expect("the shell starts");
+    assert!(output.status.success(), "{output:?}");
+    output.stdout
+}
+
+#[test]
+fn a_shown_text_is_printed_again() {
+    let every_byte: Vec<u8> = (0..=255).chain((0..=255).rev()).collect();
+    let texts = [
+        &b""[..],
+        b"\n",
+        b"\n\n",
+        b"%b\\n\\x41\\0'\\",
+        b"\x001\0f\xffA",
+        &every_byte,
+    ];
+    for text in texts {
+        assert_eq!(printed(&gen::shown(text)), text);
+    }
+    let mut rng = gen::seeded("second::cases::a_shown_text_is_printed_again", 301);
+    for _ in 0..200 {
+        let text = gen::any_model(&mut rng).to_text();
+        let text = gen::mutated_text(&mut rng, &text);
+        assert_eq!(printed(&gen::shown(&text)), text);
+    }
+}
+
+fn models(test: &str, seed: u64) -> Vec<Model> {
+    let mut rng = gen::seeded(test, seed);
+    (0..4_000).map(|_| gen::any_model(&mut rng)).collect()
+}
+
+/// The models that the tests draw are of every kind, and most are small.
+#[test]
+fn models_are_of_every_kind() {
+    let models = models("second::cases::models_are_of_every_kind", 302);
+    let count = |is: &dyn Fn(&Model) -> bool| models.iter().filter(|model| is(model)).count();
+    let released = |model: &Model, step: &Step| model.level(step.action) == Level::Release;
+    let kinds = [
+        count(&|model| model.states <= 12),
+        count(&|model| meaning::reachable(model).len() < usize::from(model.states)),
+        count(&|model| model.steps.iter().any(|step| released(model, step))),
+        count(&|model| meaning::deterministic(model)),
+        count(&|model| !meaning::deterministic(model)),
+    ];
+    assert!(kinds.iter().all(|&count| count > 1_000), "{kinds:?}");
+    assert!(kinds[0] > 3_000 && kinds[0] < 4_000, "{kinds:?}");
+}
+
+/// Many models are passed; the depths of the others are spread, of those that
+/// are deterministic and of those that are not.
+#[test]
+fn depths_are_spread() {
+    let mut depths = [BTreeSet::new(), BTreeSet::new()];
+    let mut passed = 0;
+    for model in models("second::cases::depths_are_spread", 303) {
+        let mut lists = Lists::new();
+        let verdict = judge(&model.to_store(), &mut lists.distances, &mut lists.table);
+        match verdict.expect("the store is good") {
+            Verdict::Passed { .. } => passed += 1,
+            Verdict::Refused { depth, .. } => {
+                depths[usize::from(meaning::deterministic(&model))].insert(depth);
+            }
+        }
+    }
+    assert!(passed > 1_000 && passed < 3_000, "{passed}");
+    for depths in depths {
+        for third in [1..=42, 43..=84, 85..=127] {
+            assert!(depths.range(third).count() > 10, "{depths:?}");
+        }
+    }
+}
+
+#[test]
+fn a_shown_store_tells_what_was_changed() {
+    let model = gen::chain(2);
+    let mut store = model.to_store();
+    store[3] = 7;
+    store.extend([0, 65_535]);
+    let shown = gen::shown_store(&model, &store);
+    assert!(shown.contains(&gen::shown(&model.to_text())), "{shown}");
+    assert!(shown.ends_with("[(3, 7), (3973, 65535)]"), "{shown}");
+    let numbers = gen::shown_numbers(&store[..5]);
+    assert!(
+        numbers.ends_with("[(0, 2), (1, 3), (2, 2), (3, 7)]"),
+        "{numbers}"
+    );
+}

@@ -1,0 +1,304 @@
+//! Every refusal because of the state in its turn, with the numbers that the scope document gives, and with what it
+//! leaves in the lists. Each call is also compared with the second checker's.
+use second::gen;
+use second::store::{action_place, DISTANCES, STORE};
+use second::{Model, Refusal};
+use suite::bench::{store_of, text_of, ACTIONS, WORKED};
+use suite::lists::List::{self, Distances, Page, Run, Table, Word, Written};
+use suite::lists::{every_length, lengths, with_length, Lengths, Lent, Lists, LEAST};
+use suite::same;
+use suite::stores::{self, Store};
+
+const SEED: u64 = 7_600;
+
+/// An operation on a store.
+struct Operation {
+    name: &'static str,
+    /// The lists that it is lent after the store.
+    lent: &'static [List],
+    /// The refusal, if the call is refused, and the lists afterwards. Only Run takes a state.
+    call: fn(&Store, &Lists, u16) -> (Option<Refusal>, Lists),
+}
+
+fn refusal<A>((answer, lists): (Result<A, Refusal>, Lists)) -> (Option<Refusal>, Lists) {
+    (answer.err(), lists)
+}
+
+const REACH: Operation = Operation {
+    name: "Reach",
+    lent: &[Distances],
+    call: |store, lists, _| refusal(same::reach(store, lists)),
+};
+const RANK: Operation = Operation {
+    name: "Rank",
+    lent: &[Table],
+    call: |store, lists, _| refusal(same::rank(store, lists)),
+};
+const JUDGE: Operation = Operation {
+    name: "Judge",
+    lent: &[Distances, Table],
+    call: |store, lists, _| refusal(same::judge(store, lists)),
+};
+const RUN: Operation = Operation {
+    name: "Run",
+    lent: &[Distances, Run],
+    call: |store, lists, state| refusal(same::run(store, lists, state)),
+};
+const WORD: Operation = Operation {
+    name: "Word",
+    lent: &[Distances, Table, Word],
+    call: |store, lists, _| refusal(same::word(store, lists)),
+};
+const PAGE: Operation = Operation {
+    name: "Page",
+    lent: &[Distances, Table, Run, Word, Page],
+    call: |store, lists, _| refusal(same::page(store, lists)),
+};
+const WRITE: Operation = Operation {
+    name: "Write",
+    lent: &[Written],
+    call: |store, lists, _| refusal(same::write(store, lists)),
+};
+const OPERATIONS: [Operation; 7] = [REACH, RANK, JUDGE, RUN, WORD, PAGE, WRITE];
+
+/// 21 at the first of some lists that is too short. Those that are lent before them are long enough.
+fn first_short(before: u64, lent: &[List], lengths: &Lengths) -> Option<Refusal> {
+    let short = |&list: &List| lengths[list as usize] < LEAST[list as usize];
+    let index = lent.iter().position(short)?;
+    Some(Refusal::new(21, before + index as u64 + 1))
+}
+
+const NOT_GOOD: Refusal = Refusal {
+    number: 22,
+    place: 0,
+};
+
+impl Operation {
+    /// The call is refused so, and leaves every list as it was.
+    fn refuses(&self, store: &Store, lists: &Lists, state: u16, expected: Refusal) {
+        let (answer, after) = (self.call)(store, lists, state);
+        let name = self.name;
+        let _case = gen::case(|| format!("{name}, state {state}, {store}\n{lists}"));
+        assert_eq!(answer, Some(expected));
+        assert!(after == *lists, "a list was changed");
+    }
+
+    /// The call is refused with 21 where one of the lists is one element too short.
+    fn refuses_short_lists(&self, store: &Store, lists: &Lists, state: u16) {
+        for (index, &list) in self.lent.iter().enumerate() {
+            let short = with_length(LEAST, list, LEAST[list as usize] - 1);
+            let expected = Refusal::new(21, index as u64 + 2);
+            self.refuses(store, &lists.of_lengths(short), state, expected);
+        }
+    }
+
+    /// Lists of every length, for a store of any length.
+    fn with_every_length(&self, store: &Store, lists: &Lists) {
+        for lengths in every_length(self.lent) {
+            let lists = lists.of_lengths(lengths);
+            let short_store = store.is_short().then_some(Refusal::new(21, 1));
+            let short = short_store.or(first_short(1, self.lent, &lengths));
+            let not_good = store.wrong.map(|_| NOT_GOOD);
+            match short.or(not_good) {
+                Some(expected) => self.refuses(store, &lists, NO_STATE, expected),
+                None => {
+                    let number = (self.call)(store, &lists, 0)
+                        .0
+                        .map(|refusal| refusal.number);
+                    assert!(
+                        matches!(number, None | Some(23 | 24 | 26)),
+                        "{number:?}, {store}"
+                    );
+                }
+            }
+        }
+    }
+}
+
+/// A state that no model has.
+const NO_STATE: u16 = 128;
+
+/// A damaged store of a model: its first action has a level that is none.
+fn damaged(model: &Model) -> Store {
+    Store::of(model).damaged("no such level", &[(action_place(0), 3)])
+}
+
+/// 21 before all else, at the first list that is too short.
+#[test]
+fn lists_of_every_length() {
+    let mut rng = gen::seeded("refusals::lists_of_every_length", SEED);
+    for round in 0..6 {
+        let model = match round % 3 {
+            0 => gen::deep_model(&mut rng, 1 + 25 * round),
+            1 => gen::branching_deep_model(&mut rng, 1 + 9 * round),
+            _ => gen::any_model(&mut rng),
+        };
+        let lists = Lists::anything(&mut rng, LEAST);
+        for store in [Store::of(&model), damaged(&model)] {
+            for store in store.of_every_length(&mut rng) {
+                for operation in &OPERATIONS {
+                    operation.with_every_length(&store, &lists);
+                }
+            }
+        }
+    }
+}
+
+/// 22 at stores that are damaged at every kind of place, and before 23 to 26.
+#[test]
+fn damaged_stores() {
+    let mut rng = gen::seeded("refusals::damaged_stores", SEED + 1);
+    let (mut good, mut bad) = (0, 0);
+    for _ in 0..60 {
+        let lists = Lists::enough(&mut rng);
+        for store in stores::damaged(&mut rng) {
+            let state = *rng.pick(&[0, 1, NO_STATE, 65_535]);
+            for operation in &OPERATIONS {
+                if store.wrong.is_some() {
+                    operation.refuses(&store, &lists, state, NOT_GOOD);
+                    bad += 1;
+                } else if (operation.call)(&store, &lists, state).0.is_none() {
+                    good += 1;
+                }
+            }
+        }
+    }
+    assert!(good > 500 && bad > 30_000, "{good} {bad}");
+}
+
+/// 22 where any one number of a store is too large for its place.
+#[test]
+fn damage_at_every_place() {
+    let mut rng = gen::seeded("refusals::damage_at_every_place", SEED + 7);
+    let full = gen::limit_models(&mut rng).swap_remove(0).1;
+    let models = [gen::chain(3), gen::any_model(&mut rng), full];
+    for (round, model) in models.iter().enumerate() {
+        let (store, lists) = (Store::of(model), Lists::enough(&mut rng));
+        for place in 0..STORE {
+            let damaged = store.damaged("a number too large", &[(place, 65_535)]);
+            let operation = &OPERATIONS[(place + round) % OPERATIONS.len()];
+            operation.refuses(&damaged, &lists, 0, NOT_GOOD);
+        }
+    }
+}
+
+/// The distances and the table are as Judge leaves them; the rest is as it was.
+fn as_judged(store: &Store, before: &Lists, after: &Lists) {
+    let mut expected = before.clone();
+    let verdict = suite::judge(&store.numbers, &mut expected.distances, &mut expected.table);
+    assert!(verdict.is_ok(), "{store}");
+    assert!(*after == expected, "{store}");
+}
+
+/// Word: 22 before 23 and 24, and 23 before 24.
+#[test]
+fn word_in_order() {
+    let mut rng = gen::seeded("refusals::word_in_order", SEED + 2);
+    let branching_and_passed = text_of(2, ACTIONS, &[(0, 2, 0), (0, 2, 1)]);
+    let branching_and_refused = text_of(2, ACTIONS, &[(0, 0, 0), (0, 0, 1), (0, 1, 1)]);
+    let deterministic_and_passed = text_of(2, ACTIONS, &[(0, 0, 1)]);
+    for (text, number, place) in [
+        (branching_and_passed, 23, 1),
+        (branching_and_refused, 23, 1),
+        (deterministic_and_passed, 24, 0),
+    ] {
+        let (store, lists) = (store_of(&text), Lists::enough(&mut rng));
+        let (answer, after) = (WORD.call)(&store, &lists, 0);
+        assert_eq!(answer, Some(Refusal::new(number, place)), "{store}");
+        as_judged(&store, &lists, &after);
+        let damaged = store.damaged("unused step", &[(STORE - 1, 1)]);
+        WORD.refuses(&damaged, &lists, 0, NOT_GOOD);
+        WORD.refuses_short_lists(&store, &lists, 0);
+        WORD.refuses_short_lists(&damaged, &lists, 0);
+    }
+}
+
+/// Run: 21 before 22, 22 before 25 and 26, and 25 before 26; after 26 the distances are as Reach leaves them.
+#[test]
+fn run_in_order() {
+    let mut rng = gen::seeded("refusals::run_in_order", SEED + 3);
+    // nothing leads to state 2
+    let store = store_of(&text_of(3, ACTIONS, &[(0, 0, 1), (2, 0, 0)]));
+    let lists = Lists::enough(&mut rng);
+    let damaged = store.damaged("start not below states", &[(3, 3)]);
+    for state in [2, 3, 4, 127, 128, 129, 32_768, 65_535] {
+        if state > 2 {
+            let expected = Refusal::new(25, u64::from(state));
+            RUN.refuses(&store, &lists, state, expected);
+        }
+        RUN.refuses(&damaged, &lists, state, NOT_GOOD);
+        RUN.refuses_short_lists(&store, &lists, state);
+        RUN.refuses_short_lists(&damaged, &lists, state);
+    }
+    let (answer, after) = (RUN.call)(&store, &lists, 2);
+    assert_eq!(answer, Some(Refusal::new(26, 2)));
+    let mut expected = lists.clone();
+    expected.distances[..DISTANCES].fill(65_535);
+    expected.distances[..2].copy_from_slice(&[0, 1]);
+    assert!(after == expected);
+}
+
+/// 22 before 25 wherever the store is damaged, for states below the damaged number and not.
+#[test]
+fn damage_comes_before_the_state() {
+    let mut rng = gen::seeded("refusals::damage_comes_before_the_state", SEED + 4);
+    for _ in 0..10 {
+        let lists = Lists::enough(&mut rng);
+        for store in stores::damaged(&mut rng) {
+            if store.wrong.is_some() {
+                for state in [0, store.numbers[0], NO_STATE, 65_535] {
+                    RUN.refuses(&store, &lists, state, NOT_GOOD);
+                }
+            }
+        }
+    }
+}
+
+/// Read: 21 before 1 to 5.
+#[test]
+fn a_short_store_comes_before_every_fault() {
+    let mut rng = gen::seeded("refusals::a_short_store_comes_before_every_fault", SEED + 5);
+    let mut numbers = [0; 6];
+    for _ in 0..4 {
+        let model = gen::any_model(&mut rng);
+        for length in [0, STORE - 1] {
+            let before = Lent::anything(&mut rng, STORE, length);
+            for fault in gen::faults(&model) {
+                let _case = gen::text_case(&fault.text);
+                let (answer, after) = same::read(&fault.text, &before);
+                assert_eq!(answer, Err(Refusal::new(21, 2)), "{}", fault.what);
+                assert!(after == before);
+                numbers[usize::from(fault.refusal.number)] += 1;
+            }
+        }
+    }
+    assert!(numbers[1..].iter().all(|&count| count > 10), "{numbers:?}");
+}
+
+/// From a text to its page: 21 at the first list that is too short, whatever the text is.
+#[test]
+fn from_a_text_with_lists_of_every_length() {
+    let mut rng = gen::seeded("refusals::from_a_text_with_lists_of_every_length", SEED + 6);
+    let texts = [
+        WORKED.to_vec(),
+        gen::branching_deep_model(&mut rng, 9).to_text(),
+        b"M,1,1,0,0\nA,L,a\nE".to_vec(),
+        vec![b'0'; 16_385],
+    ];
+    let lent = PAGE.lent;
+    for text in texts {
+        let _case = gen::text_case(&text);
+        let store = Lent::anything(&mut rng, STORE, STORE);
+        let lists = Lists::anything(&mut rng, LEAST);
+        for store_length in lengths(STORE) {
+            for choice in every_length(lent) {
+                let before = (store.of_length(store_length), lists.of_lengths(choice));
+                let (answer, after) = same::print(&text, &before);
+                let short_store = (store_length < STORE).then_some(Refusal::new(21, 2));
+                let short = short_store.or(first_short(2, lent, &choice));
+                assert_eq!(answer.err(), short, "{choice:?}");
+                assert!(short.is_none() || after == before, "{choice:?}");
+            }
+        }
+    }
+}

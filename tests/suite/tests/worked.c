@@ -1,0 +1,147 @@
+/* The worked example through the operations as a C program calls them. It prints the page. The numbers are the scope
+   document's; the first that differs is told, and the program then ends with 1. */
+#include <stdio.h>
+#include <stdlib.h>
+#include <string.h>
+
+#include "till.h"
+
+_Static_assert(TILL_STORE == 3972, "store");
+_Static_assert(TILL_DISTANCES == 128, "distances");
+_Static_assert(TILL_TABLE == 16384, "table");
+_Static_assert(TILL_RUN == 127, "run");
+_Static_assert(TILL_WORD == 127, "word");
+_Static_assert(TILL_PAGE == 5000, "page");
+_Static_assert(TILL_WRITTEN == 14420, "written");
+
+static const char text[] = "M,4,3,4,0\nA,L,scan\nA,H,print\nA,D,close\n"
+                           "S,0,0,1\nS,0,1,2\nS,1,0,1\nS,2,0,3\nE\n";
+static const char page[] = "V,refuse,1,2\nC,0,0,0\nC,1,1,0\nC,2,1,2\nC,3,2,3\n"
+                           "W,scan\nW,scan\nB,source\nE\n";
+#define TEXT_LENGTH (sizeof text - 1)
+#define PAGE_LENGTH (sizeof page - 1)
+
+/* One element more than need be, which must stay as it is. */
+static uint16_t store[TILL_STORE + 1], distances[TILL_DISTANCES + 1], run[TILL_RUN + 1], word[TILL_WORD + 1];
+static uint8_t table[TILL_TABLE + 1], out[TILL_WRITTEN + 1];
+
+static void expect(const char *what, uint64_t is, uint64_t expected) {
+    if (is != expected) {
+        fprintf(stderr, "%s is %llu, expected %llu\n", what, (unsigned long long)is, (unsigned long long)expected);
+        exit(1);
+    }
+}
+
+static void answers(const char *what, TillAnswer is, uint64_t count, uint64_t first, uint64_t second) {
+    expect(what, is.number, 0);
+    expect(what, is.count, count);
+    if (count > 0) expect(what, is.first, first);
+    if (count > 1) expect(what, is.second, second);
+}
+
+static void refuses(const char *what, TillAnswer is, uint64_t number, uint64_t place) {
+    expect(what, is.number, number);
+    expect(what, is.place, place);
+}
+
+/* Fills all lists but the store with old contents. */
+static void forget(void) {
+    memset(distances, 7, sizeof distances);
+    memset(run, 7, sizeof run);
+    memset(word, 7, sizeof word);
+    memset(table, 7, sizeof table);
+    memset(out, 7, sizeof out);
+}
+
+static void expect_distances(void) {
+    static const uint16_t first[4] = {0, 1, 1, 2};
+    for (size_t state = 0; state < TILL_DISTANCES; state++)
+        expect("a distance", distances[state], state < 4 ? first[state] : 65535);
+    expect("the number after the distances", distances[TILL_DISTANCES], 0x0707);
+}
+
+static void expect_table(void) {
+    static const uint8_t ranks[4][4] = {{0, 0, 2, 1}, {0, 0, 2, 1}, {2, 2, 0, 1}, {1, 1, 1, 0}};
+    for (size_t p = 0; p < 128; p++)
+        for (size_t q = 0; q < 128; q++)
+            expect("a rank", table[128 * p + q], p < 4 && q < 4 ? ranks[p][q] : 0);
+    expect("the byte after the table", table[TILL_TABLE], 7);
+}
+
+static void expect_word(void) {
+    for (size_t i = 0; i <= TILL_WORD; i++) expect("a letter", word[i], i < 2 ? 0 : 0x0707);
+}
+
+static void expect_out(const char *bytes, size_t length) {
+    for (size_t i = 0; i < sizeof out; i++) expect("a byte out", out[i], i < length ? (uint8_t)bytes[i] : 7);
+}
+
+static void reads(void) {
+    static const uint16_t head[4] = {4, 3, 4, 0};
+    static const uint16_t steps[12] = {0, 0, 1, 0, 1, 2, 1, 0, 1, 2, 0, 3};
+    memset(store, 7, sizeof store);
+    answers("Read", till_read((const uint8_t *)text, TEXT_LENGTH, store, TILL_STORE), 0, 0, 0);
+    for (size_t i = 0; i < 4; i++) expect("a number of the store", store[i], head[i]);
+    for (size_t i = 0; i < 12; i++) expect("a number of a step", store[900 + i], steps[i]);
+    expect("an unused number", store[TILL_STORE - 1], 0);
+    expect("the number after the store", store[TILL_STORE], 0x0707);
+}
+
+static void judges(void) {
+    forget();
+    answers("Reach", till_reach(store, TILL_STORE, distances, TILL_DISTANCES), 0, 0, 0);
+    expect_distances();
+    answers("Rank", till_rank(store, TILL_STORE, table, TILL_TABLE), 1, 2, 0);
+    expect_table();
+    forget();
+    answers("Judge", till_judge(store, TILL_STORE, distances, TILL_DISTANCES, table, TILL_TABLE), 2, 1, 2);
+    expect_distances();
+    expect_table();
+    forget();
+    answers("Run", till_run(store, TILL_STORE, distances, TILL_DISTANCES, run, TILL_RUN, 3), 1, 2, 0);
+    expect("the first step", run[0], 1);
+    expect("the second step", run[1], 3);
+    expect("the number after the run", run[2], 0x0707);
+    refuses("Run", till_run(store, TILL_STORE, distances, TILL_DISTANCES, run, TILL_RUN, 4), 25, 4);
+}
+
+static void shows(void) {
+    forget();
+    answers("Word",
+            till_word(store, TILL_STORE, distances, TILL_DISTANCES, table, TILL_TABLE, word, TILL_WORD), 2, 2, 0);
+    expect_distances();
+    expect_table();
+    expect_word();
+    forget();
+    answers("Page",
+            till_page(store, TILL_STORE, distances, TILL_DISTANCES, table, TILL_TABLE, run, TILL_RUN, word, TILL_WORD,
+                      out, TILL_PAGE),
+            1, PAGE_LENGTH, 0);
+    expect_distances();
+    expect_table();
+    expect_word();
+    expect("the first step", run[0], 0x0707);
+    expect_out(page, PAGE_LENGTH);
+    forget();
+    answers("Write", till_write(store, TILL_STORE, out, TILL_WRITTEN), 1, TEXT_LENGTH, 0);
+    expect_out(text, TEXT_LENGTH);
+    refuses("Write", till_write(store, TILL_STORE, out, TILL_WRITTEN - 1), 21, 2);
+}
+
+static TillAnswer print(size_t length) {
+    forget();
+    memset(store, 7, sizeof store);
+    return till_print((const uint8_t *)text, length, store, TILL_STORE, distances, TILL_DISTANCES, table, TILL_TABLE,
+                      run, TILL_RUN, word, TILL_WORD, out, TILL_PAGE);
+}
+
+int main(void) {
+    reads();
+    judges();
+    shows();
+    answers("print", print(TEXT_LENGTH - 1), 1, 6, 0);
+    expect_out("F,2,9\n", 6);
+    answers("print", print(TEXT_LENGTH), 1, PAGE_LENGTH, 0);
+    expect_out(page, PAGE_LENGTH);
+    return fwrite(out, 1, PAGE_LENGTH, stdout) == PAGE_LENGTH ? 0 : 1;
+}
