@@ -3,6 +3,7 @@ pub mod GoodStoredLaws
 pub mod IndexLaws
 pub mod RolesLaws
 pub mod StepTestLaws
+pub mod RankBoundLaws
 pub mod WavesLaws
 pub mod WaveKeptLaws
 pub mod RunTailLaws
