@@ -13,8 +13,8 @@ use Rattle.page.specs.PageLines.{distanceText, endText, lineText, pageBy
 abbrev scan : List ℕ
 scan = 115 ∷ 99 ∷ 97 ∷ 110 ∷ []
 
-lines : List PageLine
-lines =
+unfoldable pub workedLines : List PageLine
+workedLines =
     verdict-line (Refused (record { 0 = 1 }) 2)
     ∷ state-line 0 (some 0) 0
     ∷ state-line 1 (some 1) 0
@@ -27,8 +27,8 @@ lines =
     ∷ []
 
 -- V,refuse,1,2 / C,0,0,0 / C,1,1,0 / C,2,1,2 / C,3,2,3 / W,scan / W,scan / B,source / E
-bytes : List ℕ
-bytes =
+pub workedPage : List ℕ
+workedPage =
     86 ∷ 44 ∷ 114 ∷ 101 ∷ 102 ∷ 117 ∷ 115 ∷ 101 ∷ 44 ∷ 49 ∷ 44 ∷ 50 ∷ 10
     ∷ 67 ∷ 44 ∷ 48 ∷ 44 ∷ 48 ∷ 44 ∷ 48 ∷ 10
     ∷ 67 ∷ 44 ∷ 49 ∷ 44 ∷ 49 ∷ 44 ∷ 48 ∷ 10
@@ -40,6 +40,6 @@ bytes =
     ∷ 69 ∷ 10
     ∷ []
 
-prints : pageBytes lines ≡ bytes
-unfolding pageBytes lineText distanceText endText digits digitsUpTo lines bytes
+pub prints : pageBytes workedLines ≡ workedPage
+unfolding pageBytes lineText distanceText endText digits digitsUpTo workedLines workedPage
 prints = refl

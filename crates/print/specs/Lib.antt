@@ -2,3 +2,4 @@ pub mod Inner
 pub mod Laws
 pub mod Promises
 pub mod Claim
+pub mod Examples
