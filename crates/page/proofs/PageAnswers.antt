@@ -15,7 +15,7 @@ use Rattle.model.specs.Laws.OnStoreLaws.{onStore-short, onStore-not-good, onSto
 use Rattle.judge.specs.Promises.{Filled}
 use Rattle.page.specs.declared.page.PageAnswer.the-variants.{Printed, ShortList, NotGood}
 use Rattle.page.specs.Promises.{pageOutcome, pageLists, PagePrinted, PagePromise}
-use Rattle.page.specs.Inner.PageLists.{PageMade}
+use Rattle.page.specs.Inner.PageLists.{LongLists, PageMade}
 
 module _ (store distances table run word out : List ℕ) where
   pub short-store-promised : length store < storeLength → PagePromise store distances table run word out
@@ -58,21 +58,22 @@ module _ (store distances table run word out : List ℕ) where
                 (sixth-short _ _ store-long distances-long table-long run-long word-long h) refl
                 (refl, refl, refl, refl, refl)
 
-            module _ (out-long : pageLength ≤ length out) where
-              pageLists-none : pageLists store distances table run word out ≡ none
-              pageLists-none = none-short-six store-long distances-long table-long run-long word-long out-long
+  module _ (long : LongLists store distances table run word out) where
+    pageLists-none : pageLists store distances table run word out ≡ none
+    pageLists-none =
+        none-short-six (long .store-length) (long .distances-length) (long .table-length) (long .run-length)
+        (long .word-length) (long .out-length)
 
-              pub not-good-promised : ¬ (Good store) → PagePromise store distances table run word out
-                  (pageOutcome NotGood) distances table run word out
-              unfolding pageOutcome
-              not-good-promised n = onStore-not-good pageLists-none n refl (refl, refl, refl, refl, refl)
+    pub not-good-promised : ¬ (Good store) → PagePromise store distances table run word out
+        (pageOutcome NotGood) distances table run word out
+    unfolding pageOutcome
+    not-good-promised n = onStore-not-good pageLists-none n refl (refl, refl, refl, refl, refl)
 
-              pub printed-promised : Good store → (end : ℕ) (distances′ table′ run′ word′ out′ : List ℕ)
-                  → PageMade (modelAt store) end distances table run word out distances′ table′ run′ word′ out′
-                  → PagePromise store distances table run word out (pageOutcome (Printed end)) distances′ table′ run′
-                  word′ out′
-              unfolding pageOutcome
-              printed-promised good end distances′ table′ run′ word′ out′ made =
-                  onStore-model (λ m. Filled m distances table distances′ table′
-                  × PagePrinted m (answers (end ∷ [])) run word out run′ word′ out′)
-                  pageLists-none good (made .filled, made .printed)
+    pub printed-promised : Good store → (n : ℕ) (distances′ table′ run′ word′ out′ : List ℕ)
+        → PageMade (modelAt store) n distances table run word out distances′ table′ run′ word′ out′
+        → PagePromise store distances table run word out (pageOutcome (Printed n)) distances′ table′ run′ word′ out′
+    unfolding pageOutcome
+    printed-promised good n distances′ table′ run′ word′ out′ made =
+        onStore-model (λ m. Filled m distances table distances′ table′
+        × PagePrinted m (answers (n ∷ [])) run word out run′ word′ out′)
+        pageLists-none good (made .filled, made .printed)

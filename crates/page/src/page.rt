@@ -46,8 +46,8 @@ fn judged_page(
     let start = PageEnd::start();
     let verdict = start.verdict_line(out, v);
     let states = verdict.state_lines(out, store, distances, table);
-    let end = states.after_states(out, store, begins, roles, distances, table, v, run, word);
-    end.last_line(out)
+    let leak = states.leak_lines(out, store, begins, roles, distances, table, v, run, word);
+    leak.last_line(out)
 }
 
 // Page on a good store: judged once.
@@ -105,7 +105,7 @@ pub fn page(
     if !model::good::good(store) {
         return PageAnswer::NotGood;
     }
-    let end = page_good(store, distances, table, run, word, out);
-    let at = end.at;
+    let made = page_good(store, distances, table, run, word, out);
+    let at = made.at;
     PageAnswer::Printed(at.at)
 }

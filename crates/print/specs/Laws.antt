@@ -1,4 +1,4 @@
-pub mod ReadingPlaceLaws
 pub mod PageSplitLaws
+pub mod PageFieldsLaws
 pub mod PageClaimLaws
 pub mod PrintPromiseLaws

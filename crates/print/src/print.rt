@@ -8,12 +8,14 @@ use reach::reach::DISTANCES_LENGTH;
 use reach::run::RUN_LENGTH;
 use read::read::ReadAnswer;
 use word::word::WORD_LENGTH;
+ghost use mathlib.Core.List.{[], _∷_};
 ghost use mathlib.Core.Path.{_≡_};
 ghost use Prim.Native.Nat.{_≤_};
 ghost use lib.ListN.{length};
-ghost use Rattle.text.specs.Faults.{refuses};
+ghost use Rattle.text.specs.Faults.{answers, refuses};
 ghost use Rattle.text.specs.Lists.{pageLength};
 ghost use Rattle.read.specs.Promises.{readOutcome};
+ghost use Rattle.page.specs.Inner.PageLists.{LongLists};
 ghost use Rattle.print.specs.Claim.{PrintClaim};
 ghost use Rattle.print.specs.Promises.{printOutcome, PrintPromise};
 ghost use Rattle.print.specs.Inner.Refusals.{Refuses, FaultWritten};
@@ -30,7 +32,7 @@ struct Refusal {
     place: u16,
 }
 
-fn refused_with(read: ReadAnswer) -> Refusal
+fn refusal_of(read: ReadAnswer) -> Refusal
     requires { ⌜ Refuses read ⌝ }
     ensures { λ r. ⌜ readOutcome read ≡ refuses (r .number) (r .place) ⌝ }
 {
@@ -58,13 +60,35 @@ fn refused_with(read: ReadAnswer) -> Refusal
 }
 
 // What is printed of a text that Read refuses.
-fn refused_page(read: ReadAnswer, out: &mut [u8]) -> PageEnd
+fn unread_page(read: ReadAnswer, out: &mut [u8]) -> PageEnd
     requires { ⌜ Refuses read × (pageLength ≤ length (now out)) ⌝ }
     ensures { λ r. ⌜ FaultWritten (readOutcome read) (now (out .entry)) (now (out .exit)) (r .at .at) ⌝ }
 {
-    let told = refused_with(read);
+    let refusal = refusal_of(read);
     let start = PageEnd::start();
-    start.fault_line(out, told.number, told.place)
+    start.fault_line(out, refusal.number, refusal.place)
+}
+
+// Prints the page of a text, or why Read refuses it, where all lists are long enough.
+fn print_text(
+    text: &[u8],
+    store: &mut [u16],
+    distances: &mut [u16],
+    table: &mut [u8],
+    run: &mut [u16],
+    word: &mut [u16],
+    out: &mut [u8],
+) -> PageEnd
+    requires { ⌜ LongLists (now store) (now distances) (now table) (now run) (now word) (now out) ⌝ }
+    ensures { λ r. ⌜ PrintPromise (now (text .entry)) (now (store .entry)) (now (distances .entry)) (now (table .entry))
+        (now (run .entry)) (now (word .entry)) (now (out .entry)) (answers (r .at .at ∷ [])) (now (store .exit))
+        (now (distances .exit)) (now (table .exit)) (now (run .exit)) (now (word .exit)) (now (out .exit)) ⌝ }
+{
+    let read = read::read::read(text, store);
+    match read {
+        ReadAnswer::Done => page_good(store, distances, table, run, word, out),
+        _ => unread_page(read, out),
+    }
 }
 
 // Reads a text and prints its page, or why Read refuses it.
@@ -100,17 +124,7 @@ pub fn print(
     if out.len() < PAGE_LENGTH {
         return PrintAnswer::ShortList(7);
     }
-    let read = read::read::read(text, store);
-    match read {
-        ReadAnswer::Done => {
-            let end = page_good(store, distances, table, run, word, out);
-            let at = end.at;
-            PrintAnswer::Printed(at.at)
-        }
-        _ => {
-            let end = refused_page(read, out);
-            let at = end.at;
-            PrintAnswer::Printed(at.at)
-        }
-    }
+    let printed = print_text(text, store, distances, table, run, word, out);
+    let at = printed.at;
+    PrintAnswer::Printed(at.at)
 }

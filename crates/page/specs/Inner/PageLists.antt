@@ -12,9 +12,8 @@ use Rattle.model.specs.Store.{Good}
 use Rattle.judge.specs.Promises.{Filled}
 use Rattle.page.specs.Promises.{PagePrinted}
 
--- A good store, and lists of their least lengths or more.
-pub record PageLists (store distances table run word out : List ℕ) : Type 0 where
-  pub good : Good store
+-- Lists of their least lengths or more.
+pub record LongLists (store distances table run word out : List ℕ) : Type 0 where
   pub store-length : storeLength ≤ length store
   pub distances-length : distancesLength ≤ length distances
   pub table-length : tableLength ≤ length table
@@ -22,8 +21,13 @@ pub record PageLists (store distances table run word out : List ℕ) : Type 0 wh
   pub word-length : wordLength ≤ length word
   pub out-length : pageLength ≤ length out
 
--- The page ends at place `end`.
-pub record PageMade (m : Model) (end : ℕ) (distances table run word out distances′ table′ run′ word′ out′ : List ℕ)
+-- A good store among them.
+pub record PageLists (store distances table run word out : List ℕ) : Type 0 where
+  pub good : Good store
+  pub long : LongLists store distances table run word out
+
+-- The page has n bytes.
+pub record PageMade (m : Model) (n : ℕ) (distances table run word out distances′ table′ run′ word′ out′ : List ℕ)
     : Type 0 where
   pub filled : Filled m distances table distances′ table′
-  pub printed : PagePrinted m (answers (end ∷ [])) run word out run′ word′ out′
+  pub printed : PagePrinted m (answers (n ∷ [])) run word out run′ word′ out′

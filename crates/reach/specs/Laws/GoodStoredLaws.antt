@@ -1,23 +1,24 @@
 -- A good store has all that the judge uses of it.
 -- Document 01, "The text" and "The model store". Assumes nothing.
 use mathlib.Core.Bool.{Bool, false, not}
-use mathlib.Core.List.{List}
+use mathlib.Core.List.{List, [], _++_}
 use mathlib.Core.Logic.{⊎-elim}
 use mathlib.Core.Path.{_≡_, sym, ap}
 use Prim.Native.Nat.{ℕ, _≤_}
 use native.Mathlib.Omega.{arith}
 use native.Mathlib.Nat.{eq-or-lt-of-le}
-use lib.ListN.{length}
+use lib.ListN.{length, length-append}
 use Rattle.text.specs.Limits.{storeLength}
 use Rattle.text.specs.Decides.{Decides}
 use Rattle.text.specs.Laws.DecidesLaws.{decides-passed}
 use Rattle.text.specs.Model.{Model}
 use Rattle.text.specs.Inner.Ranges.{HeadRanges}
-use Rattle.model.specs.Store.{Good}
+use Rattle.model.specs.Store.{storeOf, Good}
 use Rattle.model.specs.StoredModel.{modelAt, Holds}
 use Rattle.model.specs.System.{source, action}
 use Rattle.model.specs.WellFormed.{WellFormed}
-use Rattle.model.specs.Laws.Store.StoredModelLaws.{headAt-holds, stepAt-holds, level-holds, Good→Holds}
+use Rattle.model.specs.Laws.Store.StoreLaws.{storeOf-length}
+use Rattle.model.specs.Laws.Store.StoredModelLaws.{headAt-holds, stepAt-holds, level-holds, holds-storeOf, Good→Holds}
 use Rattle.model.specs.Laws.Store.WellFormedLaws.{head-ranges, step-ranges, step-above, level-le}
 use Rattle.reach.specs.Inner.Stored.{Stored}
 
@@ -50,6 +51,10 @@ module _ (s : List ℕ) (m : Model) (long : storeLength ≤ length s) (h : Holds
         ⊎-elim (λ d. omega (arith, ap (action m) d)) (λ o. step-above m w i j o k .action e) (eq-or-lt-of-le l);
     target-lt-target = λ i j l k. step-above m w i j l k .target;
   }
+
+pub well-formed-stored : {m : Model} → WellFormed m → Stored (storeOf m ++ []) m
+well-formed-stored {m} w = holds→Stored (storeOf m ++ []) m
+    (omega (arith, storeOf-length m w, length-append (storeOf m) [])) (holds-storeOf m [] w)
 
 pub good→Stored : (s : List ℕ) → storeLength ≤ length s → Good s → Stored s (modelAt s)
 good→Stored s long g = holds→Stored s (modelAt s) long (Good→Holds s g)

@@ -6,10 +6,10 @@ use mathlib.Core.Logic.{inl, inr, _↔_}
 use mathlib.Core.Path.{_≡_, refl, sym, ap, subst, _∙_}
 use Prim.Native.Nat.{ℕ, _≤_}
 use native.Mathlib.Omega.{arith}
-use lib.ListN.{length, take}
-use lib.Seq.{take-at}
+use lib.ListN.{length}
 use Rattle.text.specs.Faults.{Outcome, answers}
 use Rattle.text.specs.Model.{Model}
+use Rattle.text.specs.Laws.ListsLaws.{take-filled}
 use Rattle.read.specs.Promises.{ReadPromise}
 use Rattle.model.specs.Store.{Good}
 use Rattle.model.specs.StoredModel.{Holds}
@@ -23,10 +23,11 @@ use Rattle.judge.specs.Laws.VerdictsLaws.{no-leak-of-bnid}
 use Rattle.judge.specs.Inner.VerdictTest.{verdictOf}
 use Rattle.judge.specs.Laws.VerdictTestLaws.{verdictOf-judged}
 use Rattle.judge.specs.Promises.{verdictOutcome, judgeLists, JudgePromise}
-use Rattle.word.specs.Words.{endNumber, WordShown}
+use Rattle.word.specs.declared.word.End.{End}
+use Rattle.word.specs.Words.{endNumber, WordOf, WordShown}
 use Rattle.word.specs.Promises.{wordLists, WordDone, WordPromise}
-use Rattle.tell.specs.Claim.{States, NotShort, SaysPassed, SaysRefused, JudgeTells, Sequence, WordTells}
-use Rattle.tell.specs.Claim.{BothTell, Claim}
+use Rattle.tell.specs.Claim.{States, NotShort, SaysPassed, SaysRefused, JudgeTells, ShowsLeak, Sequence}
+use Rattle.tell.specs.Claim.{WordTells, BothTell, Claim}
 use Rattle.word.specs.Laws.LeastLeakLaws.{bnid↔INI, depth-le}
 use Rattle.tell.specs.Laws.ReadTextLaws.{lists-of-notShort, states→readText, read-exit-long, read-holds, read↔States}
 
@@ -44,19 +45,25 @@ refused-same {judge} {i} {j} {d} {e} x y =
 -- ---- the sequence
 
 module _ {s : List ℕ} {m : Model} (st : Stored s m) where
-  pub sequence-of-shown : {j depth : ℕ} {word : Outcome} {entry exit : List ℕ} → RefusedAt m j depth
+  pub shows-of-wordOf : {j depth : ℕ} {word : List ℕ} {end : End} → RefusedAt m j depth → WordOf m j word end
+      → length word ≡ depth → ShowsLeak m j depth word end
+  shows-of-wordOf refused x e = record {
+    low = x .first-word .is-low;
+    possible = x .only-from-end .0;
+    not-possible = x .only-from-end .1;
+    first = x .first-word;
+    shortest = λ i h v l one. subst (λ (n : ℕ). n ≤ length v) (sym e) (depth-le st refused i h v l one);
+    depth-is = sym e;
+  }
+
+  sequence-of-shown : {j depth : ℕ} {word : Outcome} {entry exit : List ℕ} → RefusedAt m j depth
       → WordShown m j depth word entry exit → Sequence m j depth word exit
   sequence-of-shown refused x = record {
     sequence = x .word;
     end = x .end;
     answer = x .outcome-is ∙ ap (λ (n : ℕ). answers (n ∷ endNumber (x .end) ∷ [])) (sym (x .length-is));
-    filled = ap (take (length (x .word))) (x .list) ∙ take-at (x .word) _ (length (x .word)) refl;
-    low = x .word-of .first-word .is-low;
-    possible = x .word-of .only-from-end .0;
-    not-possible = x .word-of .only-from-end .1;
-    first = x .word-of .first-word;
-    shortest = λ i h v l one. subst (λ (n : ℕ). n ≤ length v) (sym (x .length-is)) (depth-le st refused i h v l one);
-    depth-is = sym (x .length-is);
+    filled = take-filled (x .word) _ (x .list) (length (x .word)) refl;
+    shows = shows-of-wordOf refused (x .word-of) (x .length-is);
   }
 
   -- ---- Word

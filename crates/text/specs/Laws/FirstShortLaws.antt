@@ -53,12 +53,21 @@ module _ (ns leasts : List ℕ) {a least-a : ℕ} where
               firstShort-le 1 _ _ long-a ∙ firstShort-le 2 _ _ long-b ∙ firstShort-le 3 _ _ long-c
               ∙ firstShort-le 4 _ _ long-d ∙ firstShort-lt 5 ns leasts h
 
-          pub sixth-short : {f least-f : ℕ} → least-e ≤ e → f < least-f
-              → firstShort 1 (a ∷ b ∷ c ∷ d ∷ e ∷ f ∷ ns)
-              (least-a ∷ least-b ∷ least-c ∷ least-d ∷ least-e ∷ least-f ∷ leasts) ≡ some 6
-          sixth-short long-e h =
-              firstShort-le 1 _ _ long-a ∙ firstShort-le 2 _ _ long-b ∙ firstShort-le 3 _ _ long-c
-              ∙ firstShort-le 4 _ _ long-d ∙ firstShort-le 5 _ _ long-e ∙ firstShort-lt 6 ns leasts h
+          module _ {f least-f : ℕ} (long-e : least-e ≤ e) where
+            pub sixth-short : f < least-f
+                → firstShort 1 (a ∷ b ∷ c ∷ d ∷ e ∷ f ∷ ns)
+                (least-a ∷ least-b ∷ least-c ∷ least-d ∷ least-e ∷ least-f ∷ leasts) ≡ some 6
+            sixth-short h =
+                firstShort-le 1 _ _ long-a ∙ firstShort-le 2 _ _ long-b ∙ firstShort-le 3 _ _ long-c
+                ∙ firstShort-le 4 _ _ long-d ∙ firstShort-le 5 _ _ long-e ∙ firstShort-lt 6 ns leasts h
+
+            pub seventh-short : {g least-g : ℕ} → least-f ≤ f → g < least-g
+                → firstShort 1 (a ∷ b ∷ c ∷ d ∷ e ∷ f ∷ g ∷ ns)
+                (least-a ∷ least-b ∷ least-c ∷ least-d ∷ least-e ∷ least-f ∷ least-g ∷ leasts) ≡ some 7
+            seventh-short long-f h =
+                firstShort-le 1 _ _ long-a ∙ firstShort-le 2 _ _ long-b ∙ firstShort-le 3 _ _ long-c
+                ∙ firstShort-le 4 _ _ long-d ∙ firstShort-le 5 _ _ long-e ∙ firstShort-le 6 _ _ long-f
+                ∙ firstShort-lt 7 ns leasts h
 
 -- ---- no list is short
 
@@ -77,9 +86,17 @@ module _ {a b least-a least-b : ℕ} (long-a : least-a ≤ a) (long-b : least-b 
           firstShort-le 1 _ _ long-a ∙ firstShort-le 2 _ _ long-b ∙ firstShort-le 3 _ _ long-c
           ∙ firstShort-le 4 _ _ long-d ∙ firstShort-nil 5
 
-      pub none-short-six : {e f least-e least-f : ℕ} → least-e ≤ e → least-f ≤ f
-          → firstShort 1 (a ∷ b ∷ c ∷ d ∷ e ∷ f ∷ [])
-          (least-a ∷ least-b ∷ least-c ∷ least-d ∷ least-e ∷ least-f ∷ []) ≡ none
-      none-short-six long-e long-f =
-          firstShort-le 1 _ _ long-a ∙ firstShort-le 2 _ _ long-b ∙ firstShort-le 3 _ _ long-c
-          ∙ firstShort-le 4 _ _ long-d ∙ firstShort-le 5 _ _ long-e ∙ firstShort-le 6 _ _ long-f ∙ firstShort-nil 7
+      module _ {e f least-e least-f : ℕ} (long-e : least-e ≤ e) (long-f : least-f ≤ f) where
+        pub none-short-six : firstShort 1 (a ∷ b ∷ c ∷ d ∷ e ∷ f ∷ [])
+            (least-a ∷ least-b ∷ least-c ∷ least-d ∷ least-e ∷ least-f ∷ []) ≡ none
+        none-short-six =
+            firstShort-le 1 _ _ long-a ∙ firstShort-le 2 _ _ long-b ∙ firstShort-le 3 _ _ long-c
+            ∙ firstShort-le 4 _ _ long-d ∙ firstShort-le 5 _ _ long-e ∙ firstShort-le 6 _ _ long-f ∙ firstShort-nil 7
+
+        pub none-short-seven : {g least-g : ℕ} → least-g ≤ g
+            → firstShort 1 (a ∷ b ∷ c ∷ d ∷ e ∷ f ∷ g ∷ [])
+            (least-a ∷ least-b ∷ least-c ∷ least-d ∷ least-e ∷ least-f ∷ least-g ∷ []) ≡ none
+        none-short-seven long-g =
+            firstShort-le 1 _ _ long-a ∙ firstShort-le 2 _ _ long-b ∙ firstShort-le 3 _ _ long-c
+            ∙ firstShort-le 4 _ _ long-d ∙ firstShort-le 5 _ _ long-e ∙ firstShort-le 6 _ _ long-f
+            ∙ firstShort-le 7 _ _ long-g ∙ firstShort-nil 8

@@ -39,10 +39,14 @@ returns-7 : tie.Need-returns-7
 returns-7 c =
     let tested = c .before .good2 in
     let long = c .before .before in
-    not-good-promised _ _ _ _ _ _ (long .before .before .before .before .before .if1 .left)
-    (long .before .before .before .before .if2 .left) (long .before .before .before .if3 .left)
-    (long .before .before .if4 .left) (long .before .if5 .left) (long .if6 .left)
-    (decides-refused (tested .result) _ (tested .ensures) (c .if7 .taken))
+    not-good-promised _ _ _ _ _ _ (record {
+      store-length = long .before .before .before .before .before .if1 .left;
+      distances-length = long .before .before .before .before .if2 .left;
+      table-length = long .before .before .before .if3 .left;
+      run-length = long .before .before .if4 .left;
+      word-length = long .before .if5 .left;
+      out-length = long .if6 .left;
+    }) (decides-refused (tested .result) _ (tested .ensures) (c .if7 .taken))
 
 page-good-requires : tie.Need-page-good-requires
 page-good-requires c κs =
@@ -51,12 +55,14 @@ page-good-requires c κs =
     let long = is-good .before .before in
     record {
       good = decides-passed (tested .result) _ (tested .ensures) (is-good .if7 .left);
-      store-length = long .before .before .before .before .before .if1 .left;
-      distances-length = long .before .before .before .before .if2 .left;
-      table-length = long .before .before .before .if3 .left;
-      run-length = long .before .before .if4 .left;
-      word-length = long .before .if5 .left;
-      out-length = long .if6 .left;
+      long = record {
+        store-length = long .before .before .before .before .before .if1 .left;
+        distances-length = long .before .before .before .before .if2 .left;
+        table-length = long .before .before .before .if3 .left;
+        run-length = long .before .before .if4 .left;
+        word-length = long .before .if5 .left;
+        out-length = long .if6 .left;
+      };
     }
 
 same-length : tie.Need-same-length
@@ -80,10 +86,15 @@ returns-8 c =
     let is-good = page .before .before .before .before .before .before in
     let tested = is-good .before .good2 in
     let long = is-good .before .before in
-    printed-promised _ _ _ _ _ _ (long .before .before .before .before .before .if1 .left)
-    (long .before .before .before .before .if2 .left) (long .before .before .before .if3 .left)
-    (long .before .before .if4 .left) (long .before .if5 .left) (long .if6 .left)
-    (decides-passed (tested .result) _ (tested .ensures) (is-good .if7 .left)) _ _ _ _ _ _ (page .page-good .ensures)
+    printed-promised _ _ _ _ _ _ (record {
+      store-length = long .before .before .before .before .before .if1 .left;
+      distances-length = long .before .before .before .before .if2 .left;
+      table-length = long .before .before .before .if3 .left;
+      run-length = long .before .before .if4 .left;
+      word-length = long .before .if5 .left;
+      out-length = long .if6 .left;
+    }) (decides-passed (tested .result) _ (tested .ensures) (is-good .if7 .left)) _ _ _ _ _ _
+    (page .page-good .ensures)
 
 pub page-spec : {M : Type 1} → statement M
 page-spec =
