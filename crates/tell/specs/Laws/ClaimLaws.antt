@@ -8,6 +8,7 @@ use Prim.Native.Nat.{ℕ, _≤_}
 use native.Mathlib.Omega.{arith}
 use lib.ListN.{length}
 use Rattle.text.specs.Faults.{Outcome, answers}
+use Rattle.text.specs.Laws.OutcomeLaws.{answers-not-refuses}
 use Rattle.text.specs.Model.{Model}
 use Rattle.text.specs.Laws.ListsLaws.{take-filled}
 use Rattle.read.specs.Promises.{ReadPromise}
@@ -80,9 +81,9 @@ module _ {s : List ℕ} {m : Model} (st : Stored s m) where
     word-tells (Refused j depth) x w =
         let answer = w .refused det (j .0) depth x .outcome-is in
         record {
-          not-branching = λ i h. let z : _≡_ {A = ℕ} 0 1 = cc in omega arith;
+          not-branching = λ i h. answers-not-refuses (sym answer ∙ h);
           no-word-iff = (
-            λ h. let z : _≡_ {A = ℕ} 0 1 = cc in absurd (omega arith),
+            λ h. absurd (answers-not-refuses (sym answer ∙ h)),
             λ ini. absurd (no-leak-of-bnid m (bnid↔INI st det .1 ini) (j .0) depth (x .leak)),
           );
         }
@@ -122,7 +123,7 @@ module _ {s : List ℕ} {m : Model} (st : Stored s m) where
         record {
           passed-no-word = (
             λ p. absurd (passed-or-refused p e),
-            λ h. let z : _≡_ {A = ℕ} 0 1 = cc in absurd (omega arith),
+            λ h. absurd (answers-not-refuses (sym answer ∙ h)),
           );
           shown = λ i d h.
               let same = refused-same e h in
