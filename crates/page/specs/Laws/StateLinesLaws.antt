@@ -7,7 +7,7 @@ use mathlib.Core.Path.{_≡_, refl, sym, subst}
 use Prim.Native.Nat.{ℕ, suc, _+_, _*_, _≤_, _<_}
 use native.Mathlib.Omega.{arith}
 use native.Mathlib.Numerals.{add-one}
-use lib.ListN.{length, getD}
+use lib.ListN.{length, getD, length-append}
 use Rattle.lts.specs.Alike.{Rank, bisimilar}
 use Rattle.lts.specs.AlikeLaws.{rank-unique, bisimilar-refl}
 use Rattle.lts.specs.TestsLaws.{eq-or-not}
@@ -18,7 +18,7 @@ use Rattle.model.specs.System.{LowStep}
 use Rattle.write.specs.Wrote.{Wrote}
 use Rattle.reach.specs.Laws.StepTestLaws.{distance-lt}
 use Rattle.reach.specs.Laws.ReachLaws.{list-distance, list-unreachable}
-use Rattle.page.specs.Page.{DistanceField, unreached, reached, ClassOf, StateLines, next-state}
+use Rattle.page.specs.Page.{DistanceField, unreached, reached, ClassOf, StateLines, no-state, next-state}
 use Rattle.page.specs.PageLines.{PageLine, state-line, distanceText, lineBytes}
 use Rattle.page.specs.Inner.Entries.{ListsOf, distanceOf, LowestZero}
 use Rattle.page.specs.Inner.LinesWritten.{LinesWritten}
@@ -67,6 +67,12 @@ module _ {s : List ℕ} {m : Model} {distances table : List ℕ} (L : ListsOf m 
       let b = distanceText-length p d x in
       let c = digits-length-le 3 class (omega (arith, L .stored .states-le)) (omega arith) (omega arith) in
       omega (arith, state-length p d class)
+
+-- as many lines as states
+pub stateLines-length : {m : Model} {n : ℕ} {lines : List PageLine} → StateLines m n lines → length lines ≡ n
+stateLines-length no-state = refl
+stateLines-length (next-state {n = n} {lines = lines} {distance = d} {class = c} x f k) =
+    omega (arith, stateLines-length x, length-append lines (state-line n d c ∷ []))
 
 -- one line more
 pub state-lines-next : {m : Model} {i class at mid next : ℕ} {distance : Option ℕ} {entry middle exit : List ℕ}

@@ -6,7 +6,7 @@ use mathlib.Core.Option.{none}
 use mathlib.Core.Path.{_≡_, refl, sym, ap, subst, _∙_}
 use Prim.Native.Nat.{ℕ, _<_}
 use native.Mathlib.Omega.{arith}
-use lib.ListN.{length, getD, take, length-append}
+use lib.ListN.{length, getD, take}
 use Rattle.text.specs.All.{All}
 use Rattle.text.specs.Bytes.{lineEnd}
 use Rattle.text.specs.Faults.{Outcome, answers, faultNumber}
@@ -34,13 +34,11 @@ use Rattle.word.specs.Laws.LettersLaws.{stored-rank-lt}
 use Rattle.tell.specs.Laws.ReadTextLaws.{lists-of-notShort, states→readText, readText→states}
 use Rattle.print.specs.Claim.{SaysPass, SaysRefuse, PassPage, LeakPage, PageTells, PrintClaim}
 use Rattle.page.specs.Page.{nameLine, LeakShown, by-word, by-branch, LeakLines, AfterStates, StateLines}
-use Rattle.page.specs.Page.{no-state, next-state}
-use Rattle.page.specs.PageLines.{PageLine, verdict-line, state-line, run-line, end-line, last-line, lineText}
-use Rattle.page.specs.PageLines.{pageBytes}
+use Rattle.page.specs.PageLines.{PageLine, verdict-line, run-line, end-line, last-line, lineText, pageBytes, faultBytes}
 use Rattle.page.specs.Promises.{PagePrinted}
-use Rattle.page.specs.PageLines.{faultBytes}
 use Rattle.print.specs.Promises.{printLists, FaultPrinted, PrintPromise}
 use Rattle.page.specs.Laws.LeakShownLaws.{depth-lt}
+use Rattle.page.specs.Laws.StateLinesLaws.{stateLines-length}
 use Rattle.print.specs.Laws.PageSplitLaws.{split-page}
 use Rattle.print.specs.Laws.PageFieldsLaws.{pass-fields, refuse-fields, run-fields}
 
@@ -70,11 +68,6 @@ begins-refuse : (j : ℕ) (depth : ℕ) (rest : List PageLine)
     → SaysRefuse (pageBytes (verdict-line (Refused (record { 0 = j }) depth) ∷ rest))
 unfolding pageBytes lineText
 begins-refuse j depth rest = refl
-
-stateLines-length : {m : Model} {n : ℕ} {lines : List PageLine} → StateLines m n lines → length lines ≡ n
-stateLines-length no-state = refl
-stateLines-length (next-state {n = n} {lines = lines} {distance = d} {class = c} x f k) =
-    omega (arith, stateLines-length x, length-append lines (state-line n d c ∷ []))
 
 small-run : {s : List ℕ} {m : Model} → Stored s m → {p : ℕ} {run : List ℕ} → RunTo m p run
     → All (λ (j : ℕ). j < 100000) run
