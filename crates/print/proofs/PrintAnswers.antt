@@ -3,7 +3,8 @@
 use mathlib.Core.List.{List, [], _∷_, _++_}
 use mathlib.Core.Option.{none, some}
 use mathlib.Core.Path.{_≡_, refl, sym, ap, subst, _∙_}
-use Prim.Native.Nat.{ℕ, _≤_, _<_}
+use Prim.Native.Nat.{ℕ, _+_, _≤_, _<_}
+use native.Mathlib.Numerals.{add-one}
 use native.Mathlib.Omega.{arith}
 use lib.ListN.{length, drop}
 use Rattle.read.specs.declared.read.ReadAnswer.{ReadAnswer}
@@ -11,14 +12,12 @@ use Rattle.read.specs.declared.read.ReadAnswer.the-variants.{Done}
 use Rattle.text.specs.Faults.{Outcome, answers, refuses}
 use Rattle.text.specs.Laws.OutcomeLaws.{answers-not-refuses}
 use Rattle.text.specs.Limits.{storeLength}
-use Rattle.text.specs.Lists.{distancesLength, tableLength, runLength, wordLength, pageLength}
+use Rattle.text.specs.Laws.FirstShortLaws.{firstShort-le, firstShort-suc, none-short-seven}
 use Rattle.text.specs.Model.{Model}
 use Rattle.read.specs.Promises.{readOutcome, readingOutcome, readingStore, ReadPromise}
 use Rattle.model.specs.Reading.{Reading, done, tooLong, faulty, readText}
 use Rattle.model.specs.Store.{storeOf}
 use Rattle.model.specs.StoredModel.{modelAt}
-use Rattle.text.specs.Laws.FirstShortLaws.{second-short, third-short, fourth-short, fifth-short, sixth-short}
-use Rattle.text.specs.Laws.FirstShortLaws.{seventh-short, none-short-seven}
 use Rattle.read.specs.Laws.PromisesLaws.{readLists-none}
 use Rattle.model.specs.Laws.Store.StoredModelLaws.{modelAt-storeOf}
 use Rattle.model.specs.Laws.Text.ReadingLaws.{readText-iff}
@@ -28,7 +27,7 @@ use Rattle.print.specs.declared.print.PrintAnswer.{PrintAnswer}
 use Rattle.print.specs.declared.print.PrintAnswer.the-variants.{Printed, ShortList}
 use Rattle.print.specs.Claim.{PrintClaim}
 use Rattle.print.specs.Promises.{printOutcome, printLists, FaultPrinted, PrintPromise}
-use Rattle.page.specs.Inner.PageLists.{LongLists, PageMade}
+use Rattle.page.specs.Inner.PageLists.{LongLists, FirstShort, PageMade}
 use Rattle.print.specs.Inner.Refusals.{Refuses, FaultWritten}
 use Rattle.print.specs.Laws.PageClaimLaws.{print-claim}
 use Rattle.page.specs.Laws.PageLinesLaws.{fault-length-le}
@@ -61,11 +60,11 @@ module _ (text store distances table run word out : List ℕ) where
       PrintPromise text store distances table run word out (printOutcome r) store distances table run word out
       × PrintClaim text (printOutcome r) word out
 
-  short-promised : (place : ℕ) → printLists text store distances table run word out ≡ some place
+  place-promised : (place : ℕ) → printLists text store distances table run word out ≡ some place
       → PrintPromise text store distances table run word out (printOutcome (ShortList place)) store distances table run
       word out
   unfolding printOutcome
-  short-promised place e = record {
+  place-promised place e = record {
     short = λ k h.
         let same : place ≡ k = cc in (
           ap (refuses 21) same,
@@ -78,34 +77,18 @@ module _ (text store distances table run word out : List ℕ) where
 
   short-refused : (place : ℕ) → printLists text store distances table run word out ≡ some place
       → Refused (ShortList place)
-  short-refused place e = let promise = short-promised place e in (promise, print-claim promise)
+  short-refused place e = let promise = place-promised place e in (promise, print-claim promise)
 
   abbrev any-text : 0 ≤ length text
   any-text = omega arith
 
-  pub short-store-promised : length store < storeLength → Refused (ShortList 2)
-  short-store-promised h = short-refused 2 (second-short _ _ any-text h)
-
-  module _ (store-long : storeLength ≤ length store) where
-    pub short-distances-promised : length distances < distancesLength → Refused (ShortList 3)
-    short-distances-promised h = short-refused 3 (third-short _ _ any-text store-long h)
-
-    module _ (distances-long : distancesLength ≤ length distances) where
-      pub short-table-promised : length table < tableLength → Refused (ShortList 4)
-      short-table-promised h = short-refused 4 (fourth-short _ _ any-text store-long distances-long h)
-
-      module _ (table-long : tableLength ≤ length table) where
-        pub short-run-promised : length run < runLength → Refused (ShortList 5)
-        short-run-promised h = short-refused 5 (fifth-short _ _ any-text store-long distances-long table-long h)
-
-        module _ (run-long : runLength ≤ length run) where
-          pub short-word-promised : length word < wordLength → Refused (ShortList 6)
-          short-word-promised h =
-              short-refused 6 (sixth-short _ _ any-text store-long distances-long table-long run-long h)
-
-          pub short-out-promised : wordLength ≤ length word → length out < pageLength → Refused (ShortList 7)
-          short-out-promised word-long h = short-refused 7
-              (seventh-short _ _ any-text store-long distances-long table-long run-long word-long h)
+  -- the text is list 1, and Page's lists follow it
+  pub short-promised : (r : ℕ)
+      → FirstShort r (length store) (length distances) (length table) (length run) (length word) (length out) → 0 < r
+      → Refused (ShortList (r + 1))
+  short-promised r x l =
+      short-refused (r + 1)
+      (firstShort-le 1 _ _ any-text ∙ firstShort-suc 1 _ _ (x .some-short l) ∙ ap some (sym (add-one r)))
 
   -- ---- on long lists
 

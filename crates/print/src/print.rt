@@ -1,13 +1,8 @@
 // From a text to its page.
-use judge::rank::TABLE_LENGTH;
-use model::store::STORE_LENGTH;
 use page::lines::PageEnd;
-use page::page::PAGE_LENGTH;
+use page::page::first_short;
 use page::page::page_good;
-use reach::reach::DISTANCES_LENGTH;
-use reach::run::RUN_LENGTH;
 use read::read::ReadAnswer;
-use word::word::WORD_LENGTH;
 ghost use mathlib.Core.List.{[], _∷_};
 ghost use mathlib.Core.Path.{_≡_};
 ghost use Prim.Native.Nat.{_≤_};
@@ -106,23 +101,18 @@ pub fn print(
         (now (distances .exit)) (now (table .exit)) (now (run .exit)) (now (word .exit)) (now (out .exit)) ⌝ }
     ensures { λ r. ⌜ PrintClaim (now (text .entry)) (printOutcome r) (now (word .exit)) (now (out .exit)) ⌝ }
 {
-    if store.len() < STORE_LENGTH {
-        return PrintAnswer::ShortList(2);
-    }
-    if distances.len() < DISTANCES_LENGTH {
-        return PrintAnswer::ShortList(3);
-    }
-    if table.len() < TABLE_LENGTH {
-        return PrintAnswer::ShortList(4);
-    }
-    if run.len() < RUN_LENGTH {
-        return PrintAnswer::ShortList(5);
-    }
-    if word.len() < WORD_LENGTH {
-        return PrintAnswer::ShortList(6);
-    }
-    if out.len() < PAGE_LENGTH {
-        return PrintAnswer::ShortList(7);
+    let short = first_short(
+        store.len(),
+        distances.len(),
+        table.len(),
+        run.len(),
+        word.len(),
+        out.len(),
+    );
+    if 0 < short {
+        // The text, of no least length, is list 1.
+        let place = short + 1;
+        return PrintAnswer::ShortList(place);
     }
     let printed = print_text(text, store, distances, table, run, word, out);
     let at = printed.at;
