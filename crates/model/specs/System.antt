@@ -1,6 +1,5 @@
 -- A model as a transition system: its steps, its start and the levels of its actions.
 -- Document 01, "The meaning".
-use mathlib.Core.List.{[]}
 use mathlib.Core.Path.{_≡_}
 use Prim.Native.Nat.{ℕ, _<_}
 use lib.Dec.{eqb}
@@ -9,7 +8,7 @@ use Rattle.lts.specs.Alike.{Moves}
 use Rattle.lts.specs.Noninterference.{Levels, LowMove}
 use Rattle.lts.specs.Run.{Reachable, Distance}
 use Rattle.text.specs.declared.StepLine.{StepLine}
-use Rattle.text.specs.Model.{low, release, high, Model}
+use Rattle.text.specs.Model.{low, release, high, Model, noAction}
 
 -- What step j states. Past the last step it says nothing of the model: `Steps` counts the steps alone.
 abbrev pub step : Model → ℕ → StepLine
@@ -39,7 +38,7 @@ Start m p = p ≡ m .head .start .0
 
 -- The level of action a; 3, which is none, past the last action.
 abbrev pub level : Model → ℕ → ℕ
-level m a = (getD (m .actions) a (record { level = 3; name = [] })) .level
+level m a = getD (m .actions) a noAction .level
 
 -- "An action is low (L), release (D) or high (H)."
 abbrev pub levels : Model → Levels

@@ -6,7 +6,7 @@ use mathlib.Core.Path.{_≡_}
 use Prim.Native.Nat.{ℕ, suc, _<_}
 use lib.ListN.{length, getD, drop}
 use Rattle.lts.specs.Alike.{Rank}
-use Rattle.text.specs.Model.{Model}
+use Rattle.text.specs.Model.{Model, noAction}
 use Rattle.model.specs.System.{source, LowStep, ReachableIn, DistanceIn, DeterministicModel}
 use Rattle.judge.specs.declared.judge.Verdict.{Verdict}
 use Rattle.judge.specs.declared.judge.Verdict.the-variants.{Passed, Refused}
@@ -36,7 +36,7 @@ pub data StateLines (m : Model) : ℕ → List PageLine → Type 0 where
 
 -- The name of action a.
 abbrev pub nameOf : Model → ℕ → List ℕ
-nameOf m a = (getD (m .actions) a (record { level = 3; name = [] })) .name
+nameOf m a = getD (m .actions) a noAction .name
 
 -- `W,name`
 abbrev pub nameLine : Model → ℕ → PageLine
@@ -59,7 +59,7 @@ pub record LeakLines (m : Model) (j depth : ℕ) (run word run′ word′ : List
   pub shown : LeakShown m j depth word word′ rest
   pub lines-are : lines ≡ map run-line steps ++ rest
 
--- A passed model has no such lines, and its run and word are left untouched.
+-- A passed model has no such lines, and its run and word are unchanged.
 pub record NoLeakLines (run word run′ word′ : List ℕ) (lines : List PageLine) : Type 0 where
   pub run-kept : run′ ≡ run
   pub word-kept : word′ ≡ word

@@ -14,7 +14,7 @@ ghost use Rattle.page.specs.Page.{PageOf};
 ghost use Rattle.page.specs.Promises.{pageOutcome, PagePromise};
 ghost use Rattle.page.specs.Inner.Leak.{JudgedLists};
 ghost use Rattle.page.specs.Inner.LinesWritten.{LinesWritten};
-ghost use Rattle.page.specs.Inner.PageLists.{PageLists, PageMade};
+ghost use Rattle.page.specs.Inner.PageLists.{FirstShort, PageLists, PageMade};
 
 // What Page answers: the bytes written.
 pub enum PageAnswer {
@@ -24,6 +24,38 @@ pub enum PageAnswer {
 }
 
 pub const PAGE_LENGTH: usize = 5000;
+
+// The first of Page's lists that is below its least length, by their lengths, counted from 1; 0 if none is.
+pub fn first_short(
+    store: usize,
+    distances: usize,
+    table: usize,
+    run: usize,
+    word: usize,
+    out: usize,
+) -> usize
+    ensures { λ r. ⌜ FirstShort r store distances table run word out ⌝ }
+{
+    if store < STORE_LENGTH {
+        return 1;
+    }
+    if distances < DISTANCES_LENGTH {
+        return 2;
+    }
+    if table < TABLE_LENGTH {
+        return 3;
+    }
+    if run < RUN_LENGTH {
+        return 4;
+    }
+    if word < WORD_LENGTH {
+        return 5;
+    }
+    if out < PAGE_LENGTH {
+        return 6;
+    }
+    0
+}
 
 // The page of a judged model; the lists are as `judge_good` leaves them.
 fn judged_page(
@@ -46,8 +78,8 @@ fn judged_page(
     let start = PageEnd::start();
     let verdict = start.verdict_line(out, v);
     let states = verdict.state_lines(out, store, distances, table);
-    let end = states.after_states(out, store, begins, roles, distances, table, v, run, word);
-    end.last_line(out)
+    let leak = states.leak_lines(out, store, begins, roles, distances, table, v, run, word);
+    leak.last_line(out)
 }
 
 // Page on a good store: judged once.
@@ -84,28 +116,21 @@ pub fn page(
         (now (word .entry)) (now (out .entry)) (pageOutcome r) (now (distances .exit)) (now (table .exit))
         (now (run .exit)) (now (word .exit)) (now (out .exit)) ⌝ }
 {
-    if store.len() < STORE_LENGTH {
-        return PageAnswer::ShortList(1);
-    }
-    if distances.len() < DISTANCES_LENGTH {
-        return PageAnswer::ShortList(2);
-    }
-    if table.len() < TABLE_LENGTH {
-        return PageAnswer::ShortList(3);
-    }
-    if run.len() < RUN_LENGTH {
-        return PageAnswer::ShortList(4);
-    }
-    if word.len() < WORD_LENGTH {
-        return PageAnswer::ShortList(5);
-    }
-    if out.len() < PAGE_LENGTH {
-        return PageAnswer::ShortList(6);
+    let short = first_short(
+        store.len(),
+        distances.len(),
+        table.len(),
+        run.len(),
+        word.len(),
+        out.len(),
+    );
+    if 0 < short {
+        return PageAnswer::ShortList(short);
     }
     if !model::good::good(store) {
         return PageAnswer::NotGood;
     }
-    let end = page_good(store, distances, table, run, word, out);
-    let at = end.at;
+    let made = page_good(store, distances, table, run, word, out);
+    let at = made.at;
     PageAnswer::Printed(at.at)
 }

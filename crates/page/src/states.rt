@@ -8,9 +8,10 @@ ghost use Rattle.model.specs.StoredModel.{modelAt};
 ghost use Rattle.page.specs.Page.{StateLines};
 ghost use Rattle.page.specs.Inner.Entries.{ListsOf};
 ghost use Rattle.page.specs.Inner.LinesWritten.{LinesWritten};
+ghost use Rattle.page.specs.Inner.Room.{stateRoom};
 
 impl PageEnd {
-    // The lines of all states, of at most 14 bytes each.
+    // The lines of all states.
     pub fn state_lines(
         self,
         out: &mut [u8],
@@ -19,21 +20,21 @@ impl PageEnd {
         table: &[u8],
     ) -> PageEnd
         requires { ⌜ ListsOf (modelAt (now store)) (now store) (now distances) (now table) ⌝ }
-        requires { ⌜ self .at .at + 14 * modelAt (now store) .head .states ≤ length (now out) ⌝ }
+        requires { ⌜ self .at .at + stateRoom * modelAt (now store) .head .states ≤ length (now out) ⌝ }
         ensures { λ r. ⌜ LinesWritten
             (StateLines (modelAt (now (store .entry))) (modelAt (now (store .entry)) .head .states))
-            (14 * modelAt (now (store .entry)) .head .states) (now (out .entry)) (self .at .at) (now (out .exit))
+            (stateRoom * modelAt (now (store .entry)) .head .states) (now (out .entry)) (self .at .at) (now (out .exit))
             (r .at .at) ⌝ }
     {
         let n = model::store::states(store);
-        let mut end = self;
+        let mut page = self;
         let mut i: u16 = 0;
         while i < n {
             let place = i as usize;
             let class = class_of(table, State(i));
-            end = end.state_line(out, State(i), distances[place], class);
+            page = page.state_line(out, State(i), distances[place], class);
             i += 1;
         }
-        end
+        page
     }
 }

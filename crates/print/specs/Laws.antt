@@ -1,5 +1,5 @@
-pub mod ReadingPlaceLaws
 pub mod PageSplitLaws
+pub mod PageFieldsLaws
 pub mod PageClaimLaws
 pub mod PrintPromiseLaws
 pub mod StateLinesTestLaws

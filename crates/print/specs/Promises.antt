@@ -31,7 +31,7 @@ printLists text store distances table run word out =
     (0 ∷ storeLength ∷ distancesLength ∷ tableLength ∷ runLength ∷ wordLength ∷ pageLength ∷ [])
 
 -- All lists but `out` keep their contents.
-pub record Untouched (store distances table run word store′ distances′ table′ run′ word′ : List ℕ) : Type 0 where
+pub record Unchanged (store distances table run word store′ distances′ table′ run′ word′ : List ℕ) : Type 0 where
   pub store-kept : store′ ≡ store
   pub distances-kept : distances′ ≡ distances
   pub table-kept : table′ ≡ table
@@ -53,11 +53,11 @@ pub record TextPrinted (m : Model) (outcome : Outcome)
 pub record PrintPromise (text store distances table run word out : List ℕ) (outcome : Outcome)
     (store′ distances′ table′ run′ word′ out′ : List ℕ) : Type 0 where
   pub short : (k : ℕ) → printLists text store distances table run word out ≡ some k
-      → (outcome ≡ refuses 21 k) × Untouched store distances table run word store′ distances′ table′ run′ word′
+      → (outcome ≡ refuses 21 k) × Unchanged store distances table run word store′ distances′ table′ run′ word′
       × (out′ ≡ out)
   pub unread : printLists text store distances table run word out ≡ none → (number place : ℕ)
       → readingOutcome (readText text) ≡ refuses number place
-      → Untouched store distances table run word store′ distances′ table′ run′ word′
+      → Unchanged store distances table run word store′ distances′ table′ run′ word′
       × FaultPrinted number place outcome out out′
   pub read : printLists text store distances table run word out ≡ none → (m : Model) → readText text ≡ done m
       → TextPrinted m outcome store distances table run word out store′ distances′ table′ run′ word′ out′

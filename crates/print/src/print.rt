@@ -1,19 +1,16 @@
 // From a text to its page.
-use judge::rank::TABLE_LENGTH;
-use model::store::STORE_LENGTH;
 use page::lines::PageEnd;
-use page::page::PAGE_LENGTH;
+use page::page::first_short;
 use page::page::page_good;
-use reach::reach::DISTANCES_LENGTH;
-use reach::run::RUN_LENGTH;
 use read::read::ReadAnswer;
-use word::word::WORD_LENGTH;
+ghost use mathlib.Core.List.{[], _∷_};
 ghost use mathlib.Core.Path.{_≡_};
 ghost use Prim.Native.Nat.{_≤_};
 ghost use lib.ListN.{length};
-ghost use Rattle.text.specs.Faults.{refuses};
+ghost use Rattle.text.specs.Faults.{answers, refuses};
 ghost use Rattle.text.specs.Lists.{pageLength};
 ghost use Rattle.read.specs.Promises.{readOutcome};
+ghost use Rattle.page.specs.Inner.PageLists.{LongLists};
 ghost use Rattle.print.specs.Claim.{PrintClaim};
 ghost use Rattle.print.specs.Promises.{printOutcome, PrintPromise};
 ghost use Rattle.print.specs.Inner.Refusals.{Refuses, FaultWritten};
@@ -30,7 +27,7 @@ struct Refusal {
     place: u16,
 }
 
-fn refused_with(read: ReadAnswer) -> Refusal
+fn refusal_of(read: ReadAnswer) -> Refusal
     requires { ⌜ Refuses read ⌝ }
     ensures { λ r. ⌜ readOutcome read ≡ refuses (r .number) (r .place) ⌝ }
 {
@@ -58,13 +55,35 @@ fn refused_with(read: ReadAnswer) -> Refusal
 }
 
 // What is printed of a text that Read refuses.
-fn refused_page(read: ReadAnswer, out: &mut [u8]) -> PageEnd
+fn unread_page(read: ReadAnswer, out: &mut [u8]) -> PageEnd
     requires { ⌜ Refuses read × (pageLength ≤ length (now out)) ⌝ }
     ensures { λ r. ⌜ FaultWritten (readOutcome read) (now (out .entry)) (now (out .exit)) (r .at .at) ⌝ }
 {
-    let told = refused_with(read);
+    let refusal = refusal_of(read);
     let start = PageEnd::start();
-    start.fault_line(out, told.number, told.place)
+    start.fault_line(out, refusal.number, refusal.place)
+}
+
+// Prints the page of a text, or why Read refuses it, where all lists are long enough.
+fn print_text(
+    text: &[u8],
+    store: &mut [u16],
+    distances: &mut [u16],
+    table: &mut [u8],
+    run: &mut [u16],
+    word: &mut [u16],
+    out: &mut [u8],
+) -> PageEnd
+    requires { ⌜ LongLists (now store) (now distances) (now table) (now run) (now word) (now out) ⌝ }
+    ensures { λ r. ⌜ PrintPromise (now (text .entry)) (now (store .entry)) (now (distances .entry)) (now (table .entry))
+        (now (run .entry)) (now (word .entry)) (now (out .entry)) (answers (r .at .at ∷ [])) (now (store .exit))
+        (now (distances .exit)) (now (table .exit)) (now (run .exit)) (now (word .exit)) (now (out .exit)) ⌝ }
+{
+    let read = read::read::read(text, store);
+    match read {
+        ReadAnswer::Done => page_good(store, distances, table, run, word, out),
+        _ => unread_page(read, out),
+    }
 }
 
 // Reads a text and prints its page, or why Read refuses it.
@@ -82,35 +101,20 @@ pub fn print(
         (now (distances .exit)) (now (table .exit)) (now (run .exit)) (now (word .exit)) (now (out .exit)) ⌝ }
     ensures { λ r. ⌜ PrintClaim (now (text .entry)) (printOutcome r) (now (word .exit)) (now (out .exit)) ⌝ }
 {
-    if store.len() < STORE_LENGTH {
-        return PrintAnswer::ShortList(2);
+    let short = first_short(
+        store.len(),
+        distances.len(),
+        table.len(),
+        run.len(),
+        word.len(),
+        out.len(),
+    );
+    if 0 < short {
+        // The text, of no least length, is list 1.
+        let place = short + 1;
+        return PrintAnswer::ShortList(place);
     }
-    if distances.len() < DISTANCES_LENGTH {
-        return PrintAnswer::ShortList(3);
-    }
-    if table.len() < TABLE_LENGTH {
-        return PrintAnswer::ShortList(4);
-    }
-    if run.len() < RUN_LENGTH {
-        return PrintAnswer::ShortList(5);
-    }
-    if word.len() < WORD_LENGTH {
-        return PrintAnswer::ShortList(6);
-    }
-    if out.len() < PAGE_LENGTH {
-        return PrintAnswer::ShortList(7);
-    }
-    let read = read::read::read(text, store);
-    match read {
-        ReadAnswer::Done => {
-            let end = page_good(store, distances, table, run, word, out);
-            let at = end.at;
-            PrintAnswer::Printed(at.at)
-        }
-        _ => {
-            let end = refused_page(read, out);
-            let at = end.at;
-            PrintAnswer::Printed(at.at)
-        }
-    }
+    let printed = print_text(text, store, distances, table, run, word, out);
+    let at = printed.at;
+    PrintAnswer::Printed(at.at)
 }

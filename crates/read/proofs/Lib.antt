@@ -1,1 +1,2 @@
 pub mod ReaderParts
+pub mod ReadAnswers

@@ -4,3 +4,5 @@ pub mod ReadLaws
 pub mod ReadStepsLaws
 pub mod ReadAnswerLaws
 pub mod NameLaws
+pub mod ReadingPlaceLaws
+pub mod PromiseOutcomeLaws

@@ -1,15 +1,15 @@
 -- Each answer of `tell` keeps its promise and the claim: Read refuses; or the store that it left is judged once, and
 -- keeps Judge's promise and then Word's, whether a list is short or all is done. Assumes nothing.
 use mathlib.Core.List.{List, []}
-use mathlib.Core.Path.{_≡_, refl, subst}
+use mathlib.Core.Path.{_≡_, refl, sym, subst}
 use Prim.Native.Nat.{ℕ, _≤_, _<_}
-use native.Mathlib.Omega.{arith}
 use lib.ListN.{length}
 use Rattle.read.specs.declared.read.ReadAnswer.{ReadAnswer}
 use Rattle.read.specs.declared.read.ReadAnswer.the-variants as read
 use Rattle.text.specs.Limits.{storeLength}
 use Rattle.text.specs.Lists.{distancesLength, tableLength, wordLength}
 use Rattle.text.specs.Faults.{answers}
+use Rattle.text.specs.Laws.OutcomeLaws.{answers-not-refuses}
 use Rattle.text.specs.Model.{Model}
 use Rattle.model.specs.Store.{Good}
 use Rattle.model.specs.StoredModel.{modelAt}
@@ -94,9 +94,9 @@ module _ (store distances table word : List ℕ) (first-long : storeLength ≤ l
 refused-outcome : (r : ReadAnswer) → ¬ (r ≡ read.Done) → ¬ (readOutcome r ≡ answers [])
 unfolding readOutcome
 refused-outcome read.Done n e = n refl
-refused-outcome (read.ShortList place) n e = let z : _≡_ {A = ℕ} 0 1 = cc in absurd (omega arith)
-refused-outcome read.TooLong n e = let z : _≡_ {A = ℕ} 0 1 = cc in absurd (omega arith)
-refused-outcome (read.Faulty fault line) n e = let z : _≡_ {A = ℕ} 0 1 = cc in absurd (omega arith)
+refused-outcome (read.ShortList place) n e = answers-not-refuses (sym e)
+refused-outcome read.TooLong n e = answers-not-refuses (sym e)
+refused-outcome (read.Faulty fault line) n e = answers-not-refuses (sym e)
 
 module _ {text store exit : List ℕ} {r : ReadAnswer} (p : ReadPromise text store (readOutcome r) exit)
     (n : ¬ (r ≡ read.Done)) where

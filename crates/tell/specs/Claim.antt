@@ -51,12 +51,8 @@ pub record JudgeTells (m : Model) (judge : Outcome) : Type 0 where
   -- "the step told, a reachable high step"
   pub step-told : (j depth : ℕ) → SaysRefused judge j depth → HighStep m j
 
--- The sequence that Word shows for Judge's step and depth: what it filled up to its answered length, and the end named.
-pub record Sequence (m : Model) (j depth : ℕ) (word : Outcome) (list : List ℕ) : Type 0 where
-  pub sequence : List ℕ
-  pub end : End
-  pub answer : word ≡ answers (length sequence ∷ endNumber end ∷ [])
-  pub filled : take (length sequence) list ≡ sequence
+-- All that demand 3 says of the sequence shown for a step and a depth, and of the end named.
+pub record ShowsLeak (m : Model) (j depth : ℕ) (sequence : List ℕ) (end : End) : Type 0 where
   -- "a low sequence is shown"
   pub low : Low (levels m) sequence
   -- "it is possible from the named end of the step told [..] and not from that step's other end"
@@ -70,6 +66,14 @@ pub record Sequence (m : Model) (j depth : ℕ) (word : Outcome) (list : List �
       → JustOne (Steps m) (source m i) (target m i) v → length sequence ≤ length v
   -- "The depth told is the number of actions in the sequence shown."
   pub depth-is : depth ≡ length sequence
+
+-- The sequence that Word shows for Judge's step and depth: what it filled up to its answered length, and the end named.
+pub record Sequence (m : Model) (j depth : ℕ) (word : Outcome) (list : List ℕ) : Type 0 where
+  pub sequence : List ℕ
+  pub end : End
+  pub answer : word ≡ answers (length sequence ∷ endNumber end ∷ [])
+  pub filled : take (length sequence) list ≡ sequence
+  pub shows : ShowsLeak m j depth sequence end
 
 -- What Word tells of a deterministic model: never 23, and 24 exactly when every sequence passes the test above.
 pub record WordTells (m : Model) (word : Outcome) : Type 0 where

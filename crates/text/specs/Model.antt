@@ -27,9 +27,9 @@ pub record Model : Type 0 where
   pub actions : List ActionLine
   pub steps : List StepLine
 
--- what stands past the end of a list
+-- what stands past the end of a list; 3 is no level
 abbrev pub noAction : ActionLine
-noAction = record { level = 0; name = [] }
+noAction = record { level = 3; name = [] }
 
 abbrev pub noStep : StepLine
 noStep = record { source = record { 0 = 0 }; action = record { 0 = 0 }; target = record { 0 = 0 } }

@@ -2,3 +2,4 @@ pub mod PromisesLaws
 pub mod WroteLaws
 pub mod WritableLaws
 pub mod WritingLaws
+pub mod PromiseOutcomeLaws

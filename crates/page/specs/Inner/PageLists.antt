@@ -2,9 +2,11 @@
 -- it.
 -- Document 01, operation 7.
 use mathlib.Core.List.{List, [], _∷_}
-use Prim.Native.Nat.{ℕ, _≤_}
+use mathlib.Core.Option.{some}
+use mathlib.Core.Path.{_≡_}
+use Prim.Native.Nat.{ℕ, _≤_, _<_}
 use lib.ListN.{length}
-use Rattle.text.specs.Faults.{answers}
+use Rattle.text.specs.Faults.{answers, firstShort}
 use Rattle.text.specs.Limits.{storeLength}
 use Rattle.text.specs.Lists.{distancesLength, tableLength, runLength, wordLength, pageLength}
 use Rattle.text.specs.Model.{Model}
@@ -12,18 +14,34 @@ use Rattle.model.specs.Store.{Good}
 use Rattle.judge.specs.Promises.{Filled}
 use Rattle.page.specs.Promises.{PagePrinted}
 
--- A good store, and lists of their least lengths or more.
+-- Lengths that are the least or more.
+pub record LongLengths (store distances table run word out : ℕ) : Type 0 where
+  pub store-length : storeLength ≤ store
+  pub distances-length : distancesLength ≤ distances
+  pub table-length : tableLength ≤ table
+  pub run-length : runLength ≤ run
+  pub word-length : wordLength ≤ word
+  pub out-length : pageLength ≤ out
+
+abbrev pub LongLists : List ℕ → List ℕ → List ℕ → List ℕ → List ℕ → List ℕ → Type 0
+LongLists store distances table run word out =
+    LongLengths (length store) (length distances) (length table) (length run) (length word) (length out)
+
+-- The first of the lists that is too short, by their lengths; 0 where none is.
+pub record FirstShort (r store distances table run word out : ℕ) : Type 0 where
+  pub place-le : r ≤ 6
+  pub some-short : 0 < r
+      → firstShort 1 (store ∷ distances ∷ table ∷ run ∷ word ∷ out ∷ [])
+      (storeLength ∷ distancesLength ∷ tableLength ∷ runLength ∷ wordLength ∷ pageLength ∷ []) ≡ some r
+  pub none-short : r ≡ 0 → LongLengths store distances table run word out
+
+-- A good store among them.
 pub record PageLists (store distances table run word out : List ℕ) : Type 0 where
   pub good : Good store
-  pub store-length : storeLength ≤ length store
-  pub distances-length : distancesLength ≤ length distances
-  pub table-length : tableLength ≤ length table
-  pub run-length : runLength ≤ length run
-  pub word-length : wordLength ≤ length word
-  pub out-length : pageLength ≤ length out
+  pub long : LongLists store distances table run word out
 
--- The page ends at place `end`.
-pub record PageMade (m : Model) (end : ℕ) (distances table run word out distances′ table′ run′ word′ out′ : List ℕ)
+-- The page has n bytes.
+pub record PageMade (m : Model) (n : ℕ) (distances table run word out distances′ table′ run′ word′ out′ : List ℕ)
     : Type 0 where
   pub filled : Filled m distances table distances′ table′
-  pub printed : PagePrinted m (answers (end ∷ [])) run word out run′ word′ out′
+  pub printed : PagePrinted m (answers (n ∷ [])) run word out run′ word′ out′

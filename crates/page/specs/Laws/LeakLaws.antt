@@ -21,6 +21,7 @@ use Rattle.write.specs.Laws.WroteLaws.{take-next}
 use Rattle.page.specs.PageLines.{PageLine, run-line, lineBytes}
 use Rattle.page.specs.Page.{nameOf, nameLine}
 use Rattle.page.specs.Inner.LinesWritten.{LinesWritten}
+use Rattle.page.specs.Inner.Room.{runRoom, nameRoom}
 use Rattle.page.specs.Laws.PageLinesLaws.{run-length, word-length}
 use Rattle.page.specs.Laws.LinesWrittenLaws.{written-line, written-both, written-of}
 
@@ -44,7 +45,7 @@ written-next line width l i h k x w =
     (written-both x one)
 
 -- `R,step` and the line end
-pub run-length-le : (j : ℕ) → length (lineBytes (run-line j)) ≤ 8
+pub run-length-le : (j : ℕ) → length (lineBytes (run-line j)) ≤ runRoom
 unfolding digits
 run-length-le j = omega (arith, run-length j, digitsUpTo-length-le 5 j)
 
@@ -70,7 +71,7 @@ module _ {s : List ℕ} (w : Writable s) (a : ℕ) (l : a < length (modelAt s .a
       let t = length-take (getD s (actionPlace a + 1) 0) (drop (namePlace a) s) in
       omega (arith, b, t, ap length nameOf-stored)
 
-  pub name-line-length-le : length (lineBytes (nameLine (modelAt s) a)) ≤ 15
+  pub name-line-length-le : length (lineBytes (nameLine (modelAt s) a)) ≤ nameRoom
   name-line-length-le = omega (arith, word-length (nameOf (modelAt s) a), name-length-le)
 
   pub name-bytes-lt : All (λ (b : ℕ). b < 256) (nameOf (modelAt s) a)

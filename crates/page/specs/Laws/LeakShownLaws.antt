@@ -1,19 +1,18 @@
 -- What Word does for a refused model, as the lines that show its leak.
 -- Document 01, "The page" and operation 6. Assumes nothing.
 use mathlib.Core.List.{List, [], _∷_, _++_, map}
-use mathlib.Core.Logic.{_⊎_, inl, inr, ⊎-elim}
+use mathlib.Core.Logic.{⊎-elim}
 use mathlib.Core.Path.{_≡_, sym, ap, subst, _∙_}
-use Prim.Native.Nat.{ℕ, zero, suc, _+_, _*_, _≤_, _<_}
+use Prim.Native.Nat.{ℕ, zero, suc, _+_, _*_, _<_}
 use native.Mathlib.Omega.{arith}
-use lib.Dec.{T, eqb, eqb→eq}
-use lib.ListN.{length, getD, take, drop, length-append, List·getD-eq-default, List·getD-append}
-use lib.Seq.{take-append-seam}
+use lib.ListN.{length, getD, take, drop, length-append, List·getD-append}
 use Rattle.lts.specs.Noninterference.{Low}
-use Rattle.lts.specs.RankLaws.{rank-lt}
-use Rattle.lts.specs.TestsLaws.{lt-or-le}
 use Rattle.text.specs.Faults.{answers, refuses}
-use Rattle.text.specs.Model.{low, ActionLine, Model}
-use Rattle.model.specs.System.{source, target, level, levels, LowStep, DeterministicModel}
+use Rattle.text.specs.Laws.OutcomeLaws.{answers-not-refuses}
+use Rattle.text.specs.Model.{Model}
+use Rattle.model.specs.System.{source, levels, DeterministicModel}
+use Rattle.text.specs.Laws.ListsLaws.{take-filled}
+use Rattle.model.specs.Laws.Store.SystemLaws.{low-lt}
 use Rattle.reach.specs.Inner.Stored.{Stored}
 use Rattle.reach.specs.Inner.RunTail.{RunWritten}
 use Rattle.reach.specs.Runs.{RunTo}
@@ -25,23 +24,18 @@ use Rattle.judge.specs.Verdicts.{RefusedAt, Judged}
 use Rattle.word.specs.declared.word.End.{End}
 use Rattle.word.specs.declared.word.WordAnswer.{WordAnswer}
 use Rattle.word.specs.declared.word.WordAnswer.the-variants.{Shown, ShortList, NotGood, NotDeterministic, NoLeak}
-use Rattle.word.specs.Words.{FirstBranch, endNumber, WordShown}
+use Rattle.word.specs.Words.{endNumber, WordShown}
 use Rattle.word.specs.Promises.{wordOutcome, WordDone}
-use Rattle.word.specs.Laws.LettersLaws.{low-step-game}
+use Rattle.word.specs.Laws.LettersLaws.{stored-rank-lt}
 use Rattle.word.specs.Laws.WordPromiseLaws.{branch-cases, endNumber-injective}
-use Rattle.page.specs.Page.{nameLine, LeakShown, by-word, by-branch, LeakLines}
+use Rattle.page.specs.Page.{nameLine, LeakShown, by-word, by-branch, LeakLines, AfterStates}
 use Rattle.page.specs.PageLines.{PageLine, run-line, end-line, branch-line}
 use Rattle.page.specs.Inner.Leak.{Letters, Spelled, shownLines}
 use Rattle.page.specs.Inner.LinesWritten.{LinesWritten}
+use Rattle.page.specs.Inner.Room.{runRoom, shownRoom, leakRoom}
 use Rattle.page.specs.Laws.LinesWrittenLaws.{written-append, written-of}
 
 -- ---- the letters of a low word are actions
-
-pub low-lt : (m : Model) (a : ℕ) → T (levels m .low? a) → a < length (m .actions)
-low-lt m a t = ⊎-elim (λ l. l) (λ l.
-    let e = List·getD-eq-default (m .actions) (record { level = 3; name = [] }) {n = a} l in
-    let f = ap (λ (x : ActionLine). x .level) e in
-    absurd (omega (arith, f, eqb→eq (level m a) low t))) (lt-or-le a (length (m .actions)))
 
 letters-lt : (m : Model) (w : List ℕ) → Low (levels m) w → (i : ℕ) → i < length w → getD w i 0 < length (m .actions)
 unfolding Low
@@ -49,35 +43,31 @@ letters-lt m [] x i l = absurd (omega arith)
 letters-lt m (a ∷ w) x zero l = low-lt m a (x .0)
 letters-lt m (a ∷ w) x (suc i) l = letters-lt m w (x .1) i (omega arith)
 
--- the run stands in its list
-pub runWritten-le : {m : Model} {p n : ℕ} {entry exit : List ℕ} → RunWritten m p n entry exit → n ≤ length exit
-runWritten-le {entry = entry} x = omega
-    (arith, x .length-is, ap length (x .list), length-append (x .steps) (drop (length (x .steps)) entry))
-
 pub refused-of : {m : Model} {v : Verdict} {j : Step} {depth : ℕ} → v ≡ Refused j depth → Judged m v
     → RefusedAt m (j .0) depth
 refused-of {m} e x = subst (Judged m) e x
 
+-- the lines after the states, of a verdict that refuses
+pub after-refused : {m : Model} {v : Verdict} {j : Step} {depth : ℕ} {run word run′ word′ : List ℕ}
+    {room at next : ℕ} {entry exit : List ℕ} → v ≡ Refused j depth
+    → LinesWritten (LeakLines m (j .0) depth run word run′ word′) room entry at exit next
+    → LinesWritten (AfterStates m v run word run′ word′) room entry at exit next
+after-refused {m} {run = run} {word} {run′} {word′} {room} {at} {next} {entry} {exit} e x =
+    subst (λ (u : Verdict). LinesWritten (AfterStates m u run word run′ word′) room entry at exit next) (sym e) x
+
 module _ {s : List ℕ} {m : Model} (st : Stored s m) {j depth : ℕ} (refused : RefusedAt m j depth) where
-  depth-lt : depth < m .head .states
+  pub depth-lt : depth < m .head .states
   depth-lt =
       let l = refused .leak .high-step .number-lt in
-      rank-lt (LowStep m) (m .head .states) _ (low-step-game st) (source m j) (target m j) depth (st .source-lt j l)
-      (st .target-lt j l) (refused .leak .rank)
+      stored-rank-lt st (st .source-lt j l) (st .target-lt j l) (refused .leak .rank)
 
   module _ {word word′ : List ℕ} where
     -- ---- a word is shown
 
     module _ {n : ℕ} (end : End) (done : WordDone m (answers (n ∷ endNumber end ∷ [])) word word′) where
       word-deterministic : DeterministicModel m
-      word-deterministic = go (branch-cases st)
-        where
-          go : ((i : ℕ) × FirstBranch m i) ⊎ DeterministicModel m → DeterministicModel m
-          go (inl (i, f)) =
-              let e = done .branching i f .0 in
-              let z : _≡_ {A = ℕ} 0 1 = cc in
-              absurd (omega arith)
-          go (inr det) = det
+      word-deterministic = ⊎-elim
+          (λ b. absurd (answers-not-refuses (done .branching (b .0) (b .1) .0))) (λ det. det) (branch-cases st)
 
       word-shown : WordShown m j depth (answers (n ∷ endNumber end ∷ [])) word word′
       word-shown = done .refused word-deterministic j depth refused
@@ -95,10 +85,7 @@ module _ {s : List ℕ} {m : Model} (st : Stored s m) {j depth : ℕ} (refused :
           endNumber-injective end (word-shown .end) f
 
       word-taken : take n word′ ≡ word-shown .word
-      word-taken =
-          ap (take n) (word-shown .list)
-          ∙ ap (λ (k : ℕ). take k (word-shown .word ++ drop (length (word-shown .word)) word)) word-length
-          ∙ take-append-seam (word-shown .word) (drop (length (word-shown .word)) word)
+      word-taken = take-filled (word-shown .word) _ (word-shown .list) n word-length
 
       word-letters : Letters m n word′
       word-letters =
@@ -127,9 +114,7 @@ module _ {s : List ℕ} {m : Model} (st : Stored s m) {j depth : ℕ} (refused :
 
     module _ {number place : ℕ} (done : WordDone m (refuses number place) word word′) where
       not-deterministic : ¬ (DeterministicModel m)
-      not-deterministic det =
-          let e = done .refused det j depth refused .outcome-is in
-          let z : _≡_ {A = ℕ} 0 1 = cc in omega arith
+      not-deterministic det = answers-not-refuses (sym (done .refused det j depth refused .outcome-is))
 
       word-kept : word′ ≡ word
       word-kept =
@@ -160,14 +145,11 @@ module _ {s : List ℕ} {m : Model} (st : Stored s m) {j depth : ℕ} (refused :
     -- the lines of the run, and those
     pub leak-lines-written : {p n at mid next : ℕ} {run run′ entry middle exit : List ℕ} (shown : WordAnswer)
         → p ≡ source m j → RunWritten m p n run run′ → WordDone m (wordOutcome shown) word word′
-        → LinesWritten (_≡_ (map run-line (take n run′))) (8 * n) entry at middle mid
-        → LinesWritten (_≡_ (shownLines m shown word′)) 1914 middle mid exit next
-        → LinesWritten (LeakLines m j depth run word run′ word′) 2930 entry at exit next
+        → LinesWritten (_≡_ (map run-line (take n run′))) (runRoom * n) entry at middle mid
+        → LinesWritten (_≡_ (shownLines m shown word′)) shownRoom middle mid exit next
+        → LinesWritten (LeakLines m j depth run word run′ word′) leakRoom entry at exit next
     leak-lines-written {p} {n} {run = run} {run′} shown e ran done x y =
-        let taken : take n run′ ≡ ran .steps =
-        ap (take n) (ran .list)
-        ∙ ap (λ (k : ℕ). take k (ran .steps ++ drop (length (ran .steps)) run)) (sym (ran .length-is))
-        ∙ take-append-seam (ran .steps) (drop (length (ran .steps)) run) in
+        let taken = take-filled (ran .steps) _ (ran .list) n (sym (ran .length-is)) in
         written-of (λ (zs : List PageLine) (z : LeakLines m j depth run word run′ word′ zs). z)
         (omega (arith, runTo-length st (ran .run-to), ran .length-is)) (written-append
         (λ us vs (u : map run-line (take n run′) ≡ us) (v : shownLines m shown word′ ≡ vs). record {

@@ -19,6 +19,7 @@ use Rattle.page.specs.Page.{StateLines, AfterStates, PageOf}
 use Rattle.page.specs.Promises.{PagePrinted}
 use Rattle.page.specs.Inner.Entries.{ListsOf}
 use Rattle.page.specs.Inner.LinesWritten.{LinesWritten}
+use Rattle.page.specs.Inner.Room.{verdictRoom, stateRoom, leakRoom}
 use Rattle.page.specs.Laws.PageLinesLaws.{verdict-length-le, last-length}
 use Rattle.page.specs.Laws.LinesWrittenLaws.{written-line, written-exact, written-both, written-of}
 
@@ -33,16 +34,16 @@ listsOf x = record {
 }
 
 module _ {m : Model} {run word run′ word′ : List ℕ} where
-  -- 21 bytes, 14 per state, 2,930 and 2: the page fits its list
+  -- 21 bytes, 14 per state, 2,930, and 2 for `E`: the page fits its list
   pub page-written : (v : Verdict) {a b c d : ℕ} {out out₁ out₂ out₃ out₄ : List ℕ} → m .head .states ≤ stateLimit
       → Judged m v → Wrote out 0 (lineBytes (verdict-line v)) out₁ a
-      → LinesWritten (StateLines m (m .head .states)) (14 * m .head .states) out₁ a out₂ b
-      → LinesWritten (AfterStates m v run word run′ word′) 2930 out₂ b out₃ c → Wrote out₃ c (lineBytes last-line) out₄
+      → LinesWritten (StateLines m (m .head .states)) (stateRoom * m .head .states) out₁ a out₂ b
+      → LinesWritten (AfterStates m v run word run′ word′) leakRoom out₂ b out₃ c → Wrote out₃ c (lineBytes last-line) out₄
       d
       → LinesWritten (PageOf m run word run′ word′) pageLength out 0 out₄ d
   page-written v few judged first states after last =
       let whole = written-both (written-both
-      (written-both (written-line {P = _≡_ (verdict-line v ∷ [])} {room = 21} (verdict-line v) refl
+      (written-both (written-line {P = _≡_ (verdict-line v ∷ [])} {room = verdictRoom} (verdict-line v) refl
       (verdict-length-le v) first)
       (written-exact states)) (written-exact after))
       (written-line {P = _≡_ (last-line ∷ [])} {room = 2} last-line refl (omega (arith, last-length)) last) in
@@ -57,13 +58,13 @@ module _ {m : Model} {run word run′ word′ : List ℕ} where
         lines-are = sym e;
       }) (omega (arith, few)) whole
 
-  pub page-printed : {end : ℕ} {out out′ : List ℕ} → pageLength ≤ length out
-      → LinesWritten (PageOf m run word run′ word′) pageLength out 0 out′ end
-      → PagePrinted m (answers (end ∷ [])) run word out run′ word′ out′
+  pub page-printed : {n : ℕ} {out out′ : List ℕ} → pageLength ≤ length out
+      → LinesWritten (PageOf m run word run′ word′) pageLength out 0 out′ n
+      → PagePrinted m (answers (n ∷ [])) run word out run′ word′ out′
   page-printed long x =
       let w = wrote-start (x .wrote) (omega (arith, x .length-le)) in record {
         lines = x .lines;
         page = x .holds;
-        outcome-is = ap (λ (n : ℕ). answers (n ∷ [])) (w .0);
+        outcome-is = ap (λ (k : ℕ). answers (k ∷ [])) (w .0);
         list = w .1;
       }

@@ -19,6 +19,7 @@ use Rattle.word.specs.declared.word.End.{End}
 use Rattle.word.specs.declared.word.End.the-variants.{Source, Target}
 use Rattle.page.specs.PageLines.{faultBytes}
 use Rattle.page.specs.Inner.Entries.{distanceOf}
+use Rattle.page.specs.Inner.Room.{verdictRoom, endRoom}
 
 -- ---- lengths
 
@@ -32,7 +33,7 @@ unfolding lineText
 refused-length j depth = simp length-append (omega arith)
 
 -- numbers have at most 5 digits
-pub verdict-length-le : (v : Verdict) → length (lineBytes (verdict-line v)) ≤ 21
+pub verdict-length-le : (v : Verdict) → length (lineBytes (verdict-line v)) ≤ verdictRoom
 unfolding digits
 verdict-length-le (Passed rank) = omega (arith, passed-length rank, digitsUpTo-length-le 5 rank)
 verdict-length-le (Refused j depth) =
@@ -52,7 +53,7 @@ pub word-length : (name : List ℕ) → length (lineBytes (word-line name)) ≡ 
 unfolding lineText
 word-length name = simp length-append (omega arith)
 
-pub end-length : (end : End) → length (lineBytes (end-line end)) ≡ 9
+pub end-length : (end : End) → length (lineBytes (end-line end)) ≡ endRoom
 unfolding lineText endText
 end-length Source = refl
 end-length Target = refl

@@ -1,15 +1,18 @@
 -- Page's promise pins its answer and the content of each list: a model has one page.
 -- Document 01, operation 7. Assumes nothing.
+use mathlib.Core.Bool.{cond}
 use mathlib.Core.List.{List, [], _∷_, _++_, map}
 use mathlib.Core.Option.{Option, some}
 use mathlib.Core.Path.{_≡_, refl, sym, ap, subst, _∙_}
 use Prim.Native.Nat.{ℕ, zero, suc}
-use lib.ListN.{length, drop}
+use lib.Dec.{eqb}
+use lib.ListN.{length, getD, drop}
 use Rattle.lts.specs.FirstWordLaws.{first-word-unique}
 use Rattle.lts.specs.RunLaws.{distance-unique}
 use Rattle.lts.specs.TestsLaws.{eq-of-not-lt}
 use Rattle.lts.specs.WithinLaws.{distance→Reachable}
-use Rattle.text.specs.Faults.{Outcome, answers}
+use Rattle.text.specs.Faults.{Outcome, answers, refuses}
+use Rattle.text.specs.Laws.OutcomeLaws.{injective-of-inverse}
 use Rattle.text.specs.Model.{Model}
 use Rattle.model.specs.Laws.OnStoreLaws.{onStore-unique}
 use Rattle.model.specs.System.{source, target, levels, Steps, Start}
@@ -25,7 +28,9 @@ use Rattle.word.specs.Laws.WordPromiseLaws.{endNumber-injective, wordShown-uniq
 use Rattle.page.specs.PageLines.{PageLine, verdict-line, run-line, end-line, last-line, pageBytes}
 use Rattle.page.specs.Page.{DistanceField, unreached, reached, ClassOf, StateLines, no-state, next-state}
 use Rattle.page.specs.Page.{nameLine, LeakShown, by-word, by-branch, AfterStates, PageOf}
-use Rattle.page.specs.Promises.{PagePrinted, PagePromise}
+use Rattle.page.specs.declared.page.PageAnswer.{PageAnswer}
+use Rattle.page.specs.declared.page.PageAnswer.the-variants.{Printed, ShortList, NotGood}
+use Rattle.page.specs.Promises.{pageOutcome, PagePrinted, PagePromise}
 
 -- ---- the `C` lines
 
@@ -135,3 +140,18 @@ pagePromise-unique store distances table run word out t u d′ t′ r′ w′ o�
     let h = pagePrinted-unique (a .1) (b .1) in
     (h .0, (f .0, f .1, h .1, h .2, h .3))) x y in
     (e .0, e .1 .0, e .1 .1, e .1 .2, e .1 .3, e .1 .4)
+
+-- ---- equal outcomes are equal answers
+
+pageBack : Outcome → PageAnswer
+pageBack (answers values) = Printed (getD values 0 0)
+pageBack (refuses number place) = cond (eqb number 21) (ShortList place) NotGood
+
+pageBack-is : (a : PageAnswer) → pageBack (pageOutcome a) ≡ a
+unfolding pageOutcome pageBack
+pageBack-is (Printed length) = refl
+pageBack-is (ShortList place) = refl
+pageBack-is NotGood = refl
+
+pub pageOutcome-injective : (a b : PageAnswer) → pageOutcome a ≡ pageOutcome b → a ≡ b
+pageOutcome-injective = injective-of-inverse pageOutcome pageBack pageBack-is

@@ -7,7 +7,7 @@ use mathlib.Core.Path.{_≡_, refl, sym, subst}
 use Prim.Native.Nat.{ℕ, suc, _+_, _*_, _≤_, _<_}
 use native.Mathlib.Omega.{arith}
 use native.Mathlib.Numerals.{add-one}
-use lib.ListN.{length, getD}
+use lib.ListN.{length, getD, length-append}
 use Rattle.lts.specs.Alike.{Rank, bisimilar}
 use Rattle.lts.specs.AlikeLaws.{rank-unique, bisimilar-refl}
 use Rattle.lts.specs.TestsLaws.{eq-or-not}
@@ -18,10 +18,11 @@ use Rattle.model.specs.System.{LowStep}
 use Rattle.write.specs.Wrote.{Wrote}
 use Rattle.reach.specs.Laws.StepTestLaws.{distance-lt}
 use Rattle.reach.specs.Laws.ReachLaws.{list-distance, list-unreachable}
-use Rattle.page.specs.Page.{DistanceField, unreached, reached, ClassOf, StateLines, next-state}
+use Rattle.page.specs.Page.{DistanceField, unreached, reached, ClassOf, StateLines, no-state, next-state}
 use Rattle.page.specs.PageLines.{PageLine, state-line, distanceText, lineBytes}
 use Rattle.page.specs.Inner.Entries.{ListsOf, distanceOf, LowestZero}
 use Rattle.page.specs.Inner.LinesWritten.{LinesWritten}
+use Rattle.page.specs.Inner.Room.{stateRoom}
 use Rattle.page.specs.Laws.PageLinesLaws.{state-length, distanceOf-unreachable, distanceOf-reachable}
 use Rattle.page.specs.Laws.LinesWrittenLaws.{written-line, written-append, written-of}
 
@@ -60,19 +61,25 @@ module _ {s : List ℕ} {m : Model} {distances table : List ℕ} (L : ListsOf m 
       digits-length-le 3 d (omega (arith, distance-lt (L .stored) x, L .stored .states-le)) (omega arith) (omega arith)
 
   pub state-length-le : (p : ℕ) (d : Option ℕ) (class : ℕ) → p < m .head .states → DistanceField m p d → class ≤ p
-      → length (lineBytes (state-line p d class)) ≤ 14
+      → length (lineBytes (state-line p d class)) ≤ stateRoom
   state-length-le p d class l x k =
       let a = digits-length-le 3 p (omega (arith, L .stored .states-le)) (omega arith) (omega arith) in
       let b = distanceText-length p d x in
       let c = digits-length-le 3 class (omega (arith, L .stored .states-le)) (omega arith) (omega arith) in
       omega (arith, state-length p d class)
 
+-- as many lines as states
+pub stateLines-length : {m : Model} {n : ℕ} {lines : List PageLine} → StateLines m n lines → length lines ≡ n
+stateLines-length no-state = refl
+stateLines-length (next-state {n = n} {lines = lines} {distance = d} {class = c} x f k) =
+    omega (arith, stateLines-length x, length-append lines (state-line n d c ∷ []))
+
 -- one line more
 pub state-lines-next : {m : Model} {i class at mid next : ℕ} {distance : Option ℕ} {entry middle exit : List ℕ}
-    → LinesWritten (StateLines m i) (14 * i) entry at middle mid → DistanceField m i distance → ClassOf m i class
-    → length (lineBytes (state-line i distance class)) ≤ 14
+    → LinesWritten (StateLines m i) (stateRoom * i) entry at middle mid → DistanceField m i distance → ClassOf m i class
+    → length (lineBytes (state-line i distance class)) ≤ stateRoom
     → Wrote middle mid (lineBytes (state-line i distance class)) exit next
-    → LinesWritten (StateLines m (i + 1)) (14 * (i + 1)) entry at exit next
+    → LinesWritten (StateLines m (i + 1)) (stateRoom * (i + 1)) entry at exit next
 state-lines-next {m} {i} {class} {distance = distance} x f k l w = rw add-one (written-of
     (λ (xs : List PageLine) (y : StateLines m (suc i) xs). y) (omega arith) (written-append
     (λ xs ys (p : StateLines m i xs) (q : ys ≡ state-line i distance class ∷ []).
@@ -81,7 +88,7 @@ state-lines-next {m} {i} {class} {distance = distance} x f k l w = rw add-one (w
 
 -- all of them
 pub state-lines-all : {m : Model} {i at next : ℕ} {entry exit : List ℕ} → i ≡ m .head .states
-    → LinesWritten (StateLines m i) (14 * i) entry at exit next
-    → LinesWritten (StateLines m (m .head .states)) (14 * m .head .states) entry at exit next
+    → LinesWritten (StateLines m i) (stateRoom * i) entry at exit next
+    → LinesWritten (StateLines m (m .head .states)) (stateRoom * m .head .states) entry at exit next
 state-lines-all {m} {at = at} {next} {entry} {exit} e x =
-    subst (λ (n : ℕ). LinesWritten (StateLines m n) (14 * n) entry at exit next) e x
+    subst (λ (n : ℕ). LinesWritten (StateLines m n) (stateRoom * n) entry at exit next) e x

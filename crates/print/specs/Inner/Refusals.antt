@@ -15,8 +15,8 @@ pub record Refuses (read : ReadAnswer) : Type 0 where
   pub place-lt : (number place : ℕ) → readOutcome read ≡ refuses number place → place < 65536
 
 -- The line of a refusal was written.
-pub record FaultWritten (outcome : Outcome) (entry exit : List ℕ) (end : ℕ) : Type 0 where
+pub record FaultWritten (outcome : Outcome) (entry exit : List ℕ) (next : ℕ) : Type 0 where
   pub number : ℕ
   pub place : ℕ
   pub outcome-is : outcome ≡ refuses number place
-  pub wrote : Wrote entry 0 (faultBytes number place) exit end
+  pub wrote : Wrote entry 0 (faultBytes number place) exit next

@@ -4,42 +4,43 @@ use mathlib.Core.List.{List, [], _∷_, _++_, map}
 use mathlib.Core.Logic.{inl, inr, _↔_}
 use mathlib.Core.Option.{none}
 use mathlib.Core.Path.{_≡_, refl, sym, ap, subst, _∙_}
-use Prim.Native.Nat.{ℕ}
+use Prim.Native.Nat.{ℕ, _<_}
 use native.Mathlib.Omega.{arith}
-use lib.ListN.{length, getD, take, drop, length-append}
-use lib.Seq.{take-append-seam}
-use Rattle.text.specs.Faults.{Outcome, answers, faultNumber}
-use Rattle.read.specs.Promises.{readingOutcome}
-use Rattle.model.specs.Reading.{Reading, done, tooLong, faulty, readText}
-use Rattle.model.specs.Store.{storeOf}
-use Rattle.model.specs.WellFormed.{WellFormed}
-use Rattle.model.specs.Laws.Store.StoreLaws.{storeOf-length}
-use Rattle.model.specs.Laws.Store.StoredModelLaws.{holds-storeOf}
-use Rattle.model.specs.Laws.Text.ReadingLaws.{readText-iff}
+use lib.ListN.{length, getD, take}
+use Rattle.text.specs.All.{All}
 use Rattle.text.specs.Bytes.{lineEnd}
+use Rattle.text.specs.Faults.{Outcome, answers, faultNumber}
+use Rattle.text.specs.Laws.OutcomeLaws.{answers-not-refuses}
 use Rattle.text.specs.Model.{Model}
 use Rattle.text.specs.Split.{split}
+use Rattle.read.specs.Promises.{readingOutcome}
+use Rattle.model.specs.Reading.{Reading, done, tooLong, faulty, readText}
 use Rattle.model.specs.System.{DeterministicModel}
+use Rattle.model.specs.WellFormed.{WellFormed}
+use Rattle.text.specs.Laws.ListsLaws.{take-filled}
+use Rattle.text.specs.Laws.AllLaws.{all-of-all}
 use Rattle.judge.specs.declared.judge.Verdict.{Verdict}
 use Rattle.judge.specs.declared.judge.Verdict.the-variants.{Passed, Refused}
 use Rattle.reach.specs.Inner.Stored.{Stored}
-use Rattle.reach.specs.Laws.GoodStoredLaws.{holds→Stored}
-use Rattle.judge.specs.Verdicts.{RefusedAt, Judged}
+use Rattle.reach.specs.Runs.{RunTo}
+use Rattle.judge.specs.Verdicts.{PassedWith, RefusedAt, Judged}
+use Rattle.reach.specs.Laws.GoodStoredLaws.{well-formed-stored}
+use Rattle.reach.specs.Laws.RunsLaws.{runTo-all}
 use Rattle.judge.specs.Laws.VerdictsLaws.{no-leak-of-bnid}
-use Rattle.word.specs.declared.word.End.{End}
-use Rattle.tell.specs.Claim.{States, Sequence}
-use Rattle.word.specs.Words.{endNumber}
-use Rattle.word.specs.Laws.WordPromiseLaws.{endNumber-injective}
-use Rattle.tell.specs.Laws.ClaimLaws.{sequence-of-shown}
-use Rattle.tell.specs.Laws.ReadTextLaws.{lists-of-notShort, states→readText}
+use Rattle.tell.specs.Claim.{States}
+use Rattle.tell.specs.Laws.ClaimLaws.{shows-of-wordOf}
 use Rattle.word.specs.Laws.LeastLeakLaws.{bnid↔INI}
-use Rattle.print.specs.Claim.{SaysPass, SaysRefuse, LeakPage, PageTells, PrintClaim}
+use Rattle.word.specs.Laws.LettersLaws.{stored-rank-lt}
+use Rattle.tell.specs.Laws.ReadTextLaws.{lists-of-notShort, states→readText, readText→states}
+use Rattle.print.specs.Claim.{SaysPass, SaysRefuse, PassPage, LeakPage, PageTells, PrintClaim}
 use Rattle.page.specs.Page.{nameLine, LeakShown, by-word, by-branch, LeakLines, AfterStates, StateLines}
-use Rattle.page.specs.PageLines.{PageLine, verdict-line, run-line, end-line, last-line, lineText, pageBytes}
+use Rattle.page.specs.PageLines.{PageLine, verdict-line, run-line, end-line, last-line, lineText, pageBytes, faultBytes}
 use Rattle.page.specs.Promises.{PagePrinted}
-use Rattle.print.specs.Laws.PageSplitLaws.{split-page}
-use Rattle.page.specs.PageLines.{faultBytes}
 use Rattle.print.specs.Promises.{printLists, FaultPrinted, PrintPromise}
+use Rattle.page.specs.Laws.LeakShownLaws.{depth-lt}
+use Rattle.page.specs.Laws.StateLinesLaws.{stateLines-length}
+use Rattle.print.specs.Laws.PageSplitLaws.{split-page}
+use Rattle.print.specs.Laws.PageFieldsLaws.{pass-fields, refuse-fields, run-fields}
 
 -- ---- the bytes that a page begins with
 
@@ -68,22 +69,10 @@ begins-refuse : (j : ℕ) (depth : ℕ) (rest : List PageLine)
 unfolding pageBytes lineText
 begins-refuse j depth rest = refl
 
--- a sequence and its end are those that the list and the answer hold
-sequence-is : {m : Model} {j depth : ℕ} (w word : List ℕ) {word′ : List ℕ} (end : End)
-    → word′ ≡ w ++ drop (length w) word → (x : Sequence m j depth (answers (length w ∷ endNumber end ∷ [])) word′)
-    → (w ≡ x .sequence) × (end ≡ x .end)
-sequence-is w word {word′} end e x =
-    let a = x .answer in
-    let l : length w ≡ length (x .sequence) = cc in
-    let f : endNumber end ≡ endNumber (x .end) = cc in (
-      sym (take-append-seam w (drop (length w) word)) ∙ ap (take (length w)) (sym e) ∙ ap (λ (k : ℕ). take k word′) l
-          ∙ x .filled,
-      endNumber-injective end (x .end) f,
-    )
-
-pub well-formed-stored : {m : Model} → WellFormed m → Stored (storeOf m ++ []) m
-well-formed-stored {m} w = holds→Stored (storeOf m ++ []) m
-    (omega (arith, storeOf-length m w, length-append (storeOf m) [])) (holds-storeOf m [] w)
+small-run : {s : List ℕ} {m : Model} → Stored s m → {p : ℕ} {run : List ℕ} → RunTo m p run
+    → All (λ (j : ℕ). j < 100000) run
+small-run {m = m} st {run = run} r = all-of-all (λ (j : ℕ). j < length (m .steps)) (λ (j : ℕ). j < 100000)
+    (λ j l. omega (arith, l, st .steps-le)) run (runTo-all r)
 
 module _ {s : List ℕ} {m : Model} (st : Stored s m) (det : DeterministicModel m) (run word run′ word′ : List ℕ)
     {lines : List PageLine} {bytes : List ℕ} (bytes-are : bytes ≡ pageBytes lines)
@@ -95,44 +84,49 @@ module _ {s : List ℕ} {m : Model} (st : Stored s m) (det : DeterministicModel 
       → LeakPage m bytes word′
   leak-page j depth states after state-lines refused x e = go (x .rest) (x .shown) (x .lines-are)
     where
-      page : List PageLine → List PageLine
-      page z = (verdict-line (Refused (record { 0 = j }) depth) ∷ []) ++ states ++ z ++ (last-line ∷ [])
-
-      shown-page : List ℕ → End → List PageLine
-      shown-page w end = page (map run-line (x .steps) ++ (map (nameLine m) w ++ (end-line end ∷ [])))
+      head : List PageLine
+      head = (verdict-line (Refused (record { 0 = j }) depth) ∷ []) ++ states
 
       go : (rest : List PageLine) → LeakShown m j depth word word′ rest → after ≡ map run-line (x .steps) ++ rest
           → LeakPage m bytes word′
       go _ (by-branch n k) f = absurd (n det)
       go _ (by-word {w = w} {end = end} d y l k) f =
-          let shown = sequence-of-shown st refused (record {
-            word = w;
-            end = end;
-            word-of = y;
-            length-is = l;
-            outcome-is = ap (λ (n : ℕ). answers (n ∷ endNumber end ∷ [])) l;
-            list = k;
-          }) in
-          let same = sequence-is w word end k shown in
+          let rest = map (nameLine m) w ++ (end-line end ∷ []) in
+          let lines-are = e ∙ ap (λ (z : List PageLine). head ++ z ++ (last-line ∷ [])) f in
           record {
             step = j;
             depth = depth;
+            verdict-fields =
+                refuse-fields bytes parted j depth _ (omega (arith, refused .leak .high-step .number-lt, st .steps-le))
+                (omega (arith, depth-lt st refused, st .states-le)) e;
             states = states;
             state-lines = state-lines;
             high-step = refused .leak .high-step;
             run = x .steps;
             run-to = x .run-to;
-            answer = answers (length w ∷ endNumber end ∷ []);
-            shown = shown;
+            run-fields =
+                run-fields bytes parted head (x .steps) rest (last-line ∷ []) lines-are
+                (omega (arith, stateLines-length state-lines)) (small-run st (x .run-to));
+            sequence = w;
+            end = end;
+            shown = shows-of-wordOf st refused y l;
+            filled = take-filled w _ k (length w) refl;
             lines = lines;
-            lines-are =
-                e
-                ∙ ap page f
-                ∙ ap (λ (z : List ℕ). shown-page z end) (same .0)
-                ∙ ap (shown-page (shown .sequence)) (same .1);
+            lines-are = lines-are;
             bytes-are = bytes-are;
             parted = parted;
           }
+
+  pass-page : (rank : ℕ) (rest : List PageLine) → PassedWith m rank → lines ≡ verdict-line (Passed rank) ∷ rest
+      → PassPage m bytes
+  pass-page rank rest passed e =
+      let top = passed .greatest .attained in
+      record {
+        rank = rank;
+        verdict-fields = pass-fields bytes parted rank rest (omega
+            (arith, stored-rank-lt st (top .one-lt) (top .other-lt) (top .holds), st .states-le)) e;
+        greatest = passed .greatest;
+      }
 
   -- the page of a verdict
   verdict-page : (v : Verdict) (states after : List PageLine) → StateLines m (m .head .states) states → Judged m v
@@ -143,6 +137,7 @@ module _ {s : List ℕ} {m : Model} (st : Stored s m) (det : DeterministicModel 
       record {
         verdict = inl says;
         pass-iff = (λ _. bnid↔INI st det .0 (judged .bnid), λ _. says);
+        pass = λ _. pass-page rank _ judged e;
         leak = λ r. absurd (pass-not-refuse bytes says r);
       }
   verdict-page (Refused j depth) states after state-lines judged x e =
@@ -154,21 +149,24 @@ module _ {s : List ℕ} {m : Model} (st : Stored s m) (det : DeterministicModel 
           λ p. absurd (pass-not-refuse bytes p says),
           λ ini. absurd (no-leak-of-bnid m (bnid↔INI st det .1 ini) (j .0) depth (judged .leak)),
         );
+        pass = λ p. absurd (pass-not-refuse bytes p says);
         leak = λ _. leak-page (j .0) depth states after state-lines judged x e;
       }
 
 same-number : {a b : ℕ} → answers (a ∷ []) ≡ answers (b ∷ []) → a ≡ b
 same-number h = cc
 
-pub page-tells : {m : Model} → WellFormed m → DeterministicModel m → {outcome : Outcome}
+-- the bytes told are those of the page
+printed-bytes : {m : Model} {outcome : Outcome} {run word out run′ word′ out′ : List ℕ} (n : ℕ)
+    → outcome ≡ answers (n ∷ []) → (x : PagePrinted m outcome run word out run′ word′ out′)
+    → take n out′ ≡ pageBytes (x .lines)
+printed-bytes n e x = take-filled (pageBytes (x .lines)) _ (x .list) n (same-number (sym e ∙ x .outcome-is))
+
+page-tells : {m : Model} → WellFormed m → DeterministicModel m → {outcome : Outcome}
     {run word out run′ word′ out′ : List ℕ} (n : ℕ) → outcome ≡ answers (n ∷ [])
     → PagePrinted m outcome run word out run′ word′ out′ → PageTells m (take n out′) word′
-page-tells w det {outcome} {run} {word} {out} {run′} {word′} {out′} n e x =
-    let l : n ≡ length (pageBytes (x .lines)) = same-number (sym e ∙ x .outcome-is) in
-    let taken : take n out′ ≡ pageBytes (x .lines) =
-    ap (take n) (x .list)
-    ∙ ap (λ (k : ℕ). take k (pageBytes (x .lines) ++ drop (length (pageBytes (x .lines))) out)) l
-    ∙ take-append-seam (pageBytes (x .lines)) (drop (length (pageBytes (x .lines))) out) in
+page-tells w det {run = run} {word} {run′ = run′} {word′} n e x =
+    let taken = printed-bytes n e x in
     let p = x .page in
     verdict-page (well-formed-stored w) det run word run′ word′ taken (ap (split lineEnd) taken ∙ split-page w p)
     (p .verdict) (p .states) (p .after) (p .state-lines) (p .judged) (p .after-states) (p .lines-are)
@@ -176,26 +174,26 @@ page-tells w det {outcome} {run} {word} {out} {run′} {word′} {out′} n e x 
 -- ---- the claim
 
 -- any page begins with `V`
-begins-verdict : (v : Verdict) (rest : List PageLine) (after : List ℕ)
-    → take 1 (pageBytes (verdict-line v ∷ rest) ++ after) ≡ 86 ∷ []
+begins-verdict : (v : Verdict) (rest : List PageLine) → take 1 (pageBytes (verdict-line v ∷ rest)) ≡ 86 ∷ []
 unfolding pageBytes lineText
-begins-verdict (Passed rank) rest after = refl
-begins-verdict (Refused j depth) rest after = refl
+begins-verdict (Passed rank) rest = refl
+begins-verdict (Refused j depth) rest = refl
 
-printed-begins : {m : Model} {outcome : Outcome} {run word out run′ word′ out′ : List ℕ}
-    → PagePrinted m outcome run word out run′ word′ out′ → take 1 out′ ≡ 86 ∷ []
-printed-begins {out = out} x =
-    let rest = drop (length (pageBytes (x .lines))) out in
-    ap (take 1) (x .list) ∙ ap (λ (z : List PageLine). take 1 (pageBytes z ++ rest)) (x .page .lines-are)
-    ∙ begins-verdict (x .page .verdict) _ rest
+printed-begins : {m : Model} {outcome : Outcome} {run word out run′ word′ out′ : List ℕ} (n : ℕ)
+    → outcome ≡ answers (n ∷ []) → PagePrinted m outcome run word out run′ word′ out′
+    → take 1 (take n out′) ≡ 86 ∷ []
+printed-begins n e x =
+    ap (take 1) (printed-bytes n e x) ∙ ap (λ (z : List PageLine). take 1 (pageBytes z)) (x .page .lines-are)
+    ∙ begins-verdict (x .page .verdict) _
 
-fault-begins : {number place : ℕ} {outcome : Outcome} {out out′ : List ℕ} → FaultPrinted number place outcome out out′
-    → ¬ (take 1 out′ ≡ 86 ∷ [])
+-- a refusal with `F`
+fault-begins : {number place : ℕ} {outcome : Outcome} {out out′ : List ℕ} (n : ℕ) → outcome ≡ answers (n ∷ [])
+    → FaultPrinted number place outcome out out′ → ¬ (take 1 (take n out′) ≡ 86 ∷ [])
 unfolding faultBytes
-fault-begins x e =
-    let f = sym (ap (take 1) (x .list)) ∙ e in
-    let g = ap (λ (l : List ℕ). getD l 0 0) f in
-    omega (arith, g)
+fault-begins {number} {place} n e x v =
+    let taken = take-filled (faultBytes number place) _ (x .list) n (same-number (sym e ∙ x .outcome-is)) in
+    let f = ap (λ (l : List ℕ). getD l 0 0) (sym (ap (take 1) taken) ∙ v) in
+    omega (arith, f)
 
 module _ {text store distances table run word out : List ℕ} {outcome : Outcome}
     {store′ distances′ table′ run′ word′ out′ : List ℕ}
@@ -203,25 +201,24 @@ module _ {text store distances table run word out : List ℕ} {outcome : Outcome
   lists-none : (n : ℕ) → outcome ≡ answers (n ∷ []) → printLists text store distances table run word out ≡ none
   lists-none n e =
       lists-of-notShort (printLists text store distances table run word out) (λ k h. p .short k h .0)
-      (λ k h. let z : _≡_ {A = ℕ} 0 1 = cc in omega arith)
+      (λ k h. answers-not-refuses (sym e ∙ h))
 
   pub print-claim : PrintClaim text outcome word′ out′
   unfolding readingOutcome
   print-claim = record {
     read-iff = λ n e. (
-      stated (lists-none n e) (readText text) refl,
+      stated n e (lists-none n e) (readText text) refl,
       λ (m, s).
-          printed-begins (p .read (lists-none n e) m (states→readText s) .printed),
+          printed-begins n e (p .read (lists-none n e) m (states→readText s) .printed),
     );
     tells = λ n e m s det. page-tells (s .well-formed) det n e
         (p .read (lists-none n e) m (states→readText s) .printed);
   }
     where
-      stated : printLists text store distances table run word out ≡ none → (r : Reading) → readText text ≡ r
-          → take 1 out′ ≡ 86 ∷ [] → (m : Model) × States text m
-      stated long (done m) e v =
-          let h = readText-iff text m .0 e in
-          (m, record { well-formed = h .0; text-is = h .1 })
-      stated long tooLong e v = absurd (fault-begins (p .unread long 1 0 (ap readingOutcome e) .1) v)
-      stated long (faulty fault line) e v =
-          absurd (fault-begins (p .unread long (faultNumber fault) line (ap readingOutcome e) .1) v)
+      stated : (n : ℕ) → outcome ≡ answers (n ∷ []) → printLists text store distances table run word out ≡ none
+          → (r : Reading) → readText text ≡ r → take 1 (take n out′) ≡ 86 ∷ [] → (m : Model) × States text m
+      stated n told long (done m) e v = (m, readText→states e)
+      stated n told long tooLong e v =
+          absurd (fault-begins n told (p .unread long 1 0 (ap readingOutcome e) .1) v)
+      stated n told long (faulty fault line) e v =
+          absurd (fault-begins n told (p .unread long (faultNumber fault) line (ap readingOutcome e) .1) v)

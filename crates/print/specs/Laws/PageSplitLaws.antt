@@ -1,15 +1,14 @@
 -- The bytes of a page part at their line ends into the texts of its lines: no field holds a line end.
 -- Document 01, "The page": "each line ends in byte 10." Assumes nothing.
-use mathlib.Core.Bool.{Bool, true, not, _&&_}
 use mathlib.Core.List.{List, [], _∷_, _++_, map, append-assoc}
 use mathlib.Core.Logic.{inl, inr}
 use mathlib.Core.Option.{Option, none, some}
 use mathlib.Core.Path.{_≡_, refl, sym, ap, subst, _∙_}
 use Prim.Native.Nat.{ℕ}
 use native.Mathlib.Omega.{arith}
-use lib.Dec.{T, eqb, T-not}
+use lib.Dec.{T}
+use borrow.Author.Tests.{eqb-false}
 use Rattle.lts.specs.Noninterference.{Low}
-use Rattle.lts.specs.TestsLaws.{and-left, and-right, T-eqb}
 use Rattle.text.specs.All.{All}
 use Rattle.text.specs.Bytes.{digit, lineEnd, kindOf}
 use Rattle.text.specs.Model.{Model}
@@ -21,11 +20,12 @@ use Rattle.text.specs.Join.{Without}
 use Rattle.model.specs.System.{levels}
 use Rattle.model.specs.Text.{field}
 use Rattle.model.specs.WellFormed.{WellFormed}
+use Rattle.model.specs.Laws.Store.SystemLaws.{low-lt}
 use Rattle.model.specs.Laws.Store.WellFormedLaws.{action-fits}
 use Rattle.model.specs.Laws.Text.ActionLineLaws.{name-bytes}
 use Rattle.text.specs.Laws.AllLaws.{all-intro, all-append, all-map, all-of-all}
-use Rattle.text.specs.Laws.DigitsLaws.{digits-digit}
-use Rattle.text.specs.Laws.JoinLaws.{split-append}
+use Rattle.text.specs.Laws.JoinLaws.{split-append, without?, without-test}
+use Rattle.model.specs.Laws.Text.JoinedFieldsLaws.{digits-without}
 use Rattle.judge.specs.declared.judge.Verdict.{Verdict}
 use Rattle.judge.specs.declared.judge.Verdict.the-variants.{Passed, Refused}
 use Rattle.word.specs.declared.word.End.{End}
@@ -35,30 +35,18 @@ use Rattle.page.specs.PageLines.{last-line, passText, refuseText, distanceText,
 use Rattle.page.specs.PageLines.{pageBytes}
 use Rattle.page.specs.Page.{StateLines, no-state, next-state, nameOf, nameLine, LeakShown, by-word, by-branch}
 use Rattle.page.specs.Page.{AfterStates, PageOf}
-use Rattle.page.specs.Laws.LeakShownLaws.{low-lt}
 
 -- ---- texts without a line end
 
 abbrev Plain : List ℕ → Type 0
 Plain = Without lineEnd
 
-not-end? : List ℕ → Bool
-not-end? [] = true
-not-end? (b ∷ l) = not (eqb (kindOf b) lineEnd) && not-end? l
-
 -- a constant text, by evaluation
-plain-test : (l : List ℕ) → T (not-end? l) → Plain l
-unfolding not-end?
-plain-test [] t = tt
-plain-test (b ∷ l) t = (
-  λ e. T-not (eqb (kindOf b) lineEnd) (and-left (not (eqb (kindOf b) lineEnd)) (not-end? l) t) (T-eqb e),
-  plain-test l (and-right (not (eqb (kindOf b) lineEnd)) (not-end? l) t),
-)
+plain-test : (l : List ℕ) → T (without? lineEnd l) → Plain l
+plain-test = without-test lineEnd
 
 plain-digits : (n : ℕ) → Plain (digits n)
-plain-digits n =
-    all-of-all (λ b. kindOf b ≡ digit) (λ b. kindOf b ≡ lineEnd → ⊥) (λ b e f. omega (arith, e, f)) (digits n)
-    (digits-digit n)
+plain-digits n = digits-without lineEnd (λ e. eqb-false digit lineEnd refl e) (n ∷ []) .0
 
 plain-field : (f : List ℕ) → Plain f → Plain (field f)
 unfolding kindOf
@@ -76,12 +64,12 @@ PlainLine : PageLine → Type 0
 PlainLine l = Plain (lineText l)
 
 plain-distance : (d : Option ℕ) → Plain (distanceText d)
-unfolding distanceText not-end? kindOf
+unfolding distanceText without? kindOf
 plain-distance none = plain-test (45 ∷ []) tt
 plain-distance (some d) = plain-digits d
 
 plain-verdict : (v : Verdict) → PlainLine (verdict-line v)
-unfolding PlainLine lineText not-end? kindOf
+unfolding PlainLine lineText without? kindOf
 plain-verdict (Passed rank) =
     let text = (86 ∷ []) ++ field passText in
     plain-number text rank (plain-test text tt)
@@ -90,31 +78,31 @@ plain-verdict (Refused j depth) =
     plain-number (text ++ field (digits (j .0))) depth (plain-number text (j .0) (plain-test text tt))
 
 plain-state : (p : ℕ) (d : Option ℕ) (class : ℕ) → PlainLine (state-line p d class)
-unfolding PlainLine lineText not-end? kindOf
+unfolding PlainLine lineText without? kindOf
 plain-state p d class =
     plain-number ((67 ∷ []) ++ field (digits p) ++ field (distanceText d)) class
     (plain-append ((67 ∷ []) ++ field (digits p)) (field (distanceText d))
     (plain-number (67 ∷ []) p (plain-test (67 ∷ []) tt)) (plain-field (distanceText d) (plain-distance d)))
 
 plain-run : (j : ℕ) → PlainLine (run-line j)
-unfolding PlainLine lineText not-end? kindOf
+unfolding PlainLine lineText without? kindOf
 plain-run j = plain-number (82 ∷ []) j (plain-test (82 ∷ []) tt)
 
 plain-word : (name : List ℕ) → Plain name → PlainLine (word-line name)
-unfolding PlainLine lineText not-end? kindOf
+unfolding PlainLine lineText without? kindOf
 plain-word name p = plain-append (87 ∷ []) (field name) (plain-test (87 ∷ []) tt) (plain-field name p)
 
 plain-end : (end : End) → PlainLine (end-line end)
-unfolding PlainLine lineText endText not-end? kindOf
+unfolding PlainLine lineText endText without? kindOf
 plain-end Source = plain-test ((66 ∷ []) ++ field (endText Source)) tt
 plain-end Target = plain-test ((66 ∷ []) ++ field (endText Target)) tt
 
 plain-branch : PlainLine branch-line
-unfolding PlainLine lineText not-end? kindOf
+unfolding PlainLine lineText without? kindOf
 plain-branch = plain-test (78 ∷ []) tt
 
 plain-last : PlainLine last-line
-unfolding PlainLine lineText not-end? kindOf
+unfolding PlainLine lineText without? kindOf
 plain-last = plain-test (69 ∷ []) tt
 
 -- ---- the page

@@ -5,14 +5,18 @@ use mathlib.Core.Logic.{_⊎_, inl, inr}
 use mathlib.Core.Option.{none, some}
 use mathlib.Core.Path.{_≡_, refl, sym, ap, _∙_}
 use Prim.Native.Nat.{ℕ}
-use Rattle.text.specs.Faults.{Outcome, refuses, faultNumber}
+use lib.ListN.{getD}
+use Rattle.text.specs.Faults.{Outcome, answers, refuses, faultNumber}
+use Rattle.text.specs.Laws.OutcomeLaws.{injective-of-inverse}
 use Rattle.read.specs.Promises.{readingOutcome}
 use Rattle.model.specs.Reading.{Reading, done, tooLong, faulty, readText}
 use Rattle.model.specs.Laws.OnStoreLaws.{option-cases}
 use Rattle.model.specs.Laws.Text.ReadingLaws.{readText-iff}
+use Rattle.reach.specs.Laws.GoodStoredLaws.{well-formed-stored}
 use Rattle.judge.specs.Laws.JudgeLaws.{filled-unique}
-use Rattle.print.specs.Promises.{printLists, Untouched, FaultPrinted, PrintPromise}
-use Rattle.print.specs.Laws.PageClaimLaws.{well-formed-stored}
+use Rattle.print.specs.declared.print.PrintAnswer.{PrintAnswer}
+use Rattle.print.specs.declared.print.PrintAnswer.the-variants.{Printed, ShortList}
+use Rattle.print.specs.Promises.{printOutcome, printLists, Unchanged, FaultPrinted, PrintPromise}
 use Rattle.page.specs.Laws.PagePromiseLaws.{pagePrinted-unique}
 
 faultPrinted-unique : {number place : ℕ} {t u : Outcome} {out out′ out″ : List ℕ}
@@ -27,9 +31,9 @@ module _ {text store distances table run word out : List ℕ} {t u : Outcome}
   abbrev Same : Type 0
   Same = (t ≡ u) × (s′ ≡ s″) × (d′ ≡ d″) × (t′ ≡ t″) × (r′ ≡ r″) × (w′ ≡ w″) × (o′ ≡ o″)
 
-  untouched-same : Untouched store distances table run word s′ d′ t′ r′ w′
-      → Untouched store distances table run word s″ d″ t″ r″ w″ → t ≡ u → o′ ≡ o″ → Same
-  untouched-same a b e f = (
+  unchanged-same : Unchanged store distances table run word s′ d′ t′ r′ w′
+      → Unchanged store distances table run word s″ d″ t″ r″ w″ → t ≡ u → o′ ≡ o″ → Same
+  unchanged-same a b e f = (
     e,
     a .store-kept ∙ sym (b .store-kept),
     a .distances-kept ∙ sym (b .distances-kept),
@@ -45,7 +49,7 @@ module _ {text store distances table run word out : List ℕ} {t u : Outcome}
       let a = x .unread long number place e in
       let b = y .unread long number place e in
       let f = faultPrinted-unique (a .1) (b .1) in
-      untouched-same (a .0) (b .0) (f .0) (f .1)
+      unchanged-same (a .0) (b .0) (f .0) (f .1)
 
   read-same : printLists text store distances table run word out ≡ none → (r : Reading) → readText text ≡ r → Same
   unfolding readingOutcome
@@ -67,5 +71,19 @@ module _ {text store distances table run word out : List ℕ} {t u : Outcome}
       go (inl (k, e)) =
           let a = x .short k e in
           let b = y .short k e in
-          untouched-same (a .1) (b .1) (a .0 ∙ sym (b .0)) (a .2 ∙ sym (b .2))
+          unchanged-same (a .1) (b .1) (a .0 ∙ sym (b .0)) (a .2 ∙ sym (b .2))
       go (inr e) = read-same e (readText text) refl
+
+-- ---- equal outcomes are equal answers
+
+printBack : Outcome → PrintAnswer
+printBack (answers values) = Printed (getD values 0 0)
+printBack (refuses number place) = ShortList place
+
+printBack-is : (a : PrintAnswer) → printBack (printOutcome a) ≡ a
+unfolding printOutcome printBack
+printBack-is (Printed length) = refl
+printBack-is (ShortList place) = refl
+
+pub printOutcome-injective : (a b : PrintAnswer) → printOutcome a ≡ printOutcome b → a ≡ b
+printOutcome-injective = injective-of-inverse printOutcome printBack printBack-is

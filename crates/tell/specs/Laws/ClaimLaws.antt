@@ -6,10 +6,11 @@ use mathlib.Core.Logic.{inl, inr, _↔_}
 use mathlib.Core.Path.{_≡_, refl, sym, ap, subst, _∙_}
 use Prim.Native.Nat.{ℕ, _≤_}
 use native.Mathlib.Omega.{arith}
-use lib.ListN.{length, take}
-use lib.Seq.{take-at}
+use lib.ListN.{length}
 use Rattle.text.specs.Faults.{Outcome, answers}
+use Rattle.text.specs.Laws.OutcomeLaws.{answers-not-refuses}
 use Rattle.text.specs.Model.{Model}
+use Rattle.text.specs.Laws.ListsLaws.{take-filled}
 use Rattle.read.specs.Promises.{ReadPromise}
 use Rattle.model.specs.Store.{Good}
 use Rattle.model.specs.StoredModel.{Holds}
@@ -23,10 +24,11 @@ use Rattle.judge.specs.Laws.VerdictsLaws.{no-leak-of-bnid}
 use Rattle.judge.specs.Inner.VerdictTest.{verdictOf}
 use Rattle.judge.specs.Laws.VerdictTestLaws.{verdictOf-judged}
 use Rattle.judge.specs.Promises.{verdictOutcome, judgeLists, JudgePromise}
-use Rattle.word.specs.Words.{endNumber, WordShown}
+use Rattle.word.specs.declared.word.End.{End}
+use Rattle.word.specs.Words.{endNumber, WordOf, WordShown}
 use Rattle.word.specs.Promises.{wordLists, WordDone, WordPromise}
-use Rattle.tell.specs.Claim.{States, NotShort, SaysPassed, SaysRefused, JudgeTells, Sequence, WordTells}
-use Rattle.tell.specs.Claim.{BothTell, Claim}
+use Rattle.tell.specs.Claim.{States, NotShort, SaysPassed, SaysRefused, JudgeTells, ShowsLeak, Sequence}
+use Rattle.tell.specs.Claim.{WordTells, BothTell, Claim}
 use Rattle.word.specs.Laws.LeastLeakLaws.{bnid↔INI, depth-le}
 use Rattle.tell.specs.Laws.ReadTextLaws.{lists-of-notShort, states→readText, read-exit-long, read-holds, read↔States}
 
@@ -44,19 +46,25 @@ refused-same {judge} {i} {j} {d} {e} x y =
 -- ---- the sequence
 
 module _ {s : List ℕ} {m : Model} (st : Stored s m) where
-  pub sequence-of-shown : {j depth : ℕ} {word : Outcome} {entry exit : List ℕ} → RefusedAt m j depth
+  pub shows-of-wordOf : {j depth : ℕ} {word : List ℕ} {end : End} → RefusedAt m j depth → WordOf m j word end
+      → length word ≡ depth → ShowsLeak m j depth word end
+  shows-of-wordOf refused x e = record {
+    low = x .first-word .is-low;
+    possible = x .only-from-end .0;
+    not-possible = x .only-from-end .1;
+    first = x .first-word;
+    shortest = λ i h v l one. subst (λ (n : ℕ). n ≤ length v) (sym e) (depth-le st refused i h v l one);
+    depth-is = sym e;
+  }
+
+  sequence-of-shown : {j depth : ℕ} {word : Outcome} {entry exit : List ℕ} → RefusedAt m j depth
       → WordShown m j depth word entry exit → Sequence m j depth word exit
   sequence-of-shown refused x = record {
     sequence = x .word;
     end = x .end;
     answer = x .outcome-is ∙ ap (λ (n : ℕ). answers (n ∷ endNumber (x .end) ∷ [])) (sym (x .length-is));
-    filled = ap (take (length (x .word))) (x .list) ∙ take-at (x .word) _ (length (x .word)) refl;
-    low = x .word-of .first-word .is-low;
-    possible = x .word-of .only-from-end .0;
-    not-possible = x .word-of .only-from-end .1;
-    first = x .word-of .first-word;
-    shortest = λ i h v l one. subst (λ (n : ℕ). n ≤ length v) (sym (x .length-is)) (depth-le st refused i h v l one);
-    depth-is = sym (x .length-is);
+    filled = take-filled (x .word) _ (x .list) (length (x .word)) refl;
+    shows = shows-of-wordOf refused (x .word-of) (x .length-is);
   }
 
   -- ---- Word
@@ -73,9 +81,9 @@ module _ {s : List ℕ} {m : Model} (st : Stored s m) where
     word-tells (Refused j depth) x w =
         let answer = w .refused det (j .0) depth x .outcome-is in
         record {
-          not-branching = λ i h. let z : _≡_ {A = ℕ} 0 1 = cc in omega arith;
+          not-branching = λ i h. answers-not-refuses (sym answer ∙ h);
           no-word-iff = (
-            λ h. let z : _≡_ {A = ℕ} 0 1 = cc in absurd (omega arith),
+            λ h. absurd (answers-not-refuses (sym answer ∙ h)),
             λ ini. absurd (no-leak-of-bnid m (bnid↔INI st det .1 ini) (j .0) depth (x .leak)),
           );
         }
@@ -115,7 +123,7 @@ module _ {s : List ℕ} {m : Model} (st : Stored s m) where
         record {
           passed-no-word = (
             λ p. absurd (passed-or-refused p e),
-            λ h. let z : _≡_ {A = ℕ} 0 1 = cc in absurd (omega arith),
+            λ h. absurd (answers-not-refuses (sym answer ∙ h)),
           );
           shown = λ i d h.
               let same = refused-same e h in

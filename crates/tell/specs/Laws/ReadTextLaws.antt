@@ -10,6 +10,7 @@ use lib.ListN.{length, drop}
 use Rattle.lts.specs.TestsLaws.{lt-or-le}
 use Rattle.text.specs.Limits.{storeLength}
 use Rattle.text.specs.Faults.{Outcome, answers, refuses}
+use Rattle.text.specs.Laws.OutcomeLaws.{answers-not-refuses}
 use Rattle.text.specs.Model.{Model}
 use Rattle.model.specs.Reading.{done, readText}
 use Rattle.model.specs.Store.{storeOf}
@@ -55,9 +56,7 @@ module _ {text store exit : List ℕ} (p : ReadPromise text store (answers []) e
     where
       short : length store < storeLength → storeLength ≤ length store
       short l =
-          let e = p .short 2 (firstShort-le _ _ _ (omega arith) ∙ firstShort-lt _ _ _ l) .0 in
-          let z : _≡_ {A = ℕ} 0 1 = cc in
-          absurd (omega arith)
+          absurd (answers-not-refuses (p .short 2 (firstShort-le _ _ _ (omega arith) ∙ firstShort-lt _ _ _ l) .0))
 
   -- the store that it leaves is long enough
   pub read-exit-long : storeLength ≤ length exit

@@ -1,19 +1,13 @@
 -- The promise of `tell` pins its answer and the content of each list.
 -- Document 01, "The operations, in the order of the work", 1, 4 and 6. Assumes nothing.
 use mathlib.Core.List.{List, []}
-use mathlib.Core.Logic.{_⊎_, inl, inr}
-use mathlib.Core.Option.{none, some}
 use mathlib.Core.Path.{_≡_, sym, ap, subst, _∙_}
 use Prim.Native.Nat.{ℕ}
-use native.Mathlib.Omega.{arith}
-use Rattle.text.specs.declared.Fault.{Fault}
-use Rattle.text.specs.declared.Fault.the-variants.{Absent, Shape, Digits, Range, Repeated, Order}
-use Rattle.text.specs.Faults.{Outcome, answers, refuses, faultNumber}
+use Rattle.text.specs.Faults.{Outcome, answers, refuses}
 use Rattle.read.specs.declared.read.ReadAnswer.{ReadAnswer}
-use Rattle.read.specs.declared.read.ReadAnswer.the-variants as read
-use Rattle.read.specs.Promises.{readOutcome, readLists, ReadPromise, ReadCause}
-use Rattle.model.specs.Laws.OnStoreLaws.{option-cases}
+use Rattle.read.specs.Promises.{readOutcome}
 use Rattle.read.specs.Laws.PromisesLaws.{readPromise-unique}
+use Rattle.read.specs.Laws.PromiseOutcomeLaws.{readAnswer-unique}
 use Rattle.judge.specs.declared.judge.JudgeAnswer.{JudgeAnswer}
 use Rattle.judge.specs.Promises.{judgeOutcome, JudgePromise}
 use Rattle.judge.specs.Laws.PromiseOutcomeLaws.{judgeOutcome-injective}
@@ -23,32 +17,6 @@ use Rattle.tell.specs.declared.tell.TextAnswer.the-variants.{Unread, Jud
 use Rattle.word.specs.Promises.{wordOutcome, WordPromise}
 use Rattle.tell.specs.Promises.{NotRead, ReadJudged, TellPromise}
 use Rattle.word.specs.Laws.WordPromiseLaws.{wordOutcome-injective, wordPromise-unique}
-
--- A refusal 21 of Read is told in one way.
-short-read : (r : ReadAnswer) (k : ℕ) → readOutcome r ≡ refuses 21 k → r ≡ read.ShortList k
-unfolding readOutcome
-short-read read.Done k e = let z : _≡_ {A = ℕ} 0 1 = cc in absurd (omega arith)
-short-read (read.ShortList place) k e = let same : place ≡ k = cc in ap read.ShortList same
-short-read read.TooLong k e = let z : _≡_ {A = ℕ} 1 21 = cc in absurd (omega arith)
-short-read (read.Faulty fault line) k e = absurd (not-short fault e)
-  where
-    not-short : (f : Fault) → ¬ (refuses (faultNumber f) line ≡ refuses 21 k)
-    not-short Absent h = let z : _≡_ {A = ℕ} 2 21 = cc in absurd (omega arith)
-    not-short Shape h = let z : _≡_ {A = ℕ} 2 21 = cc in absurd (omega arith)
-    not-short Digits h = let z : _≡_ {A = ℕ} 2 21 = cc in absurd (omega arith)
-    not-short Range h = let z : _≡_ {A = ℕ} 3 21 = cc in absurd (omega arith)
-    not-short Repeated h = let z : _≡_ {A = ℕ} 4 21 = cc in absurd (omega arith)
-    not-short Order h = let z : _≡_ {A = ℕ} 5 21 = cc in absurd (omega arith)
-
--- Read's promise with its cause pins Read's answer.
-pub readAnswer-unique : {text store exit exit′ : List ℕ} (r q : ReadAnswer)
-    → ReadPromise text store (readOutcome r) exit → ReadCause text store r
-    → ReadPromise text store (readOutcome q) exit′ → ReadCause text store q → r ≡ q
-readAnswer-unique {text} {store} r q p c o d = go (option-cases (readLists text store))
-  where
-    go : ((k : ℕ) × (readLists text store ≡ some k)) ⊎ (readLists text store ≡ none) → r ≡ q
-    go (inl (k, e)) = short-read r k (p .short k e .0) ∙ sym (short-read q k (o .short k e .0))
-    go (inr e) = c .cause e ∙ sym (d .cause e)
 
 module _ (text store distances table word : List ℕ) where
   -- What Read refuses is not judged.

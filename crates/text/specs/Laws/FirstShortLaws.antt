@@ -1,11 +1,17 @@
 -- The first list below its least length, list by list.
 -- Document 01, "Refused because of the state", 21. Assumes nothing.
 use mathlib.Core.List.{List, [], _∷_}
+use mathlib.Core.Logic.{⊎-elim}
 use mathlib.Core.Option.{none, some}
-use mathlib.Core.Path.{_≡_, refl, _∙_}
+use mathlib.Core.Path.{_≡_, refl, sym, ap, _∙_}
 use Prim.Native.Nat.{ℕ, suc, _≤_, _<_}
+use native.Mathlib.Omega.{arith}
 use borrow.Author.Tests.{lt-ltb, le-ltb}
+use Rattle.lts.specs.TestsLaws.{lt-or-le}
 use Rattle.text.specs.Faults.{firstShort}
+
+some-same : {a b : ℕ} → some a ≡ some b → a ≡ b
+some-same e = cc
 
 module _ (k : ℕ) where
   pub firstShort-nil : firstShort k [] [] ≡ none
@@ -22,6 +28,21 @@ module _ (k : ℕ) where
     pub firstShort-le : least ≤ n → firstShort k (n ∷ ns) (least ∷ leasts) ≡ firstShort (suc k) ns leasts
     unfolding firstShort
     firstShort-le h = rw (le-ltb n least h)
+
+-- counted from one more
+pub firstShort-suc : (k : ℕ) (ns leasts : List ℕ) {r : ℕ} → firstShort k ns leasts ≡ some r
+    → firstShort (suc k) ns leasts ≡ some (suc r)
+unfolding firstShort
+firstShort-suc k [] leasts e = let z : _≡_ {A = ℕ} 0 1 = cc in absurd (omega arith)
+firstShort-suc k (n ∷ ns) [] e = let z : _≡_ {A = ℕ} 0 1 = cc in absurd (omega arith)
+firstShort-suc k (n ∷ ns) (least ∷ leasts) {r} e = ⊎-elim
+    (λ l.
+    let same : k ≡ r = some-same (sym (firstShort-lt k ns leasts l) ∙ e) in
+    firstShort-lt (suc k) ns leasts l ∙ ap (λ (i : ℕ). some (suc i)) same)
+    (λ l.
+    firstShort-le (suc k) ns leasts l
+    ∙ firstShort-suc (suc k) ns leasts (sym (firstShort-le k ns leasts l) ∙ e))
+    (lt-or-le n least)
 
 -- ---- the first short list, in the order in which they are tested
 
@@ -77,9 +98,17 @@ module _ {a b least-a least-b : ℕ} (long-a : least-a ≤ a) (long-b : least-b 
           firstShort-le 1 _ _ long-a ∙ firstShort-le 2 _ _ long-b ∙ firstShort-le 3 _ _ long-c
           ∙ firstShort-le 4 _ _ long-d ∙ firstShort-nil 5
 
-      pub none-short-six : {e f least-e least-f : ℕ} → least-e ≤ e → least-f ≤ f
-          → firstShort 1 (a ∷ b ∷ c ∷ d ∷ e ∷ f ∷ [])
-          (least-a ∷ least-b ∷ least-c ∷ least-d ∷ least-e ∷ least-f ∷ []) ≡ none
-      none-short-six long-e long-f =
-          firstShort-le 1 _ _ long-a ∙ firstShort-le 2 _ _ long-b ∙ firstShort-le 3 _ _ long-c
-          ∙ firstShort-le 4 _ _ long-d ∙ firstShort-le 5 _ _ long-e ∙ firstShort-le 6 _ _ long-f ∙ firstShort-nil 7
+      module _ {e f least-e least-f : ℕ} (long-e : least-e ≤ e) (long-f : least-f ≤ f) where
+        pub none-short-six : firstShort 1 (a ∷ b ∷ c ∷ d ∷ e ∷ f ∷ [])
+            (least-a ∷ least-b ∷ least-c ∷ least-d ∷ least-e ∷ least-f ∷ []) ≡ none
+        none-short-six =
+            firstShort-le 1 _ _ long-a ∙ firstShort-le 2 _ _ long-b ∙ firstShort-le 3 _ _ long-c
+            ∙ firstShort-le 4 _ _ long-d ∙ firstShort-le 5 _ _ long-e ∙ firstShort-le 6 _ _ long-f ∙ firstShort-nil 7
+
+        pub none-short-seven : {g least-g : ℕ} → least-g ≤ g
+            → firstShort 1 (a ∷ b ∷ c ∷ d ∷ e ∷ f ∷ g ∷ [])
+            (least-a ∷ least-b ∷ least-c ∷ least-d ∷ least-e ∷ least-f ∷ least-g ∷ []) ≡ none
+        none-short-seven long-g =
+            firstShort-le 1 _ _ long-a ∙ firstShort-le 2 _ _ long-b ∙ firstShort-le 3 _ _ long-c
+            ∙ firstShort-le 4 _ _ long-d ∙ firstShort-le 5 _ _ long-e ∙ firstShort-le 6 _ _ long-f
+            ∙ firstShort-le 7 _ _ long-g ∙ firstShort-nil 8

@@ -1,10 +1,13 @@
 -- Splitting undoes joining, and joining undoes splitting.
 -- Document 01, "The text". Assumes nothing.
+use mathlib.Core.Bool.{Bool, true, not, _&&_}
 use mathlib.Core.List.{List, [], _∷_, _++_}
 use mathlib.Core.Path.{_≡_, refl, ap, _∙_}
 use Prim.Native.Nat.{ℕ, _<_}
 use native.Mathlib.Omega.{arith}
+use lib.Dec.{T, eqb, T-not}
 use lib.ListN.{length}
+use Rattle.lts.specs.TestsLaws.{and-left, and-right, T-eqb}
 use Rattle.text.specs.Bytes.{kindOf}
 use Rattle.text.specs.Split.{consFirst, split}
 use Rattle.text.specs.Laws.SplitLaws.{Is, same, other, is, split-nil, split-end, split-cons, split-first}
@@ -30,6 +33,21 @@ unfolding join
 all-join P b p [] h = tt
 all-join P b p (part ∷ []) h = h .0
 all-join P b p (part ∷ next ∷ parts) h = all-append P part _ (h .0) (p, all-join P b p (next ∷ parts) (h .1))
+
+-- ---- a list without a byte of the kind
+
+unfoldable pub without? : ℕ → List ℕ → Bool
+without? kind [] = true
+without? kind (b ∷ l) = not (eqb (kindOf b) kind) && without? kind l
+
+-- a constant text, by evaluation
+pub without-test : (kind : ℕ) (l : List ℕ) → T (without? kind l) → Without kind l
+unfolding without?
+without-test kind [] t = tt
+without-test kind (b ∷ l) t = (
+  λ e. T-not (eqb (kindOf b) kind) (and-left (not (eqb (kindOf b) kind)) (without? kind l) t) (T-eqb e),
+  without-test kind l (and-right (not (eqb (kindOf b) kind)) (without? kind l) t),
+)
 
 -- ---- split after join
 

@@ -1,11 +1,11 @@
--- What stands past a least length, write by write.
+-- What stands past a least length, write by write; and what stands before it.
 -- Document 01, "The operations, in the order of the work". Assumes nothing.
-use mathlib.Core.List.{List}
+use mathlib.Core.List.{List, _++_}
 use mathlib.Core.Path.{_≡_, refl, sym, ap, _∙_}
 use Prim.Native.Nat.{ℕ, _+_, _-_, _≤_, _<_}
 use native.Mathlib.Omega.{arith}
-use lib.ListN.{length, getD, set, drop, length-set}
-use lib.Seq.{drop-drop, drop-set-lt, getD-drop}
+use lib.ListN.{length, getD, set, take, drop, length-set}
+use lib.Seq.{drop-drop, drop-set-lt, getD-drop, take-at}
 use Rattle.text.specs.Lists.{Past}
 
 pub past-refl : {least : ℕ} (t : List ℕ) → Past least t t
@@ -32,3 +32,8 @@ past-getD {least} {t} {u} x i l =
     let g : getD u (least + (i - least)) 0 ≡ getD t (least + (i - least)) 0 =
     sym (getD-drop least u (i - least) 0) ∙ f ∙ getD-drop least t (i - least) 0 in
     rw e g
+
+-- what was filled in at the front
+pub take-filled : (filled rest : List ℕ) {list : List ℕ} → list ≡ filled ++ rest → (n : ℕ) → n ≡ length filled
+    → take n list ≡ filled
+take-filled filled rest e n l = ap (take n) e ∙ take-at filled rest n (sym l)

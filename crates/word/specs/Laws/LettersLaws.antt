@@ -15,6 +15,7 @@ use Rattle.lts.specs.CheckedLaws.{low-game}
 use Rattle.lts.specs.Decided.{answers?}
 use Rattle.lts.specs.FirstWordLaws.{letter-of-separated}
 use Rattle.lts.specs.Game.{Game}
+use Rattle.lts.specs.RankLaws.{rank-lt}
 use Rattle.lts.specs.TestsLaws.{lt-or-le}
 use Rattle.text.specs.declared.Step.{Step}
 use Rattle.text.specs.Lists.{pairPlace}
@@ -160,6 +161,10 @@ module _ {s : List ℕ} {m : Model} (st : Stored s m) where
       (answers? (m .head .states) (m .head .actions) (lowMove? (levels m) (step? m)))
   low-step-game =
       low-game (levels m) (Steps m) (m .head .states) (m .head .actions) (step? m) (decided-steps st)
+
+  pub stored-rank-lt : {p q k : ℕ} → p < m .head .states → q < m .head .states → Rank (LowStep m) p q k
+      → k < m .head .states
+  stored-rank-lt {p} {q} {k} = rank-lt (LowStep m) (m .head .states) _ low-step-game p q k
 
   -- Of two states that the round k+1 separates, some low step has an answer.
   pub has-answer-some : (p q k : ℕ) → 0 < k → SeparatedPair m p q (k + 1) → (j : ℕ) × HasAnswer m p q k j

@@ -13,6 +13,7 @@ use Rattle.lts.specs.TestsLaws.{lt-or-le, eq-or-not, lt-suc-cases}
 use Rattle.lts.specs.Word.{OnlyFrom}
 use Rattle.lts.specs.WordLaws.{only-from-unique}
 use Rattle.text.specs.Faults.{Outcome, answers, refuses}
+use Rattle.text.specs.Laws.OutcomeLaws.{injective-of-inverse}
 use Rattle.text.specs.Model.{Model}
 use Rattle.model.specs.System.{source, action, target, levels, Steps, ReachableIn, DeterministicModel}
 use Rattle.model.specs.Laws.OnStoreLaws.{onStore-unique}
@@ -64,7 +65,7 @@ pub endNumber-injective : (d e : End) → endNumber d ≡ endNumber e → d ≡ 
 endNumber-injective d e h = sym (endOf-endNumber d) ∙ ap endOf h ∙ endOf-endNumber e
 
 pub wordOutcome-injective : (r s : WordAnswer) → wordOutcome r ≡ wordOutcome s → r ≡ s
-wordOutcome-injective r s h = sym (answerOf-wordOutcome r) ∙ ap answerOf h ∙ answerOf-wordOutcome s
+wordOutcome-injective = injective-of-inverse wordOutcome answerOf answerOf-wordOutcome
 
 -- ---- a first branch, or a deterministic model
 

@@ -1,21 +1,28 @@
 -- For well-formed models, deterministic as document 01 says it (no reachable state has two steps of one action) is
--- deterministic as `lts` says it (steps of one source and action have one target).
+-- deterministic as `lts` says it (steps of one source and action have one target). A low action is one of the model's.
 -- Document 01, "Deterministic" and "The text". Assumes nothing.
-use mathlib.Core.Logic.{_⊎_, inl, inr, _↔_}
+use mathlib.Core.Logic.{_⊎_, inl, inr, ⊎-elim, _↔_}
 use mathlib.Core.Path.{_≡_, refl, sym, ap, subst, _∙_}
 use Prim.Native.Nat.{ℕ, _≤_, _<_}
 use native.Mathlib.Omega.{arith}
-use lib.ListN.{length}
+use lib.Dec.{T, eqb→eq}
+use lib.ListN.{length, List·getD-eq-default}
 use Rattle.lts.specs.Run.{Deterministic}
 use Rattle.lts.specs.TestsLaws.{lt-or-le}
-use Rattle.text.specs.Model.{Model}
-use Rattle.model.specs.System.{source, action, target, Steps, Start, ReachableIn, DeterministicModel}
+use Rattle.text.specs.Model.{low, ActionLine, Model, noAction}
+use Rattle.model.specs.System.{source, action, target, level, levels, Steps, Start, ReachableIn}
+use Rattle.model.specs.System.{DeterministicModel}
 use Rattle.model.specs.WellFormed.{WellFormed}
 use Rattle.model.specs.Laws.Store.WellFormedLaws.{step-above}
 
 -- step j, as the step that it is
 pub own-step : (m : Model) (j : ℕ) → j < length (m .steps) → Steps m (source m j) (action m j) (target m j)
 own-step m j l = record { number = j; number-lt = l; source-is = refl; action-is = refl; target-is = refl }
+
+pub low-lt : (m : Model) (a : ℕ) → T (levels m .low? a) → a < length (m .actions)
+low-lt m a t = ⊎-elim (λ l. l) (λ l.
+    let e = ap (λ (x : ActionLine). x .level) (List·getD-eq-default (m .actions) noAction {n = a} l) in
+    absurd (omega (arith, e, eqb→eq (level m a) low t))) (lt-or-le a (length (m .actions)))
 
 module _ (m : Model) where
   pub deterministicModel→Deterministic : DeterministicModel m → Deterministic (Steps m) (Start m)

@@ -2,7 +2,6 @@
 use native.Mathlib.Omega.{arith}
 use Rattle.write.specs.Laws.WroteLaws.{wrote-length}
 use Rattle.page.specs.Laws.PageLinesLaws.{verdict-length-le, last-length}
-use Rattle.page.specs.Laws.LinesWrittenLaws.{written-next-le}
 use Rattle.page.specs.Laws.PageLaws.{listsOf, page-written}
 use borrow.Author.Needs.{needs}
 use Rattle.page.proofs.page.judged_page.Statement.{statement}
@@ -34,8 +33,8 @@ state-lines-requires c κs =
       ),
     )
 
-after-states-requires : tie.Need-after-states-requires
-after-states-requires c κs =
+leak-lines-requires : tie.Need-leak-lines-requires
+leak-lines-requires c κs =
     let states = c .before .before .before .before .before in
     let first = states .before .before .before .before in
     let s = c .before .before .before .before .before .before .before .before .before .before .before .before .before
@@ -50,21 +49,22 @@ after-states-requires c κs =
         s .pre .0 .showable .lists .stored .states-le,
         first .verdict-line .ensures .place,
         wrote-length (first .verdict-line .ensures),
-        written-next-le wrote,
+        wrote .wrote .place,
+        wrote .length-le,
         wrote-length (wrote .wrote),
       ),
     )
 
 last-line-requires : tie.Need-last-line-requires
 last-line-requires c κs =
-    let after = c .before .before .before .before .before .before .before in
-    let states = after .before .before .before .before .before .before in
+    let leak = c .before .before .before .before .before .before .before in
+    let states = leak .before .before .before .before .before .before in
     let first = states .before .before .before .before in
     let s = c .before .before .before .before .before .before .before .before .before .before .before .before .before
     .before .before .before .before .before .before .before .before .before .before .before .before .before .before
     .before in
     let wrote = states .state-lines .ensures in
-    let more = after .after-states .ensures in
+    let more = leak .leak-lines .ensures in
     omega (
       arith,
       first .before .before .start .ensures,
@@ -74,9 +74,11 @@ last-line-requires c κs =
       s .pre .0 .showable .lists .stored .states-le,
       first .verdict-line .ensures .place,
       wrote-length (first .verdict-line .ensures),
-      written-next-le wrote,
+      wrote .wrote .place,
+      wrote .length-le,
       wrote-length (wrote .wrote),
-      written-next-le more,
+      more .wrote .place,
+      more .length-le,
       wrote-length (more .wrote),
     )
 
@@ -92,13 +94,13 @@ same-length-3 c = search needs
 returns : tie.Need-returns
 returns c =
     let last = c .before .before in
-    let after = last .before .before .before .before .before .before .before .before in
-    let states = after .before .before .before .before .before .before in
+    let leak = last .before .before .before .before .before .before .before .before in
+    let states = leak .before .before .before .before .before .before in
     let first = states .before .before .before .before in
     let s = first .before .before .before .before .before .before .before .before .before .before .before in
     page-written (s .args .v) (s .pre .0 .showable .lists .stored .states-le) (s .pre .0 .showable .verdict)
     (rw (first .before .before .start .ensures) at (first .verdict-line .ensures)) (states .state-lines .ensures)
-    (after .after-states .ensures) (last .last-line .ensures)
+    (leak .leak-lines .ensures) (last .last-line .ensures)
 
 pub judged-page-spec : {M : Type 1} → statement M
 judged-page-spec =
@@ -107,7 +109,7 @@ judged-page-spec =
     start-requires
     verdict-line-requires
     state-lines-requires
-    after-states-requires
+    leak-lines-requires
     last-line-requires
     same-length
     same-length-2

@@ -16,11 +16,11 @@ judge-good-requires : tie.Need-judge-good-requires
 judge-good-requires c κs =
     let lent = c .before .before .before .before .before .before .before .before .before .before .pre in
     record {
-      stored = good→Stored _ (lent .store-length) (lent .good);
+      stored = good→Stored _ (lent .long .store-length) (lent .good);
       index-length = omega arith;
       roles-length = omega arith;
-      distances-length = lent .distances-length;
-      table-length = lent .table-length;
+      distances-length = lent .long .distances-length;
+      table-length = lent .long .table-length;
     }
 
 slice-aggregate-judged-page : tie.Need-slice-aggregate-judged-page
@@ -39,22 +39,22 @@ judged-page-requires c κs =
         good = lent .good;
         showable = record {
           lists = record {
-            stored = good→Stored _ (lent .store-length) (lent .good);
+            stored = good→Stored _ (lent .long .store-length) (lent .good);
             roles-length = omega (arith, judged .judge-good .kept);
             roles-are = j .roles;
-            distances-length = omega (arith, j .filled .distances-filled .past .same-length, lent .distances-length);
+            distances-length = omega (arith, j .filled .distances-filled .past .same-length, lent .long .distances-length);
             distances-are = j .filled .distances-filled .list;
-            table-length = omega (arith, j .filled .table-past .same-length, lent .table-length);
+            table-length = omega (arith, j .filled .table-past .same-length, lent .long .table-length);
             ranks = j .filled .ranks;
           };
           index-length = omega (arith, judged .judge-good .kept);
           index = j .index;
           verdict = j .verdict;
-          word-length = lent .word-length;
+          word-length = lent .long .word-length;
         };
-        run-length = lent .run-length;
+        run-length = lent .long .run-length;
       },
-      lent .out-length,
+      lent .long .out-length,
     )
 
 same-length : tie.Need-same-length
@@ -80,7 +80,7 @@ returns c =
     let lent = judged .before .before .before .before .before .before .before .before .before .before .before .pre in
     record {
       filled = judged .judge-good .ensures .filled;
-      printed = page-printed (lent .out-length) (page .judged-page .ensures);
+      printed = page-printed (lent .long .out-length) (page .judged-page .ensures);
     }
 
 pub page-good-spec : {M : Type 1} → statement M

@@ -1,14 +1,6 @@
 -- A refusal of Read is told as it is; what Read has left is judged, and demand 3 follows from the three promises.
-use mathlib.Core.List.{[], _∷_}
-use mathlib.Core.Logic.{inl, inr}
-use mathlib.Core.Path.{_≡_, subst}
-use native.Mathlib.Omega.{arith}
 use borrow.Author.Needs.{needs}
-use denote.Enum.Declared.{tagOf}
-use types.Run.{OneOf}
-use Rattle.read.proofs.read.ReadAnswer.{the-type}
-use Rattle.read.specs.declared.read.ReadAnswer.{ReadAnswer}
-use Rattle.read.specs.declared.read.ReadAnswer.the-variants.{Done}
+use Rattle.read.proofs.ReadAnswers.{not-done}
 use Rattle.tell.proofs.TextAnswers.{unread-promised, unread-claimed, read-long-good, judged-promised}
 use Rattle.tell.proofs.TextAnswers.{judged-claimed}
 use Rattle.tell.proofs.tell.tell.Statement.{statement}
@@ -52,15 +44,6 @@ returns c =
 
 same-length-5 : tie.Need-same-length-5
 same-length-5 c = search needs
-
--- The last arm has the variants after the first.
-not-done : (r : ReadAnswer) → OneOf (1 ∷ 2 ∷ 3 ∷ []) (tagOf the-type r) → ¬ (r ≡ Done)
-not-done r k e = go (subst (λ (x : ReadAnswer). OneOf (1 ∷ 2 ∷ 3 ∷ []) (tagOf the-type x)) e k)
-  where
-    go : OneOf (1 ∷ 2 ∷ 3 ∷ []) 0 → ⊥
-    go (inl h) = omega arith
-    go (inr (inl h)) = omega arith
-    go (inr (inr h)) = omega arith
 
 returns-2 : tie.Need-returns-2
 returns-2 c =

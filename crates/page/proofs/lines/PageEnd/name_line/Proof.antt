@@ -29,11 +29,11 @@ name-length-requires c κs =
     let l = name-action-lt (s .pre .0) (s .args .a .0) (s .pre .1 .0) in
     (s .pre .0 .long, omega (arith, l, actions-le (now (s .args .store)) (s .pre .0)))
 
-cast-end : tie.Need-cast-end
-cast-end c = search needs
+cast-to : tie.Need-cast-to
+cast-to c = search needs
 
-add-end : tie.Need-add-end
-add-end c =
+add-to : tie.Need-add-to
+add-to c =
     let s = c .before .before .before .before in
     let l = name-action-lt (s .pre .0) (s .args .a .0) (s .pre .1 .0) in
     omega (arith, l, actions-le (now (s .args .store)) (s .pre .0), c .before .name-place .ensures)
@@ -97,8 +97,8 @@ name-line-spec =
     (tie.spec
     name-place-requires
     name-length-requires
-    cast-end
-    add-end
+    cast-to
+    add-to
     mul-word-line
     sub-word-line
     part-word-line-start

@@ -7,18 +7,19 @@ use lib.ListN.{length, getD, take}
 use borrow.Author.Needs.{needs}
 use Rattle.page.specs.PageLines.{run-line}
 use Rattle.page.specs.Inner.LinesWritten.{LinesWritten}
+use Rattle.page.specs.Inner.Room.{runRoom}
 use Rattle.page.specs.Laws.LinesWrittenLaws.{written-nil, written-next-le}
 use Rattle.page.specs.Laws.LeakLaws.{written-next, run-length-le}
 use Rattle.page.proofs.lines.PageEnd.run_lines.Statement.{statement}
 use Rattle.page.proofs.lines.PageEnd.run_lines.Tie as tie
 
 abbrev Inv-loop : tie.InvT-loop
-Inv-loop out₀ run n end₀ i₀ out end i =
+Inv-loop out₀ run n page₀ i₀ out page i =
     (i ≤ n) × (length out ≡ length out₀)
-    × LinesWritten (_≡_ (map run-line (take i run))) (8 * i) out₀ (end₀ .at .at) out (end .at .at)
+    × LinesWritten (_≡_ (map run-line (take i run))) (runRoom * i) out₀ (page₀ .at .at) out (page .at .at)
 
 abbrev μ-loop : tie.MeasureT-loop
-μ-loop out₀ run n end₀ i₀ out end i = n - i
+μ-loop out₀ run n page₀ i₀ out page i = n - i
 
 loop-holds : tie.Need-loop-holds Inv-loop μ-loop
 loop-holds c = (omega arith, refl, written-nil refl)
@@ -52,7 +53,7 @@ loop-again c =
     let run = s .args .run .now in (
       omega (arith, in-loop .loop-test .taken),
       search needs,
-      written-next run-line 8 run (loop .i) (omega (arith, in-loop .loop-test .taken, s .pre .0))
+      written-next run-line runRoom run (loop .i) (omega (arith, in-loop .loop-test .taken, s .pre .0))
           (run-length-le (getD run (loop .i) 0)) (loop .inv .2) (line .run-line .ensures),
     )
 

@@ -1,24 +1,28 @@
 -- A word's letters and its end, or `N` where Word answers none. Assumes nothing.
-use mathlib.Core.List.{List, [], _∷_, _++_}
+use mathlib.Core.List.{List, [], _∷_, _++_, map}
 use mathlib.Core.Logic.{inl, inr}
 use mathlib.Core.Path.{_≡_, refl, subst}
 use Prim.Native.Nat.{ℕ, _+_, _*_, _≤_}
 use native.Mathlib.Omega.{arith}
+use lib.ListN.{take}
 use types.Run.{OneOf}
 use denote.Enum.Declared.{tagOf}
 use borrow.Author.Needs.{needs}
 use Rattle.text.specs.Lists.{wordLength}
 use Rattle.text.specs.Model.{Model}
+use Rattle.model.specs.StoredModel.{modelAt}
 use Rattle.write.specs.Wrote.{Wrote}
 use Rattle.write.specs.Laws.WroteLaws.{wrote-length}
 use Rattle.word.proofs.word.WordAnswer.{the-type}
 use Rattle.word.specs.declared.word.End.{End}
 use Rattle.word.specs.declared.word.WordAnswer.{WordAnswer}
 use Rattle.word.specs.declared.word.WordAnswer.the-variants.{Shown, ShortList, NotGood, NotDeterministic, NoLeak}
-use Rattle.page.specs.PageLines.{PageLine, end-line, branch-line, lineBytes}
+use Rattle.page.specs.Page.{nameLine}
+use Rattle.page.specs.PageLines.{end-line, branch-line, lineBytes}
 use Rattle.page.specs.Inner.Leak.{Letters, Spelled, shownLines}
 use Rattle.page.specs.Inner.LinesWritten.{LinesWritten}
-use Rattle.page.specs.Laws.LinesWrittenLaws.{written-line, written-both, written-of, written-next-le}
+use Rattle.page.specs.Inner.Room.{nameRoom, endRoom, shownRoom}
+use Rattle.page.specs.Laws.LinesWrittenLaws.{written-line, written-both, written-of}
 use Rattle.page.specs.Laws.PageLinesLaws.{end-length, branch-length}
 use Rattle.page.proofs.lines.PageEnd.shown_lines.Statement.{statement}
 use Rattle.page.proofs.lines.PageEnd.shown_lines.Tie as tie
@@ -40,11 +44,13 @@ letters-of : {m : Model} {shown : WordAnswer} {word : List ℕ} {n : ℕ} {end :
 letters-of {m} {word = word} e x = subst (λ (a : WordAnswer). Spelled m a word) e x
 
 -- the letters' lines, and the end's
-with-end : {xs : List PageLine} {n at mid next : ℕ} {entry middle exit : List ℕ} (end : End) → n ≤ wordLength
-    → LinesWritten (_≡_ xs) (15 * n) entry at middle mid → Wrote middle mid (lineBytes (end-line end)) exit next
-    → LinesWritten (_≡_ (xs ++ (end-line end ∷ []))) 1914 entry at exit next
-with-end {xs} end l x w =
-    let line = written-line {P = _≡_ (end-line end ∷ [])} {room = 9} (end-line end) refl
+with-end : (m : Model) (n : ℕ) (word : List ℕ) {at mid next : ℕ} {entry middle exit : List ℕ} (end : End)
+    → n ≤ wordLength → LinesWritten (_≡_ (map (nameLine m) (take n word))) (nameRoom * n) entry at middle mid
+    → Wrote middle mid (lineBytes (end-line end)) exit next
+    → LinesWritten (_≡_ (map (nameLine m) (take n word) ++ (end-line end ∷ []))) shownRoom entry at exit next
+with-end m n word end l x w =
+    let xs = map (nameLine m) (take n word) in
+    let line = written-line {P = _≡_ (end-line end ∷ [])} {room = endRoom} (end-line end) refl
     (omega (arith, end-length end)) w in
     written-of (λ ys (y : xs ++ (end-line end ∷ []) ≡ ys). y) (omega (arith, l)) (written-both x line)
 
@@ -70,7 +76,8 @@ end-line-requires c κs =
       end-length (arm .shown .given .0 .1 .0),
       letters .word-le,
       s .pre .1 .1,
-      written-next-le wrote,
+      wrote .wrote .place,
+      wrote .length-le,
       wrote-length (wrote .wrote),
     )
 
@@ -85,7 +92,8 @@ returns c =
     let s = arm .before .before .before .before .before in
     let letters = letters-of (arm .shown .given .1) (s .pre .1 .0) in
     rw (arm .shown .given .1)
-    (with-end (arm .shown .given .0 .1 .0) (letters .word-le) (word .word-lines .ensures) (end .end-line .ensures))
+    (with-end (modelAt (s .args .store .now)) (arm .shown .given .0 .0) (s .args .word .now) (arm .shown .given .0 .1 .0)
+    (letters .word-le) (word .word-lines .ensures) (end .end-line .ensures))
 
 branch-line-requires : tie.Need-branch-line-requires
 branch-line-requires c κs = omega (arith, c .before .before .before .before .before .pre .1 .1, branch-length)

@@ -8,6 +8,7 @@ use Rattle.model.specs.StoredModel.{modelAt}
 use Rattle.reach.specs.Laws.StoredLaws.{stored-states}
 use Rattle.page.specs.Page.{StateLines, no-state}
 use Rattle.page.specs.Inner.LinesWritten.{LinesWritten}
+use Rattle.page.specs.Inner.Room.{stateRoom}
 use Rattle.page.specs.Laws.LinesWrittenLaws.{written-nil, written-next-le}
 use Rattle.page.specs.Laws.StateLinesLaws.{distance-field, diagonal-zero, class-of-zero, state-length-le}
 use Rattle.page.specs.Laws.StateLinesLaws.{state-lines-next, state-lines-all}
@@ -15,12 +16,12 @@ use Rattle.page.proofs.lines.PageEnd.state_lines.Statement.{statement}
 use Rattle.page.proofs.lines.PageEnd.state_lines.Tie as tie
 
 abbrev Inv-loop : tie.InvT-loop
-Inv-loop out₀ store distances table n end₀ i₀ out end i =
+Inv-loop out₀ store distances table n page₀ i₀ out page i =
     (n ≡ modelAt store .head .states) × (i ≤ n) × (length out ≡ length out₀)
-    × LinesWritten (StateLines (modelAt store) i) (14 * i) out₀ (end₀ .at .at) out (end .at .at)
+    × LinesWritten (StateLines (modelAt store) i) (stateRoom * i) out₀ (page₀ .at .at) out (page .at .at)
 
 abbrev μ-loop : tie.MeasureT-loop
-μ-loop out₀ store distances table n end₀ i₀ out end i = n - i
+μ-loop out₀ store distances table n page₀ i₀ out page i = n - i
 
 states-requires : tie.Need-states-requires Inv-loop μ-loop
 states-requires c κs = c .before .before .before .before .pre .0 .stored .length-le

@@ -8,18 +8,19 @@ use borrow.Author.Needs.{needs}
 use Rattle.model.specs.StoredModel.{modelAt}
 use Rattle.page.specs.Page.{nameLine}
 use Rattle.page.specs.Inner.LinesWritten.{LinesWritten}
+use Rattle.page.specs.Inner.Room.{nameRoom}
 use Rattle.page.specs.Laws.LinesWrittenLaws.{written-nil, written-next-le}
 use Rattle.page.specs.Laws.LeakLaws.{written-next, name-line-length-le}
 use Rattle.page.proofs.lines.PageEnd.word_lines.Statement.{statement}
 use Rattle.page.proofs.lines.PageEnd.word_lines.Tie as tie
 
 abbrev Inv-loop : tie.InvT-loop
-Inv-loop out₀ store word n end₀ i₀ out end i =
+Inv-loop out₀ store word n page₀ i₀ out page i =
     (i ≤ n) × (length out ≡ length out₀)
-    × LinesWritten (_≡_ (map (nameLine (modelAt store)) (take i word))) (15 * i) out₀ (end₀ .at .at) out (end .at .at)
+    × LinesWritten (_≡_ (map (nameLine (modelAt store)) (take i word))) (nameRoom * i) out₀ (page₀ .at .at) out (page .at .at)
 
 abbrev μ-loop : tie.MeasureT-loop
-μ-loop out₀ store word n end₀ i₀ out end i = n - i
+μ-loop out₀ store word n page₀ i₀ out page i = n - i
 
 loop-holds : tie.Need-loop-holds Inv-loop μ-loop
 loop-holds c = (omega arith, refl, written-nil refl)
@@ -59,7 +60,7 @@ loop-again c =
     let word = s .args .word .now in (
       omega (arith, l),
       search needs,
-      written-next (nameLine (modelAt (s .args .store .now))) 15 word (loop .i)
+      written-next (nameLine (modelAt (s .args .store .now))) nameRoom word (loop .i)
           (omega (arith, l, s .pre .1 .0 .list-le))
           (name-line-length-le (s .pre .0) (getD word (loop .i) 0) letter) (loop .inv .2) (line .name-line .ensures),
     )

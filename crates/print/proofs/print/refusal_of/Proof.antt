@@ -5,8 +5,8 @@ use native.Mathlib.Omega.{arith}
 use borrow.Author.Needs.{needs}
 use Rattle.text.specs.Faults.{refuses}
 use Rattle.read.specs.Promises.{readOutcome}
-use Rattle.print.proofs.print.refused_with.Statement.{statement}
-use Rattle.print.proofs.print.refused_with.Tie as tie
+use Rattle.print.proofs.print.refusal_of.Statement.{statement}
+use Rattle.print.proofs.print.refusal_of.Tie as tie
 
 enum-told : tie.Need-enum-told
 enum-told c = search needs
@@ -55,8 +55,8 @@ returns-4 c =
     ap readOutcome (arm .read2 .given .1)
     ∙ ap (λ (n : ℕ). refuses n (arm .read2 .given .0 .1 .0)) (sym (c .fault-number .ensures))
 
-pub refused-with-spec : {M : Type 1} → statement M
-refused-with-spec =
+pub refusal-of-spec : {M : Type 1} → statement M
+refusal-of-spec =
     tie.close
     (tie.spec
     enum-told
