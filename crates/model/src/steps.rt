@@ -16,6 +16,7 @@ ghost use mathlib.Core.Path.{_≡_};
 ghost use Prim.Native.Nat.{_+_, _*_, _≤_, _<_};
 ghost use lib.ListN.{length};
 ghost use lib.Seq.{sets};
+ghost use Rattle.text.specs.Inner.Table.{KindTable};
 ghost use Rattle.model.specs.Inner.ReadSoFar.{AfterActions, AfterSteps, Further};
 
 // Stores a step.
@@ -29,8 +30,8 @@ fn put_step(out: &mut [u16], at: usize, s: StepLine)
 }
 
 // The lines of the steps, into a store that holds the first line and the actions.
-pub fn steps(text: &[u8], at: usize, head: Head, out: &mut [u16]) -> LinesRead
-    requires { ⌜ AfterActions head (now text) at (head .actions) (now out) ⌝ }
+pub fn steps(kinds: &[u8; 256], text: &[u8], at: usize, head: Head, out: &mut [u16]) -> LinesRead
+    requires { ⌜ AfterActions head (now text) at (head .actions) (now out) × KindTable (now kinds) ⌝ }
     ensures { λ r. ⌜ Further (λ next. AfterSteps head (now (text .entry)) next (now (out .exit)))
         (now (text .entry)) r ⌝ }
 {
@@ -44,14 +45,14 @@ pub fn steps(text: &[u8], at: usize, head: Head, out: &mut [u16]) -> LinesRead
     let mut from = at;
     let mut j = 0;
     while j < count {
-        let e = find(text, from, LINE_END);
+        let e = find(kinds, text, from, LINE_END);
         if e == text.len() {
             return LinesRead::Faulty {
                 fault: Fault::Absent,
                 line: first + j,
             };
         }
-        let read = step_line(&text[from..e], head, j, last);
+        let read = step_line(kinds, &text[from..e], head, j, last);
         match read {
             StepRead::Bad(fault) => {
                 return LinesRead::Faulty {

@@ -2,7 +2,7 @@
 -- line.
 use borrow.Author.Needs.{needs}
 use native.Mathlib.Omega.{arith}
-use Prim.Native.Nat.{_-_, _≤_, _<_}
+use Prim.Native.Nat.{_+_, _-_, _^_, _≤_, _<_}
 use mathlib.Core.Path.{_≡_, refl, ap, _∙_}
 use lib.ListN.{length}
 use Rattle.text.specs.Bytes.{lineEnd}
@@ -15,21 +15,22 @@ use Rattle.model.proofs.steps.steps.Statement.{statement}
 use Rattle.model.proofs.steps.steps.Tie as tie
 
 abbrev Inv-loop : tie.InvT-loop
-Inv-loop text at head out₀ count first last₀ from₀ j₀ out last from j =
+Inv-loop kinds text at head out₀ count first last₀ from₀ j₀ out last from j =
     (j ≤ head .steps) × (length out ≡ length out₀) × AfterStep head text from j last out
 
 abbrev μ-loop : tie.MeasureT-loop
-μ-loop text at head out₀ count first last₀ from₀ j₀ out last from j = head .steps - j
+μ-loop kinds text at head out₀ count first last₀ from₀ j₀ out last from j = head .steps - j
 
 -- where the line has an end
 inside : (c : tie.Else1 Inv-loop μ-loop)
     → (c .before .find .result
     < length (c .before .before .before .before .before .before .before .before .args .text .now))
     × (c .before .before .before .loop .from ≤ c .before .find .result)
+    × (c .before .find .result + 1 < 2 ^ 64)
 inside c =
     let f = c .before in
     let n = found-le lineEnd _ _ _ (f .before .before .loop .inv .2 .place) (f .find .ensures) in
-    (omega arith, n .0)
+    (omega arith, n .0, omega arith)
 
 cast-count : tie.Need-cast-count Inv-loop μ-loop
 cast-count c = search needs
@@ -41,13 +42,13 @@ add-first : tie.Need-add-first Inv-loop μ-loop
 add-first c = search needs
 
 loop-holds : tie.Need-loop-holds Inv-loop μ-loop
-loop-holds c = (search needs, refl, after-actions _ _ _ _ _ (c .before .before .before .before .pre))
+loop-holds c = (search needs, refl, after-actions _ _ _ _ _ (c .before .before .before .before .pre .0))
 
 find-requires : tie.Need-find-requires Inv-loop μ-loop
-find-requires c κs = c .before .loop .inv .2 .place
+find-requires c κs = (c .before .loop .inv .2 .place, search needs)
 
-add-t21 : tie.Need-add-t21 Inv-loop μ-loop
-add-t21 c = let m = c .before .before .before .loop .inv .2 .limits in omega arith
+add-t22 : tie.Need-add-t22 Inv-loop μ-loop
+add-t22 c = let m = c .before .before .before .loop .inv .2 .limits in omega arith
 
 same-length : tie.Need-same-length Inv-loop μ-loop
 same-length c = c .before .before .before .loop .inv .1
@@ -74,8 +75,8 @@ step-line-requires c κs = search needs
 enum-known-read : tie.Need-enum-known-read Inv-loop μ-loop
 enum-known-read c = search needs
 
-add-t25 : tie.Need-add-t25 Inv-loop μ-loop
-add-t25 c =
+add-t26 : tie.Need-add-t26 Inv-loop μ-loop
+add-t26 c =
     let l = c .before .before .before .before .before .before .before .before in
     let m = l .loop .inv .2 .limits in
     omega arith
@@ -112,7 +113,7 @@ put-step-requires c κs =
     omega arith
 
 add-from : tie.Need-add-from Inv-loop μ-loop
-add-from c = let i = inside (c .before .before .before .before .before .before .before .before .before) in omega arith
+add-from c = omega (arith, inside (c .before .before .before .before .before .before .before .before .before) .2)
 
 add-j : tie.Need-add-j Inv-loop μ-loop
 add-j c = omega arith
@@ -155,7 +156,7 @@ steps-spec =
     add-first
     loop-holds
     find-requires
-    add-t21
+    add-t22
     same-length
     returns
     sub-step-line
@@ -163,7 +164,7 @@ steps-spec =
     part-step-line-end
     step-line-requires
     enum-known-read
-    add-t25
+    add-t26
     same-length-2
     returns-2
     enum-known-read-2

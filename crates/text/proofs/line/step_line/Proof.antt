@@ -20,7 +20,7 @@ use Rattle.text.proofs.line.step_line.Tie as tie
 
 -- the numbers stored
 abbrev stored : tie.After-row → List ℕ
-stored c = c .row .last .1 .1 .0
+stored c = c .row .last .1 .1 .1 .0
 
 -- all fields are numbers
 read : (c : tie.After-enum-told) → let r = c .before .before .before in
@@ -73,14 +73,14 @@ returns-2 c before last =
     let f = c .before in
     stepOf-range _ before _ _ (read (f .before)) (sym (f .step-fits .ensures) ∙ not-true _ (c .if1 .taken))
 
-cast-t24 : tie.Need-cast-t24
-cast-t24 c = omega (arith, range c .source)
+cast-t25 : tie.Need-cast-t25
+cast-t25 c = omega (arith, range c .source)
 
-cast-t26 : tie.Need-cast-t26
-cast-t26 c = omega (arith, range c .action)
+cast-t27 : tie.Need-cast-t27
+cast-t27 c = omega (arith, range c .action)
 
-cast-t28 : tie.Need-cast-t28
-cast-t28 c = omega (arith, range c .target)
+cast-t29 : tie.Need-cast-t29
+cast-t29 c = omega (arith, range c .target)
 
 returns-3 : tie.Need-returns-3
 unfolding stepRead checked
@@ -121,9 +121,9 @@ step-line-spec =
     array-read-target
     step-fits-requires
     returns-2
-    cast-t24
-    cast-t26
-    cast-t28
+    cast-t25
+    cast-t27
+    cast-t29
     returns-3
     is-above-requires
     returns-4
