@@ -3,14 +3,11 @@ use crate::body::LinesRead;
 use crate::store::STEP_SIZE;
 use crate::store::STEPS_AT;
 use text::Action;
-use text::Fault;
 use text::Head;
 use text::State;
 use text::StepLine;
-use text::bytes::LINE_END;
-use text::line::StepRead;
-use text::line::find;
-use text::line::step_line;
+use text::scan::StepAt;
+use text::scan::step_at;
 ghost use mathlib.Core.List.{[], _∷_};
 ghost use mathlib.Core.Path.{_≡_};
 ghost use Prim.Native.Nat.{_+_, _*_, _≤_, _<_};
@@ -45,27 +42,20 @@ pub fn steps(kinds: &[u8; 256], text: &[u8], at: usize, head: Head, out: &mut [u
     let mut from = at;
     let mut j = 0;
     while j < count {
-        let e = find(kinds, text, from, LINE_END);
-        if e == text.len() {
-            return LinesRead::Faulty {
-                fault: Fault::Absent,
-                line: first + j,
-            };
-        }
-        let read = step_line(kinds, &text[from..e], head, j, last);
+        let read = step_at(kinds, text, from, head, j, last);
         match read {
-            StepRead::Bad(fault) => {
+            StepAt::Bad(fault) => {
                 return LinesRead::Faulty {
                     fault,
                     line: first + j,
                 };
             }
-            StepRead::Good(s) => {
-                put_step(out, STEPS_AT + STEP_SIZE * j, s);
-                last = s;
+            StepAt::Good { step, next } => {
+                put_step(out, STEPS_AT + STEP_SIZE * j, step);
+                last = step;
+                from = next;
             }
         }
-        from = e + 1;
         j += 1;
     }
     LinesRead::Next(from)

@@ -2,4 +2,5 @@ pub mod LineAnswers
 pub mod PartAnswers
 pub mod Ranges
 pub mod Row
+pub mod Scan
 pub mod Table

@@ -7,5 +7,6 @@ pub mod NumbersLaws
 pub mod RangesLaws
 pub mod RowLaws
 pub mod SameLaws
+pub mod ScanLaws
 pub mod SplitLaws
 pub mod TableLaws

@@ -13,7 +13,7 @@ use crate::number::Number;
 use crate::number::parse_number;
 ghost use mathlib.Core.List.{List};
 ghost use mathlib.Core.Path.{_≡_};
-ghost use Prim.Native.Nat.{_+_, _≤_, _<_};
+ghost use Prim.Native.Nat.{ℕ, _+_, _≤_, _<_};
 ghost use lib.ListN.{length, drop};
 ghost use Rattle.text.specs.declared.StepLine.{StepLine};
 ghost use Rattle.text.specs.Decides.{Decides};
@@ -21,7 +21,7 @@ ghost use Rattle.text.specs.Bytes.{capital, comma, kindOf, between?};
 ghost use Rattle.text.specs.Split.{split, indexOf};
 ghost use Rattle.text.specs.Model.{above?};
 ghost use Rattle.text.specs.Lines.{fieldsOf, numbersOf, numbersLine, headFits?, headOf, name?, actionFields};
-ghost use Rattle.text.specs.Lines.{stepFits?, stepOf};
+ghost use Rattle.text.specs.Lines.{good, stepFits?, stepNumbers, stepOf};
 ghost use Rattle.text.specs.Inner.Table.{KindTable};
 ghost use Rattle.text.specs.Inner.LineAnswers.{headRead, actionRead, stepRead, Last};
 ghost use Rattle.text.specs.Inner.PartAnswers.{rowRead, Fields, levelNumber, headOfNumbers, stepOfNumbers};
@@ -299,19 +299,19 @@ pub fn is_above(a: StepLine, b: StepLine) -> bool
     a.target.0 < b.target.0
 }
 
-// `S,source,action,target`: the line of step j, where `last` is the step before it.
-pub fn step_line(kinds: &[u8; 256], line: &[u8], head: Head, j: usize, last: StepLine) -> StepRead
-    requires { ⌜ KindTable (now kinds) ⌝ }
-    ensures { λ r. ⌜ ((before : List StepLine) → Last before j last
-        → stepOf head before (now (line .entry)) ≡ stepRead r) ⌝ }
+// The step of a line's numbers, as step j, where `last` is the step before it.
+pub fn step_of(
+    head: Head,
+    j: usize,
+    last: StepLine,
+    source: u32,
+    action: u32,
+    target: u32,
+) -> StepRead
+    ensures { λ r. ⌜ ((line ns : List ℕ) → numbersLine 83 3 line ≡ good ns
+        → stepNumbers ns ≡ stepOfNumbers source action target
+        → (before : List StepLine) → Last before j last → stepOf head before line ≡ stepRead r) ⌝ }
 {
-    let mut ns = [0u32; 3];
-    if let RowRead::Bad(fault) = row(kinds, line, b'S', &mut ns) {
-        return StepRead::Bad(fault);
-    }
-    let source = ns[0];
-    let action = ns[1];
-    let target = ns[2];
     if !step_fits(head, source, action, target) {
         return StepRead::Bad(Fault::Range);
     }
@@ -327,4 +327,17 @@ pub fn step_line(kinds: &[u8; 256], line: &[u8], head: Head, j: usize, last: Ste
         return StepRead::Good(s);
     }
     StepRead::Bad(Fault::Order)
+}
+
+// `S,source,action,target`: the line of step j, where `last` is the step before it.
+pub fn step_line(kinds: &[u8; 256], line: &[u8], head: Head, j: usize, last: StepLine) -> StepRead
+    requires { ⌜ KindTable (now kinds) ⌝ }
+    ensures { λ r. ⌜ ((before : List StepLine) → Last before j last
+        → stepOf head before (now (line .entry)) ≡ stepRead r) ⌝ }
+{
+    let mut ns = [0u32; 3];
+    if let RowRead::Bad(fault) = row(kinds, line, b'S', &mut ns) {
+        return StepRead::Bad(fault);
+    }
+    step_of(head, j, last, ns[0], ns[1], ns[2])
 }

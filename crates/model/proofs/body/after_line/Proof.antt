@@ -17,10 +17,14 @@ find-requires : tie.Need-find-requires
 find-requires c κs = search needs
 
 returns-2 : tie.Need-returns-2
-returns-2 c = let f = c .before in AfterLine-absent _ _ _ (f .before .before .before .if1 .left) (f .find .ensures) (omega arith)
+returns-2 c =
+    let f = c .before in
+    AfterLine-absent _ _ _ (f .before .before .before .if1 .left) (f .find .ensures) (omega arith)
 
 add-result : tie.Need-add-result
-add-result c = let f = c .before in omega (arith, found-le lineEnd _ _ _ (f .before .before .before .if1 .left) (f .find .ensures))
+add-result c =
+    let f = c .before in
+    omega (arith, found-le lineEnd _ _ _ (f .before .before .before .if1 .left) (f .find .ensures))
 
 returns-3 : tie.Need-returns-3
 returns-3 c =

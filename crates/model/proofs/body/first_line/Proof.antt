@@ -21,7 +21,9 @@ find-requires c κs = search needs
 
 returns-2 : tie.Need-returns-2
 unfolding headRead
-returns-2 c = let f = c .before in firstLine-absent _ _ _ (f .before .before .before .if1 .left) (f .find .ensures) (omega arith)
+returns-2 c =
+    let f = c .before in
+    firstLine-absent _ _ _ (f .before .before .before .if1 .left) (f .find .ensures) (omega arith)
 
 sub-head-line : tie.Need-sub-head-line
 sub-head-line c = search needs
@@ -40,8 +42,9 @@ head-line-requires c κs = search needs
 returns-3 : tie.Need-returns-3
 returns-3 c =
     let f = c .before .before .before .before in
-    let n = found-le lineEnd _ _ _ (f .before .before .before .if1 .left) (f .find .ensures) in
-    sym (c .head-line .ensures) ∙ firstLine-line _ _ _ (f .before .before .before .if1 .left) (f .find .ensures) (omega arith)
+    let in-text = f .before .before .before .if1 .left in
+    let n = found-le lineEnd _ _ _ in-text (f .find .ensures) in
+    sym (c .head-line .ensures) ∙ firstLine-line _ _ _ in-text (f .find .ensures) (omega arith)
 
 pub first-line-spec : {M : Type 1} → statement M
 first-line-spec =

@@ -28,8 +28,9 @@ end-requires : tie.Need-end-requires
 end-requires c κs =
     let k = c .before .before in
     let s = k .before .before .before .before in
-    let a = s .before .before .before in
-    (Further-next _ _ _ _ (k .stepped .given .1) (s .steps .ensures), a .before .before .before .before .before .before .before .before .pre .1)
+    let a = s .before .before .before .before .before .before .before in
+    let start = a .before .before .before .before in
+    (Further-next _ _ _ _ (k .stepped .given .1) (s .steps .ensures), start .pre .1)
 
 same-length : tie.Need-same-length
 same-length c = search needs

@@ -1,4 +1,5 @@
--- The local store holds the model where the lines are good, and its copy is what the promise asks; else nothing is stored.
+-- The local store holds the model where the lines are good, and its copy is what the promise asks; else nothing is
+-- stored.
 use borrow.Author.Needs.{needs}
 use mathlib.Core.Path.{_∙_}
 use Rattle.model.specs.Laws.Read.FillLaws.{storeOf-head}
@@ -23,7 +24,8 @@ lines-requires : tie.Need-lines-requires
 lines-requires c κs =
     let p = c .before .before .before in
     let k = p .before .before in
-    (rw (p .put-head .ensures ∙ storeOf-head _) (after-head _ _ _ (k .before .before .before .pre .0)), k .kinds .ensures)
+    let start = k .before .before .before in
+    (rw (p .put-head .ensures ∙ storeOf-head _) (after-head _ _ _ (start .pre .0)), k .kinds .ensures)
 
 enum-told : tie.Need-enum-told
 enum-told c = search needs
@@ -45,7 +47,8 @@ returns c =
     let p = c .before .before in
     let t = p .before .before .before in
     let r = t .before .before .before in
-    ReadOut-done _ _ _ _ (Further-next _ _ _ _ (t .enum-told .given .1) (r .lines .ensures)) (r .lines .kept .1 .1 .1 .1 .0 ∙ r .before .before .before .before .put-head .kept .0) (p .copy .ensures)
+    let kept = r .lines .kept .1 .1 .1 .1 .0 ∙ r .before .before .before .before .put-head .kept .0 in
+    ReadOut-done _ _ _ _ (Further-next _ _ _ _ (t .enum-told .given .1) (r .lines .ensures)) kept (p .copy .ensures)
 
 returns-2 : tie.Need-returns-2
 returns-2 c =

@@ -1,5 +1,5 @@
 -- A byte of another kind than the letter's is not the letter.
-use mathlib.Core.Path.{ap, _∙_, sym}
+use mathlib.Core.Path.{ap, _∙_}
 use borrow.Author.Needs.{needs}
 use Rattle.text.specs.Bytes.{kindOf}
 use Rattle.text.proofs.line.is_letter.Statement.{statement}

@@ -13,7 +13,8 @@ use Rattle.text.proofs.line.numbers.Statement.{statement}
 use Rattle.text.proofs.line.numbers.Tie as tie
 
 abbrev Inv-loop : tie.InvT-loop
-Inv-loop kinds line from out₀ at₀ i₀ out at i = (length out ≡ length out₀) × (i ≤ length out₀) × Stored line from out at i
+Inv-loop kinds line from out₀ at₀ i₀ out at i =
+    (length out ≡ length out₀) × (i ≤ length out₀) × Stored line from out at i
 
 abbrev μ-loop : tie.MeasureT-loop
 μ-loop kinds line from out₀ at₀ i₀ out at i = length out₀ - i
