@@ -17,6 +17,7 @@ ghost use Rattle.text.specs.Limits.{nameLimit, actionLimit, storeLength};
 ghost use Rattle.text.specs.Model.{ActionLine};
 ghost use Rattle.text.specs.Split.{same?};
 ghost use Rattle.text.specs.Lines.{used?};
+ghost use Rattle.text.specs.Inner.Table.{KindTable};
 ghost use Rattle.read.specs.Inner.ReadSoFar.{ActionStored, ActionsStored, AfterActions, Further};
 
 // Whether the action that stands at a place of the store has a name.
@@ -78,20 +79,27 @@ fn put_action(out: &mut [u16], at: usize, level: u16, name: &[u8])
 }
 
 // The line of action i.
-fn action(text: &[u8], at: usize, head: Head, i: usize, out: &mut [u16]) -> LinesRead
-    requires { ⌜ AfterActions head (now text) at i (now out) × (i < head .actions) ⌝ }
+fn action(
+    kinds: &[u8; 256],
+    text: &[u8],
+    at: usize,
+    head: Head,
+    i: usize,
+    out: &mut [u16],
+) -> LinesRead
+    requires { ⌜ AfterActions head (now text) at i (now out) × (i < head .actions) × KindTable (now kinds) ⌝ }
     ensures { λ r. ⌜ Further (λ next. AfterActions head (now (text .entry)) next (i + 1) (now (out .exit)))
         (now (text .entry)) r ⌝ }
 {
     let line = 2 + i;
-    let e = find(text, at, LINE_END);
+    let e = find(kinds, text, at, LINE_END);
     if e == text.len() {
         return LinesRead::Faulty {
             fault: Fault::Absent,
             line,
         };
     }
-    let read = action_line(&text[at..e]);
+    let read = action_line(kinds, &text[at..e]);
     match read {
         ActionRead::Bad(fault) => LinesRead::Faulty { fault, line },
         ActionRead::Good(level) => {
@@ -109,8 +117,8 @@ fn action(text: &[u8], at: usize, head: Head, i: usize, out: &mut [u16]) -> Line
 }
 
 // The lines of the actions, into a store that holds what the first line states.
-pub fn actions(text: &[u8], at: usize, head: Head, out: &mut [u16]) -> LinesRead
-    requires { ⌜ AfterActions head (now text) at 0 (now out) ⌝ }
+pub fn actions(kinds: &[u8; 256], text: &[u8], at: usize, head: Head, out: &mut [u16]) -> LinesRead
+    requires { ⌜ AfterActions head (now text) at 0 (now out) × KindTable (now kinds) ⌝ }
     ensures { λ r. ⌜ Further (λ next. AfterActions head (now (text .entry)) next (head .actions) (now (out .exit)))
         (now (text .entry)) r ⌝ }
 {
@@ -118,7 +126,7 @@ pub fn actions(text: &[u8], at: usize, head: Head, out: &mut [u16]) -> LinesRead
     let mut from = at;
     let mut i = 0;
     while i < count {
-        let read = action(text, from, head, i, out);
+        let read = action(kinds, text, from, head, i, out);
         match read {
             LinesRead::Faulty { .. } => {
                 return read;

@@ -7,6 +7,7 @@ use model::store::STORE_LENGTH;
 use text::Fault;
 use text::Head;
 use text::bytes::LINE_END;
+use text::bytes::kinds;
 use text::line::HeadRead;
 use text::line::find;
 use text::line::head_line;
@@ -20,6 +21,7 @@ ghost use Rattle.text.specs.Bytes.{lineEnd};
 ghost use Rattle.text.specs.Split.{split};
 ghost use Rattle.text.specs.Limits.{storeLength};
 ghost use Rattle.model.specs.Store.{headPlaces};
+ghost use Rattle.text.specs.Inner.Table.{KindTable};
 ghost use Rattle.text.specs.Inner.LineAnswers.{headRead};
 ghost use Rattle.read.specs.Inner.ReadSoFar.{AfterHead, AfterActions, AfterSteps, AfterEnd, Further, ReadOut};
 ghost use Rattle.read.specs.Inner.ReadSoFar.{AfterLine, firstLine, AfterFirst};
@@ -37,11 +39,12 @@ pub fn first_line(text: &[u8], at: usize) -> HeadRead
     if text.len() < at {
         return HeadRead::Bad(Fault::Absent);
     }
-    let e = find(text, at, LINE_END);
+    let kinds = kinds();
+    let e = find(&kinds, text, at, LINE_END);
     if e == text.len() {
         return HeadRead::Bad(Fault::Absent);
     }
-    head_line(&text[at..e])
+    head_line(&kinds, &text[at..e])
 }
 
 // The place after the line at a place, or the text's end where the line has none.
@@ -51,7 +54,8 @@ pub fn after_line(text: &[u8], at: usize) -> usize
     if text.len() < at {
         return text.len();
     }
-    let e = find(text, at, LINE_END);
+    let kinds = kinds();
+    let e = find(&kinds, text, at, LINE_END);
     if e == text.len() {
         return e;
     }
@@ -59,12 +63,12 @@ pub fn after_line(text: &[u8], at: usize) -> usize
 }
 
 // The last line, and nothing after it.
-fn end(text: &[u8], at: usize, head: Head, out: &[u16]) -> LinesRead
-    requires { ⌜ AfterSteps head (now text) at (now out) ⌝ }
+fn end(kinds: &[u8; 256], text: &[u8], at: usize, head: Head, out: &[u16]) -> LinesRead
+    requires { ⌜ AfterSteps head (now text) at (now out) × KindTable (now kinds) ⌝ }
     ensures { λ r. ⌜ Further (λ _. AfterEnd (now (text .entry)) (now (out .entry))) (now (text .entry)) r ⌝ }
 {
     let line = 2 + head.actions as usize + head.steps as usize;
-    let e = find(text, at, LINE_END);
+    let e = find(kinds, text, at, LINE_END);
     if e == text.len() {
         return LinesRead::Faulty {
             fault: Fault::Absent,
@@ -77,7 +81,7 @@ fn end(text: &[u8], at: usize, head: Head, out: &[u16]) -> LinesRead
             line,
         };
     }
-    if !is_letter(text[at], b'E') {
+    if !is_letter(kinds, text[at], b'E') {
         return LinesRead::Faulty {
             fault: Fault::Shape,
             line,
@@ -93,18 +97,18 @@ fn end(text: &[u8], at: usize, head: Head, out: &[u16]) -> LinesRead
 }
 
 // The lines behind the first, into a store that holds what the first states.
-fn lines(text: &[u8], at: usize, head: Head, out: &mut [u16]) -> LinesRead
-    requires { ⌜ AfterActions head (now text) at 0 (now out) ⌝ }
+fn lines(kinds: &[u8; 256], text: &[u8], at: usize, head: Head, out: &mut [u16]) -> LinesRead
+    requires { ⌜ AfterActions head (now text) at 0 (now out) × KindTable (now kinds) ⌝ }
     ensures { λ r. ⌜ Further (λ _. AfterEnd (now (text .entry)) (now (out .exit))) (now (text .entry)) r ⌝ }
 {
-    let acted = actions(text, at, head, out);
+    let acted = actions(kinds, text, at, head, out);
     match acted {
         LinesRead::Faulty { .. } => acted,
         LinesRead::Next(a) => {
-            let stepped = steps(text, a, head, out);
+            let stepped = steps(kinds, text, a, head, out);
             match stepped {
                 LinesRead::Faulty { .. } => stepped,
-                LinesRead::Next(b) => end(text, b, head, out),
+                LinesRead::Next(b) => end(kinds, text, b, head, out),
             }
         }
     }
@@ -138,9 +142,10 @@ fn model(text: &[u8], at: usize, head: Head, store: &mut [u16]) -> ReadAnswer
     requires { ⌜ AfterHead head (now text) at × (storeLength ≤ length (now store)) ⌝ }
     ensures { λ r. ⌜ ReadOut (now (text .entry)) (now (store .entry)) r (now (store .exit)) ⌝ }
 {
+    let kinds = kinds();
     let mut local = [0u16; STORE_LENGTH];
     put_head(&mut local, head);
-    let read = lines(text, at, head, &mut local);
+    let read = lines(&kinds, text, at, head, &mut local);
     match read {
         LinesRead::Next(_) => {
             copy(&local, store);

@@ -3,19 +3,17 @@ use crate::body::LinesRead;
 use model::store::STEP_SIZE;
 use model::store::STEPS_AT;
 use text::Action;
-use text::Fault;
 use text::Head;
 use text::State;
 use text::StepLine;
-use text::bytes::LINE_END;
-use text::line::StepRead;
-use text::line::find;
-use text::line::step_line;
+use text::scan::StepAt;
+use text::scan::step_at;
 ghost use mathlib.Core.List.{[], _∷_};
 ghost use mathlib.Core.Path.{_≡_};
 ghost use Prim.Native.Nat.{_+_, _*_, _≤_, _<_};
 ghost use lib.ListN.{length};
 ghost use lib.Seq.{sets};
+ghost use Rattle.text.specs.Inner.Table.{KindTable};
 ghost use Rattle.read.specs.Inner.ReadSoFar.{AfterActions, AfterSteps, Further};
 
 // Stores a step.
@@ -29,8 +27,8 @@ fn put_step(out: &mut [u16], at: usize, s: StepLine)
 }
 
 // The lines of the steps, into a store that holds the first line and the actions.
-pub fn steps(text: &[u8], at: usize, head: Head, out: &mut [u16]) -> LinesRead
-    requires { ⌜ AfterActions head (now text) at (head .actions) (now out) ⌝ }
+pub fn steps(kinds: &[u8; 256], text: &[u8], at: usize, head: Head, out: &mut [u16]) -> LinesRead
+    requires { ⌜ AfterActions head (now text) at (head .actions) (now out) × KindTable (now kinds) ⌝ }
     ensures { λ r. ⌜ Further (λ next. AfterSteps head (now (text .entry)) next (now (out .exit)))
         (now (text .entry)) r ⌝ }
 {
@@ -44,27 +42,20 @@ pub fn steps(text: &[u8], at: usize, head: Head, out: &mut [u16]) -> LinesRead
     let mut from = at;
     let mut j = 0;
     while j < count {
-        let e = find(text, from, LINE_END);
-        if e == text.len() {
-            return LinesRead::Faulty {
-                fault: Fault::Absent,
-                line: first + j,
-            };
-        }
-        let read = step_line(&text[from..e], head, j, last);
+        let read = step_at(kinds, text, from, head, j, last);
         match read {
-            StepRead::Bad(fault) => {
+            StepAt::Bad(fault) => {
                 return LinesRead::Faulty {
                     fault,
                     line: first + j,
                 };
             }
-            StepRead::Good(s) => {
-                put_step(out, STEPS_AT + STEP_SIZE * j, s);
-                last = s;
+            StepAt::Good { step, next } => {
+                put_step(out, STEPS_AT + STEP_SIZE * j, step);
+                last = step;
+                from = next;
             }
         }
-        from = e + 1;
         j += 1;
     }
     LinesRead::Next(from)

@@ -2,5 +2,6 @@ pub mod LineAnswers
 pub mod PartAnswers
 pub mod Ranges
 pub mod Row
+pub mod Scan
 pub mod Table
 pub mod Clearing

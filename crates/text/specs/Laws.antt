@@ -7,6 +7,7 @@ pub mod NumbersLaws
 pub mod RangesLaws
 pub mod RowLaws
 pub mod SameLaws
+pub mod ScanLaws
 pub mod SplitLaws
 pub mod TableLaws
 pub mod ListsLaws

@@ -1,6 +1,7 @@
 // The kinds of bytes, and the table in which they are looked up.
 ghost use mathlib.Core.Path.{_≡_};
 ghost use Rattle.text.specs.Bytes.{kindOf};
+ghost use Rattle.text.specs.Inner.Table.{KindTable};
 
 // The kinds; a byte of kind 0 is any other.
 pub const DIGIT: u8 = 1;
@@ -272,9 +273,17 @@ const KINDS: [u8; 256] = [
     0,
 ];
 
+// The table. Where it is made it is stored whole, so one function makes it and lends it to each lookup.
+pub fn kinds() -> [u8; 256]
+    ensures { λ r. ⌜ KindTable r ⌝ }
+{
+    KINDS
+}
+
 // The kind of a byte.
-pub fn kind(b: u8) -> u8
+pub fn kind(kinds: &[u8; 256], b: u8) -> u8
+    requires { ⌜ KindTable (now kinds) ⌝ }
     ensures { λ r. ⌜ r ≡ kindOf b ⌝ }
 {
-    KINDS[b as usize]
+    kinds[b as usize]
 }

@@ -2,6 +2,7 @@
 pub mod bytes;
 pub mod line;
 pub mod number;
+pub mod scan;
 
 ghost use mathlib.Core.Path.{_≡_};
 ghost use Rattle.text.specs.Faults.{faultNumber};

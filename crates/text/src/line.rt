@@ -13,7 +13,7 @@ use crate::number::Number;
 use crate::number::parse_number;
 ghost use mathlib.Core.List.{List};
 ghost use mathlib.Core.Path.{_≡_};
-ghost use Prim.Native.Nat.{_+_, _≤_, _<_};
+ghost use Prim.Native.Nat.{ℕ, _+_, _≤_, _<_};
 ghost use lib.ListN.{length, drop};
 ghost use Rattle.text.specs.declared.StepLine.{StepLine};
 ghost use Rattle.text.specs.Decides.{Decides};
@@ -21,7 +21,8 @@ ghost use Rattle.text.specs.Bytes.{capital, comma, kindOf, between?};
 ghost use Rattle.text.specs.Split.{split, indexOf};
 ghost use Rattle.text.specs.Model.{above?};
 ghost use Rattle.text.specs.Lines.{fieldsOf, numbersOf, numbersLine, headFits?, headOf, name?, actionFields};
-ghost use Rattle.text.specs.Lines.{stepFits?, stepOf};
+ghost use Rattle.text.specs.Lines.{good, stepFits?, stepNumbers, stepOf};
+ghost use Rattle.text.specs.Inner.Table.{KindTable};
 ghost use Rattle.text.specs.Inner.LineAnswers.{headRead, actionRead, stepRead, Last};
 ghost use Rattle.text.specs.Inner.PartAnswers.{rowRead, Fields, levelNumber, headOfNumbers, stepOfNumbers};
 
@@ -50,13 +51,13 @@ pub enum RowRead {
 }
 
 // The place of the first byte of a kind at or after `from`, the length where there is none.
-pub fn find(s: &[u8], from: usize, k: u8) -> usize
-    requires { ⌜ from ≤ length (now s) ⌝ }
+pub fn find(kinds: &[u8; 256], s: &[u8], from: usize, k: u8) -> usize
+    requires { ⌜ (from ≤ length (now s)) × KindTable (now kinds) ⌝ }
     ensures { λ r. ⌜ r ≡ from + indexOf k (drop from (now (s .entry))) ⌝ }
 {
     let mut i = from;
     while i < s.len() {
-        if kind(s[i]) == k {
+        if kind(kinds, s[i]) == k {
             return i;
         }
         i += 1;
@@ -65,13 +66,14 @@ pub fn find(s: &[u8], from: usize, k: u8) -> usize
 }
 
 // How many bytes of a kind there are.
-fn count(s: &[u8], k: u8) -> usize
+fn count(kinds: &[u8; 256], s: &[u8], k: u8) -> usize
+    requires { ⌜ KindTable (now kinds) ⌝ }
     ensures { λ r. ⌜ length (split k (now (s .entry))) ≡ r + 1 ⌝ }
 {
     let mut n = 0;
     let mut i = 0;
     while i < s.len() {
-        if kind(s[i]) == k {
+        if kind(kinds, s[i]) == k {
             n += 1;
         }
         i += 1;
@@ -80,11 +82,11 @@ fn count(s: &[u8], k: u8) -> usize
 }
 
 // Whether a byte is a letter: a capital by its kind, and then this one.
-pub fn is_letter(b: u8, letter: u8) -> bool
-    requires { ⌜ kindOf letter ≡ capital ⌝ }
+pub fn is_letter(kinds: &[u8; 256], b: u8, letter: u8) -> bool
+    requires { ⌜ (kindOf letter ≡ capital) × KindTable (now kinds) ⌝ }
     ensures { λ r. ⌜ Decides r (b ≡ letter) ⌝ }
 {
-    if kind(b) != CAPITAL {
+    if kind(kinds, b) != CAPITAL {
         return false;
     }
     if b != letter {
@@ -94,18 +96,18 @@ pub fn is_letter(b: u8, letter: u8) -> bool
 }
 
 // Whether a line has a letter as its first field, and n more fields, which stand from place 2 on.
-fn fields(line: &[u8], letter: u8, n: usize) -> bool
-    requires { ⌜ (kindOf letter ≡ capital) × (0 < n) ⌝ }
+fn fields(kinds: &[u8; 256], line: &[u8], letter: u8, n: usize) -> bool
+    requires { ⌜ (kindOf letter ≡ capital) × (0 < n) × KindTable (now kinds) ⌝ }
     ensures { λ r. ⌜ Fields letter n (now (line .entry)) r ⌝ }
 {
-    if count(line, COMMA) != n {
+    if count(kinds, line, COMMA) != n {
         return false;
     }
-    if find(line, 0, COMMA) != 1 {
+    if find(kinds, line, 0, COMMA) != 1 {
         return false;
     }
     let b = line[0];
-    if kind(b) != CAPITAL {
+    if kind(kinds, b) != CAPITAL {
         return false;
     }
     if b != letter {
@@ -115,15 +117,16 @@ fn fields(line: &[u8], letter: u8, n: usize) -> bool
 }
 
 // Stores the numbers of the fields from a place on, of which there are out.len().
-fn numbers(line: &[u8], from: usize, out: &mut [u32]) -> RowRead
-    requires { ⌜ (from ≤ length (now line)) × (length (split comma (drop from (now line))) ≡ length (now out)) ⌝ }
+fn numbers(kinds: &[u8; 256], line: &[u8], from: usize, out: &mut [u32]) -> RowRead
+    requires { ⌜ (from ≤ length (now line))
+        × (length (split comma (drop from (now line))) ≡ length (now out)) × KindTable (now kinds) ⌝ }
     ensures { λ r. ⌜ numbersOf (split comma (drop from (now (line .entry)))) ≡ rowRead r (now (out .exit)) ⌝ }
 {
     let mut at = from;
     let mut i = 0;
     while i < out.len() {
-        let e = find(line, at, COMMA);
-        let Number::Value(v) = parse_number(&line[at..e]) else {
+        let e = find(kinds, line, at, COMMA);
+        let Number::Value(v) = parse_number(kinds, &line[at..e]) else {
             return RowRead::Bad(Fault::Digits);
         };
         out[i] = v;
@@ -137,15 +140,15 @@ fn numbers(line: &[u8], from: usize, out: &mut [u32]) -> RowRead
 }
 
 // Stores the numbers of a line of a letter and out.len() numbers.
-fn row(line: &[u8], letter: u8, out: &mut [u32]) -> RowRead
-    requires { ⌜ (kindOf letter ≡ capital) × (0 < length (now out)) ⌝ }
+fn row(kinds: &[u8; 256], line: &[u8], letter: u8, out: &mut [u32]) -> RowRead
+    requires { ⌜ (kindOf letter ≡ capital) × (0 < length (now out)) × KindTable (now kinds) ⌝ }
     ensures { λ r. ⌜ numbersLine letter (length (now (out .entry))) (now (line .entry))
         ≡ rowRead r (now (out .exit)) ⌝ }
 {
-    if !fields(line, letter, out.len()) {
+    if !fields(kinds, line, letter, out.len()) {
         return RowRead::Bad(Fault::Shape);
     }
-    numbers(line, 2, out)
+    numbers(kinds, line, 2, out)
 }
 
 fn between(least: u32, most: u32, x: u32) -> bool
@@ -174,11 +177,12 @@ fn head_fits(states: u32, actions: u32, steps: u32, start: u32) -> bool
 }
 
 // Line 1: `M,states,actions,steps,start`.
-pub fn head_line(line: &[u8]) -> HeadRead
+pub fn head_line(kinds: &[u8; 256], line: &[u8]) -> HeadRead
+    requires { ⌜ KindTable (now kinds) ⌝ }
     ensures { λ r. ⌜ headOf (now (line .entry)) ≡ headRead r ⌝ }
 {
     let mut ns = [0u32; 4];
-    if let RowRead::Bad(fault) = row(line, b'M', &mut ns) {
+    if let RowRead::Bad(fault) = row(kinds, line, b'M', &mut ns) {
         return HeadRead::Bad(fault);
     }
     let states = ns[0];
@@ -197,10 +201,11 @@ pub fn head_line(line: &[u8]) -> HeadRead
 }
 
 // The level that a byte stands for: 0 for L, 1 for D, 2 for H; 3 for any other byte.
-fn level_of(b: u8) -> u16
+fn level_of(kinds: &[u8; 256], b: u8) -> u16
+    requires { ⌜ KindTable (now kinds) ⌝ }
     ensures { λ r. ⌜ r ≡ levelNumber b ⌝ }
 {
-    if kind(b) != CAPITAL {
+    if kind(kinds, b) != CAPITAL {
         return 3;
     }
     if b == b'L' {
@@ -216,7 +221,8 @@ fn level_of(b: u8) -> u16
 }
 
 // Whether a field is 1 to 12 small letters and digits.
-fn is_name(f: &[u8]) -> bool
+fn is_name(kinds: &[u8; 256], f: &[u8]) -> bool
+    requires { ⌜ KindTable (now kinds) ⌝ }
     ensures { λ r. ⌜ r ≡ name? (now (f .entry)) ⌝ }
 {
     if f.len() < 1 {
@@ -227,7 +233,7 @@ fn is_name(f: &[u8]) -> bool
     }
     let mut i = 0;
     while i < f.len() {
-        let k = kind(f[i]);
+        let k = kind(kinds, f[i]);
         if k != DIGIT {
             if k != SMALL_LETTER {
                 return false;
@@ -239,20 +245,21 @@ fn is_name(f: &[u8]) -> bool
 }
 
 // `A,level,name`.
-pub fn action_line(line: &[u8]) -> ActionRead
+pub fn action_line(kinds: &[u8; 256], line: &[u8]) -> ActionRead
+    requires { ⌜ KindTable (now kinds) ⌝ }
     ensures { λ r. ⌜ actionFields (fieldsOf 65 2 (now (line .entry))) ≡ actionRead (now (line .entry)) r ⌝ }
 {
-    if !fields(line, b'A', 2) {
+    if !fields(kinds, line, b'A', 2) {
         return ActionRead::Bad(Fault::Shape);
     }
-    if find(line, 2, COMMA) != 3 {
+    if find(kinds, line, 2, COMMA) != 3 {
         return ActionRead::Bad(Fault::Shape);
     }
-    let level = level_of(line[2]);
+    let level = level_of(kinds, line[2]);
     if level == 3 {
         return ActionRead::Bad(Fault::Shape);
     }
-    if !is_name(&line[4..]) {
+    if !is_name(kinds, &line[4..]) {
         return ActionRead::Bad(Fault::Shape);
     }
     ActionRead::Good(level)
@@ -292,18 +299,19 @@ pub fn is_above(a: StepLine, b: StepLine) -> bool
     a.target.0 < b.target.0
 }
 
-// `S,source,action,target`: the line of step j, where `last` is the step before it.
-pub fn step_line(line: &[u8], head: Head, j: usize, last: StepLine) -> StepRead
-    ensures { λ r. ⌜ ((before : List StepLine) → Last before j last
-        → stepOf head before (now (line .entry)) ≡ stepRead r) ⌝ }
+// The step of a line's numbers, as step j, where `last` is the step before it.
+pub fn step_of(
+    head: Head,
+    j: usize,
+    last: StepLine,
+    source: u32,
+    action: u32,
+    target: u32,
+) -> StepRead
+    ensures { λ r. ⌜ ((line ns : List ℕ) → numbersLine 83 3 line ≡ good ns
+        → stepNumbers ns ≡ stepOfNumbers source action target
+        → (before : List StepLine) → Last before j last → stepOf head before line ≡ stepRead r) ⌝ }
 {
-    let mut ns = [0u32; 3];
-    if let RowRead::Bad(fault) = row(line, b'S', &mut ns) {
-        return StepRead::Bad(fault);
-    }
-    let source = ns[0];
-    let action = ns[1];
-    let target = ns[2];
     if !step_fits(head, source, action, target) {
         return StepRead::Bad(Fault::Range);
     }
@@ -319,4 +327,17 @@ pub fn step_line(line: &[u8], head: Head, j: usize, last: StepLine) -> StepRead
         return StepRead::Good(s);
     }
     StepRead::Bad(Fault::Order)
+}
+
+// `S,source,action,target`: the line of step j, where `last` is the step before it.
+pub fn step_line(kinds: &[u8; 256], line: &[u8], head: Head, j: usize, last: StepLine) -> StepRead
+    requires { ⌜ KindTable (now kinds) ⌝ }
+    ensures { λ r. ⌜ ((before : List StepLine) → Last before j last
+        → stepOf head before (now (line .entry)) ≡ stepRead r) ⌝ }
+{
+    let mut ns = [0u32; 3];
+    if let RowRead::Bad(fault) = row(kinds, line, b'S', &mut ns) {
+        return StepRead::Bad(fault);
+    }
+    step_of(head, j, last, ns[0], ns[1], ns[2])
 }

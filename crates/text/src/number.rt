@@ -4,6 +4,7 @@ use crate::bytes::kind;
 ghost use mathlib.Core.Path.{_≡_};
 ghost use Prim.Native.Nat.{_≤_};
 ghost use lib.ListN.{length};
+ghost use Rattle.text.specs.Inner.Table.{KindTable};
 ghost use Rattle.text.specs.Numbers.{digitsValue, numberOf};
 
 // What a number field holds.
@@ -13,15 +14,15 @@ pub enum Number {
 }
 
 // The value of digits, of which there are 5 at most.
-fn digits_value(f: &[u8]) -> Number
-    requires { ⌜ length (now f) ≤ 5 ⌝ }
+fn digits_value(kinds: &[u8; 256], f: &[u8]) -> Number
+    requires { ⌜ (length (now f) ≤ 5) × KindTable (now kinds) ⌝ }
     ensures { λ r. ⌜ r ≡ digitsValue 0 (now (f .entry)) ⌝ }
 {
     let mut v: u32 = 0;
     let mut i = 0;
     while i < f.len() {
         let b = f[i];
-        if kind(b) != DIGIT {
+        if kind(kinds, b) != DIGIT {
             return Number::Bad;
         }
         v = v * 10 + (b as u32 - 48);
@@ -31,7 +32,8 @@ fn digits_value(f: &[u8]) -> Number
 }
 
 // A field of 1 to 5 digits, of which the first of several is not 0.
-pub fn parse_number(f: &[u8]) -> Number
+pub fn parse_number(kinds: &[u8; 256], f: &[u8]) -> Number
+    requires { ⌜ KindTable (now kinds) ⌝ }
     ensures { λ r. ⌜ r ≡ numberOf (now (f .entry)) ⌝ }
 {
     let n = f.len();
@@ -42,10 +44,10 @@ pub fn parse_number(f: &[u8]) -> Number
         return Number::Bad;
     }
     if n == 1 {
-        return digits_value(f);
+        return digits_value(kinds, f);
     }
     if f[0] == b'0' {
         return Number::Bad;
     }
-    digits_value(f)
+    digits_value(kinds, f)
 }

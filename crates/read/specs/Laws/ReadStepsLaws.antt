@@ -2,7 +2,8 @@
 -- Document 01, "The text" and "Refused because of the input". Assumes nothing.
 use mathlib.Core.Bool.{Bool, true, false, cond}
 use mathlib.Core.List.{List, [], _∷_, _++_}
-use mathlib.Core.Path.{_≡_, refl, _∙_}
+use mathlib.Core.Logic.{_⊎_, inl, inr}
+use mathlib.Core.Path.{_≡_, refl, sym, ap, _∙_}
 use Prim.Native.Nat.{ℕ, suc, _+_, _-_, _≤_, _<_}
 use native.Mathlib.Omega.{arith}
 use lib.ListN.{length, take, drop, getD, length-append, length-drop}
@@ -19,8 +20,10 @@ use Rattle.text.specs.Laws.SameLaws.{same?-length}
 use Rattle.text.specs.Laws.FieldsLaws.{same?-byte, same?-other, take-one}
 use Rattle.text.specs.Model.{Model, above?, aboveLast?}
 use Rattle.text.specs.Lines.{good, bad, stepOf}
-use Rattle.text.specs.Inner.LineAnswers.{Last}
+use Rattle.text.specs.Inner.LineAnswers.{stepRead, Last}
 use Rattle.model.specs.Reading.{done, faulty, readNothing, readEnd, readSteps, readActions}
+use Rattle.text.specs.declared.line.StepRead.the-variants as step-read
+use Rattle.text.specs.Inner.Scan.{NoLineAt, StepLineAt}
 use Rattle.read.specs.Inner.ReadSoFar.{whole, AfterActions, AfterStep, AfterSteps, AfterEnd}
 use Rattle.model.specs.Laws.Store.StoreLaws.{storeOf-length-of-places}
 use Rattle.read.specs.Laws.FillLaws.{actionsNumbers-length-of-Short, storeOf-withStep}
@@ -67,19 +70,19 @@ module _ (h : Head) (text : List ℕ) (at j : ℕ) (last : StepLine) (store : Li
   steps-suc : h .steps - j ≡ suc (h .steps - (j + 1))
   steps-suc = omega arith
 
-  pub step-absent : length text ≤ e → whole text ≡ faulty Absent (2 + h .actions + j)
+  step-absent : length text ≤ e → whole text ≡ faulty Absent (2 + h .actions + j)
   unfolding readSteps
   step-absent l = b .rest ∙ rw steps-suc (onLine-absent text at e (b .place) found (2 + h .actions + j) _ l)
 
   module _ (l : e < length text) where
-    pub step-bad : (fault : Fault) → stepOf h (b .steps) (take (e - at) (drop at text)) ≡ bad fault
+    step-bad : (fault : Fault) → stepOf h (b .steps) (take (e - at) (drop at text)) ≡ bad fault
         → whole text ≡ faulty fault (2 + h .actions + j)
     unfolding readSteps
     step-bad fault a =
         b .rest ∙ rw steps-suc
         (onLine-line text at e (b .place) found (2 + h .actions + j) _ l ∙ orFault-bad (2 + h .actions + j) _ _ fault a)
 
-    pub step-next : (s : StepLine) → stepOf h (b .steps) (take (e - at) (drop at text)) ≡ good s
+    step-next : (s : StepLine) → stepOf h (b .steps) (take (e - at) (drop at text)) ≡ good s
         → AfterStep h text (e + 1) (j + 1) s
         (sets store (stepPlace j) (s .source .0 ∷ s .action .0 ∷ s .target .0 ∷ []))
     unfolding readSteps
@@ -100,6 +103,26 @@ module _ (h : Head) (text : List ℕ) (at j : ℕ) (last : StepLine) (store : Li
               (onLine-line text at e (b .place) found (2 + h .actions + j) _ l
               ∙ orFault-good (2 + h .actions + j) _ _ s r ∙ rw c);
         }
+
+-- by what the line at the place was read as
+module _ (h : Head) (text : List ℕ) (at j : ℕ) (last : StepLine) (store : List ℕ) (b : AfterStep h text at j last store)
+    (lt : j < h .steps) where
+  pub step-refused : (fault : Fault)
+      → (e : ℕ) × (NoLineAt text at fault e ⊎ StepLineAt h text at j last (step-read.Bad fault) e)
+      → whole text ≡ faulty fault (2 + h .actions + j)
+  unfolding stepRead
+  step-refused fault (e, inl n) =
+      step-absent h text at j last store b lt e (n .found) (n .outside)
+      ∙ ap (λ (f : Fault). faulty f (2 + h .actions + j)) (sym (n .absent))
+  step-refused fault (e, inr l) =
+      step-bad h text at j last store b lt e (l .found) (l .inside) fault (l .reads (b .steps) (b .last-step))
+
+  pub step-taken : (s : StepLine) (next : ℕ)
+      → (e : ℕ) × (next ≡ e + 1) × StepLineAt h text at j last (step-read.Good s) e
+      → AfterStep h text next (j + 1) s (sets store (stepPlace j) (s .source .0 ∷ s .action .0 ∷ s .target .0 ∷ []))
+  unfolding stepRead
+  step-taken s next (e, n, l) =
+      rw n (step-next h text at j last store b lt e (l .found) (l .inside) s (l .reads (b .steps) (b .last-step)))
 
 pub AfterStep-length : (h : Head) (text : List ℕ) (at j : ℕ) (last : StepLine) (store : List ℕ)
     → AfterStep h text at j last store

@@ -143,7 +143,7 @@ numbersLine-good letter n line fs e = ap numbersFrom e
 
 -- ---- by the number of commas, the place of the first and the first byte
 
-clash : false ≡ true → ⊥
+pub clash : false ≡ true → ⊥
 clash h = let z : _≡_ {A = ℕ} 0 1 = cc in omega arith
 
 fields-no : (letter n : ℕ) (line : List ℕ) → fieldsOf letter n line ≡ bad Shape → Fields letter n line false

@@ -31,11 +31,11 @@ unfolding consNumber
 prepend-cons ns v (good ms) = ap good (sym (append-assoc ns (v ∷ []) ms))
 prepend-cons ns v (bad fault) = refl
 
-numbersOf-nil : numbersOf [] ≡ good []
+pub numbersOf-nil : numbersOf [] ≡ good []
 unfolding numbersOf
 numbersOf-nil = refl
 
-numbersOf-cons : (f : List ℕ) (fs : List (List ℕ)) (v : ℕ) → numberOf f ≡ Value v
+pub numbersOf-cons : (f : List ℕ) (fs : List (List ℕ)) (v : ℕ) → numberOf f ≡ Value v
     → numbersOf (f ∷ fs) ≡ consNumber (Value v) (numbersOf fs)
 unfolding numbersOf
 numbersOf-cons f fs v h = rw h

@@ -47,7 +47,7 @@ add-line : tie.Need-add-line
 add-line c = search needs
 
 find-requires : tie.Need-find-requires
-find-requires c κs = c .before .before .pre .0 .place
+find-requires c κs = (c .before .before .pre .0 .place, search needs)
 
 returns : tie.Need-returns
 unfolding Further
@@ -139,8 +139,8 @@ put-action-requires c κs =
     let l = AfterActions-length _ _ _ (s .args .i) _ (s .pre .0) (omega arith) in
     (omega arith, named k .1)
 
-add-t23 : tie.Need-add-t23
-add-t23 c =
+add-t24 : tie.Need-add-t24
+add-t24 c =
     let k = c .before .before .before .before .before .before .before .before .before in
     let i = inside (k .before .before .before .before .before) in
     omega arith
@@ -199,7 +199,7 @@ action-spec =
     part-put-action-start
     part-put-action-end
     put-action-requires
-    add-t23
+    add-t24
     returns-3
     same-length-2
     returns-4)

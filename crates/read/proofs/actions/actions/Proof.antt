@@ -10,20 +10,20 @@ use Rattle.read.proofs.actions.actions.Statement.{statement}
 use Rattle.read.proofs.actions.actions.Tie as tie
 
 abbrev Inv-loop : tie.InvT-loop
-Inv-loop text at head out₀ count from₀ i₀ out from i =
+Inv-loop kinds text at head out₀ count from₀ i₀ out from i =
     (i ≤ head .actions) × (length out ≡ length out₀) × AfterActions head text from i out
 
 abbrev μ-loop : tie.MeasureT-loop
-μ-loop text at head out₀ count from₀ i₀ out from i = head .actions - i
+μ-loop kinds text at head out₀ count from₀ i₀ out from i = head .actions - i
 
 cast-count : tie.Need-cast-count Inv-loop μ-loop
 cast-count c = search needs
 
 loop-holds : tie.Need-loop-holds Inv-loop μ-loop
-loop-holds c = (search needs, refl, c .before .before .before .pre)
+loop-holds c = (search needs, refl, c .before .before .before .pre .0)
 
 action-requires : tie.Need-action-requires Inv-loop μ-loop
-action-requires c κs = let l = c .before .before in (l .loop .inv .2, omega arith)
+action-requires c κs = let l = c .before .before in (l .loop .inv .2, omega arith, search needs)
 
 enum-told : tie.Need-enum-told Inv-loop μ-loop
 enum-told c = search needs
@@ -31,7 +31,7 @@ enum-told c = search needs
 same-length : tie.Need-same-length Inv-loop μ-loop
 same-length c =
     let a = c .before .before .before .before in
-    a .action .kept .1 .1 .1 .1 .0 ∙ a .before .before .before .loop .inv .1
+    a .action .kept .1 .1 .1 .1 .1 .0 ∙ a .before .before .before .loop .inv .1
 
 returns : tie.Need-returns Inv-loop μ-loop
 returns c = Further-faulty _ _ _ _ _ _ (c .enum-told .given .1) (c .before .before .before .before .action .ensures)
@@ -50,7 +50,7 @@ loop-again c =
     let a = c .before .before .before .before .before in
     let l = a .before .before .before in
     let next = Further-next _ _ _ _ (c .before .read .given .1) (a .action .ensures) in
-    (omega arith, a .action .kept .1 .1 .1 .1 .0 ∙ l .loop .inv .1, next)
+    (omega arith, a .action .kept .1 .1 .1 .1 .1 .0 ∙ l .loop .inv .1, next)
 
 same-length-2 : tie.Need-same-length-2 Inv-loop μ-loop
 same-length-2 c = c .before .loop .inv .1

@@ -15,7 +15,7 @@ use Rattle.read.proofs.body.end.Tie as tie
 -- the contexts of the search and of the place behind it, where the line has an end
 abbrev start : (f : tie.After-find) → let a = f .before .before .before .before .before .args in
     AfterSteps (a .head) (a .text .now) (a .at) (a .out .now)
-start f = f .before .before .before .before .before .pre
+start f = f .before .before .before .before .before .pre .0
 
 inside : (c : tie.Else1)
     → c .before .find .result < length (c .before .before .before .before .before .before .args .text .now)
@@ -57,7 +57,7 @@ shared-slice-read-is-letter c = let i = inside (c .before .before) in omega arit
 
 is-letter-requires : tie.Need-is-letter-requires
 unfolding kindOf
-is-letter-requires c κs = refl
+is-letter-requires c κs = (refl, search needs)
 
 returns-3 : tie.Need-returns-3
 unfolding Further
@@ -70,8 +70,8 @@ returns-3 c =
 add-if4 : tie.Need-add-if4
 add-if4 c = let i = inside (c .before .before .before .before) in omega arith
 
-add-t18 : tie.Need-add-t18
-add-t18 c = search needs
+add-t19 : tie.Need-add-t19
+add-t19 c = search needs
 
 returns-4 : tie.Need-returns-4
 unfolding Further
@@ -82,8 +82,8 @@ returns-4 c =
     (l .before .before .if2 .left)
     (decides-passed (l .is-letter .result) _ (l .is-letter .ensures) (c .before .if3 .left)) (c .if4 .taken)
 
-add-t9 : tie.Need-add-t9
-add-t9 c = search needs
+add-t10 : tie.Need-add-t10
+add-t10 c = search needs
 
 returns-5 : tie.Need-returns-5
 unfolding Further
@@ -110,7 +110,7 @@ end-spec =
     is-letter-requires
     returns-3
     add-if4
-    add-t18
+    add-t19
     returns-4
-    add-t9
+    add-t10
     returns-5)

@@ -5,7 +5,7 @@ use Rattle.read.proofs.body.lines.Statement.{statement}
 use Rattle.read.proofs.body.lines.Tie as tie
 
 actions-requires : tie.Need-actions-requires
-actions-requires c κs = c .before .before .before .pre
+actions-requires c κs = (c .before .before .before .pre .0, search needs)
 
 enum-told : tie.Need-enum-told
 enum-told c = search needs
@@ -16,7 +16,7 @@ enum-known-acted c = search needs
 steps-requires : tie.Need-steps-requires
 steps-requires c κs =
     let k = c .before .before in
-    Further-next _ _ _ _ (k .acted .given .1) (k .before .before .before .before .actions .ensures)
+    (Further-next _ _ _ _ (k .acted .given .1) (k .before .before .before .before .actions .ensures), search needs)
 
 enum-told-2 : tie.Need-enum-told-2
 enum-told-2 c = search needs
@@ -27,7 +27,10 @@ enum-known-stepped c = search needs
 end-requires : tie.Need-end-requires
 end-requires c κs =
     let k = c .before .before in
-    Further-next _ _ _ _ (k .stepped .given .1) (k .before .before .before .before .steps .ensures)
+    let s = k .before .before .before .before in
+    let a = s .before .before .before .before .before .before .before in
+    let start = a .before .before .before .before in
+    (Further-next _ _ _ _ (k .stepped .given .1) (s .steps .ensures), start .pre .1)
 
 same-length : tie.Need-same-length
 same-length c = search needs

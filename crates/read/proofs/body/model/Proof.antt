@@ -1,4 +1,5 @@
--- The local store holds the model where the lines are good, and its copy is what the promise asks; else nothing is stored.
+-- The local store holds the model where the lines are good, and its copy is what the promise asks; else nothing is
+-- stored.
 use borrow.Author.Needs.{needs}
 use mathlib.Core.Path.{_∙_}
 use Rattle.read.specs.Laws.FillLaws.{storeOf-head}
@@ -6,6 +7,9 @@ use Rattle.read.specs.Laws.ReadLaws.{after-head, Further-next, Further-r
 use Rattle.read.specs.Laws.ReadAnswerLaws.{ReadOut-done, ReadOut-faulty}
 use Rattle.read.proofs.body.model.Statement.{statement}
 use Rattle.read.proofs.body.model.Tie as tie
+
+kinds-requires : tie.Need-kinds-requires
+kinds-requires c κs = search needs
 
 slice-aggregate-put-head : tie.Need-slice-aggregate-put-head
 slice-aggregate-put-head c = search needs
@@ -18,8 +22,10 @@ slice-aggregate-lines c = search needs
 
 lines-requires : tie.Need-lines-requires
 lines-requires c κs =
-    let p = c .before .before in
-    rw (p .put-head .ensures ∙ storeOf-head _) (after-head _ _ _ (p .before .before .before .before .pre .0))
+    let p = c .before .before .before in
+    let k = p .before .before in
+    let start = k .before .before .before in
+    (rw (p .put-head .ensures ∙ storeOf-head _) (after-head _ _ _ (start .pre .0)), k .kinds .ensures)
 
 enum-told : tie.Need-enum-told
 enum-told c = search needs
@@ -41,7 +47,8 @@ returns c =
     let p = c .before .before in
     let t = p .before .before .before in
     let r = t .before .before .before in
-    ReadOut-done _ _ _ _ (Further-next _ _ _ _ (t .enum-told .given .1) (r .lines .ensures)) (r .lines .kept .1 .1 .1 .0 ∙ r .before .before .before .put-head .kept .0) (p .copy .ensures)
+    let kept = r .lines .kept .1 .1 .1 .1 .0 ∙ r .before .before .before .before .put-head .kept .0 in
+    ReadOut-done _ _ _ _ (Further-next _ _ _ _ (t .enum-told .given .1) (r .lines .ensures)) kept (p .copy .ensures)
 
 returns-2 : tie.Need-returns-2
 returns-2 c =
@@ -52,6 +59,7 @@ pub model-spec : {M : Type 1} → statement M
 model-spec =
     tie.close
     (tie.spec
+    kinds-requires
     slice-aggregate-put-head
     put-head-requires
     slice-aggregate-lines
