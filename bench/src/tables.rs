@@ -71,7 +71,7 @@ impl Measured {
     fn row(&self) -> Vec<String> {
         let letters = match self.letters {
             Ok(letters) => letters.to_string(),
-            Err(refusal) => format!("{refusal}*"),
+            Err(_) => "*".to_string(),
         };
         let mut row = vec![
             self.name.to_string(),

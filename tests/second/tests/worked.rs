@@ -147,21 +147,23 @@ fn printing_behind_a_release_passes() {
     assert_eq!(program(&text), page.as_bytes());
 }
 
+/// The starred model with a release, with close low.
+fn close_low() -> Vec<u8> {
+    let text = till(3, &[(0, PRINT, 1), (1, CLOSE, 2), (2, SCAN, 2)]);
+    let text = String::from_utf8(text).expect("ASCII");
+    text.replace("A,D,close", "A,L,close").into_bytes()
+}
+
 #[test]
 fn a_release_shows_and_a_low_step_tells() {
     let text = till(3, &[(0, PRINT, 1), (1, CLOSE, 2), (2, SCAN, 2)]);
     assert_eq!(verdict(&text), passed(1));
 
-    let low_close = String::from_utf8(text)
-        .unwrap()
-        .replace("A,D,close", "A,L,close");
-    assert_eq!(verdict(low_close.as_bytes()), refused(0, 1));
-    assert_eq!(
-        word_of(low_close.as_bytes()),
-        Ok((vec![CLOSE], End::Target))
-    );
+    let text = close_low();
+    assert_eq!(verdict(&text), refused(0, 1));
+    assert_eq!(word_of(&text), Ok((vec![CLOSE], End::Target)));
     let page = "V,refuse,0,1\nC,0,0,0\nC,1,1,1\nC,2,2,2\nW,close\nB,target\nE\n";
-    assert_eq!(program(low_close.as_bytes()), page.as_bytes());
+    assert_eq!(program(&text), page.as_bytes());
 }
 
 #[test]
@@ -350,6 +352,7 @@ fn the_starred_passes_and_refusals_mean_what_they_say() {
             &[(0, SCAN, 1), (0, PRINT, 2), (2, SCAN, 3), (2, CLOSE, 0)],
         ),
         till(3, &[(0, PRINT, 1), (1, CLOSE, 2), (2, SCAN, 2)]),
+        close_low(),
         till(1, &[]),
         till(1, &[(0, PRINT, 0)]),
         till(3, &[(1, PRINT, 2), (2, SCAN, 2)]),

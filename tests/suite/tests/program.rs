@@ -1,5 +1,5 @@
 //! The program and the script `till` against the second checker.
-use std::fs;
+use std::fs::{self, File};
 use std::io::Write;
 use std::os::unix::fs::symlink;
 use std::path::Path;
@@ -239,6 +239,17 @@ fn the_script() {
     );
     assert_eq!(script(&[&root()], b""), (Some(3), Vec::new()));
     assert_eq!(script(&[file, file], b""), (Some(3), Vec::new()));
+}
+
+/// An input that cannot be read is no empty text: the script fails, and gives no verdict.
+#[test]
+fn the_script_without_a_text() {
+    let folder = File::open(root()).expect("a folder");
+    let output = Command::new(root().join("till")).stdin(folder).output();
+    let output = output.expect("the script starts");
+    assert_eq!(output.status.code(), Some(3), "{output:?}");
+    assert!(output.stdout.is_empty(), "{output:?}");
+    assert!(output.stderr.starts_with(b"till: "), "{output:?}");
 }
 
 /// Away from the program and with nothing but `dirname` on the PATH, the script says what is missing.

@@ -122,7 +122,7 @@ fn models_there_and_back_with_lists_of_every_length() {
     for (_, model) in gen::limit_models(&mut rng) {
         there_and_back(&mut rng, &model);
     }
-    for _ in 0..1_000 {
+    for _ in 0..3_000 {
         let model = gen::any_model(&mut rng);
         there_and_back(&mut rng, &model);
     }
