@@ -6,7 +6,7 @@ use text::Step;
 use word::word::WordAnswer;
 ghost use mathlib.Core.List.{map};
 ghost use mathlib.Core.Path.{_≡_};
-ghost use Prim.Native.Nat.{ℕ, _+_, _*_, _≤_, _<_};
+ghost use Prim.Native.Nat.{_+_, _*_, _≤_, _<_};
 ghost use lib.ListN.{length, take};
 ghost use Rattle.model.specs.StoredModel.{modelAt};
 ghost use Rattle.write.specs.Inner.Writable.{Writable};
