@@ -1,5 +1,4 @@
--- The worked example of document 01, "The page", reads and writes by evaluation, and each of its damaged forms is
--- refused.
+-- The worked example of document 01, "The page", reads and writes by evaluation; the empty text is refused.
 use mathlib.Core.List.{List, [], _∷_}
 use mathlib.Core.Path.{_≡_, refl}
 use Prim.Native.Nat.{ℕ}
@@ -8,7 +7,7 @@ use Rattle.text.specs.declared.StepLine.{StepLine}
 use Rattle.text.specs.Bytes.{kindOf}
 use Rattle.text.specs.Numbers.{digitsValue, numberShape?, numberOf, digitsUpTo, digits}
 use Rattle.text.specs.Split.{consFirst, split, same?}
-use Rattle.text.specs.Model.{Model, above?, aboveLast?}
+use Rattle.text.specs.Model.{low, release, high, Model, above?, aboveLast?}
 use Rattle.text.specs.Lines.{checked, fieldsFrom, fieldsOf, consNumber, numbersOf, numbersFrom, numbersLine}
 use Rattle.text.specs.Lines.{headFits?, headFrom, headOf, levelOf, allOf, nameByte?, name?, nameFrom}
 use Rattle.text.specs.Lines.{actionFields, used?, actionFrom, actionOf, stepFits?, rising, stepFrom, stepOf}
@@ -20,20 +19,20 @@ abbrev step : ℕ → ℕ → ℕ → StepLine
 step p a q = record { source = record { 0 = p }; action = record { 0 = a }; target = record { 0 = q } }
 
 -- 0 scan 1, 0 print 2, 1 scan 1, 2 scan 3; scan is low, print high, close a release
-worked : Model
+abbrev pub worked : Model
 worked = record {
   head = record { states = 4; actions = 3; steps = 4; start = record { 0 = 0 } };
   actions =
-      record { level = 0; name = 115 ∷ 99 ∷ 97 ∷ 110 ∷ [] }
-      ∷ record { level = 2; name = 112 ∷ 114 ∷ 105 ∷ 110 ∷ 116 ∷ [] }
-      ∷ record { level = 1; name = 99 ∷ 108 ∷ 111 ∷ 115 ∷ 101 ∷ [] }
+      record { level = low; name = 115 ∷ 99 ∷ 97 ∷ 110 ∷ [] }
+      ∷ record { level = high; name = 112 ∷ 114 ∷ 105 ∷ 110 ∷ 116 ∷ [] }
+      ∷ record { level = release; name = 99 ∷ 108 ∷ 111 ∷ 115 ∷ 101 ∷ [] }
       ∷ [];
   steps = step 0 0 1 ∷ step 0 1 2 ∷ step 1 0 1 ∷ step 2 0 3 ∷ [];
 }
 
 -- M,4,3,4,0 / A,L,scan / A,H,print / A,D,close / S,0,0,1 / S,0,1,2 / S,1,0,1 / S,2,0,3 / E
-text : List ℕ
-text =
+abbrev pub workedText : List ℕ
+workedText =
     77 ∷ 44 ∷ 52 ∷ 44 ∷ 51 ∷ 44 ∷ 52 ∷ 44 ∷ 48 ∷ 10
     ∷ 65 ∷ 44 ∷ 76 ∷ 44 ∷ 115 ∷ 99 ∷ 97 ∷ 110 ∷ 10
     ∷ 65 ∷ 44 ∷ 72 ∷ 44 ∷ 112 ∷ 114 ∷ 105 ∷ 110 ∷ 116 ∷ 10
@@ -45,15 +44,15 @@ text =
     ∷ 69 ∷ 10
     ∷ []
 
-reads : readText text ≡ done worked
+reads : readText workedText ≡ done worked
 unfolding readText readModel readActions readSteps readEnd readNothing orFault onLine stepOf stepFrom rising stepFits?
     actionOf actionFrom used? actionFields nameFrom name? nameByte? allOf levelOf headOf headFrom headFits?
     numbersLine numbersFrom numbersOf consNumber fieldsOf fieldsFrom checked above? aboveLast? same? split consFirst
-    digitsValue numberShape? numberOf kindOf text worked
+    digitsValue numberShape? numberOf kindOf
 reads = refl
 
-writes : textOf worked ≡ text
-unfolding textOf headText actionsText actionText levelByte stepsText stepText digits digitsUpTo text worked
+writes : textOf worked ≡ workedText
+unfolding textOf headText actionsText actionText levelByte stepsText stepText digits digitsUpTo
 writes = refl
 
 empty-absent : readText [] ≡ faulty Absent 1

@@ -22,10 +22,14 @@ pageOutcome (Printed length) = answers (length ∷ [])
 pageOutcome (ShortList place) = refuses 21 place
 pageOutcome NotGood = refuses 22 0
 
+-- The least lengths of Page's lists.
+abbrev pub pageLeast : List ℕ
+pageLeast = storeLength ∷ distancesLength ∷ tableLength ∷ runLength ∷ wordLength ∷ pageLength ∷ []
+
 abbrev pub pageLists : List ℕ → List ℕ → List ℕ → List ℕ → List ℕ → List ℕ → Option ℕ
 pageLists store distances table run word out =
     firstShort 1 (length store ∷ length distances ∷ length table ∷ length run ∷ length word ∷ length out ∷ [])
-    (storeLength ∷ distancesLength ∷ tableLength ∷ runLength ∷ wordLength ∷ pageLength ∷ [])
+    pageLeast
 
 -- The page in the list of bytes: "places of [..] out past the answered length [..] keep their old contents".
 pub record PagePrinted (m : Model) (outcome : Outcome) (run word out run′ word′ out′ : List ℕ) : Type 0 where

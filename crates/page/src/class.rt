@@ -1,4 +1,5 @@
 // The class of a state: the lowest state of rank 0 to it.
+use judge::judge::ROW;
 use text::State;
 ghost use mathlib.Core.Path.{_≡_};
 ghost use Prim.Native.Nat.{_≤_, _<_};
@@ -6,9 +7,6 @@ ghost use lib.ListN.{length, getD};
 ghost use Rattle.text.specs.Limits.{stateLimit};
 ghost use Rattle.text.specs.Lists.{tableLength, pairPlace};
 ghost use Rattle.page.specs.Inner.Entries.{LowestZero};
-
-// Entry 128 p + q of the table is the rank of p and q.
-const ROW: usize = 128;
 
 // Looked up in p's row of the table, which has 0 at p itself.
 pub fn class_of(table: &[u8], p: State) -> State

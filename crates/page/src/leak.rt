@@ -6,7 +6,7 @@ use text::Step;
 use word::word::WordAnswer;
 ghost use mathlib.Core.List.{map};
 ghost use mathlib.Core.Path.{_≡_};
-ghost use Prim.Native.Nat.{ℕ, _+_, _*_, _≤_, _<_};
+ghost use Prim.Native.Nat.{_+_, _*_, _≤_, _<_};
 ghost use lib.ListN.{length, take};
 ghost use Rattle.model.specs.StoredModel.{modelAt};
 ghost use Rattle.write.specs.Inner.Writable.{Writable};
@@ -68,8 +68,8 @@ impl PageEnd {
         requires { ⌜ Writable (now store) ⌝ }
         requires { ⌜ Spelled (modelAt (now store)) shown (now word) ⌝ }
         requires { ⌜ self .at .at + shownRoom ≤ length (now out) ⌝ }
-        ensures { λ r. ⌜ LinesWritten (_≡_ (shownLines (modelAt (now (store .entry))) shown (now (word .entry)))) shownRoom
-            (now (out .entry)) (self .at .at) (now (out .exit)) (r .at .at) ⌝ }
+        ensures { λ r. ⌜ LinesWritten (_≡_ (shownLines (modelAt (now (store .entry))) shown (now (word .entry))))
+            shownRoom (now (out .entry)) (self .at .at) (now (out .exit)) (r .at .at) ⌝ }
     {
         if let WordAnswer::Shown(n, end) = shown {
             let page = self.word_lines(out, store, word, n);

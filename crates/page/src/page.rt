@@ -3,6 +3,8 @@ use crate::lines::PageEnd;
 use judge::judge::Verdict;
 use judge::rank::TABLE_LENGTH;
 use model::store::STORE_LENGTH;
+use reach::INDEX_LENGTH;
+use reach::ROLES_LENGTH;
 use reach::reach::DISTANCES_LENGTH;
 use reach::run::RUN_LENGTH;
 use word::word::WORD_LENGTH;
@@ -96,8 +98,8 @@ pub fn page_good(
         (now (run .entry)) (now (word .entry)) (now (out .entry)) (now (distances .exit)) (now (table .exit))
         (now (run .exit)) (now (word .exit)) (now (out .exit)) ⌝ }
 {
-    let mut begins = [0u16; 129];
-    let mut roles = [0u16; 64];
+    let mut begins = [0u16; INDEX_LENGTH];
+    let mut roles = [0u16; ROLES_LENGTH];
     let v = judge::judge::judge_good(store, &mut begins, &mut roles, distances, table);
     judged_page(store, &begins, &roles, distances, table, v, run, word, out)
 }

@@ -8,7 +8,6 @@ use Prim.Native.Nat.{ℕ}
 use lib.ListN.{length, drop}
 use Rattle.text.specs.Faults.{Outcome, answers, refuses, firstShort}
 use Rattle.text.specs.Limits.{storeLength}
-use Rattle.text.specs.Lists.{distancesLength, tableLength, runLength, wordLength, pageLength}
 use Rattle.text.specs.Model.{Model}
 use Rattle.read.specs.Promises.{readingOutcome}
 use Rattle.model.specs.Reading.{done, readText}
@@ -17,7 +16,7 @@ use Rattle.judge.specs.Promises.{Filled}
 use Rattle.print.specs.declared.print.PrintAnswer.{PrintAnswer}
 use Rattle.print.specs.declared.print.PrintAnswer.the-variants.{Printed, ShortList}
 use Rattle.page.specs.PageLines.{faultBytes}
-use Rattle.page.specs.Promises.{PagePrinted}
+use Rattle.page.specs.Promises.{pageLeast, PagePrinted}
 
 -- The bytes written, or 21: the lists are lent as to Read and Page.
 unfoldable pub printOutcome : PrintAnswer → Outcome
@@ -28,7 +27,7 @@ abbrev pub printLists : List ℕ → List ℕ → List ℕ → List ℕ → List
 printLists text store distances table run word out =
     firstShort 1
     (length text ∷ length store ∷ length distances ∷ length table ∷ length run ∷ length word ∷ length out ∷ [])
-    (0 ∷ storeLength ∷ distancesLength ∷ tableLength ∷ runLength ∷ wordLength ∷ pageLength ∷ [])
+    (0 ∷ pageLeast)
 
 -- All lists but `out` keep their contents.
 pub record Unchanged (store distances table run word store′ distances′ table′ run′ word′ : List ℕ) : Type 0 where

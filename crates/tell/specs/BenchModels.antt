@@ -5,6 +5,8 @@ use mathlib.Core.List.{List, [], _∷_, _++_}
 use Prim.Native.Nat.{ℕ, _+_}
 use Rattle.text.specs.declared.StepLine.{StepLine}
 use Rattle.text.specs.Model.{low, release, high, Model}
+-- The model of "The page" and its text.
+pub use Rattle.model.specs.Examples.{worked, workedText}
 
 -- ---- lines of the texts; each number has one digit
 
@@ -62,15 +64,6 @@ modelWith closeLevel states steps arrows = record {
       ∷ [];
   steps = arrows;
 }
-
--- The model of "The page".
-abbrev pub worked : Model
-worked = modelWith release 4 4 (arrow 0 scan 1 ∷ arrow 0 print 2 ∷ arrow 1 scan 1 ∷ arrow 2 scan 3 ∷ [])
-
-abbrev pub workedText : List ℕ
-workedText =
-    headLine 4 4 ++ actionLines
-    ++ stepLine 0 0 1 ++ stepLine 0 1 2 ++ stepLine 1 0 1 ++ stepLine 2 0 3 ++ endLine
 
 -- "0 scan 1, 0 print 2, 2 scan 3, 2 close 0"
 abbrev pub scannedOnce : Model

@@ -1,6 +1,8 @@
 // From a text to what is told of it.
 use judge::judge::JudgeAnswer;
 use judge::rank::TABLE_LENGTH;
+use reach::INDEX_LENGTH;
+use reach::ROLES_LENGTH;
 use reach::reach::DISTANCES_LENGTH;
 use read::read::ReadAnswer;
 use word::word::WORD_LENGTH;
@@ -35,8 +37,8 @@ fn judge_text(
     if table.len() < TABLE_LENGTH {
         return TextAnswer::Judged(JudgeAnswer::ShortList(3), WordAnswer::ShortList(3));
     }
-    let mut begins = [0u16; 129];
-    let mut roles = [0u16; 64];
+    let mut begins = [0u16; INDEX_LENGTH];
+    let mut roles = [0u16; ROLES_LENGTH];
     let v = judge::judge::judge_good(store, &mut begins, &mut roles, distances, table);
     if word.len() < WORD_LENGTH {
         return TextAnswer::Judged(JudgeAnswer::Judged(v), WordAnswer::ShortList(4));

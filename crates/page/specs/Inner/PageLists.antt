@@ -12,7 +12,7 @@ use Rattle.text.specs.Lists.{distancesLength, tableLength, runLength, wordLengt
 use Rattle.text.specs.Model.{Model}
 use Rattle.model.specs.Store.{Good}
 use Rattle.judge.specs.Promises.{Filled}
-use Rattle.page.specs.Promises.{PagePrinted}
+use Rattle.page.specs.Promises.{pageLeast, PagePrinted}
 
 -- Lengths that are the least or more.
 pub record LongLengths (store distances table run word out : ℕ) : Type 0 where
@@ -31,8 +31,7 @@ LongLists store distances table run word out =
 pub record FirstShort (r store distances table run word out : ℕ) : Type 0 where
   pub place-le : r ≤ 6
   pub some-short : 0 < r
-      → firstShort 1 (store ∷ distances ∷ table ∷ run ∷ word ∷ out ∷ [])
-      (storeLength ∷ distancesLength ∷ tableLength ∷ runLength ∷ wordLength ∷ pageLength ∷ []) ≡ some r
+      → firstShort 1 (store ∷ distances ∷ table ∷ run ∷ word ∷ out ∷ []) pageLeast ≡ some r
   pub none-short : r ≡ 0 → LongLengths store distances table run word out
 
 -- A good store among them.

@@ -1,9 +1,11 @@
 -- The most bytes that the lines of a page take, each with its end. Only the contracts of inner functions cite it.
--- Document 01, "The page": a step has at most 5 digits, a state or a distance 3, and a name 12 bytes.
+-- Document 01, "The page", for the lines, and "The text" for the widths: of up to 128 states, a state or a distance has
+-- at most 3 digits; a name has at most 12 bytes. Any other number has at most 5 digits: `digits` (text/Numbers) writes
+-- no more.
 use Prim.Native.Nat.{ℕ, _+_, _*_}
 use Rattle.text.specs.Lists.{runLength, wordLength}
 
--- `V,refuse,step,depth`, with 5 digits for either number
+-- `V,refuse,step,depth`
 abbrev pub verdictRoom : ℕ
 verdictRoom = 21
 

@@ -1,6 +1,6 @@
 -- The lines of a run and of a word, one more at a time.
 -- Document 01, "The page". Assumes nothing.
-use mathlib.Core.List.{List, [], _∷_, _++_, map}
+use mathlib.Core.List.{List, [], _∷_, _++_, map, map-append}
 use mathlib.Core.Path.{_≡_, refl, sym, ap, subst, _∙_}
 use Prim.Native.Nat.{ℕ, _+_, _-_, _*_, _≤_, _<_}
 use native.Mathlib.Omega.{arith}
@@ -24,10 +24,6 @@ use Rattle.page.specs.Inner.LinesWritten.{LinesWritten}
 use Rattle.page.specs.Inner.Room.{runRoom, nameRoom}
 use Rattle.page.specs.Laws.PageLinesLaws.{run-length, word-length}
 use Rattle.page.specs.Laws.LinesWrittenLaws.{written-line, written-both, written-of}
-
-map-append : {A B : Type 0} (f : A → B) (xs ys : List A) → map f (xs ++ ys) ≡ map f xs ++ map f ys
-map-append f [] ys = refl
-map-append f (x ∷ xs) ys = ap (_∷_ (f x)) (map-append f xs ys)
 
 -- a line for one element more of a list
 pub written-next : (line : ℕ → PageLine) (width : ℕ) (l : List ℕ) (i : ℕ) {at mid next : ℕ}

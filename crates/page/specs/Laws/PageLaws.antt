@@ -38,8 +38,8 @@ module _ {m : Model} {run word run′ word′ : List ℕ} where
   pub page-written : (v : Verdict) {a b c d : ℕ} {out out₁ out₂ out₃ out₄ : List ℕ} → m .head .states ≤ stateLimit
       → Judged m v → Wrote out 0 (lineBytes (verdict-line v)) out₁ a
       → LinesWritten (StateLines m (m .head .states)) (stateRoom * m .head .states) out₁ a out₂ b
-      → LinesWritten (AfterStates m v run word run′ word′) leakRoom out₂ b out₃ c → Wrote out₃ c (lineBytes last-line) out₄
-      d
+      → LinesWritten (AfterStates m v run word run′ word′) leakRoom out₂ b out₃ c
+      → Wrote out₃ c (lineBytes last-line) out₄ d
       → LinesWritten (PageOf m run word run′ word′) pageLength out 0 out₄ d
   page-written v few judged first states after last =
       let whole = written-both (written-both

@@ -7,7 +7,6 @@ use mathlib.Core.Path.{_≡_, refl, sym, ap, subst, _∙_}
 use Prim.Native.Nat.{ℕ, zero, suc}
 use lib.Dec.{eqb}
 use lib.ListN.{length, getD, drop}
-use Rattle.lts.specs.FirstWordLaws.{first-word-unique}
 use Rattle.lts.specs.RunLaws.{distance-unique}
 use Rattle.lts.specs.TestsLaws.{eq-of-not-lt}
 use Rattle.lts.specs.WithinLaws.{distance→Reachable}
@@ -15,7 +14,7 @@ use Rattle.text.specs.Faults.{Outcome, answers, refuses}
 use Rattle.text.specs.Laws.OutcomeLaws.{injective-of-inverse}
 use Rattle.text.specs.Model.{Model}
 use Rattle.model.specs.Laws.OnStoreLaws.{onStore-unique}
-use Rattle.model.specs.System.{source, target, levels, Steps, Start}
+use Rattle.model.specs.System.{Steps, Start}
 use Rattle.judge.specs.declared.judge.Verdict.{Verdict}
 use Rattle.judge.specs.declared.judge.Verdict.the-variants.{Passed, Refused}
 use Rattle.judge.specs.Laws.JudgeLaws.{filled-unique}
@@ -23,8 +22,7 @@ use Rattle.reach.specs.Laws.ReachLaws.{good-stored}
 use Rattle.reach.specs.Laws.RunsLaws.{runTo-unique}
 use Rattle.judge.specs.Laws.VerdictsLaws.{judged-unique}
 use Rattle.word.specs.declared.word.End.{End}
-use Rattle.word.specs.Words.{endNumber, WordOf, WordShown}
-use Rattle.word.specs.Laws.WordPromiseLaws.{endNumber-injective, wordShown-unique}
+use Rattle.word.specs.Laws.WordPromiseLaws.{wordOf-unique}
 use Rattle.page.specs.PageLines.{PageLine, verdict-line, run-line, end-line, last-line, pageBytes}
 use Rattle.page.specs.Page.{DistanceField, unreached, reached, ClassOf, StateLines, no-state, next-state}
 use Rattle.page.specs.Page.{nameLine, LeakShown, by-word, by-branch, AfterStates, PageOf}
@@ -56,23 +54,10 @@ stateLines-unique (suc n) (next-state {lines = xs} {distance = d} {class = c} x 
 
 -- ---- what shows the leak
 
-wordOf-unique : {m : Model} {j : ℕ} {w u : List ℕ} {d e : End} (word : List ℕ) → WordOf m j w d → WordOf m j u e
-    → (w ≡ u) × (d ≡ e)
-wordOf-unique {m} {j} {w} {u} {d} {e} word x y =
-    let f : w ≡ u = first-word-unique (levels m) (Steps m) (source m j) (target m j) w u (x .first-word) (y .first-word)
-    in
-    let a : WordShown m j (length w) (answers (length w ∷ endNumber d ∷ [])) word (w ++ drop (length w) word) =
-    record { word = w; end = d; word-of = x; length-is = refl; outcome-is = refl; list = refl } in
-    let b : WordShown m j (length w) (answers (length w ∷ endNumber e ∷ [])) word (u ++ drop (length u) word) =
-    record { word = u; end = e; word-of = y; length-is = ap length (sym f); outcome-is = refl; list = refl } in
-    let g = wordShown-unique a b .0 in
-    let h : endNumber d ≡ endNumber e = cc in
-    (f, endNumber-injective d e h)
-
 leakShown-unique : {m : Model} {j depth : ℕ} {word word′ word″ : List ℕ} {xs ys : List PageLine}
     → LeakShown m j depth word word′ xs → LeakShown m j depth word word″ ys → (xs ≡ ys) × (word′ ≡ word″)
 leakShown-unique {m} {word = word} (by-word {w = w} {end = d} det x _ e) (by-word {w = u} {end = f} _ y _ g) =
-    let same = wordOf-unique word x y in (
+    let same = wordOf-unique x y in (
       ap (λ (z : List ℕ). map (nameLine m) z ++ (end-line d ∷ [])) (same .0)
           ∙ ap (λ (z : End). map (nameLine m) u ++ (end-line z ∷ [])) (same .1),
       e ∙ ap (λ (z : List ℕ). z ++ drop (length z) word) (same .0) ∙ sym g,

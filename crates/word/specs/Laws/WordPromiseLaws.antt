@@ -30,7 +30,7 @@ use Rattle.word.specs.declared.word.End.{End}
 use Rattle.word.specs.declared.word.End.the-variants.{Source, Target}
 use Rattle.word.specs.declared.word.WordAnswer.{WordAnswer}
 use Rattle.word.specs.declared.word.WordAnswer.the-variants.{Shown, ShortList, NotGood, NotDeterministic, NoLeak}
-use Rattle.word.specs.Words.{Branches, FirstBranch, endNumber, endState, otherState, WordShown}
+use Rattle.word.specs.Words.{Branches, FirstBranch, endNumber, endState, otherState, WordOf, WordShown}
 use Rattle.word.specs.Promises.{wordOutcome, WordDone, WordPromise}
 use Rattle.word.specs.Laws.WordsLaws.{branches-source, branches-action, branches-of, deterministic-of-no-branch}
 
@@ -122,16 +122,22 @@ end-unique m j w Source Target x y = absurd (only-from-unique (Steps m) (source 
 end-unique m j w Target Source x y = absurd (only-from-unique (Steps m) (target m j) (source m j) w x y)
 end-unique m j w Target Target x y = refl
 
+pub wordOf-unique : {m : Model} {j : ℕ} {w u : List ℕ} {d e : End} → WordOf m j w d → WordOf m j u e
+    → (w ≡ u) × (d ≡ e)
+wordOf-unique {m} {j} {w} {u} {d} {e} x y =
+    let f : w ≡ u = first-word-unique (levels m) (Steps m) (source m j) (target m j) w u (x .first-word) (y .first-word)
+    in (
+      f,
+      end-unique m j w d e (x .only-from-end)
+          (subst (OnlyFrom (Steps m) (endState m j e) (otherState m j e)) (sym f) (y .only-from-end)),
+    )
+
 pub wordShown-unique : {m : Model} {j d : ℕ} {t u : Outcome} {entry exit exit′ : List ℕ} → WordShown m j d t entry exit
     → WordShown m j d u entry exit′ → (t ≡ u) × (exit ≡ exit′)
-wordShown-unique {m} {j} {d} {entry = entry} x y =
-    let e : x .word ≡ y .word = first-word-unique (levels m) (Steps m) (source m j) (target m j) (x .word) (y .word)
-    (x .word-of .first-word) (y .word-of .first-word) in
-    let f : x .end ≡ y .end = end-unique m j (x .word) (x .end) (y .end) (x .word-of .only-from-end)
-    (subst (OnlyFrom (Steps m) (endState m j (y .end)) (otherState m j (y .end))) (sym e)
-    (y .word-of .only-from-end)) in (
-      x .outcome-is ∙ ap (λ (n : End). answers (d ∷ endNumber n ∷ [])) f ∙ sym (y .outcome-is),
-      x .list ∙ ap (λ (l : List ℕ). l ++ drop (length l) entry) e ∙ sym (y .list),
+wordShown-unique {d = d} {entry = entry} x y =
+    let same = wordOf-unique (x .word-of) (y .word-of) in (
+      x .outcome-is ∙ ap (λ (n : End). answers (d ∷ endNumber n ∷ [])) (same .1) ∙ sym (y .outcome-is),
+      x .list ∙ ap (λ (l : List ℕ). l ++ drop (length l) entry) (same .0) ∙ sym (y .list),
     )
 
 -- ---- one answer

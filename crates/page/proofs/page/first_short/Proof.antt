@@ -5,18 +5,16 @@ use mathlib.Core.Path.{_≡_}
 use Prim.Native.Nat.{ℕ, _≤_, _<_}
 use native.Mathlib.Omega.{arith}
 use Rattle.text.specs.Faults.{firstShort}
-use Rattle.text.specs.Limits.{storeLength}
-use Rattle.text.specs.Lists.{distancesLength, tableLength, runLength, wordLength, pageLength}
 use Rattle.text.specs.Laws.FirstShortLaws.{first-short, second-short, third-short, fourth-short, fifth-short}
 use Rattle.text.specs.Laws.FirstShortLaws.{sixth-short}
+use Rattle.page.specs.Promises.{pageLeast}
 use Rattle.page.specs.Inner.PageLists.{FirstShort}
 use Rattle.page.proofs.page.first_short.Statement.{statement}
 use Rattle.page.proofs.page.first_short.Tie as tie
 
 -- list r is the first short one
 short-at : (store distances table run word out r : ℕ) → 0 < r → r ≤ 6
-    → firstShort 1 (store ∷ distances ∷ table ∷ run ∷ word ∷ out ∷ [])
-    (storeLength ∷ distancesLength ∷ tableLength ∷ runLength ∷ wordLength ∷ pageLength ∷ []) ≡ some r
+    → firstShort 1 (store ∷ distances ∷ table ∷ run ∷ word ∷ out ∷ []) pageLeast ≡ some r
     → FirstShort r store distances table run word out
 short-at store distances table run word out r l k e =
     record { place-le = k; some-short = λ _. e; none-short = λ z. absurd (omega (arith, l, z)) }

@@ -42,7 +42,11 @@ judged-page-requires c κs =
             stored = good→Stored _ (lent .long .store-length) (lent .good);
             roles-length = omega (arith, judged .judge-good .kept);
             roles-are = j .roles;
-            distances-length = omega (arith, j .filled .distances-filled .past .same-length, lent .long .distances-length);
+            distances-length = omega (
+              arith,
+              j .filled .distances-filled .past .same-length,
+              lent .long .distances-length,
+            );
             distances-are = j .filled .distances-filled .list;
             table-length = omega (arith, j .filled .table-past .same-length, lent .long .table-length);
             ranks = j .filled .ranks;

@@ -63,7 +63,8 @@ fill-run-requires c κs =
 run-lines-requires : tie.Need-run-lines-requires
 run-lines-requires c κs =
     let filled = c .before .before .before .before in
-    let s = filled .before .before .before .before .before .before .before .before .before .before .before .before .before .before in
+    let arm = filled .before .before .before .before in
+    let s = arm .before .before .before .before .before .before .before .before .before .before in
     let ran = filled .fill-run .ensures in
     let fits = runTo-length (s .pre .0 .showable .lists .stored) (ran .run-to) in
     (runWritten-le ran, omega (arith, fits, ran .length-is, s .pre .1))
@@ -79,7 +80,8 @@ shown-lines-requires c κs =
     let shown = c .before .before .before .before .show in
     let run = c .before .before .before .before .before .before .before .before in
     let filled = run .before .before .before .before .before in
-    let s = filled .before .before .before .before .before .before .before .before .before .before .before .before .before .before in
+    let arm = filled .before .before .before .before in
+    let s = arm .before .before .before .before .before .before .before .before .before .before in
     let J = s .pre .0 in
     let st = J .showable .lists .stored in
     let ran = filled .fill-run .ensures in
@@ -87,7 +89,7 @@ shown-lines-requires c κs =
     let wrote = run .run-lines .ensures in (
       record { long = st .length-le; good = J .good },
       (
-        spelled-of st (refused (filled .before .before .before .before)) (shown .result) (shown .ensures),
+        spelled-of st (refused arm) (shown .result) (shown .ensures),
         omega (
           arith,
           fits,

@@ -92,8 +92,8 @@ returns c =
     let s = arm .before .before .before .before .before in
     let letters = letters-of (arm .shown .given .1) (s .pre .1 .0) in
     rw (arm .shown .given .1)
-    (with-end (modelAt (s .args .store .now)) (arm .shown .given .0 .0) (s .args .word .now) (arm .shown .given .0 .1 .0)
-    (letters .word-le) (word .word-lines .ensures) (end .end-line .ensures))
+    (with-end (modelAt (s .args .store .now)) (arm .shown .given .0 .0) (s .args .word .now)
+    (arm .shown .given .0 .1 .0) (letters .word-le) (word .word-lines .ensures) (end .end-line .ensures))
 
 branch-line-requires : tie.Need-branch-line-requires
 branch-line-requires c κs = omega (arith, c .before .before .before .before .before .pre .1 .1, branch-length)

@@ -17,7 +17,8 @@ use Rattle.page.proofs.lines.PageEnd.word_lines.Tie as tie
 abbrev Inv-loop : tie.InvT-loop
 Inv-loop out₀ store word n page₀ i₀ out page i =
     (i ≤ n) × (length out ≡ length out₀)
-    × LinesWritten (_≡_ (map (nameLine (modelAt store)) (take i word))) (nameRoom * i) out₀ (page₀ .at .at) out (page .at .at)
+    × LinesWritten (_≡_ (map (nameLine (modelAt store)) (take i word))) (nameRoom * i) out₀ (page₀ .at .at) out
+    (page .at .at)
 
 abbrev μ-loop : tie.MeasureT-loop
 μ-loop out₀ store word n page₀ i₀ out page i = n - i
