@@ -15,4 +15,5 @@ values (suc (suc n)) a b = a ∷ b ∷ []
 
 -- number 0: a success with its values; any other number: a refusal with its place
 unfoldable pub answerOutcome : TillAnswer → Outcome
-answerOutcome r = cond (eqb (r .number) 0) (answers (values (r .count) (r .first) (r .second))) (refuses (r .number) (r .place))
+answerOutcome r =
+    cond (eqb (r .number) 0) (answers (values (r .count) (r .first) (r .second))) (refuses (r .number) (r .place))

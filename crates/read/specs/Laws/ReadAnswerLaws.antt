@@ -23,7 +23,8 @@ use Rattle.text.specs.Inner.LineAnswers.{headRead}
 use Rattle.text.specs.Faults.{firstShort}
 use Rattle.model.specs.Reading.{Reading, done, tooLong, faulty, onLine, orFault, readModel, readText}
 use Rattle.read.specs.Laws.PromisesLaws.{readLists-none}
-use Rattle.read.specs.Promises.{readOutcome, readingOutcome, readAnswer, readingStore, readLists, ReadPromise, ReadCause}
+use Rattle.read.specs.Promises.{readOutcome, readingOutcome, readAnswer, readingStore, readLists}
+use Rattle.read.specs.Promises.{ReadPromise, ReadCause}
 use Rattle.read.specs.Inner.ReadSoFar.{whole, AfterHead, AfterEnd, AfterLine, AfterFirst, firstLine, ReadOut}
 use Rattle.read.specs.Laws.ReadLaws.{headOf-limits}
 
@@ -126,7 +127,8 @@ readOutcome-readAnswer (done m) = refl
 readOutcome-readAnswer tooLong = refl
 readOutcome-readAnswer (faulty fault line) = refl
 
-pub ReadPromise-short : (text store : List ℕ) → length store < storeLength → ReadPromise text store (readOutcome (ShortList 2)) store
+pub ReadPromise-short : (text store : List ℕ) → length store < storeLength
+    → ReadPromise text store (readOutcome (ShortList 2)) store
 unfolding readOutcome
 ReadPromise-short text store h =
     let s = readLists-short text store h in
@@ -151,7 +153,11 @@ module _ (text store : List ℕ) (h : storeLength ≤ length store) where
   unfolding readText
   ReadPromise-lines r exit l b =
       let t = le-ltb textLimit (length text) l in
-      record { short = λ k e. absurd (not-short k e); answer = λ e. rw t (ap readOutcome (b .answer) ∙ readOutcome-readAnswer (whole text)); filled = λ e. rw t (b .filled) }
+      record {
+        short = λ k e. absurd (not-short k e);
+        answer = λ e. rw t (ap readOutcome (b .answer) ∙ readOutcome-readAnswer (whole text));
+        filled = λ e. rw t (b .filled);
+      }
 
   pub ReadCause-long : textLimit < length text → ReadCause text store TooLong
   unfolding readText readAnswer

@@ -22,8 +22,8 @@ module _ {m : Model} {v : Verdict} {distances table begins roles distances′ ta
   pub table-long : tableLength ≤ length table′
   table-long = omega (arith, third-long, x .filled .table-past .same-length)
 
-  pub judging→Showable : (store word : List ℕ) → Stored store m → indexLength ≤ length begins → actionLimit ≤ length roles
-      → wordLength ≤ length word → Showable m v store begins roles distances′ table′ word
+  pub judging→Showable : (store word : List ℕ) → Stored store m → indexLength ≤ length begins
+      → actionLimit ≤ length roles → wordLength ≤ length word → Showable m v store begins roles distances′ table′ word
   judging→Showable store word st b r w = record {
     lists = record {
       stored = st;

@@ -20,7 +20,8 @@ use Rattle.text.specs.Inner.Ranges.{HeadRanges, Small}
 use Rattle.text.specs.Laws.RangesLaws.{headFits?→HeadRanges, stepFits?→StepRanges}
 use Rattle.model.specs.WellFormed.{StepFits}
 use Rattle.model.specs.Inner.LineText.{lineOf, lineOfHead, stepPlaces, lineOfStep}
-use Rattle.model.specs.Laws.Text.JoinedFieldsLaws.{checked-good, good-checked, numbersLine-line, line-of-numbersLine}
+use Rattle.model.specs.Laws.Text.JoinedFieldsLaws.{checked-good, good-checked, numbersLine-line}
+use Rattle.model.specs.Laws.Text.JoinedFieldsLaws.{line-of-numbersLine}
 
 -- ---- `M,states,actions,steps,start`
 

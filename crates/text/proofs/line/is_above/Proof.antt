@@ -1,6 +1,7 @@
 -- `is_above` compares sources, then actions, then targets, as `above?` does.
 use mathlib.Core.Path.{sym}
-use Rattle.text.specs.Laws.LinesLaws.{above-source, not-above-source, above-action, not-above-action, above-target}
+use Rattle.text.specs.Laws.LinesLaws.{above-source, not-above-source, above-action, not-above-action}
+use Rattle.text.specs.Laws.LinesLaws.{above-target}
 use Rattle.text.proofs.line.is_above.Statement.{statement}
 use Rattle.text.proofs.line.is_above.Tie as tie
 
