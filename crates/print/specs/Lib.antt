@@ -2,4 +2,5 @@ pub mod Inner
 pub mod Laws
 pub mod Promises
 pub mod Claim
+pub mod Prints
 pub mod Examples
