@@ -1,6 +1,7 @@
 pub mod PageSplitLaws
 pub mod PageFieldsLaws
 pub mod PageClaimLaws
+pub mod PageCallsLaws
 pub mod PrintPromiseLaws
 pub mod PrintsLaws
 pub mod PrintsUniqueLaws

@@ -18,7 +18,8 @@ ghost use Rattle.print.specs.Prints.{Prints};
 // any page. The other lists are long enough for any text.
 fn print(text: &[u8], out: &mut [u8]) -> usize
     ensures { λ r. ⌜ Counts r (now (out .exit)) ⌝ }
-    ensures { λ r. ⌜ (pageLength ≤ length (now (out .entry)) → Prints (now (text .entry)) (take r (now (out .exit)))) ⌝ }
+    ensures { λ r. ⌜ (pageLength ≤ length (now (out .entry))
+        → Prints (now (text .entry)) (take r (now (out .exit)))) ⌝ }
 {
     let mut store = [0u16; STORE_LENGTH];
     let mut distances = [0u16; DISTANCES_LENGTH];

@@ -153,11 +153,11 @@ module _ {s : List ℕ} {m : Model} (st : Stored s m) (det : DeterministicModel 
         leak = λ _. leak-page (j .0) depth states after state-lines judged x e;
       }
 
-same-number : {a b : ℕ} → answers (a ∷ []) ≡ answers (b ∷ []) → a ≡ b
+pub same-number : {a b : ℕ} → answers (a ∷ []) ≡ answers (b ∷ []) → a ≡ b
 same-number h = cc
 
 -- the bytes told are those of the page
-printed-bytes : {m : Model} {outcome : Outcome} {run word out run′ word′ out′ : List ℕ} (n : ℕ)
+pub printed-bytes : {m : Model} {outcome : Outcome} {run word out run′ word′ out′ : List ℕ} (n : ℕ)
     → outcome ≡ answers (n ∷ []) → (x : PagePrinted m outcome run word out run′ word′ out′)
     → take n out′ ≡ pageBytes (x .lines)
 printed-bytes n e x = take-filled (pageBytes (x .lines)) _ (x .list) n (same-number (sym e ∙ x .outcome-is))

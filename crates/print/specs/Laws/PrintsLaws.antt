@@ -6,11 +6,10 @@ use mathlib.Core.Path.{_≡_, refl, sym, ap, subst, _∙_}
 use Prim.Native.Nat.{ℕ, _≤_, min}
 use native.Mathlib.Omega.{arith}
 use lib.ListN.{length, take, drop, length-append, length-take}
-use Rattle.text.specs.Faults.{Outcome, answers, refuses, faultNumber}
+use Rattle.text.specs.Faults.{answers, refuses, faultNumber}
 use Rattle.text.specs.Laws.FirstShortLaws.{none-short-seven}
 use Rattle.text.specs.Laws.ListsLaws.{take-filled}
 use Rattle.text.specs.Laws.OutcomeLaws.{answers-not-refuses}
-use Rattle.text.specs.Model.{Model}
 use Rattle.read.specs.Promises.{readingOutcome}
 use Rattle.model.specs.Reading.{Reading, done, tooLong, faulty, readText}
 use Rattle.tell.specs.Laws.ReadTextLaws.{states→readText}
@@ -18,9 +17,9 @@ use Rattle.page.specs.Inner.PageLists.{LongLists}
 use Rattle.page.specs.PageLines.{pageBytes, faultBytes}
 use Rattle.print.specs.declared.print.PrintAnswer.{PrintAnswer}
 use Rattle.print.specs.declared.print.PrintAnswer.the-variants.{Printed, ShortList}
-use Rattle.print.specs.Prints.{PageBytesOf, Prints}
+use Rattle.print.specs.Prints.{Prints}
 use Rattle.print.specs.Promises.{printOutcome, printLists, PrintPromise}
-use Rattle.print.specs.Laws.PageClaimLaws.{lists-none, page-tells}
+use Rattle.print.specs.Laws.PageClaimLaws.{lists-none, page-tells, same-number}
 
 -- ---- lists that are long enough
 
@@ -32,9 +31,6 @@ printLists-none text store distances table run word out long =
     (long .word-length) (long .out-length)
 
 -- ---- bytes at the front of a list
-
-pub same-number : {a b : ℕ} → answers (a ∷ []) ≡ answers (b ∷ []) → a ≡ b
-same-number h = cc
 
 module _ (n : ℕ) (bytes out : List ℕ) {out′ : List ℕ} (e : answers (n ∷ []) ≡ answers (length bytes ∷ []))
     (f : out′ ≡ bytes ++ drop (length bytes) out) where

@@ -15,7 +15,7 @@ use Rattle.page.specs.Laws.PagePromiseLaws.{pagePrinted-unique}
 use Rattle.page.specs.Page.{LeakShown, by-word, by-branch, AfterStates, PageOf}
 use Rattle.page.specs.PageLines.{PageLine, pageBytes}
 use Rattle.page.specs.Promises.{PagePrinted}
-use Rattle.print.specs.Laws.PrintsLaws.{same-number}
+use Rattle.print.specs.Laws.PageClaimLaws.{same-number}
 use Rattle.print.specs.Prints.{PageBytesOf, Prints}
 
 -- ---- the same lines, on other lists
