@@ -14,8 +14,8 @@ ghost use Rattle.io.specs.Counts.{Counts};
 ghost use Rattle.text.specs.Lists.{pageLength};
 ghost use Rattle.print.specs.Prints.{Prints};
 
-// Puts what is printed of a text at the front of `out`, and answers how many bytes that is; 0 if `out` has no room for
-// any page. The other lists are long enough for any text.
+// Puts what is printed of a text at the front of `out`, and answers how many bytes that is; 0 if `out` is shorter than
+// a page may need. The other lists are long enough for any text.
 fn print(text: &[u8], out: &mut [u8]) -> usize
     ensures { λ r. ⌜ Counts r (now (out .exit)) ⌝ }
     ensures { λ r. ⌜ (pageLength ≤ length (now (out .entry))
