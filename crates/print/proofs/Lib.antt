@@ -1,1 +1,2 @@
+pub mod ReadRefusals
 pub mod PrintAnswers

@@ -12,44 +12,26 @@ use Rattle.read.specs.declared.read.ReadAnswer.the-variants.{Done}
 use Rattle.text.specs.Faults.{Outcome, answers, refuses}
 use Rattle.text.specs.Laws.OutcomeLaws.{answers-not-refuses}
 use Rattle.text.specs.Limits.{storeLength}
-use Rattle.text.specs.Laws.FirstShortLaws.{firstShort-le, firstShort-suc, none-short-seven}
+use Rattle.text.specs.Laws.FirstShortLaws.{firstShort-le, firstShort-suc}
 use Rattle.text.specs.Model.{Model}
 use Rattle.read.specs.Promises.{readOutcome, readingOutcome, readingStore, ReadPromise}
-use Rattle.model.specs.Reading.{Reading, done, tooLong, faulty, readText}
+use Rattle.model.specs.Reading.{Reading, readText}
 use Rattle.model.specs.Store.{storeOf}
 use Rattle.model.specs.StoredModel.{modelAt}
 use Rattle.read.specs.Laws.PromisesLaws.{readLists-none}
 use Rattle.model.specs.Laws.Store.StoredModelLaws.{modelAt-storeOf}
 use Rattle.model.specs.Laws.Text.ReadingLaws.{readText-iff}
-use Rattle.read.specs.Laws.ReadingPlaceLaws.{reading-place-lt}
 use Rattle.write.specs.Laws.WroteLaws.{wrote-start}
 use Rattle.print.specs.declared.print.PrintAnswer.{PrintAnswer}
 use Rattle.print.specs.declared.print.PrintAnswer.the-variants.{Printed, ShortList}
 use Rattle.print.specs.Claim.{PrintClaim}
 use Rattle.print.specs.Promises.{printOutcome, printLists, FaultPrinted, PrintPromise}
 use Rattle.page.specs.Inner.PageLists.{LongLists, FirstShort, PageMade}
-use Rattle.print.specs.Inner.Refusals.{Refuses, FaultWritten}
+use Rattle.print.specs.Inner.Refusals.{FaultWritten}
 use Rattle.print.specs.Laws.PageClaimLaws.{print-claim}
+use Rattle.print.specs.Laws.PrintsLaws.{printLists-none}
+use Rattle.print.proofs.ReadRefusals.{refused-store}
 use Rattle.page.specs.Laws.PageLinesLaws.{fault-length-le}
-
--- ---- what Read left
-
--- the place of any refusal has 16 bits
-pub refuses-of : {text store exit : List ℕ} {r : ReadAnswer} → ReadPromise text store (readOutcome r) exit
-    → storeLength ≤ length store → ¬ (r ≡ Done) → Refuses r
-refuses-of {text} {store} reads long n = record {
-  not-done = n;
-  place-lt = λ number place e.
-      reading-place-lt text number place (sym (reads .answer (readLists-none text store long)) ∙ e);
-}
-
--- a refused text leaves the store as it was
-refused-store : (r : Reading) (store : List ℕ) {number place : ℕ} → readingOutcome r ≡ refuses number place
-    → readingStore r store ≡ store
-unfolding readingOutcome readingStore
-refused-store (done m) store e = absurd (answers-not-refuses e)
-refused-store tooLong store e = refl
-refused-store (faulty fault line) store e = refl
 
 -- ---- on any lists
 
@@ -79,14 +61,12 @@ module _ (text store distances table run word out : List ℕ) where
       → Refused (ShortList place)
   short-refused place e = let promise = place-promised place e in (promise, print-claim promise)
 
-  abbrev any-text : 0 ≤ length text
-  any-text = omega arith
-
   -- the text is list 1, and Page's lists follow it
   pub short-promised : (r : ℕ)
       → FirstShort r (length store) (length distances) (length table) (length run) (length word) (length out) → 0 < r
       → Refused (ShortList (r + 1))
   short-promised r x l =
+      let any-text : 0 ≤ length text = omega arith in
       short-refused (r + 1)
       (firstShort-le 1 _ _ any-text ∙ firstShort-suc 1 _ _ (x .some-short l) ∙ ap some (sym (add-one r)))
 
@@ -103,9 +83,7 @@ module _ (text store distances table run word out : List ℕ) where
   module _ (long : LongLists store distances table run word out) where
     not-short : (k : ℕ) → ¬ (printLists text store distances table run word out ≡ some k)
     not-short k h =
-        let e : none ≡ some k =
-        sym (none-short-seven any-text (long .store-length) (long .distances-length) (long .table-length)
-        (long .run-length) (long .word-length) (long .out-length)) ∙ h in
+        let e : none ≡ some k = sym (printLists-none text store distances table run word out long) ∙ h in
         let z : _≡_ {A = ℕ} 0 1 = cc in
         omega arith
 

@@ -39,15 +39,17 @@ lineFields bytes i = split comma (getD (split lineEnd bytes) i [])
 -- The first line is `V,pass,rank`, the number read as Read reads one.
 pub record PassFields (bytes : List ℕ) (rank : ℕ) : Type 0 where
   pub count : length (lineFields bytes 0) ≡ 3
+  pub letter : getD (lineFields bytes 0) 0 [] ≡ 86 ∷ []
   pub verdict : getD (lineFields bytes 0) 1 [] ≡ passText
-  pub rank-is : numberOf (getD (lineFields bytes 0) 2 []) ≡ Value rank
+  pub rank-field : numberOf (getD (lineFields bytes 0) 2 []) ≡ Value rank
 
 -- The first line is `V,refuse,step,depth`.
 pub record RefuseFields (bytes : List ℕ) (step depth : ℕ) : Type 0 where
   pub count : length (lineFields bytes 0) ≡ 4
+  pub letter : getD (lineFields bytes 0) 0 [] ≡ 86 ∷ []
   pub verdict : getD (lineFields bytes 0) 1 [] ≡ refuseText
-  pub step-is : numberOf (getD (lineFields bytes 0) 2 []) ≡ Value step
-  pub depth-is : numberOf (getD (lineFields bytes 0) 3 []) ≡ Value depth
+  pub step-field : numberOf (getD (lineFields bytes 0) 2 []) ≡ Value step
+  pub depth-field : numberOf (getD (lineFields bytes 0) 3 []) ≡ Value depth
 
 -- What the page of a passed model tells: the greatest rank.
 pub record PassPage (m : Model) (bytes : List ℕ) : Type 0 where

@@ -1,19 +1,31 @@
 // Standard input to standard output: the page of a text, or the line that says why it is not read.
+use judge::rank::TABLE_LENGTH;
 use libc::STDIN_FILENO;
 use libc::STDOUT_FILENO;
+use model::store::STORE_LENGTH;
+use page::page::PAGE_LENGTH;
 use print::print::PrintAnswer;
+use reach::reach::DISTANCES_LENGTH;
+use reach::run::RUN_LENGTH;
+use word::word::WORD_LENGTH;
+ghost use Prim.Native.Nat.{_≤_};
+ghost use lib.ListN.{length, take};
 ghost use Rattle.io.specs.Counts.{Counts};
+ghost use Rattle.text.specs.Lists.{pageLength};
+ghost use Rattle.print.specs.Prints.{Prints};
 
-// Puts what is printed of a text at the front of `out`, and answers how many bytes that is. The lists are long enough
-// for any text.
+// Puts what is printed of a text at the front of `out`, and answers how many bytes that is; 0 if `out` is shorter than
+// a page may need. The other lists are long enough for any text.
 fn print(text: &[u8], out: &mut [u8]) -> usize
     ensures { λ r. ⌜ Counts r (now (out .exit)) ⌝ }
+    ensures { λ r. ⌜ (pageLength ≤ length (now (out .entry))
+        → Prints (now (text .entry)) (take r (now (out .exit)))) ⌝ }
 {
-    let mut store = [0u16; 3972];
-    let mut distances = [0u16; 128];
-    let mut table = [0u8; 16384];
-    let mut run = [0u16; 127];
-    let mut word = [0u16; 127];
+    let mut store = [0u16; STORE_LENGTH];
+    let mut distances = [0u16; DISTANCES_LENGTH];
+    let mut table = [0u8; TABLE_LENGTH];
+    let mut run = [0u16; RUN_LENGTH];
+    let mut word = [0u16; WORD_LENGTH];
     let answer = print::print::print(
         text,
         &mut store,
@@ -33,7 +45,7 @@ fn print(text: &[u8], out: &mut [u8]) -> usize
 fn main() {
     let mut text = [0u8; 16385];
     let n = io::read_full(STDIN_FILENO, &mut text);
-    let mut out = [0u8; 5000];
+    let mut out = [0u8; PAGE_LENGTH];
     let length = print(&text[..n], &mut out);
     io::write_all(STDOUT_FILENO, &out[..length]);
 }

@@ -153,16 +153,16 @@ module _ {s : List ℕ} {m : Model} (st : Stored s m) (det : DeterministicModel 
         leak = λ _. leak-page (j .0) depth states after state-lines judged x e;
       }
 
-same-number : {a b : ℕ} → answers (a ∷ []) ≡ answers (b ∷ []) → a ≡ b
+pub same-number : {a b : ℕ} → answers (a ∷ []) ≡ answers (b ∷ []) → a ≡ b
 same-number h = cc
 
 -- the bytes told are those of the page
-printed-bytes : {m : Model} {outcome : Outcome} {run word out run′ word′ out′ : List ℕ} (n : ℕ)
+pub printed-bytes : {m : Model} {outcome : Outcome} {run word out run′ word′ out′ : List ℕ} (n : ℕ)
     → outcome ≡ answers (n ∷ []) → (x : PagePrinted m outcome run word out run′ word′ out′)
     → take n out′ ≡ pageBytes (x .lines)
 printed-bytes n e x = take-filled (pageBytes (x .lines)) _ (x .list) n (same-number (sym e ∙ x .outcome-is))
 
-page-tells : {m : Model} → WellFormed m → DeterministicModel m → {outcome : Outcome}
+pub page-tells : {m : Model} → WellFormed m → DeterministicModel m → {outcome : Outcome}
     {run word out run′ word′ out′ : List ℕ} (n : ℕ) → outcome ≡ answers (n ∷ [])
     → PagePrinted m outcome run word out run′ word′ out′ → PageTells m (take n out′) word′
 page-tells w det {run = run} {word} {run′ = run′} {word′} n e x =
@@ -198,7 +198,7 @@ fault-begins {number} {place} n e x v =
 module _ {text store distances table run word out : List ℕ} {outcome : Outcome}
     {store′ distances′ table′ run′ word′ out′ : List ℕ}
     (p : PrintPromise text store distances table run word out outcome store′ distances′ table′ run′ word′ out′) where
-  lists-none : (n : ℕ) → outcome ≡ answers (n ∷ []) → printLists text store distances table run word out ≡ none
+  pub lists-none : (n : ℕ) → outcome ≡ answers (n ∷ []) → printLists text store distances table run word out ≡ none
   lists-none n e =
       lists-of-notShort (printLists text store distances table run word out) (λ k h. p .short k h .0)
       (λ k h. answers-not-refuses (sym e ∙ h))

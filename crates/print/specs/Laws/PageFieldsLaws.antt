@@ -47,7 +47,8 @@ run-line-number j l =
 -- the lines of a run, behind others
 run-number : (head : List PageLine) (run : List ℕ) (rest after : List PageLine) (more : List (List ℕ)) (i k : ℕ)
     → All (λ j. j < 100000) run → i < length run → k ≡ length head + i
-    → numberOf (getD (split comma (getD (map lineText (head ++ (map run-line run ++ rest) ++ after) ++ more) k [])) 1 [])
+    → numberOf
+    (getD (split comma (getD (map lineText (head ++ (map run-line run ++ rest) ++ after) ++ more) k [])) 1 [])
     ≡ Value (getD run i 0)
 run-number (x ∷ head) run rest after more i zero small l e = absurd (omega arith)
 run-number (x ∷ head) run rest after more i (suc k) small l e =
@@ -75,8 +76,9 @@ module _ (bytes : List ℕ) {lines : List PageLine} (parted : split lineEnd byte
       let f = line-fields (verdict-line (Passed rank) ∷ rest) 0 e ∙ passed-fields rank in
       record {
         count = ap length f;
+        letter = ap (λ (fields : List (List ℕ)). getD fields 0 []) f;
         verdict = ap (λ (fields : List (List ℕ)). getD fields 1 []) f;
-        rank-is = ap (λ (fields : List (List ℕ)). numberOf (getD fields 2 [])) f ∙ numberOf-digits rank l;
+        rank-field = ap (λ (fields : List (List ℕ)). numberOf (getD fields 2 [])) f ∙ numberOf-digits rank l;
       }
 
   pub refuse-fields : (j depth : ℕ) (rest : List PageLine) → j < 100000 → depth < 100000
@@ -85,9 +87,10 @@ module _ (bytes : List ℕ) {lines : List PageLine} (parted : split lineEnd byte
       let f = line-fields (verdict-line (Refused (record { 0 = j }) depth) ∷ rest) 0 e ∙ refused-fields j depth in
       record {
         count = ap length f;
+        letter = ap (λ (fields : List (List ℕ)). getD fields 0 []) f;
         verdict = ap (λ (fields : List (List ℕ)). getD fields 1 []) f;
-        step-is = ap (λ (fields : List (List ℕ)). numberOf (getD fields 2 [])) f ∙ numberOf-digits j l;
-        depth-is = ap (λ (fields : List (List ℕ)). numberOf (getD fields 3 [])) f ∙ numberOf-digits depth k;
+        step-field = ap (λ (fields : List (List ℕ)). numberOf (getD fields 2 [])) f ∙ numberOf-digits j l;
+        depth-field = ap (λ (fields : List (List ℕ)). numberOf (getD fields 3 [])) f ∙ numberOf-digits depth k;
       }
 
   pub run-fields : (head : List PageLine) (run : List ℕ) (rest after : List PageLine) {n : ℕ}

@@ -30,7 +30,8 @@ use Rattle.word.specs.Promises.{wordLists, WordDone, WordPromise}
 use Rattle.tell.specs.Claim.{States, NotShort, SaysPassed, SaysRefused, JudgeTells, ShowsLeak, Sequence}
 use Rattle.tell.specs.Claim.{WordTells, BothTell, Claim}
 use Rattle.word.specs.Laws.LeastLeakLaws.{bnid↔INI, depth-le}
-use Rattle.tell.specs.Laws.ReadTextLaws.{lists-of-notShort, states→readText, read-exit-long, read-holds, read↔States}
+use Rattle.tell.specs.Laws.ReadTextLaws.{lists-of-notShort, states→readText, read-exit-long, read-holds}
+use Rattle.tell.specs.Laws.ReadTextLaws.{read↔States}
 
 -- ---- one answer does not say two things
 

@@ -78,8 +78,8 @@ module _ {text store exit : List ℕ} (p : ReadPromise text store (answers []) e
 
 -- ---- Read's answer
 
-pub read↔States : {text store : List ℕ} {read : Outcome} {exit : List ℕ} → ReadPromise text store read exit → NotShort read
-    → (read ≡ answers []) ↔ ((m : Model) × States text m)
+pub read↔States : {text store : List ℕ} {read : Outcome} {exit : List ℕ} → ReadPromise text store read exit
+    → NotShort read → (read ≡ answers []) ↔ ((m : Model) × States text m)
 unfolding readingOutcome
 read↔States {text} {store} {read} {exit} p told = (
   λ e. read-states (subst (λ (x : Outcome). ReadPromise text store x exit) e p),

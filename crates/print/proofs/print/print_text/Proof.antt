@@ -2,7 +2,8 @@
 use borrow.Author.Needs.{needs}
 use Rattle.read.proofs.ReadAnswers.{not-done}
 use Rattle.tell.proofs.TextAnswers.{read-long-good}
-use Rattle.print.proofs.PrintAnswers.{refuses-of, unread-promised, read-promised}
+use Rattle.print.proofs.PrintAnswers.{unread-promised, read-promised}
+use Rattle.print.proofs.ReadRefusals.{refuses-of}
 use Rattle.print.proofs.print.print_text.Statement.{statement}
 use Rattle.print.proofs.print.print_text.Tie as tie
 
