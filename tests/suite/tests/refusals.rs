@@ -185,7 +185,7 @@ fn damage_at_every_place() {
 /// The distances and the table are as Judge leaves them; the rest is as it was.
 fn as_judged(store: &Store, before: &Lists, after: &Lists) {
     let mut expected = before.clone();
-    let verdict = suite::judge(&store.numbers, &mut expected.distances, &mut expected.table);
+    let verdict = second::judge(&store.numbers, &mut expected.distances, &mut expected.table);
     assert!(verdict.is_ok(), "{store}");
     assert!(*after == expected, "{store}");
 }
