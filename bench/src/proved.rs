@@ -1,46 +1,6 @@
-//! The proved operations with nothing around them, as `crates/till_c/till.h` declares them: the tests lend copies of
-//! what is only read, and a copy would count in a time.
-
-/// Number 0 with `count` values, or a refusal's number with its place.
-#[repr(C)]
-pub struct TillAnswer {
-    pub number: u64,
-    pub place: u64,
-    pub count: u64,
-    pub first: u64,
-    pub second: u64,
-}
-
-#[rustfmt::skip]
-extern "C" {
-    fn till_read(text: *const u8, text_len: usize, store: *mut u16, store_len: usize) -> TillAnswer;
-    fn till_reach(store: *const u16, store_len: usize, distances: *mut u16, distances_len: usize) -> TillAnswer;
-    fn till_rank(store: *const u16, store_len: usize, table: *mut u8, table_len: usize) -> TillAnswer;
-    fn till_judge(
-        store: *const u16, store_len: usize, distances: *mut u16, distances_len: usize,
-        table: *mut u8, table_len: usize,
-    ) -> TillAnswer;
-    fn till_run(
-        store: *const u16, store_len: usize, distances: *mut u16, distances_len: usize,
-        run: *mut u16, run_len: usize, state: u16,
-    ) -> TillAnswer;
-    fn till_word(
-        store: *const u16, store_len: usize, distances: *mut u16, distances_len: usize,
-        table: *mut u8, table_len: usize, word: *mut u16, word_len: usize,
-    ) -> TillAnswer;
-    fn till_page(
-        store: *const u16, store_len: usize, distances: *mut u16, distances_len: usize,
-        table: *mut u8, table_len: usize, run: *mut u16, run_len: usize,
-        word: *mut u16, word_len: usize, out: *mut u8, out_len: usize,
-    ) -> TillAnswer;
-    fn till_print(
-        text: *const u8, text_len: usize, store: *mut u16, store_len: usize,
-        distances: *mut u16, distances_len: usize, table: *mut u8, table_len: usize,
-        run: *mut u16, run_len: usize, word: *mut u16, word_len: usize,
-        out: *mut u8, out_len: usize,
-    ) -> TillAnswer;
-    fn till_write(store: *const u16, store_len: usize, out: *mut u8, out_len: usize) -> TillAnswer;
-}
+//! The proved operations with nothing around them: the tests lend copies of what is only read, and a copy would count in
+//! a time.
+use suite::archive::*;
 
 /// A list as two arguments: what is only read, and what is filled.
 macro_rules! call {
