@@ -6,7 +6,7 @@
 #include <stddef.h>
 #include <stdint.h>
 
-/* Number 0 with `count` values, or a refusal's number with its place. */
+/* Number 0 with `count` values, or a refusal's number with its place; what is not told is 0. */
 typedef struct {
     uint64_t number;
     uint64_t place;

@@ -1,11 +1,20 @@
--- What tells the same keeps the same promise; a fault's number is none of a success. Assumes nothing.
+-- What tells the same keeps the same promise; an answer that tells an outcome is plain; a fault's number is none of a
+-- success. Assumes nothing.
 use mathlib.Core.List.{List}
-use mathlib.Core.Path.{_≡_, subst}
+use mathlib.Core.Path.{_≡_, sym, ap, subst, _∙_}
 use Prim.Native.Nat.{ℕ}
 use native.Mathlib.Omega.{arith}
 use Rattle.text.specs.declared.Fault.{Fault}
 use Rattle.text.specs.declared.Fault.the-variants.{Absent, Shape, Digits, Range, Repeated, Order}
 use Rattle.text.specs.Faults.{Outcome, faultNumber}
+use Rattle.till_c.specs.declared.TillAnswer.{TillAnswer}
+use Rattle.till_c.specs.Answer.{answerFor, Plain, Tells}
+
+pub plain-of-tells : {r : TillAnswer} {outcome : Outcome} → Tells r outcome → Plain r
+plain-of-tells t = record { plain = t .answer-is ∙ ap answerFor (sym (t .outcome-is)) }
+
+pub tells-same : {r : TillAnswer} {outcome outcome′ : Outcome} → outcome ≡ outcome′ → Tells r outcome → Tells r outcome′
+tells-same {r} e t = subst (Tells r) e t
 
 -- a promise on one list that is lent to be filled
 pub promise-told : (P : List ℕ → List ℕ → Outcome → List ℕ → Type 0) {a b exit : List ℕ} {t u : Outcome}

@@ -1,4 +1,5 @@
-// The operations for callers in C and Rust. Each has the promise of the operation that it calls, and adds nothing.
+// The operations for callers in C and Rust. Each has the promise of the operation that it calls, of what its answer
+// tells; the rest of the answer is 0.
 use judge::judge::JudgeAnswer;
 use judge::judge::Verdict;
 use judge::rank::RankAnswer;
@@ -24,9 +25,9 @@ ghost use Rattle.word.specs.Promises.{WordPromise};
 ghost use Rattle.page.specs.Promises.{PagePromise};
 ghost use Rattle.print.specs.Promises.{PrintPromise};
 ghost use Rattle.print.specs.Claim.{PrintClaim};
-ghost use Rattle.till_c.specs.Answer.{answerOutcome};
+ghost use Rattle.till_c.specs.Answer.{answerOutcome, Plain, Tells};
 
-// Number 0 with `count` values, or a refusal's number with its place.
+// Number 0 with `count` values, or a refusal's number with its place; what is not told is 0.
 #[repr(C)]
 pub struct TillAnswer {
     pub number: u64,
@@ -39,7 +40,7 @@ pub struct TillAnswer {
 // A refusal.
 fn refusal(number: u64, place: usize) -> TillAnswer
     requires { ⌜ (number ≡ 0 → ⊥) ⌝ }
-    ensures { λ r. ⌜ answerOutcome r ≡ refuses number place ⌝ }
+    ensures { λ r. ⌜ Tells r (refuses number place) ⌝ }
 {
     TillAnswer {
         number,
@@ -52,7 +53,7 @@ fn refusal(number: u64, place: usize) -> TillAnswer
 
 // A success with one value.
 fn value(first: usize) -> TillAnswer
-    ensures { λ r. ⌜ answerOutcome r ≡ answers (first ∷ []) ⌝ }
+    ensures { λ r. ⌜ Tells r (answers (first ∷ [])) ⌝ }
 {
     TillAnswer {
         number: 0,
@@ -65,7 +66,7 @@ fn value(first: usize) -> TillAnswer
 
 // A success with two values.
 fn two_values(first: usize, second: usize) -> TillAnswer
-    ensures { λ r. ⌜ answerOutcome r ≡ answers (first ∷ second ∷ []) ⌝ }
+    ensures { λ r. ⌜ Tells r (answers (first ∷ second ∷ [])) ⌝ }
 {
     TillAnswer {
         number: 0,
@@ -78,7 +79,7 @@ fn two_values(first: usize, second: usize) -> TillAnswer
 
 // A success with no value.
 fn done() -> TillAnswer
-    ensures { λ r. ⌜ answerOutcome r ≡ answers [] ⌝ }
+    ensures { λ r. ⌜ Tells r (answers []) ⌝ }
 {
     TillAnswer {
         number: 0,
@@ -91,7 +92,7 @@ fn done() -> TillAnswer
 
 // The refusal of a line.
 fn faulty(fault: Fault, line: usize) -> TillAnswer
-    ensures { λ r. ⌜ answerOutcome r ≡ refuses (faultNumber fault) line ⌝ }
+    ensures { λ r. ⌜ Tells r (refuses (faultNumber fault) line) ⌝ }
 {
     let number = text::fault_number(fault);
     refusal(number as u64, line)
@@ -99,7 +100,7 @@ fn faulty(fault: Fault, line: usize) -> TillAnswer
 
 // A verdict: passed has one value, the rank; refused two, step and depth.
 fn judged(v: Verdict) -> TillAnswer
-    ensures { λ r. ⌜ answerOutcome r ≡ verdictOutcome v ⌝ }
+    ensures { λ r. ⌜ Tells r (verdictOutcome v) ⌝ }
 {
     match v {
         Verdict::Passed(top) => value(top as usize),
@@ -109,7 +110,7 @@ fn judged(v: Verdict) -> TillAnswer
 
 // A word: its length, and the end that allows it, 0 for the source and 1 for the target.
 fn shown(length: usize, end: End) -> TillAnswer
-    ensures { λ r. ⌜ answerOutcome r ≡ answers (length ∷ endNumber end ∷ []) ⌝ }
+    ensures { λ r. ⌜ Tells r (answers (length ∷ endNumber end ∷ [])) ⌝ }
 {
     match end {
         End::Source => two_values(length, 0),
@@ -120,6 +121,7 @@ fn shown(length: usize, end: End) -> TillAnswer
 #[no_mangle]
 pub extern "C" fn till_read(text: &[u8], store: &mut [u16]) -> TillAnswer
     ensures { λ r. ⌜ ReadPromise (now (text .entry)) (now (store .entry)) (answerOutcome r) (now (store .exit)) ⌝ }
+    ensures { λ r. ⌜ Plain r ⌝ }
 {
     let answer = read::read::read(text, store);
     match answer {
@@ -133,6 +135,7 @@ pub extern "C" fn till_read(text: &[u8], store: &mut [u16]) -> TillAnswer
 #[no_mangle]
 pub extern "C" fn till_write(store: &[u16], out: &mut [u8]) -> TillAnswer
     ensures { λ r. ⌜ WritePromise (now (store .entry)) (now (out .entry)) (answerOutcome r) (now (out .exit)) ⌝ }
+    ensures { λ r. ⌜ Plain r ⌝ }
 {
     let answer = write::write::write(store, out);
     match answer {
@@ -146,6 +149,7 @@ pub extern "C" fn till_write(store: &[u16], out: &mut [u8]) -> TillAnswer
 pub extern "C" fn till_reach(store: &[u16], distances: &mut [u16]) -> TillAnswer
     ensures { λ r. ⌜ ReachPromise (now (store .entry)) (now (distances .entry)) (answerOutcome r)
         (now (distances .exit)) ⌝ }
+    ensures { λ r. ⌜ Plain r ⌝ }
 {
     let answer = reach::reach::reach(store, distances);
     match answer {
@@ -158,6 +162,7 @@ pub extern "C" fn till_reach(store: &[u16], distances: &mut [u16]) -> TillAnswer
 #[no_mangle]
 pub extern "C" fn till_rank(store: &[u16], table: &mut [u8]) -> TillAnswer
     ensures { λ r. ⌜ RankPromise (now (store .entry)) (now (table .entry)) (answerOutcome r) (now (table .exit)) ⌝ }
+    ensures { λ r. ⌜ Plain r ⌝ }
 {
     let answer = judge::rank::rank(store, table);
     match answer {
@@ -171,6 +176,7 @@ pub extern "C" fn till_rank(store: &[u16], table: &mut [u8]) -> TillAnswer
 pub extern "C" fn till_judge(store: &[u16], distances: &mut [u16], table: &mut [u8]) -> TillAnswer
     ensures { λ r. ⌜ JudgePromise (now (store .entry)) (now (distances .entry)) (now (table .entry)) (answerOutcome r)
         (now (distances .exit)) (now (table .exit)) ⌝ }
+    ensures { λ r. ⌜ Plain r ⌝ }
 {
     let answer = judge::judge::judge(store, distances, table);
     match answer {
@@ -189,6 +195,7 @@ pub extern "C" fn till_run(
 ) -> TillAnswer
     ensures { λ r. ⌜ RunPromise (now (store .entry)) (now (distances .entry)) (now (run .entry)) state (answerOutcome r)
         (now (distances .exit)) (now (run .exit)) ⌝ }
+    ensures { λ r. ⌜ Plain r ⌝ }
 {
     let answer = reach::run::run(store, distances, run, State(state));
     match answer {
@@ -209,6 +216,7 @@ pub extern "C" fn till_word(
 ) -> TillAnswer
     ensures { λ r. ⌜ WordPromise (now (store .entry)) (now (distances .entry)) (now (table .entry)) (now (word .entry))
         (answerOutcome r) (now (distances .exit)) (now (table .exit)) (now (word .exit)) ⌝ }
+    ensures { λ r. ⌜ Plain r ⌝ }
 {
     let answer = word::word::word(store, distances, table, word);
     match answer {
@@ -232,6 +240,7 @@ pub extern "C" fn till_page(
     ensures { λ r. ⌜ PagePromise (now (store .entry)) (now (distances .entry)) (now (table .entry)) (now (run .entry))
         (now (word .entry)) (now (out .entry)) (answerOutcome r) (now (distances .exit)) (now (table .exit))
         (now (run .exit)) (now (word .exit)) (now (out .exit)) ⌝ }
+    ensures { λ r. ⌜ Plain r ⌝ }
 {
     let answer = page::page::page(store, distances, table, run, word, out);
     match answer {
@@ -255,6 +264,7 @@ pub extern "C" fn till_print(
         (now (run .entry)) (now (word .entry)) (now (out .entry)) (answerOutcome r) (now (store .exit))
         (now (distances .exit)) (now (table .exit)) (now (run .exit)) (now (word .exit)) (now (out .exit)) ⌝ }
     ensures { λ r. ⌜ PrintClaim (now (text .entry)) (answerOutcome r) (now (word .exit)) (now (out .exit)) ⌝ }
+    ensures { λ r. ⌜ Plain r ⌝ }
 {
     let answer = print::print::print(text, store, distances, table, run, word, out);
     match answer {

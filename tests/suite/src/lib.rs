@@ -12,16 +12,21 @@ use second::gen::{shown, shown_numbers};
 use second::{End, Refusal, Verdict};
 
 impl TillAnswer {
-    /// The values, or the refusal. An answer of another form than the header's is a fault of the library.
+    /// The values, or the refusal; what is not told is 0. An answer of another form is a fault of the library.
     fn values(&self) -> Result<Vec<u64>, Refusal> {
-        if self.number != 0 {
-            return Err(Refusal::new(
-                u16::try_from(self.number).expect("a refusal's number has 16 bits"),
-                self.place,
-            ));
-        }
         let all = [self.first, self.second];
-        Ok(all[..usize::try_from(self.count).expect("a count fits")].to_vec())
+        if self.number != 0 {
+            assert_eq!((self.count, all), (0, [0, 0]), "a refusal has no values");
+            let number = u16::try_from(self.number).expect("a refusal's number has 16 bits");
+            return Err(Refusal::new(number, self.place));
+        }
+        assert_eq!(self.place, 0, "a success has no place");
+        let (values, rest) = all.split_at(usize::try_from(self.count).expect("a count fits"));
+        assert!(
+            rest.iter().all(|&number| number == 0),
+            "{values:?} {rest:?}"
+        );
+        Ok(values.to_vec())
     }
 }
 

@@ -3,7 +3,7 @@ use mathlib.Core.Path.{ap, sym, _∙_}
 use borrow.Author.Needs.{needs}
 use Prim.Native.Nat.{ℕ}
 use Rattle.text.specs.Faults.{refuses}
-use Rattle.till_c.specs.AnswerLaws.{faultNumber-not-zero}
+use Rattle.till_c.specs.AnswerLaws.{tells-same, faultNumber-not-zero}
 use Rattle.till_c.proofs.faulty.Statement.{statement}
 use Rattle.till_c.proofs.faulty.Tie as tie
 
@@ -18,8 +18,8 @@ refusal-requires c κs = λ e. faultNumber-not-zero (c .before .args .fault) (sy
 
 returns : tie.Need-returns
 returns c =
-    c .refusal .ensures
-    ∙ ap (λ (n : ℕ). refuses n (c .before .before .args .line)) (c .before .fault-number .ensures)
+    tells-same (ap (λ (n : ℕ). refuses n (c .before .before .args .line)) (c .before .fault-number .ensures))
+    (c .refusal .ensures)
 
 pub faulty-spec : {M : Type 1} → statement M
 faulty-spec = tie.close (tie.spec fault-number-requires cast-refusal refusal-requires returns)

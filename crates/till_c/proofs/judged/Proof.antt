@@ -1,7 +1,8 @@
 -- Each verdict is told by the same values.
-use mathlib.Core.Path.{sym, ap, _∙_}
+use mathlib.Core.Path.{sym, ap}
 use borrow.Author.Needs.{needs}
 use Rattle.judge.specs.Promises.{verdictOutcome}
+use Rattle.till_c.specs.AnswerLaws.{tells-same}
 use Rattle.till_c.proofs.judged.Statement.{statement}
 use Rattle.till_c.proofs.judged.Tie as tie
 
@@ -28,11 +29,11 @@ two-values-requires c κs = search needs
 
 returns : tie.Need-returns
 unfolding verdictOutcome
-returns c = c .value .ensures ∙ sym (ap verdictOutcome (c .before .before .v .given .1))
+returns c = tells-same (sym (ap verdictOutcome (c .before .before .v .given .1))) (c .value .ensures)
 
 returns-2 : tie.Need-returns-2
 unfolding verdictOutcome
-returns-2 c = c .two-values .ensures ∙ sym (ap verdictOutcome (c .before .before .before .v2 .given .1))
+returns-2 c = tells-same (sym (ap verdictOutcome (c .before .before .before .v2 .given .1))) (c .two-values .ensures)
 
 pub judged-spec : {M : Type 1} → statement M
 judged-spec =

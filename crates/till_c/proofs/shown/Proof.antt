@@ -1,11 +1,12 @@
 -- Each end is told by its number.
 use mathlib.Core.List.{[], _∷_}
-use mathlib.Core.Path.{sym, ap, _∙_}
+use mathlib.Core.Path.{sym, ap}
 use Prim.Native.Nat.{ℕ}
 use borrow.Author.Needs.{needs}
 use Rattle.text.specs.Faults.{Outcome, answers}
 use Rattle.word.specs.declared.word.End.{End}
 use Rattle.word.specs.Words.{endNumber}
+use Rattle.till_c.specs.AnswerLaws.{tells-same}
 use Rattle.till_c.proofs.shown.Statement.{statement}
 use Rattle.till_c.proofs.shown.Tie as tie
 
@@ -29,13 +30,13 @@ returns : tie.Need-returns
 unfolding endNumber
 returns c =
     let n = c .before .before .before .args .length in
-    c .two-values .ensures ∙ sym (ap (told n) (c .before .enum-told .given .1))
+    tells-same (sym (ap (told n) (c .before .enum-told .given .1))) (c .two-values .ensures)
 
 returns-2 : tie.Need-returns-2
 unfolding endNumber
 returns-2 c =
     let n = c .before .before .before .args .length in
-    c .two-values2 .ensures ∙ sym (ap (told n) (c .before .enum-told2 .given .1))
+    tells-same (sym (ap (told n) (c .before .enum-told2 .given .1))) (c .two-values2 .ensures)
 
 pub shown-spec : {M : Type 1} → statement M
 shown-spec =

@@ -2,7 +2,7 @@
 use mathlib.Core.Path.{refl, sym, ap, _∙_}
 use borrow.Author.Tests.{eqb-false}
 use Rattle.judge.specs.Promises.{judgeOutcome, JudgePromise}
-use Rattle.till_c.specs.AnswerLaws.{promise-told-two}
+use Rattle.till_c.specs.AnswerLaws.{promise-told-two, plain-of-tells}
 use borrow.Author.Needs.{needs}
 use Rattle.till_c.proofs.till_judge.Statement.{statement}
 use Rattle.till_c.proofs.till_judge.Tie as tie
@@ -37,10 +37,12 @@ same-length-2 c = search needs
 returns : tie.Need-returns
 unfolding judgeOutcome
 returns c =
-    let o = c .before .before .before .before .before .before .before .before .judge in
-    promise-told-two JudgePromise
-    (ap judgeOutcome (c .before .before .answer .given .1) ∙ sym (c .judged .ensures))
-    (o .ensures)
+    let o = c .before .before .before .before .before .before .before .before .judge in (
+      promise-told-two JudgePromise
+          (ap judgeOutcome (c .before .before .answer .given .1) ∙ sym (c .judged .ensures .outcome-is))
+          (o .ensures),
+      plain-of-tells (c .judged .ensures),
+    )
 
 same-length-3 : tie.Need-same-length-3
 same-length-3 c = search needs
@@ -51,10 +53,12 @@ same-length-4 c = search needs
 returns-2 : tie.Need-returns-2
 unfolding judgeOutcome
 returns-2 c =
-    let o = c .before .before .before .before .before .before .before .before .judge in
-    promise-told-two JudgePromise
-    (ap judgeOutcome (c .before .before .answer2 .given .1) ∙ sym (c .refusal .ensures))
-    (o .ensures)
+    let o = c .before .before .before .before .before .before .before .before .judge in (
+      promise-told-two JudgePromise
+          (ap judgeOutcome (c .before .before .answer2 .given .1) ∙ sym (c .refusal .ensures .outcome-is))
+          (o .ensures),
+      plain-of-tells (c .refusal .ensures),
+    )
 
 same-length-5 : tie.Need-same-length-5
 same-length-5 c = search needs
@@ -65,10 +69,12 @@ same-length-6 c = search needs
 returns-3 : tie.Need-returns-3
 unfolding judgeOutcome
 returns-3 c =
-    let o = c .before .before .before .before .before .before .before .judge in
-    promise-told-two JudgePromise
-    (ap judgeOutcome (c .before .enum-told .given .1) ∙ sym (c .refusal2 .ensures))
-    (o .ensures)
+    let o = c .before .before .before .before .before .before .before .judge in (
+      promise-told-two JudgePromise
+          (ap judgeOutcome (c .before .enum-told .given .1) ∙ sym (c .refusal2 .ensures .outcome-is))
+          (o .ensures),
+      plain-of-tells (c .refusal2 .ensures),
+    )
 
 pub till-judge-spec : {M : Type 1} → statement M
 till-judge-spec =

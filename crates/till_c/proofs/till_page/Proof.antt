@@ -3,7 +3,7 @@ use mathlib.Core.Path.{refl, sym, ap, _∙_}
 use borrow.Author.Needs.{needs}
 use borrow.Author.Tests.{eqb-false}
 use Rattle.page.specs.Promises.{pageOutcome, PagePromise}
-use Rattle.till_c.specs.AnswerLaws.{promise-told-five}
+use Rattle.till_c.specs.AnswerLaws.{promise-told-five, plain-of-tells}
 use Rattle.till_c.proofs.till_page.Statement.{statement}
 use Rattle.till_c.proofs.till_page.Tie as tie
 
@@ -47,10 +47,12 @@ returns : tie.Need-returns
 unfolding pageOutcome
 returns c =
     let called = c .before .before .before .before .before .before .before .before in
-    let o = called .before .before .before .before .before .before .page in
-    promise-told-five PagePromise
-    (ap pageOutcome (c .before .before .answer .given .1) ∙ sym (c .value .ensures))
-    (o .ensures)
+    let o = called .before .before .before .before .before .before .page in (
+      promise-told-five PagePromise
+          (ap pageOutcome (c .before .before .answer .given .1) ∙ sym (c .value .ensures .outcome-is))
+          (o .ensures),
+      plain-of-tells (c .value .ensures),
+    )
 
 same-length-6 : tie.Need-same-length-6
 same-length-6 c = search needs
@@ -71,10 +73,12 @@ returns-2 : tie.Need-returns-2
 unfolding pageOutcome
 returns-2 c =
     let called = c .before .before .before .before .before .before .before .before in
-    let o = called .before .before .before .before .before .before .page in
-    promise-told-five PagePromise
-    (ap pageOutcome (c .before .before .answer2 .given .1) ∙ sym (c .refusal .ensures))
-    (o .ensures)
+    let o = called .before .before .before .before .before .before .page in (
+      promise-told-five PagePromise
+          (ap pageOutcome (c .before .before .answer2 .given .1) ∙ sym (c .refusal .ensures .outcome-is))
+          (o .ensures),
+      plain-of-tells (c .refusal .ensures),
+    )
 
 same-length-11 : tie.Need-same-length-11
 same-length-11 c = search needs
@@ -95,10 +99,12 @@ returns-3 : tie.Need-returns-3
 unfolding pageOutcome
 returns-3 c =
     let called = c .before .before .before .before .before .before .before .before in
-    let o = called .before .before .before .before .before .page in
-    promise-told-five PagePromise
-    (ap pageOutcome (c .before .enum-told .given .1) ∙ sym (c .refusal2 .ensures))
-    (o .ensures)
+    let o = called .before .before .before .before .before .page in (
+      promise-told-five PagePromise
+          (ap pageOutcome (c .before .enum-told .given .1) ∙ sym (c .refusal2 .ensures .outcome-is))
+          (o .ensures),
+      plain-of-tells (c .refusal2 .ensures),
+    )
 
 pub till-page-spec : {M : Type 1} → statement M
 till-page-spec =

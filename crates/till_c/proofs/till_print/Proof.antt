@@ -4,7 +4,7 @@ use borrow.Author.Needs.{needs}
 use borrow.Author.Tests.{eqb-false}
 use Rattle.print.specs.Claim.{PrintClaim}
 use Rattle.print.specs.Promises.{printOutcome, PrintPromise}
-use Rattle.till_c.specs.AnswerLaws.{promise-told-six, claim-told}
+use Rattle.till_c.specs.AnswerLaws.{promise-told-six, claim-told, plain-of-tells}
 use Rattle.till_c.proofs.till_print.Statement.{statement}
 use Rattle.till_c.proofs.till_print.Tie as tie
 
@@ -46,8 +46,9 @@ unfolding printOutcome
 returns c =
     let called = c .before .before .before .before .before .before .before .before in
     let o = called .before .before .before .before .before .before .before .before .print in
-    let told = ap printOutcome (c .before .before .answer .given .1) ∙ sym (c .value .ensures) in
-    (promise-told-six PrintPromise told (o .ensures .0), claim-told PrintClaim told (o .ensures .1))
+    let told = ap printOutcome (c .before .before .answer .given .1) ∙ sym (c .value .ensures .outcome-is) in
+    let claim = claim-told PrintClaim told (o .ensures .1) in
+    (promise-told-six PrintPromise told (o .ensures .0), (claim, plain-of-tells (c .value .ensures)))
 
 same-length-7 : tie.Need-same-length-7
 same-length-7 c = search needs
@@ -72,8 +73,9 @@ unfolding printOutcome
 returns-2 c =
     let called = c .before .before .before .before .before .before .before .before in
     let o = called .before .before .before .before .before .before .before .before .print in
-    let told = ap printOutcome (c .before .before .answer2 .given .1) ∙ sym (c .refusal .ensures) in
-    (promise-told-six PrintPromise told (o .ensures .0), claim-told PrintClaim told (o .ensures .1))
+    let told = ap printOutcome (c .before .before .answer2 .given .1) ∙ sym (c .refusal .ensures .outcome-is) in
+    let claim = claim-told PrintClaim told (o .ensures .1) in
+    (promise-told-six PrintPromise told (o .ensures .0), (claim, plain-of-tells (c .refusal .ensures)))
 
 pub till-print-spec : {M : Type 1} → statement M
 till-print-spec =

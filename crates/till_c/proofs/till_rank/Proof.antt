@@ -2,7 +2,7 @@
 use mathlib.Core.Path.{refl, sym, ap, _∙_}
 use borrow.Author.Tests.{eqb-false}
 use Rattle.judge.specs.Promises.{rankOutcome, RankPromise}
-use Rattle.till_c.specs.AnswerLaws.{promise-told}
+use Rattle.till_c.specs.AnswerLaws.{promise-told, plain-of-tells}
 use borrow.Author.Needs.{needs}
 use Rattle.till_c.proofs.till_rank.Statement.{statement}
 use Rattle.till_c.proofs.till_rank.Tie as tie
@@ -37,8 +37,12 @@ same-length c = search needs
 returns : tie.Need-returns
 unfolding rankOutcome
 returns c =
-    let o = c .before .before .before .before .before .before .rank in
-    promise-told RankPromise (ap rankOutcome (c .before .before .answer .given .1) ∙ sym (c .value .ensures)) (o .ensures)
+    let o = c .before .before .before .before .before .before .rank in (
+      promise-told RankPromise
+          (ap rankOutcome (c .before .before .answer .given .1) ∙ sym (c .value .ensures .outcome-is))
+          (o .ensures),
+      plain-of-tells (c .value .ensures),
+    )
 
 same-length-2 : tie.Need-same-length-2
 same-length-2 c = search needs
@@ -46,10 +50,12 @@ same-length-2 c = search needs
 returns-2 : tie.Need-returns-2
 unfolding rankOutcome
 returns-2 c =
-    let o = c .before .before .before .before .before .before .rank in
-    promise-told RankPromise
-    (ap rankOutcome (c .before .before .answer2 .given .1) ∙ sym (c .refusal .ensures))
-    (o .ensures)
+    let o = c .before .before .before .before .before .before .rank in (
+      promise-told RankPromise
+          (ap rankOutcome (c .before .before .answer2 .given .1) ∙ sym (c .refusal .ensures .outcome-is))
+          (o .ensures),
+      plain-of-tells (c .refusal .ensures),
+    )
 
 same-length-3 : tie.Need-same-length-3
 same-length-3 c = search needs
@@ -57,8 +63,12 @@ same-length-3 c = search needs
 returns-3 : tie.Need-returns-3
 unfolding rankOutcome
 returns-3 c =
-    let o = c .before .before .before .before .before .rank in
-    promise-told RankPromise (ap rankOutcome (c .before .enum-told .given .1) ∙ sym (c .refusal2 .ensures)) (o .ensures)
+    let o = c .before .before .before .before .before .rank in (
+      promise-told RankPromise
+          (ap rankOutcome (c .before .enum-told .given .1) ∙ sym (c .refusal2 .ensures .outcome-is))
+          (o .ensures),
+      plain-of-tells (c .refusal2 .ensures),
+    )
 
 pub till-rank-spec : {M : Type 1} → statement M
 till-rank-spec =

@@ -2,7 +2,7 @@
 use mathlib.Core.Path.{refl, sym, ap, _∙_}
 use borrow.Author.Tests.{eqb-false}
 use Rattle.reach.specs.Promises.{reachOutcome, ReachPromise}
-use Rattle.till_c.specs.AnswerLaws.{promise-told}
+use Rattle.till_c.specs.AnswerLaws.{promise-told, plain-of-tells}
 use borrow.Author.Needs.{needs}
 use Rattle.till_c.proofs.till_reach.Statement.{statement}
 use Rattle.till_c.proofs.till_reach.Tie as tie
@@ -34,8 +34,12 @@ same-length c = search needs
 returns : tie.Need-returns
 unfolding reachOutcome
 returns c =
-    let o = c .before .before .before .before .before .reach in
-    promise-told ReachPromise (ap reachOutcome (c .before .enum-told .given .1) ∙ sym (c .done .ensures)) (o .ensures)
+    let o = c .before .before .before .before .before .reach in (
+      promise-told ReachPromise
+          (ap reachOutcome (c .before .enum-told .given .1) ∙ sym (c .done .ensures .outcome-is))
+          (o .ensures),
+      plain-of-tells (c .done .ensures),
+    )
 
 same-length-2 : tie.Need-same-length-2
 same-length-2 c = search needs
@@ -43,10 +47,12 @@ same-length-2 c = search needs
 returns-2 : tie.Need-returns-2
 unfolding reachOutcome
 returns-2 c =
-    let o = c .before .before .before .before .before .before .reach in
-    promise-told ReachPromise
-    (ap reachOutcome (c .before .before .answer .given .1) ∙ sym (c .refusal .ensures))
-    (o .ensures)
+    let o = c .before .before .before .before .before .before .reach in (
+      promise-told ReachPromise
+          (ap reachOutcome (c .before .before .answer .given .1) ∙ sym (c .refusal .ensures .outcome-is))
+          (o .ensures),
+      plain-of-tells (c .refusal .ensures),
+    )
 
 same-length-3 : tie.Need-same-length-3
 same-length-3 c = search needs
@@ -54,8 +60,12 @@ same-length-3 c = search needs
 returns-3 : tie.Need-returns-3
 unfolding reachOutcome
 returns-3 c =
-    let o = c .before .before .before .before .before .reach in
-    promise-told ReachPromise (ap reachOutcome (c .before .enum-told2 .given .1) ∙ sym (c .refusal2 .ensures)) (o .ensures)
+    let o = c .before .before .before .before .before .reach in (
+      promise-told ReachPromise
+          (ap reachOutcome (c .before .enum-told2 .given .1) ∙ sym (c .refusal2 .ensures .outcome-is))
+          (o .ensures),
+      plain-of-tells (c .refusal2 .ensures),
+    )
 
 pub till-reach-spec : {M : Type 1} → statement M
 till-reach-spec =

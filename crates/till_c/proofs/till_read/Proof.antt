@@ -3,7 +3,7 @@ use mathlib.Core.Path.{refl, sym, ap, _∙_}
 use borrow.Author.Tests.{eqb-false}
 use Rattle.read.specs.Promises.{readOutcome, ReadPromise}
 use borrow.Author.Needs.{needs}
-use Rattle.till_c.specs.AnswerLaws.{promise-told}
+use Rattle.till_c.specs.AnswerLaws.{promise-told, plain-of-tells}
 use Rattle.till_c.proofs.till_read.Statement.{statement}
 use Rattle.till_c.proofs.till_read.Tie as tie
 
@@ -40,8 +40,12 @@ same-length c = search needs
 returns : tie.Need-returns
 unfolding readOutcome
 returns c =
-    let r = c .before .before .before .before .before .read in
-    promise-told ReadPromise (ap readOutcome (c .before .enum-told .given .1) ∙ sym (c .done .ensures)) (r .ensures .0)
+    let r = c .before .before .before .before .before .read in (
+      promise-told ReadPromise
+          (ap readOutcome (c .before .enum-told .given .1) ∙ sym (c .done .ensures .outcome-is))
+          (r .ensures .0),
+      plain-of-tells (c .done .ensures),
+    )
 
 same-length-2 : tie.Need-same-length-2
 same-length-2 c = search needs
@@ -49,10 +53,12 @@ same-length-2 c = search needs
 returns-2 : tie.Need-returns-2
 unfolding readOutcome
 returns-2 c =
-    let r = c .before .before .before .before .before .before .read in
-    promise-told ReadPromise
-    (ap readOutcome (c .before .before .answer .given .1) ∙ sym (c .refusal .ensures))
-    (r .ensures .0)
+    let r = c .before .before .before .before .before .before .read in (
+      promise-told ReadPromise
+          (ap readOutcome (c .before .before .answer .given .1) ∙ sym (c .refusal .ensures .outcome-is))
+          (r .ensures .0),
+      plain-of-tells (c .refusal .ensures),
+    )
 
 same-length-3 : tie.Need-same-length-3
 same-length-3 c = search needs
@@ -60,10 +66,12 @@ same-length-3 c = search needs
 returns-3 : tie.Need-returns-3
 unfolding readOutcome
 returns-3 c =
-    let r = c .before .before .before .before .before .read in
-    promise-told ReadPromise
-    (ap readOutcome (c .before .enum-told2 .given .1) ∙ sym (c .refusal2 .ensures))
-    (r .ensures .0)
+    let r = c .before .before .before .before .before .read in (
+      promise-told ReadPromise
+          (ap readOutcome (c .before .enum-told2 .given .1) ∙ sym (c .refusal2 .ensures .outcome-is))
+          (r .ensures .0),
+      plain-of-tells (c .refusal2 .ensures),
+    )
 
 same-length-4 : tie.Need-same-length-4
 same-length-4 c = search needs
@@ -71,10 +79,12 @@ same-length-4 c = search needs
 returns-4 : tie.Need-returns-4
 unfolding readOutcome
 returns-4 c =
-    let r = c .before .before .before .before .before .before .read in
-    promise-told ReadPromise
-    (ap readOutcome (c .before .before .answer2 .given .1) ∙ sym (c .faulty .ensures))
-    (r .ensures .0)
+    let r = c .before .before .before .before .before .before .read in (
+      promise-told ReadPromise
+          (ap readOutcome (c .before .before .answer2 .given .1) ∙ sym (c .faulty .ensures .outcome-is))
+          (r .ensures .0),
+      plain-of-tells (c .faulty .ensures),
+    )
 
 pub till-read-spec : {M : Type 1} → statement M
 till-read-spec =

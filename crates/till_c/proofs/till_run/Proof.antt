@@ -5,7 +5,7 @@ use Prim.Native.Nat.{ℕ}
 use Rattle.text.specs.Faults.{Outcome}
 use borrow.Author.Tests.{eqb-false}
 use Rattle.reach.specs.Promises.{runOutcome, RunPromise}
-use Rattle.till_c.specs.AnswerLaws.{promise-told-two}
+use Rattle.till_c.specs.AnswerLaws.{promise-told-two, plain-of-tells}
 use borrow.Author.Needs.{needs}
 use Rattle.till_c.proofs.till_run.Statement.{statement}
 use Rattle.till_c.proofs.till_run.Tie as tie
@@ -62,10 +62,12 @@ same-length-2 c = search needs
 returns : tie.Need-returns
 unfolding runOutcome
 returns c =
-    let o = c .before .before .before .before .before .before .before .before in
-    promise-told-two (RunPromiseAt (o .before .before .before .before .before .before .args .state))
-    (ap runOutcome (c .before .before .answer .given .1) ∙ sym (c .value .ensures))
-    (o .run .ensures)
+    let o = c .before .before .before .before .before .before .before .before in (
+      promise-told-two (RunPromiseAt (o .before .before .before .before .before .before .args .state))
+          (ap runOutcome (c .before .before .answer .given .1) ∙ sym (c .value .ensures .outcome-is))
+          (o .run .ensures),
+      plain-of-tells (c .value .ensures),
+    )
 
 same-length-3 : tie.Need-same-length-3
 same-length-3 c = search needs
@@ -76,10 +78,12 @@ same-length-4 c = search needs
 returns-2 : tie.Need-returns-2
 unfolding runOutcome
 returns-2 c =
-    let o = c .before .before .before .before .before .before .before .before in
-    promise-told-two (RunPromiseAt (o .before .before .before .before .before .before .args .state))
-    (ap runOutcome (c .before .before .answer2 .given .1) ∙ sym (c .refusal .ensures))
-    (o .run .ensures)
+    let o = c .before .before .before .before .before .before .before .before in (
+      promise-told-two (RunPromiseAt (o .before .before .before .before .before .before .args .state))
+          (ap runOutcome (c .before .before .answer2 .given .1) ∙ sym (c .refusal .ensures .outcome-is))
+          (o .run .ensures),
+      plain-of-tells (c .refusal .ensures),
+    )
 
 same-length-5 : tie.Need-same-length-5
 same-length-5 c = search needs
@@ -90,10 +94,12 @@ same-length-6 c = search needs
 returns-3 : tie.Need-returns-3
 unfolding runOutcome
 returns-3 c =
-    let o = c .before .before .before .before .before .before .before in
-    promise-told-two (RunPromiseAt (o .before .before .before .before .before .before .args .state))
-    (ap runOutcome (c .before .enum-told .given .1) ∙ sym (c .refusal2 .ensures))
-    (o .run .ensures)
+    let o = c .before .before .before .before .before .before .before in (
+      promise-told-two (RunPromiseAt (o .before .before .before .before .before .before .args .state))
+          (ap runOutcome (c .before .enum-told .given .1) ∙ sym (c .refusal2 .ensures .outcome-is))
+          (o .run .ensures),
+      plain-of-tells (c .refusal2 .ensures),
+    )
 
 same-length-7 : tie.Need-same-length-7
 same-length-7 c = search needs
@@ -104,10 +110,12 @@ same-length-8 c = search needs
 returns-4 : tie.Need-returns-4
 unfolding runOutcome
 returns-4 c =
-    let o = c .before .before .before .before .before .before .before .before .before in
-    promise-told-two (RunPromiseAt (o .before .before .before .before .before .before .args .state))
-    (ap runOutcome (c .before .before .before .answer3 .given .1) ∙ sym (c .refusal3 .ensures))
-    (o .run .ensures)
+    let o = c .before .before .before .before .before .before .before .before .before in (
+      promise-told-two (RunPromiseAt (o .before .before .before .before .before .before .args .state))
+          (ap runOutcome (c .before .before .before .answer3 .given .1) ∙ sym (c .refusal3 .ensures .outcome-is))
+          (o .run .ensures),
+      plain-of-tells (c .refusal3 .ensures),
+    )
 
 same-length-9 : tie.Need-same-length-9
 same-length-9 c = search needs
@@ -118,10 +126,12 @@ same-length-10 c = search needs
 returns-5 : tie.Need-returns-5
 unfolding runOutcome
 returns-5 c =
-    let o = c .before .before .before .before .before .before .before .before .before in
-    promise-told-two (RunPromiseAt (o .before .before .before .before .before .before .args .state))
-    (ap runOutcome (c .before .before .before .answer4 .given .1) ∙ sym (c .refusal4 .ensures))
-    (o .run .ensures)
+    let o = c .before .before .before .before .before .before .before .before .before in (
+      promise-told-two (RunPromiseAt (o .before .before .before .before .before .before .args .state))
+          (ap runOutcome (c .before .before .before .answer4 .given .1) ∙ sym (c .refusal4 .ensures .outcome-is))
+          (o .run .ensures),
+      plain-of-tells (c .refusal4 .ensures),
+    )
 
 pub till-run-spec : {M : Type 1} → statement M
 till-run-spec =

@@ -3,7 +3,7 @@ use mathlib.Core.Path.{refl, sym, ap, _∙_}
 use borrow.Author.Needs.{needs}
 use borrow.Author.Tests.{eqb-false}
 use Rattle.word.specs.Promises.{wordOutcome, WordPromise}
-use Rattle.till_c.specs.AnswerLaws.{promise-told-three}
+use Rattle.till_c.specs.AnswerLaws.{promise-told-three, plain-of-tells}
 use Rattle.till_c.proofs.till_word.Statement.{statement}
 use Rattle.till_c.proofs.till_word.Tie as tie
 
@@ -55,10 +55,12 @@ same-length-3 c = search needs
 returns : tie.Need-returns
 unfolding wordOutcome
 returns c =
-    let o = c .before .before .before .before .before .before .before .before .before .before .word in
-    promise-told-three WordPromise
-    (ap wordOutcome (c .before .before .answer .given .1) ∙ sym (c .shown .ensures))
-    (o .ensures)
+    let o = c .before .before .before .before .before .before .before .before .before .before .word in (
+      promise-told-three WordPromise
+          (ap wordOutcome (c .before .before .answer .given .1) ∙ sym (c .shown .ensures .outcome-is))
+          (o .ensures),
+      plain-of-tells (c .shown .ensures),
+    )
 
 same-length-4 : tie.Need-same-length-4
 same-length-4 c = search needs
@@ -72,10 +74,12 @@ same-length-6 c = search needs
 returns-2 : tie.Need-returns-2
 unfolding wordOutcome
 returns-2 c =
-    let o = c .before .before .before .before .before .before .before .before .before .before .word in
-    promise-told-three WordPromise
-    (ap wordOutcome (c .before .before .answer2 .given .1) ∙ sym (c .refusal .ensures))
-    (o .ensures)
+    let o = c .before .before .before .before .before .before .before .before .before .before .word in (
+      promise-told-three WordPromise
+          (ap wordOutcome (c .before .before .answer2 .given .1) ∙ sym (c .refusal .ensures .outcome-is))
+          (o .ensures),
+      plain-of-tells (c .refusal .ensures),
+    )
 
 same-length-7 : tie.Need-same-length-7
 same-length-7 c = search needs
@@ -89,10 +93,12 @@ same-length-9 c = search needs
 returns-3 : tie.Need-returns-3
 unfolding wordOutcome
 returns-3 c =
-    let o = c .before .before .before .before .before .before .before .before .before .word in
-    promise-told-three WordPromise
-    (ap wordOutcome (c .before .enum-told .given .1) ∙ sym (c .refusal2 .ensures))
-    (o .ensures)
+    let o = c .before .before .before .before .before .before .before .before .before .word in (
+      promise-told-three WordPromise
+          (ap wordOutcome (c .before .enum-told .given .1) ∙ sym (c .refusal2 .ensures .outcome-is))
+          (o .ensures),
+      plain-of-tells (c .refusal2 .ensures),
+    )
 
 same-length-10 : tie.Need-same-length-10
 same-length-10 c = search needs
@@ -106,10 +112,12 @@ same-length-12 c = search needs
 returns-4 : tie.Need-returns-4
 unfolding wordOutcome
 returns-4 c =
-    let o = c .before .before .before .before .before .before .before .before .before .before .before .word in
-    promise-told-three WordPromise
-    (ap wordOutcome (c .before .before .before .answer3 .given .1) ∙ sym (c .refusal3 .ensures))
-    (o .ensures)
+    let o = c .before .before .before .before .before .before .before .before .before .before .before .word in (
+      promise-told-three WordPromise
+          (ap wordOutcome (c .before .before .before .answer3 .given .1) ∙ sym (c .refusal3 .ensures .outcome-is))
+          (o .ensures),
+      plain-of-tells (c .refusal3 .ensures),
+    )
 
 same-length-13 : tie.Need-same-length-13
 same-length-13 c = search needs
@@ -123,10 +131,12 @@ same-length-15 c = search needs
 returns-5 : tie.Need-returns-5
 unfolding wordOutcome
 returns-5 c =
-    let o = c .before .before .before .before .before .before .before .before .before .word in
-    promise-told-three WordPromise
-    (ap wordOutcome (c .before .enum-told2 .given .1) ∙ sym (c .refusal4 .ensures))
-    (o .ensures)
+    let o = c .before .before .before .before .before .before .before .before .before .word in (
+      promise-told-three WordPromise
+          (ap wordOutcome (c .before .enum-told2 .given .1) ∙ sym (c .refusal4 .ensures .outcome-is))
+          (o .ensures),
+      plain-of-tells (c .refusal4 .ensures),
+    )
 
 pub till-word-spec : {M : Type 1} → statement M
 till-word-spec =

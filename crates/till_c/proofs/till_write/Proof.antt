@@ -3,7 +3,7 @@ use mathlib.Core.Path.{refl, sym, ap, _∙_}
 use borrow.Author.Needs.{needs}
 use borrow.Author.Tests.{eqb-false}
 use Rattle.write.specs.Promises.{writeOutcome, WritePromise}
-use Rattle.till_c.specs.AnswerLaws.{promise-told}
+use Rattle.till_c.specs.AnswerLaws.{promise-told, plain-of-tells}
 use Rattle.till_c.proofs.till_write.Statement.{statement}
 use Rattle.till_c.proofs.till_write.Tie as tie
 
@@ -34,10 +34,12 @@ same-length c = search needs
 returns : tie.Need-returns
 unfolding writeOutcome
 returns c =
-    let w = c .before .before .before .before .before .before .write in
-    promise-told WritePromise
-    (ap writeOutcome (c .before .before .answer .given .1) ∙ sym (c .value .ensures))
-    (w .ensures)
+    let w = c .before .before .before .before .before .before .write in (
+      promise-told WritePromise
+          (ap writeOutcome (c .before .before .answer .given .1) ∙ sym (c .value .ensures .outcome-is))
+          (w .ensures),
+      plain-of-tells (c .value .ensures),
+    )
 
 same-length-2 : tie.Need-same-length-2
 same-length-2 c = search needs
@@ -45,10 +47,12 @@ same-length-2 c = search needs
 returns-2 : tie.Need-returns-2
 unfolding writeOutcome
 returns-2 c =
-    let w = c .before .before .before .before .before .before .write in
-    promise-told WritePromise
-    (ap writeOutcome (c .before .before .answer2 .given .1) ∙ sym (c .refusal .ensures))
-    (w .ensures)
+    let w = c .before .before .before .before .before .before .write in (
+      promise-told WritePromise
+          (ap writeOutcome (c .before .before .answer2 .given .1) ∙ sym (c .refusal .ensures .outcome-is))
+          (w .ensures),
+      plain-of-tells (c .refusal .ensures),
+    )
 
 same-length-3 : tie.Need-same-length-3
 same-length-3 c = search needs
@@ -56,8 +60,12 @@ same-length-3 c = search needs
 returns-3 : tie.Need-returns-3
 unfolding writeOutcome
 returns-3 c =
-    let w = c .before .before .before .before .before .write in
-    promise-told WritePromise (ap writeOutcome (c .before .enum-told .given .1) ∙ sym (c .refusal2 .ensures)) (w .ensures)
+    let w = c .before .before .before .before .before .write in (
+      promise-told WritePromise
+          (ap writeOutcome (c .before .enum-told .given .1) ∙ sym (c .refusal2 .ensures .outcome-is))
+          (w .ensures),
+      plain-of-tells (c .refusal2 .ensures),
+    )
 
 pub till-write-spec : {M : Type 1} → statement M
 till-write-spec =
