@@ -145,24 +145,24 @@ module _ (Move : Moves) where
   bisimilar-of-rank p q r e (bisimilar b) = b
   bisimilar-of-rank p q r e (separated {k = k} n x) = absurd (omega (arith, separated-pos p q k x))
 
--- ---- where the targets of moves are among n states
+-- ---- where the moves of n states stay among them
 
-module _ (Move : Moves) (n : ℕ) (target-lt : (p a q : ℕ) → Move p a q → q < n) where
-  -- Answers inside R, whose targets are states, are answers inside R cut down to the states.
-  pub answers-below : {R S : Relation} {p q : ℕ} → ((x y : ℕ) → x < n → y < n → R x y → S x y) → Answers Move R p q
-      → Answers Move S p q
-  answers-below {p = p} {q = q} f h = record {
+module _ (Move : Moves) (n : ℕ) (target-lt : (p a q : ℕ) → p < n → Move p a q → q < n) where
+  -- Answers of two states inside R are answers inside R cut down to the states.
+  pub answers-below : {R S : Relation} {p q : ℕ} → p < n → q < n → ((x y : ℕ) → x < n → y < n → R x y → S x y)
+      → Answers Move R p q → Answers Move S p q
+  answers-below {p = p} {q = q} lp lq f h = record {
     there = λ a p′ m.
         let r = h .there a p′ m in
-        (r .0, r .1, f p′ (r .0) (target-lt p a p′ m) (target-lt q a (r .0) (r .1)) (r .2));
+        (r .0, r .1, f p′ (r .0) (target-lt p a p′ lp m) (target-lt q a (r .0) lq (r .1)) (r .2));
     back = λ a q′ m.
         let r = h .back a q′ m in
-        (r .0, r .1, f (r .0) q′ (target-lt p a (r .0) (r .1)) (target-lt q a q′ m) (r .2));
+        (r .0, r .1, f (r .0) q′ (target-lt p a (r .0) lp (r .1)) (target-lt q a q′ lq m) (r .2));
   }
 
   -- A bisimulation cut down to the states stays one.
   pub bisimulation-below : (R : Relation) → Bisimulation Move R → Bisimulation Move (λ x y. (x < n) × (y < n) × R x y)
-  bisimulation-below R b p q (lp, lq, r) = answers-below (λ x y lx ly h. (lx, ly, h)) (b p q r)
+  bisimulation-below R b p q (lp, lq, r) = answers-below lp lq (λ x y lx ly h. (lx, ly, h)) (b p q r)
 
   pub bisimilar-trans : (p q r : ℕ) → q < n → Bisimilar Move p q → Bisimilar Move q r → Bisimilar Move p r
   bisimilar-trans p q r lq b c = record {
@@ -170,7 +170,7 @@ module _ (Move : Moves) (n : ℕ) (target-lt : (p a q : ℕ) → Move p a q → 
     bisimulation = λ x z t.
         let s = any→Some n (λ y. b .rel x y && c .rel y z) t in
         let y = s .0 in
-        answers x y z (and-left (b .rel x y) (c .rel y z) (s .2)) (and-right (b .rel x y) (c .rel y z) (s .2));
+        answers x y z (s .1) (and-left (b .rel x y) (c .rel y z) (s .2)) (and-right (b .rel x y) (c .rel y z) (s .2));
     pairs = join p q r lq (b .pairs) (c .pairs);
   }
     where
@@ -180,14 +180,14 @@ module _ (Move : Moves) (n : ℕ) (target-lt : (p a q : ℕ) → Move p a q → 
       join : (x y z : ℕ) → y < n → T (b .rel x y) → T (c .rel y z) → T (joined x z)
       join x y z l t u = Some→any n (λ y. b .rel x y && c .rel y z) y l (and-intro (b .rel x y) (c .rel y z) t u)
 
-      answers : (x y z : ℕ) → T (b .rel x y) → T (c .rel y z) → Answers Move (λ x z. T (joined x z)) x z
-      answers x y z t u = record {
+      answers : (x y z : ℕ) → y < n → T (b .rel x y) → T (c .rel y z) → Answers Move (λ x z. T (joined x z)) x z
+      answers x y z l t u = record {
         there = λ a x′ m.
             let g = b .bisimulation x y t .there a x′ m in
             let h = c .bisimulation y z u .there a (g .0) (g .1) in
-            (h .0, h .1, join x′ (g .0) (h .0) (target-lt y a (g .0) (g .1)) (g .2) (h .2));
+            (h .0, h .1, join x′ (g .0) (h .0) (target-lt y a (g .0) l (g .1)) (g .2) (h .2));
         back = λ a z′ m.
             let h = c .bisimulation y z u .back a z′ m in
             let g = b .bisimulation x y t .back a (h .0) (h .1) in
-            (g .0, g .1, join (g .0) (h .0) z′ (target-lt y a (h .0) (h .1)) (g .2) (h .2));
+            (g .0, g .1, join (g .0) (h .0) z′ (target-lt y a (h .0) l (h .1)) (g .2) (h .2));
       }

@@ -1,10 +1,11 @@
--- Moves that a test decides, among n states and labels below l: the test of one round, and of the states that at most k
--- steps reach. Document 01, "The meaning". Assumes nothing.
+-- Moves that a test decides, among n states and labels below l, with the test of one round; and views that tests
+-- decide, with the test of the states that at most k steps reach. Document 01, "The meaning". Assumes nothing.
 use mathlib.Core.Bool.{Bool, not, _&&_, _||_}
 use Prim.Native.Nat.{ℕ, zero, suc, _<_}
 use lib.Dec.{T}
 use Rattle.lts.specs.Tests.{all, any}
 use Rattle.lts.specs.Alike.{Moves}
+use Rattle.lts.specs.View.{View}
 
 -- `move?` decides the moves, and they go from states to states.
 pub record Decided (Move : Moves) (n l : ℕ) (move? : ℕ → ℕ → ℕ → Bool) : Type 0 where
@@ -13,12 +14,6 @@ pub record Decided (Move : Moves) (n l : ℕ) (move? : ℕ → ℕ → ℕ → B
   pub source-lt : (p a q : ℕ) → Move p a q → p < n
   pub label-lt : (p a q : ℕ) → Move p a q → a < l
   pub target-lt : (p a q : ℕ) → Move p a q → q < n
-
--- `start?` decides the starts, and they are states.
-pub record DecidedStarts (Start : ℕ → Type 0) (n : ℕ) (start? : ℕ → Bool) : Type 0 where
-  pub start?→Start : (p : ℕ) → T (start? p) → Start p
-  pub Start→start? : (p : ℕ) → Start p → T (start? p)
-  pub start-lt : (p : ℕ) → Start p → p < n
 
 -- Some move of q with the label a has a target that passes R.
 abbrev pub answer? : ℕ → (ℕ → ℕ → ℕ → Bool) → (ℕ → Bool) → ℕ → ℕ → Bool
@@ -44,9 +39,24 @@ simulation? n l move? R = all n (λ p. all n (λ q. let r = answered? n l move? 
 abbrev pub entered? : ℕ → ℕ → (ℕ → ℕ → ℕ → Bool) → (ℕ → Bool) → ℕ → Bool
 entered? n l move? S q = any n (λ p. let s = S p in any l (λ a. move? p a q) && s)
 
--- The test of `Within`: at most k moves lead from a start to q.
-unfoldable pub within? : ℕ → ℕ → (ℕ → ℕ → ℕ → Bool) → (ℕ → Bool) → ℕ → ℕ → Bool
-within? n l move? start? zero q = start? q
-within? n l move? start? (suc k) q =
-    let r = entered? n l move? (within? n l move? start? k) q in
-    within? n l move? start? k q || r
+-- ---- views
+
+-- Tests of a view's steps and starts, and how many actions there are. The levels are tests already.
+pub record ViewTest : Type 0 where
+  pub step? : ℕ → ℕ → ℕ → Bool
+  pub start? : ℕ → Bool
+  pub actions : ℕ
+
+-- The tests t decide the steps and the starts of v, which are among its states and the actions.
+pub record DecidedView (v : View) (t : ViewTest) : Type 0 where
+  pub steps : Decided (v .Step) (v .states) (t .actions) (t .step?)
+  pub start?→Start : (p : ℕ) → T (t .start? p) → v .Start p
+  pub Start→start? : (p : ℕ) → v .Start p → T (t .start? p)
+  pub start-lt : (p : ℕ) → v .Start p → p < v .states
+
+-- The test of `Within`: at most k steps lead from a start to q.
+unfoldable pub within? : View → ViewTest → ℕ → ℕ → Bool
+within? v t zero q = t .start? q
+within? v t (suc k) q =
+    let r = entered? (v .states) (t .actions) (t .step?) (within? v t k) q in
+    within? v t k q || r

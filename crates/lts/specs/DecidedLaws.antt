@@ -1,5 +1,5 @@
--- Moves that a test decides make a game, so all that is shown of ranks holds of them. Document 01, "Alike".
--- Assumes nothing.
+-- Moves that a test decides make a game, so all that is shown of ranks holds of them; a view that tests decide has its
+-- runs among its states. Document 01, "Alike". Assumes nothing.
 use mathlib.Core.Logic.{_⊎_, inl, inr}
 use mathlib.Core.Bool.{Bool, not, _&&_, _||_}
 use Prim.Native.Nat.{ℕ, _<_}
@@ -9,7 +9,12 @@ use Rattle.lts.specs.TestsLaws.{and-intro, and-left, and-right, not-and-
 use Rattle.lts.specs.TestsLaws.{all→Each, not-all→Some, any→Some, not-any→Each}
 use Rattle.lts.specs.Alike.{Moves, Answered}
 use Rattle.lts.specs.Game.{Game, Opening, by-first, by-second}
-use Rattle.lts.specs.Decided.{Decided, answer?, met?, answered?, answers?, simulation?}
+use Rattle.lts.specs.View.{View}
+use Rattle.lts.specs.Run.{Bounded}
+use Rattle.lts.specs.Decided.{Decided, answer?, met?, answered?, answers?, simulation?, ViewTest, DecidedView}
+
+pub decided→Bounded : (v : View) (t : ViewTest) → DecidedView v t → Bounded v
+decided→Bounded v t D = record { start-lt = D .start-lt; target-lt = D .steps .target-lt }
 
 module _ (Move : Moves) (n l : ℕ) (move? : ℕ → ℕ → ℕ → Bool) (D : Decided Move n l move?) where
   pub answered?→Answered : (R : ℕ → ℕ → Bool) (p q : ℕ) → T (answered? n l move? R p q)
@@ -43,7 +48,7 @@ module _ (Move : Moves) (n l : ℕ) (move? : ℕ → ℕ → ℕ → Bool) (D : 
   pub decided-game : Game Move n (answers? n l move?)
   unfolding answers?
   decided-game = record {
-    target-lt = D .target-lt;
+    target-lt = λ p a q _ m. D .target-lt p a q m;
     passes = λ R p q t. record {
       there = answered?→Answered R p q
           (and-left (answered? n l move? R p q) (answered? n l move? (λ x y. R y x) q p) t);

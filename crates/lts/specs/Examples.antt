@@ -12,23 +12,24 @@ use Prim.Native.Nat.{ℕ, zero, suc, _<_}
 use native.Mathlib.Omega.{arith}
 use lib.Dec.{T, eqb}
 use Rattle.lts.specs.Tests.{all, any}
-use Rattle.lts.specs.Alike.{Rank}
+use Rattle.lts.specs.Alike.{Moves, Rank}
 use Rattle.lts.specs.AlikeLaws.{separated-of-rank}
 use Rattle.lts.specs.Game.{alike?, rankBelow}
+use Rattle.lts.specs.View.{Levels, View}
 use Rattle.lts.specs.Run.{Run, begin, onward, Deterministic, Distance}
-use Rattle.lts.specs.Noninterference.{Levels, Levelled, low, release, high, LevelledSteps, LowMove, SameLow}
+use Rattle.lts.specs.Noninterference.{Levelled, low, release, high, LevelledSteps, LowMove, SameLow}
 use Rattle.lts.specs.Noninterference.{BNID, INI}
 use Rattle.lts.specs.NoninterferenceLaws.{bnid↔INI}
 use Rattle.lts.specs.LowLaws.{simulation-allows}
 use Rattle.lts.specs.Word.{OnlyFrom, FirstWord}
 use Rattle.lts.specs.FirstWordLaws.{first-word-one, first-word-cons}
 use Rattle.lts.specs.Decided.{Decided, answered?, answers?, simulation?, within?}
-use Rattle.lts.specs.DecidedLaws.{simulation?→Answered}
+use Rattle.lts.specs.DecidedLaws.{decided→Bounded, simulation?→Answered}
 use Rattle.lts.specs.DistanceLaws.{distance-suc}
-use Rattle.lts.specs.Checked.{lowMove?, lowRank, bnid?, deterministic?}
+use Rattle.lts.specs.Checked.{lowMove?, lowRound, lowRank, bnid?, deterministic?}
 use Rattle.lts.specs.CheckedLaws.{decided-low}
-use Rattle.lts.specs.Examples.Listed.{System, step?, start?, Step, Start}
-use Rattle.lts.specs.Examples.ListedLaws.{decided, decided-starts, bounded, listed-deterministic, listed-game}
+use Rattle.lts.specs.Examples.Listed.{System, view, tests}
+use Rattle.lts.specs.Examples.ListedLaws.{decided, listed-deterministic, listed-game}
 use Rattle.lts.specs.Examples.ListedLaws.{listed-rank, listed-passed, listed-refused}
 use Rattle.lts.specs.Examples.ByHand.{page-scan-scan}
 use Rattle.lts.specs.Examples.Systems.{scan, print, usual, closeLow}
@@ -38,11 +39,11 @@ use Rattle.lts.specs.Examples.Systems.{pageSystem, releaseSystem, branch
 
 -- The computed rank of p and q in M.
 abbrev rankIn : Levels → System → ℕ → ℕ → ℕ
-rankIn L M p q = lowRank L (M .states) 3 (step? M) p q
+rankIn L M p q = lowRank (view L M) (tests M) p q
 
 -- The test of BNID for M.
 abbrev bnidIn? : Levels → System → Bool
-bnidIn? L M = bnid? L (M .states) 3 (step? M) (start? M)
+bnidIn? L M = bnid? (view L M) (tests M)
 
 record Computed : Type 0 where
   page-rank : rankIn usual pageSystem 0 2 ≡ 2
@@ -75,52 +76,52 @@ computed = record {
 
 -- ---- and so the definitions say
 
-page-rank : Rank (LowMove usual (Step pageSystem)) 0 2 2
+page-rank : Rank (LowMove (view usual pageSystem)) 0 2 2
 page-rank = listed-rank pageSystem usual 0 2 2 (omega arith) (omega arith) (computed .page-rank)
 
-page-rank-next : Rank (LowMove usual (Step pageSystem)) 1 3 1
+page-rank-next : Rank (LowMove (view usual pageSystem)) 1 3 1
 page-rank-next = listed-rank pageSystem usual 1 3 1 (omega arith) (omega arith) (computed .page-rank-next)
 
-branching-rank : Rank (LowMove usual (Step branchingSystem)) 0 1 2
+branching-rank : Rank (LowMove (view usual branchingSystem)) 0 1 2
 branching-rank = listed-rank branchingSystem usual 0 1 2 (omega arith) (omega arith) (computed .branching-rank)
 
-page-refused : ¬ (BNID usual (Step pageSystem) (Start pageSystem))
+page-refused : ¬ (BNID (view usual pageSystem))
 page-refused = listed-refused pageSystem usual (computed .page)
 
-release-passed : BNID usual (Step releaseSystem) (Start releaseSystem)
+release-passed : BNID (view usual releaseSystem)
 release-passed = listed-passed releaseSystem usual (computed .release)
 
-close-low-refused : ¬ (BNID closeLow (Step releaseSystem) (Start releaseSystem))
+close-low-refused : ¬ (BNID (view closeLow releaseSystem))
 close-low-refused = listed-refused releaseSystem closeLow (computed .close-low)
 
-branching-refused : ¬ (BNID usual (Step branchingSystem) (Start branchingSystem))
+branching-refused : ¬ (BNID (view usual branchingSystem))
 branching-refused = listed-refused branchingSystem usual (computed .branching)
 
-unreached-passed : BNID usual (Step (unreachedSystem (0 ∷ []))) (Start (unreachedSystem (0 ∷ [])))
+unreached-passed : BNID (view usual (unreachedSystem (0 ∷ [])))
 unreached-passed = listed-passed (unreachedSystem (0 ∷ [])) usual (computed .unreached)
 
-two-starts-refused : ¬ (BNID usual (Step (unreachedSystem (0 ∷ 1 ∷ []))) (Start (unreachedSystem (0 ∷ 1 ∷ []))))
+two-starts-refused : ¬ (BNID (view usual (unreachedSystem (0 ∷ 1 ∷ []))))
 two-starts-refused = listed-refused (unreachedSystem (0 ∷ 1 ∷ [])) usual (computed .two-starts)
 
 -- Both ends of the branching system's print step allow the same low sequences: each follows the other, and 1 goes to 2
 -- where 0 stops in 3.
-branching-same-low : SameLow usual (Step branchingSystem) 0 1
+branching-same-low : SameLow (view usual branchingSystem) 0 1
 unfolding simulation? answered? all any
 branching-same-low w l = (
-  simulation-allows usual (Step branchingSystem) (λ x y. (x < 4) × (y < 4) × T (there x y))
+  simulation-allows (view usual branchingSystem) (λ x y. (x < 4) × (y < 4) × T (there x y))
       (simulation?→Answered Moved 4 3 moved? decides there tt) w l 0 1 (omega arith, omega arith, tt),
-  simulation-allows usual (Step branchingSystem) (λ x y. (x < 4) × (y < 4) × T (back x y))
+  simulation-allows (view usual branchingSystem) (λ x y. (x < 4) × (y < 4) × T (back x y))
       (simulation?→Answered Moved 4 3 moved? decides back tt) w l 1 0 (omega arith, omega arith, tt),
 )
   where
-    Moved : ℕ → ℕ → ℕ → Type 0
-    Moved = LowMove usual (Step branchingSystem)
+    Moved : Moves
+    Moved = LowMove (view usual branchingSystem)
 
     moved? : ℕ → ℕ → ℕ → Bool
-    moved? = lowMove? usual (step? branchingSystem)
+    moved? = lowMove? (view usual branchingSystem) (tests branchingSystem)
 
     decides : Decided Moved 4 3 moved?
-    decides = decided-low usual (Step branchingSystem) 4 3 (step? branchingSystem) (decided branchingSystem)
+    decides = decided-low (view usual branchingSystem) (tests branchingSystem) (decided branchingSystem usual)
 
     there : ℕ → ℕ → Bool
     there x y = (eqb x 0 && eqb y 1) || ((eqb x 2 && eqb y 2) || eqb x 3)
@@ -130,8 +131,11 @@ branching-same-low w l = (
 
 -- ---- the page's system: deterministic, so its sequences tell
 
-usual-levelled : (M : System) → LevelledSteps usual (Step M) (Start M)
-usual-levelled M p a q r s = go a (decided M .label-lt p a q s)
+abbrev pageView : View
+pageView = view usual pageSystem
+
+usual-levelled : (M : System) → LevelledSteps (view usual M)
+usual-levelled M p a q r s = go a (decided M usual .steps .label-lt p a q s)
   where
     go : (a : ℕ) → a < 3 → Levelled usual a
     go zero h = low tt tt tt
@@ -139,35 +143,32 @@ usual-levelled M p a q r s = go a (decided M .label-lt p a q s)
     go (suc (suc zero)) h = release tt tt tt
     go (suc (suc (suc a))) h = absurd (omega arith)
 
-page-deterministic : Deterministic (Step pageSystem) (Start pageSystem)
+page-deterministic : Deterministic pageView
 unfolding deterministic? within? all any
-page-deterministic = listed-deterministic pageSystem tt
+page-deterministic = listed-deterministic pageSystem usual tt
 
-page-not-INI : ¬ (INI usual (Step pageSystem) (Start pageSystem))
-page-not-INI ini = page-refused (bnid↔INI usual (Step pageSystem) (Start pageSystem) 4 (bounded pageSystem)
-    (usual-levelled pageSystem) page-deterministic (answers? 4 3 (lowMove? usual (step? pageSystem)))
-    (listed-game pageSystem usual) .1 ini)
+page-not-INI : ¬ (INI pageView)
+page-not-INI ini = page-refused (bnid↔INI pageView
+    (decided→Bounded pageView (tests pageSystem) (decided pageSystem usual)) (usual-levelled pageSystem)
+    page-deterministic (lowRound pageView (tests pageSystem)) (listed-game pageSystem usual) .1 ini)
 
-page-distance : Distance (Step pageSystem) (Start pageSystem) 3 2
+page-distance : Distance pageView 3 2
 unfolding within? all any
-page-distance = distance-suc (Step pageSystem) (Start pageSystem) 4 3 (step? pageSystem) (start? pageSystem)
-    (decided pageSystem) (decided-starts pageSystem) 3 1 tt tt
+page-distance = distance-suc pageView (tests pageSystem) (decided pageSystem usual) 3 1 tt tt
 
 -- scan is possible from 1 and not from 3, and scan scan from 0 and not from 2.
-page-last-letter : FirstWord usual (Step pageSystem) 1 3 (scan ∷ [])
+page-last-letter : FirstWord pageView 1 3 (scan ∷ [])
 unfolding Run
-page-last-letter = first-word-one usual (Step pageSystem) 1 3 scan tt
+page-last-letter = first-word-one pageView 1 3 scan tt
     (inl ((1, (1, tt, refl)), λ z. z .1 .1)) (λ b l. absurd (omega arith))
 
-page-word : FirstWord usual (Step pageSystem) 0 2 (scan ∷ scan ∷ [])
-page-word = first-word-cons usual (Step pageSystem) (Start pageSystem) 4
-    (answers? 4 3 (lowMove? usual (step? pageSystem)))
-    (listed-game pageSystem usual) page-deterministic 0 0 2 scan 1 3
-    (scan ∷ []) (begin tt) (onward {a = print} (begin {p = 0} tt) tt)
-    (separated-of-rank (LowMove usual (Step pageSystem)) 0 2 2 (omega arith) page-rank) (tt, tt) (tt, tt)
-    (separated-of-rank (LowMove usual (Step pageSystem)) 1 3 1 (omega arith) page-rank-next)
+page-word : FirstWord pageView 0 2 (scan ∷ scan ∷ [])
+page-word = first-word-cons pageView (lowRound pageView (tests pageSystem)) (listed-game pageSystem usual)
+    page-deterministic 0 0 2 scan 1 3 (scan ∷ []) (begin tt) (onward {a = print} (begin {p = 0} tt) tt)
+    (separated-of-rank (LowMove pageView) 0 2 2 (omega arith) page-rank) (tt, tt) (tt, tt)
+    (separated-of-rank (LowMove pageView) 1 3 1 (omega arith) page-rank-next)
     (λ b x y l. absurd (omega arith)) page-last-letter
 
-page-end : OnlyFrom (Step pageSystem) 0 2 (scan ∷ scan ∷ [])
+page-end : OnlyFrom (pageView .Step) 0 2 (scan ∷ scan ∷ [])
 unfolding Run
 page-end = ((1, (1, tt, (1, tt, refl))), λ z. page-scan-scan (z .1 .0) (z .1 .2 .0) (z .1 .1) (z .1 .2 .1))

@@ -67,7 +67,7 @@ module _ (Move : Moves) (n : ℕ) (round : (ℕ → ℕ → Bool) → ℕ → �
       → Bisimulation Move (λ x y. (x < n) × (y < n) × Alike Move k x y)
   unfolding Alike
   settled-bisimulation k s p q (lp, lq, h) =
-      answers-below Move n (G .target-lt) (λ x y lx ly r. (lx, ly, r)) (s p q lp lq h)
+      answers-below Move n (G .target-lt) lp lq (λ x y lx ly r. (lx, ly, r)) (s p q lp lq h)
 
   -- The same relation as a test.
   abbrev both? : ℕ → ℕ → ℕ → Bool

@@ -7,6 +7,7 @@ pub mod GameLaws
 pub mod Classes
 pub mod ClassesLaws
 pub mod RankLaws
+pub mod View
 pub mod Run
 pub mod RunLaws
 pub mod Noninterference

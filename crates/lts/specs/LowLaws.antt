@@ -10,75 +10,76 @@ use native.Mathlib.Nat.{not-suc-le-zero}
 use native.Mathlib.Omega.{arith}
 use lib.Dec.{T}
 use lib.ListN.{length}
-use Rattle.lts.specs.Alike.{Moves, Relation, Answered, Alike, Bisimulation, Bisimilar}
+use Rattle.lts.specs.Alike.{Relation, Answered, Alike, Bisimulation, Bisimilar}
 use Rattle.lts.specs.AlikeLaws.{alike-sym, bisimilar→Alike}
 use Rattle.lts.specs.Game.{Game}
 use Rattle.lts.specs.RankLaws.{bisimilar↔BisimilarBy}
+use Rattle.lts.specs.View.{View}
 use Rattle.lts.specs.Run.{Run, Allows, Reachable, onward, Deterministic, Bounded}
 use Rattle.lts.specs.RunLaws.{allows-cons, allows-uncons, reachable-lt}
-use Rattle.lts.specs.Noninterference.{Levels, Low, LowMove, SameLow}
+use Rattle.lts.specs.Noninterference.{Low, LowMove, SameLow}
 
 -- p and q are reachable and allow the same low sequences.
-pub record SameLowReachable (L : Levels) (Step : Moves) (Start : ℕ → Type 0) (p q : ℕ) : Type 0 where
-  pub first : Reachable Step Start p
-  pub second : Reachable Step Start q
-  pub same : SameLow L Step p q
+pub record SameLowReachable (v : View) (p q : ℕ) : Type 0 where
+  pub first : Reachable v p
+  pub second : Reachable v q
+  pub same : SameLow v p q
 
-module _ (L : Levels) (Step : Moves) where
-  alike-allows-one : (k : ℕ) (w : List ℕ) (p q : ℕ) → Low L w → length w ≤ k → Alike (LowMove L Step) k p q
-      → Allows Step p w → Allows Step q w
+module _ (v : View) where
+  alike-allows-one : (k : ℕ) (w : List ℕ) (p q : ℕ) → Low (v .levels) w → length w ≤ k → Alike (LowMove v) k p q
+      → Allows (v .Step) p w → Allows (v .Step) q w
   unfolding Alike Run Low
   alike-allows-one k [] p q l h a r = (q, refl)
   alike-allows-one zero (x ∷ w) p q l h a r = absurd (not-suc-le-zero h)
   alike-allows-one (suc k) (x ∷ w) p q l h a (e, r) =
       let m = a .there x (r .0) (l .0, r .1) in
-      allows-cons Step q x (m .0) w (m .1 .1)
+      allows-cons (v .Step) q x (m .0) w (m .1 .1)
       (alike-allows-one k w (r .0) (m .0) (l .1) (omega arith) (m .2) (e, r .2))
 
   -- k-alike states allow the same low sequences of length k and less.
-  pub alike-allows : (k : ℕ) (w : List ℕ) (p q : ℕ) → Low L w → length w ≤ k → Alike (LowMove L Step) k p q
-      → Allows Step p w ↔ Allows Step q w
+  pub alike-allows : (k : ℕ) (w : List ℕ) (p q : ℕ) → Low (v .levels) w → length w ≤ k → Alike (LowMove v) k p q
+      → Allows (v .Step) p w ↔ Allows (v .Step) q w
   alike-allows k w p q l h a =
-      (alike-allows-one k w p q l h a, alike-allows-one k w q p l h (alike-sym (LowMove L Step) k p q a))
+      (alike-allows-one k w p q l h a, alike-allows-one k w q p l h (alike-sym (LowMove v) k p q a))
 
   -- Where q answers p one way, inside a relation that keeps answering so, q allows what p allows.
-  pub simulation-allows : (R : Relation) → ((p q : ℕ) → R p q → Answered (LowMove L Step) R p q) → (w : List ℕ)
-      → Low L w → (p q : ℕ) → R p q → Allows Step p w → Allows Step q w
+  pub simulation-allows : (R : Relation) → ((p q : ℕ) → R p q → Answered (LowMove v) R p q) → (w : List ℕ)
+      → Low (v .levels) w → (p q : ℕ) → R p q → Allows (v .Step) p w → Allows (v .Step) q w
   unfolding Run Low
   simulation-allows R f [] l p q r h = (q, refl)
   simulation-allows R f (a ∷ w) l p q r (e, h) =
       let m = f p q r a (h .0) (l .0, h .1) in
-      allows-cons Step q a (m .0) w (m .1 .1) (simulation-allows R f w (l .1) (h .0) (m .0) (m .2) (e, h .2))
+      allows-cons (v .Step) q a (m .0) w (m .1 .1) (simulation-allows R f w (l .1) (h .0) (m .0) (m .2) (e, h .2))
 
-  pub bisimilar→SameLow : (p q : ℕ) → Bisimilar (LowMove L Step) p q → SameLow L Step p q
+  pub bisimilar→SameLow : (p q : ℕ) → Bisimilar (LowMove v) p q → SameLow v p q
   bisimilar→SameLow p q b w l =
-      alike-allows (length w) w p q l (omega arith) (bisimilar→Alike (LowMove L Step) (length w) p q b)
+      alike-allows (length w) w p q l (omega arith) (bisimilar→Alike (LowMove v) (length w) p q b)
 
-  pub same-low-sym : (p q : ℕ) → SameLow L Step p q → SameLow L Step q p
+  pub same-low-sym : (p q : ℕ) → SameLow v p q → SameLow v q p
   same-low-sym p q f w l = (f w l .1, f w l .0)
 
-  pub same-low-trans : (p q r : ℕ) → SameLow L Step p q → SameLow L Step q r → SameLow L Step p r
+  pub same-low-trans : (p q r : ℕ) → SameLow v p q → SameLow v q r → SameLow v p r
   same-low-trans p q r f g w l = (λ h. g w l .0 (f w l .0 h), λ h. f w l .1 (g w l .1 h))
 
   -- ---- deterministic models
 
-  module _ (Start : ℕ → Type 0) (det : Deterministic Step Start) where
-    flip : (p q : ℕ) → SameLowReachable L Step Start p q → SameLowReachable L Step Start q p
+  module _ (det : Deterministic v) where
+    flip : (p q : ℕ) → SameLowReachable v p q → SameLowReachable v q p
     flip p q x = record { first = x .second; second = x .first; same = same-low-sym p q (x .same) }
 
-    after : (p q a p′ q′ : ℕ) → T (L .low? a) → Step p a p′ → Step q a q′ → SameLowReachable L Step Start p q
-        → (w : List ℕ) → Low L w → Allows Step p′ w → Allows Step q′ w
+    after : (p q a p′ q′ : ℕ) → T (v .levels .low? a) → v .Step p a p′ → v .Step q a q′ → SameLowReachable v p q
+        → (w : List ℕ) → Low (v .levels) w → Allows (v .Step) p′ w → Allows (v .Step) q′ w
     unfolding Low
-    after p q a p′ q′ lo s t x w l h = allows-uncons Step Start det q a q′ w (x .second) t
-        (x .same (a ∷ w) (lo, l) .0 (allows-cons Step p a p′ w s h))
+    after p q a p′ q′ lo s t x w l h = allows-uncons v det q a q′ w (x .second) t
+        (x .same (a ∷ w) (lo, l) .0 (allows-cons (v .Step) p a p′ w s h))
 
-    answer : (p q a p′ : ℕ) → SameLowReachable L Step Start p q → LowMove L Step p a p′
-        → (q′ : ℕ) × LowMove L Step q a q′ × SameLowReachable L Step Start p′ q′
+    answer : (p q a p′ : ℕ) → SameLowReachable v p q → LowMove v p a p′
+        → (q′ : ℕ) × LowMove v q a q′ × SameLowReachable v p′ q′
     unfolding Run Low
     answer p q a p′ x (lo, s) =
         let y = x .same (a ∷ []) (lo, tt) .0 (p′, (p′, s, refl)) in
         let q′ = y .1 .0 in
-        let t : Step q a q′ = y .1 .1 in (
+        let t : v .Step q a q′ = y .1 .1 in (
           q′,
           (lo, t),
           record {
@@ -89,7 +90,7 @@ module _ (L : Levels) (Step : Moves) where
         )
 
     -- Between reachable states, to allow the same low sequences is a low-view bisimulation.
-    pub same-low-bisimulation : Bisimulation (LowMove L Step) (SameLowReachable L Step Start)
+    pub same-low-bisimulation : Bisimulation (LowMove v) (SameLowReachable v)
     same-low-bisimulation p q x = record {
       there = λ a p′ m. answer p q a p′ x m;
       back = λ a q′ m.
@@ -97,14 +98,12 @@ module _ (L : Levels) (Step : Moves) where
           (y .0, y .1, flip q′ (y .0) (y .2));
     }
 
-    module _ (n : ℕ) (B : Bounded Step Start n) (round : (ℕ → ℕ → Bool) → ℕ → ℕ → Bool)
-        (G : Game (LowMove L Step) n round) where
-      pub same-low→Bisimilar : (p q : ℕ) → Reachable Step Start p → Reachable Step Start q → SameLow L Step p q
-          → Bisimilar (LowMove L Step) p q
+    module _ (B : Bounded v) (round : (ℕ → ℕ → Bool) → ℕ → ℕ → Bool) (G : Game (LowMove v) (v .states) round) where
+      pub same-low→Bisimilar : (p q : ℕ) → Reachable v p → Reachable v q → SameLow v p q → Bisimilar (LowMove v) p q
       same-low→Bisimilar p q rp rq f =
-          bisimilar↔BisimilarBy (LowMove L Step) n round G p q (reachable-lt Step Start n B p rp)
-          (reachable-lt Step Start n B q rq) .1 (record {
-            rel = SameLowReachable L Step Start;
+          bisimilar↔BisimilarBy (LowMove v) (v .states) round G p q (reachable-lt v B p rp)
+          (reachable-lt v B q rq) .1 (record {
+            rel = SameLowReachable v;
             bisimulation = same-low-bisimulation;
             pairs = record { first = rp; second = rq; same = f };
           })

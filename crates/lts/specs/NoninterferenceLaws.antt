@@ -9,143 +9,144 @@ use mathlib.Core.Bool.{Bool, true, false, not, _&&_, true≢false}
 use Prim.Native.Nat.{ℕ}
 use lib.Dec.{T, T-not}
 use Rattle.lts.specs.TestsLaws.{T→true, not-T→false}
-use Rattle.lts.specs.Alike.{Moves, Bisimilar}
+use Rattle.lts.specs.Alike.{Bisimilar}
 use Rattle.lts.specs.AlikeLaws.{bisimilar-answer, bisimilar-refl, bisimilar-sym, bisimilar-trans}
 use Rattle.lts.specs.Game.{Game}
+use Rattle.lts.specs.View.{View}
 use Rattle.lts.specs.Run.{Run, Reachable, begin, onward, Deterministic, Bounded}
 use Rattle.lts.specs.RunLaws.{run-snoc, reachable→Run, reachable-lt, run-unique}
-use Rattle.lts.specs.Noninterference.{Levels, Levelled, low, release, high, LevelledSteps, released?, thin}
+use Rattle.lts.specs.Noninterference.{Levelled, low, release, high, LevelledSteps, released?, thin}
 use Rattle.lts.specs.Noninterference.{LowMove, SameLow, BNID, NID, ThinnedRun, INI, ThinnedBisimilar}
 use Rattle.lts.specs.ThinLaws.{thin-cons-drop, thin-cons-keep, thin-snoc-high}
 use Rattle.lts.specs.LowLaws.{bisimilar→SameLow, same-low-sym, same-low-trans, same-low→Bisimilar}
 
 -- Where w has no release, a state bisimilar to a reachable one follows its run of w by the thinned sequence.
-abbrev Followed : Levels → Moves → (ℕ → Type 0) → List ℕ → Type 0
-Followed L Step Start w = (p q e : ℕ) → released? L w ≡ false → Reachable Step Start p
-    → Bisimilar (LowMove L Step) p q → Run Step p w e → ThinnedBisimilar L Step q w e
+abbrev Followed : View → List ℕ → Type 0
+Followed v w = (p q e : ℕ) → released? (v .levels) w ≡ false → Reachable v p
+    → Bisimilar (LowMove v) p q → Run (v .Step) p w e → ThinnedBisimilar v q w e
 
-module _ (L : Levels) (Step : Moves) where
-  thinned-nil : (p q e : ℕ) → p ≡ e → Bisimilar (LowMove L Step) p q → ThinnedBisimilar L Step q [] e
+module _ (v : View) where
+  thinned-nil : (p q e : ℕ) → p ≡ e → Bisimilar (LowMove v) p q → ThinnedBisimilar v q [] e
   unfolding Run thin
   thinned-nil p q e h b = (q, refl, rw h at b)
 
-  thinned-keep : (a : ℕ) (w : List ℕ) (q r e : ℕ) → (L .high? a && not (released? L w)) ≡ false → Step q a r
-      → ThinnedBisimilar L Step r w e → ThinnedBisimilar L Step q (a ∷ w) e
+  thinned-keep : (a : ℕ) (w : List ℕ) (q r e : ℕ) → (v .levels .high? a && not (released? (v .levels) w)) ≡ false
+      → v .Step q a r → ThinnedBisimilar v r w e → ThinnedBisimilar v q (a ∷ w) e
   unfolding Run
-  thinned-keep a w q r e k s f = (f .0, rw (thin-cons-keep L a w k) (r, s, f .1), f .2)
+  thinned-keep a w q r e k s f = (f .0, rw (thin-cons-keep (v .levels) a w k) (r, s, f .1), f .2)
 
-  thinned-drop : (a : ℕ) (w : List ℕ) (q e : ℕ) → L .high? a ≡ true → released? L w ≡ false
-      → ThinnedBisimilar L Step q w e → ThinnedBisimilar L Step q (a ∷ w) e
-  thinned-drop a w q e c g f = rw (thin-cons-drop L a w c g) f
+  thinned-drop : (a : ℕ) (w : List ℕ) (q e : ℕ) → v .levels .high? a ≡ true → released? (v .levels) w ≡ false
+      → ThinnedBisimilar v q w e → ThinnedBisimilar v q (a ∷ w) e
+  thinned-drop a w q e c g f = rw (thin-cons-drop (v .levels) a w c g) f
 
-module _ (L : Levels) (Step : Moves) (Start : ℕ → Type 0) (n : ℕ) (B : Bounded Step Start n)
-    (levels : LevelledSteps L Step Start) where
+module _ (v : View) (B : Bounded v) (levelled : LevelledSteps v) where
   -- The state after a reachable high step, seen from a state bisimilar to its source.
-  across : (p a p′ q : ℕ) → BNID L Step Start → Reachable Step Start p → T (L .high? a) → Step p a p′
-      → Bisimilar (LowMove L Step) p q → Bisimilar (LowMove L Step) p′ q
+  across : (p a p′ q : ℕ) → BNID v → Reachable v p → T (v .levels .high? a) → v .Step p a p′ → Bisimilar (LowMove v) p q
+      → Bisimilar (LowMove v) p′ q
   across p a p′ q bnid r t s b =
-      bisimilar-trans (LowMove L Step) n (λ p a q m. B .target-lt p a q (m .1)) p′ p q (reachable-lt Step Start n B p r)
-      (bisimilar-sym (LowMove L Step) p p′ (bnid p a p′ r t s)) b
+      bisimilar-trans (LowMove v) (v .states) (λ p a q _ m. B .target-lt p a q (m .1)) p′ p q (reachable-lt v B p r)
+      (bisimilar-sym (LowMove v) p p′ (bnid p a p′ r t s)) b
 
   -- Where no release follows, a bisimilar state follows a run by the run's low actions alone.
-  follow : BNID L Step Start → (w : List ℕ) → Followed L Step Start w
+  follow : BNID v → (w : List ℕ) → Followed v w
   unfolding Run released?
-  follow bnid [] p q e f r b h = thinned-nil L Step p q e h b
-  follow bnid (a ∷ w) p q e f r b h = go (levels p a (h .0) r (h .1)) (follow bnid w)
+  follow bnid [] p q e f r b h = thinned-nil v p q e h b
+  follow bnid (a ∷ w) p q e f r b h = go (levelled p a (h .0) r (h .1)) (follow bnid w)
     where
-      go : Levelled L a → Followed L Step Start w → ThinnedBisimilar L Step q (a ∷ w) e
-      go (low t u v) ih =
-          let m = bisimilar-answer (LowMove L Step) p q a (h .0) b (t, h .1) in
-          let g : released? L w ≡ false = simp (not-T→false (L .release? a) u) at f in
-          let k : (L .high? a && not (released? L w)) ≡ false = simp (not-T→false (L .high? a) v) in
-          thinned-keep L Step a w q (m .0) e k (m .1 .1) (ih (h .0) (m .0) e g (onward r (h .1)) (m .2) (h .2))
-      go (release t u v) ih = absurd (true≢false (simp (T→true (L .release? a) u) at f))
-      go (high t u v) ih =
-          let g : released? L w ≡ false = simp (not-T→false (L .release? a) u) at f in
-          thinned-drop L Step a w q e (T→true (L .high? a) v) g
-          (ih (h .0) q e g (onward r (h .1)) (across p a (h .0) q bnid r v (h .1) b) (h .2))
+      go : Levelled (v .levels) a → Followed v w → ThinnedBisimilar v q (a ∷ w) e
+      go (low t u x) ih =
+          let m = bisimilar-answer (LowMove v) p q a (h .0) b (t, h .1) in
+          let g : released? (v .levels) w ≡ false = simp (not-T→false (v .levels .release? a) u) at f in
+          let c : v .levels .high? a ≡ false = not-T→false (v .levels .high? a) x in
+          let k : (v .levels .high? a && not (released? (v .levels) w)) ≡ false = simp c in
+          thinned-keep v a w q (m .0) e k (m .1 .1) (ih (h .0) (m .0) e g (onward r (h .1)) (m .2) (h .2))
+      go (release t u x) ih = absurd (true≢false (simp (T→true (v .levels .release? a) u) at f))
+      go (high t u x) ih =
+          let g : released? (v .levels) w ≡ false = simp (not-T→false (v .levels .release? a) u) at f in
+          thinned-drop v a w q e (T→true (v .levels .high? a) x) g
+          (ih (h .0) q e g (onward r (h .1)) (across p a (h .0) q bnid r x (h .1) b) (h .2))
 
   -- In a BNID model, deterministic or not: document 02, (xii), first sentence.
-  pub bnid→ThinnedBisimilar : BNID L Step Start → (w : List ℕ) (p e : ℕ) → Reachable Step Start p → Run Step p w e
-      → ThinnedBisimilar L Step p w e
+  pub bnid→ThinnedBisimilar : BNID v → (w : List ℕ) (p e : ℕ) → Reachable v p → Run (v .Step) p w e
+      → ThinnedBisimilar v p w e
   unfolding Run
-  bnid→ThinnedBisimilar bnid [] p e r h = thinned-nil L Step p p e h (bisimilar-refl (LowMove L Step) p)
+  bnid→ThinnedBisimilar bnid [] p e r h = thinned-nil v p p e h (bisimilar-refl (LowMove v) p)
   bnid→ThinnedBisimilar bnid (a ∷ w) p e r h =
-      go (levels p a (h .0) r (h .1)) (released? L w) refl
+      go (levelled p a (h .0) r (h .1)) (released? (v .levels) w) refl
       (bnid→ThinnedBisimilar bnid w (h .0) e (onward r (h .1)) (h .2))
     where
-      keep : (L .high? a && not (released? L w)) ≡ false → ThinnedBisimilar L Step (h .0) w e
-          → ThinnedBisimilar L Step p (a ∷ w) e
-      keep k ih = thinned-keep L Step a w p (h .0) e k (h .1) ih
+      keep : (v .levels .high? a && not (released? (v .levels) w)) ≡ false → ThinnedBisimilar v (h .0) w e
+          → ThinnedBisimilar v p (a ∷ w) e
+      keep k ih = thinned-keep v a w p (h .0) e k (h .1) ih
 
-      go : Levelled L a → (d : Bool) → released? L w ≡ d → ThinnedBisimilar L Step (h .0) w e
-          → ThinnedBisimilar L Step p (a ∷ w) e
-      go (low t u v) d g ih = keep (simp (not-T→false (L .high? a) v)) ih
-      go (release t u v) d g ih = keep (simp (not-T→false (L .high? a) v)) ih
-      go (high t u v) true g ih = keep (simp (T→true (L .high? a) v, g)) ih
-      go (high t u v) false g ih = thinned-drop L Step a w p e (T→true (L .high? a) v) g
+      go : Levelled (v .levels) a → (d : Bool) → released? (v .levels) w ≡ d → ThinnedBisimilar v (h .0) w e
+          → ThinnedBisimilar v p (a ∷ w) e
+      go (low t u x) d g ih = keep (simp (not-T→false (v .levels .high? a) x)) ih
+      go (release t u x) d g ih = keep (simp (not-T→false (v .levels .high? a) x)) ih
+      go (high t u x) true g ih = keep (simp (T→true (v .levels .high? a) x, g)) ih
+      go (high t u x) false g ih = thinned-drop v a w p e (T→true (v .levels .high? a) x) g
           (follow bnid w (h .0) p e g (onward r (h .1))
-          (across p a (h .0) p bnid r v (h .1) (bisimilar-refl (LowMove L Step) p)) (h .2))
+          (across p a (h .0) p bnid r x (h .1) (bisimilar-refl (LowMove v) p)) (h .2))
 
-  pub bnid→INI : BNID L Step Start → INI L Step Start
+  pub bnid→INI : BNID v → INI v
   bnid→INI bnid s i w e h =
       let f = bnid→ThinnedBisimilar bnid w s e (begin i) h in
-      (f .0, f .1, bisimilar→SameLow L Step e (f .0) (f .2))
+      (f .0, f .1, bisimilar→SameLow v e (f .0) (f .2))
 
-  pub bnid→NID : BNID L Step Start → NID L Step Start
-  bnid→NID bnid p a q r t s = bisimilar→SameLow L Step p q (bnid p a q r t s)
+  pub bnid→NID : BNID v → NID v
+  bnid→NID bnid p a q r t s = bisimilar→SameLow v p q (bnid p a q r t s)
 
   -- ---- deterministic models
 
-  module _ (det : Deterministic Step Start) where
+  module _ (det : Deterministic v) where
     -- Two runs whose thinned sequences end in states that stand for them: the same thinned sequence, the same end.
-    meet : (s : ℕ) → Start s → (v w : List ℕ) (x y : ℕ) → thin L v ≡ thin L w
-        → ThinnedRun L Step (SameLow L Step) s v x → ThinnedRun L Step (SameLow L Step) s w y → SameLow L Step x y
-    meet s i v w x y e f g =
-        let h : Run Step s (thin L w) (f .0) = subst (λ (u : List ℕ). Run Step s u (f .0)) e (f .1) in
-        let c : f .0 ≡ g .0 = run-unique Step Start det (thin L w) s (f .0) (g .0) (begin i) h (g .1) in
-        same-low-trans L Step x (f .0) y (f .2)
-        (subst (λ (z : ℕ). SameLow L Step z y) (sym c) (same-low-sym L Step y (g .0) (g .2)))
+    meet : (s : ℕ) → v .Start s → (u w : List ℕ) (x y : ℕ) → thin (v .levels) u ≡ thin (v .levels) w
+        → ThinnedRun v (SameLow v) s u x → ThinnedRun v (SameLow v) s w y → SameLow v x y
+    meet s i u w x y e f g =
+        let h = subst (λ (z : List ℕ). Run (v .Step) s z (f .0)) e (f .1) in
+        let c : f .0 ≡ g .0 = run-unique v det (thin (v .levels) w) s (f .0) (g .0) (begin i) h (g .1) in
+        same-low-trans v x (f .0) y (f .2)
+        (subst (λ (z : ℕ). SameLow v z y) (sym c) (same-low-sym v y (g .0) (g .2)))
 
     -- Document 02, (xii), second sentence.
-    pub same-low-of-same-thin : BNID L Step Start → (s : ℕ) → Start s → (v w : List ℕ) (x y : ℕ) → Run Step s v x
-        → Run Step s w y → thin L v ≡ thin L w → SameLow L Step x y
-    same-low-of-same-thin bnid s i v w x y h g e =
-        meet s i v w x y e (bnid→INI bnid s i v x h) (bnid→INI bnid s i w y g)
+    pub same-low-of-same-thin : BNID v → (s : ℕ) → v .Start s → (u w : List ℕ) (x y : ℕ) → Run (v .Step) s u x
+        → Run (v .Step) s w y → thin (v .levels) u ≡ thin (v .levels) w → SameLow v x y
+    same-low-of-same-thin bnid s i u w x y h g e =
+        meet s i u w x y e (bnid→INI bnid s i u x h) (bnid→INI bnid s i w y g)
 
     -- The thinned sequence ends in just one state, and it is that one which allows the same low sequences.
-    pub ini-ends : INI L Step Start → (s : ℕ) → Start s → (w : List ℕ) (e e′ : ℕ) → Run Step s w e
-        → Run Step s (thin L w) e′ → SameLow L Step e e′
+    pub ini-ends : INI v → (s : ℕ) → v .Start s → (w : List ℕ) (e e′ : ℕ) → Run (v .Step) s w e
+        → Run (v .Step) s (thin (v .levels) w) e′ → SameLow v e e′
     ini-ends ini s i w e e′ h g =
         let f = ini s i w e h in
-        subst (λ (z : ℕ). SameLow L Step e z) (run-unique Step Start det (thin L w) s (f .0) e′ (begin i) (f .1) g)
+        subst (λ (z : ℕ). SameLow v e z) (run-unique v det (thin (v .levels) w) s (f .0) e′ (begin i) (f .1) g)
         (f .2)
 
     -- A run and the run with one high step more have the same thinned sequence.
-    pub ini→NID : INI L Step Start → NID L Step Start
-    ini→NID ini p a q r t s = go (levels p a q r s)
+    pub ini→NID : INI v → NID v
+    ini→NID ini p a q r t s = go (levelled p a q r s)
       where
-        go : Levelled L a → SameLow L Step p q
-        go (low _ _ v) = absurd (T-not (L .high? a) v t)
-        go (release _ _ v) = absurd (T-not (L .high? a) v t)
+        go : Levelled (v .levels) a → SameLow v p q
+        go (low _ _ x) = absurd (T-not (v .levels .high? a) x t)
+        go (release _ _ x) = absurd (T-not (v .levels .high? a) x t)
         go (high _ u _) =
-            let x = reachable→Run Step Start p r in
+            let x = reachable→Run v p r in
             let w = x .2 .0 in
-            let v = w ++ (a ∷ []) in
-            meet (x .0) (x .1) w v p q (sym (thin-snoc-high L w a u t)) (ini (x .0) (x .1) w p (x .2 .1))
-            (ini (x .0) (x .1) v q (run-snoc Step w a (x .0) p q (x .2 .1) s))
+            let z = w ++ (a ∷ []) in
+            meet (x .0) (x .1) w z p q (sym (thin-snoc-high (v .levels) w a u t)) (ini (x .0) (x .1) w p (x .2 .1))
+            (ini (x .0) (x .1) z q (run-snoc (v .Step) w a (x .0) p q (x .2 .1) s))
 
-    module _ (round : (ℕ → ℕ → Bool) → ℕ → ℕ → Bool) (G : Game (LowMove L Step) n round) where
-      pub nid→BNID : NID L Step Start → BNID L Step Start
+    module _ (round : (ℕ → ℕ → Bool) → ℕ → ℕ → Bool) (G : Game (LowMove v) (v .states) round) where
+      pub nid→BNID : NID v → BNID v
       nid→BNID nid p a q r t s =
-          same-low→Bisimilar L Step Start det n B round G p q r (onward r s) (nid p a q r t s)
+          same-low→Bisimilar v det B round G p q r (onward r s) (nid p a q r t s)
 
-      pub bnid↔NID : BNID L Step Start ↔ NID L Step Start
+      pub bnid↔NID : BNID v ↔ NID v
       bnid↔NID = (bnid→NID, nid→BNID)
 
       -- Theorem 4 of source 000.
-      pub nid↔INI : NID L Step Start ↔ INI L Step Start
+      pub nid↔INI : NID v ↔ INI v
       nid↔INI = (λ x. bnid→INI (nid→BNID x), ini→NID)
 
-      pub bnid↔INI : BNID L Step Start ↔ INI L Step Start
+      pub bnid↔INI : BNID v ↔ INI v
       bnid↔INI = (bnid→INI, λ x. nid→BNID (ini→NID x))

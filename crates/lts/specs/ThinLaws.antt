@@ -6,7 +6,8 @@ use mathlib.Core.Bool.{Bool, true, false, not, _&&_, _||_, cond, and-false}
 use Prim.Native.Nat.{ℕ}
 use lib.Dec.{T}
 use Rattle.lts.specs.TestsLaws.{T→true, not-T→false}
-use Rattle.lts.specs.Noninterference.{Levels, released?, thin}
+use Rattle.lts.specs.View.{Levels}
+use Rattle.lts.specs.Noninterference.{released?, thin}
 
 cond-append : (c : Bool) (b : ℕ) (w v : List ℕ) → cond c (w ++ v) (b ∷ (w ++ v)) ≡ cond c w (b ∷ w) ++ v
 cond-append true b w v = refl

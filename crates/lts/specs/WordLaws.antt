@@ -14,18 +14,19 @@ use Rattle.lts.specs.AlikeLaws.{separated-of-rank}
 use Rattle.lts.specs.Game.{Game, Opening, by-first, by-second, alike?}
 use Rattle.lts.specs.GameLaws.{¬Alike→not-alike?}
 use Rattle.lts.specs.RankLaws.{rank-exists}
+use Rattle.lts.specs.View.{View}
 use Rattle.lts.specs.Run.{Run, Allows, Reachable, onward, Deterministic, Bounded}
 use Rattle.lts.specs.RunLaws.{allows-cons, allows-uncons, reachable-lt}
-use Rattle.lts.specs.Noninterference.{Levels, Low, LowMove}
+use Rattle.lts.specs.Noninterference.{Low, LowMove}
 use Rattle.lts.specs.LowLaws.{alike-allows, bisimilar→SameLow}
 use Rattle.lts.specs.Word.{OnlyFrom, JustOne, Shortest}
 
 -- A low sequence of length at most k that just one of p and q allows.
-record WordWithin (L : Levels) (Step : Moves) (k p q : ℕ) : Type 0 where
+record WordWithin (v : View) (k p q : ℕ) : Type 0 where
   word : List ℕ
-  is-low : Low L word
+  is-low : Low (v .levels) word
   length-le : length word ≤ k
-  just-one : JustOne Step p q word
+  just-one : JustOne (v .Step) p q word
 
 -- ---- just one
 
@@ -44,68 +45,68 @@ module _ (Step : Moves) where
 
 -- After a letter that both allow, the rest is possible from just one target, and from the same side, exactly where the
 -- whole is possible from just one.
-module _ (Step : Moves) (Start : ℕ → Type 0) (det : Deterministic Step Start) where
-  pub only-from-cons : (p q a p′ q′ : ℕ) (w : List ℕ) → Reachable Step Start q → Step p a p′ → Step q a q′
-      → OnlyFrom Step p′ q′ w → OnlyFrom Step p q (a ∷ w)
+module _ (v : View) (det : Deterministic v) where
+  pub only-from-cons : (p q a p′ q′ : ℕ) (w : List ℕ) → Reachable v q → v .Step p a p′ → v .Step q a q′
+      → OnlyFrom (v .Step) p′ q′ w → OnlyFrom (v .Step) p q (a ∷ w)
   only-from-cons p q a p′ q′ w rq s t (x, y) =
-      (allows-cons Step p a p′ w s x, λ z. y (allows-uncons Step Start det q a q′ w rq t z))
+      (allows-cons (v .Step) p a p′ w s x, λ z. y (allows-uncons v det q a q′ w rq t z))
 
-  pub only-from-uncons : (p q a p′ q′ : ℕ) (w : List ℕ) → Reachable Step Start p → Step p a p′ → Step q a q′
-      → OnlyFrom Step p q (a ∷ w) → OnlyFrom Step p′ q′ w
+  pub only-from-uncons : (p q a p′ q′ : ℕ) (w : List ℕ) → Reachable v p → v .Step p a p′ → v .Step q a q′
+      → OnlyFrom (v .Step) p q (a ∷ w) → OnlyFrom (v .Step) p′ q′ w
   only-from-uncons p q a p′ q′ w rp s t (x, y) =
-      (allows-uncons Step Start det p a p′ w rp s x, λ z. y (allows-cons Step q a q′ w t z))
+      (allows-uncons v det p a p′ w rp s x, λ z. y (allows-cons (v .Step) q a q′ w t z))
 
-  pub just-one-cons : (p q a p′ q′ : ℕ) (w : List ℕ) → Reachable Step Start p → Reachable Step Start q → Step p a p′
-      → Step q a q′ → JustOne Step p′ q′ w → JustOne Step p q (a ∷ w)
+  pub just-one-cons : (p q a p′ q′ : ℕ) (w : List ℕ) → Reachable v p → Reachable v q → v .Step p a p′ → v .Step q a q′
+      → JustOne (v .Step) p′ q′ w → JustOne (v .Step) p q (a ∷ w)
   just-one-cons p q a p′ q′ w rp rq s t (inl x) = inl (only-from-cons p q a p′ q′ w rq s t x)
   just-one-cons p q a p′ q′ w rp rq s t (inr x) = inr (only-from-cons q p a q′ p′ w rp t s x)
 
-  pub just-one-uncons : (p q a p′ q′ : ℕ) (w : List ℕ) → Reachable Step Start p → Reachable Step Start q → Step p a p′
-      → Step q a q′ → JustOne Step p q (a ∷ w) → JustOne Step p′ q′ w
+  pub just-one-uncons : (p q a p′ q′ : ℕ) (w : List ℕ) → Reachable v p → Reachable v q → v .Step p a p′ → v .Step q a q′
+      → JustOne (v .Step) p q (a ∷ w) → JustOne (v .Step) p′ q′ w
   just-one-uncons p q a p′ q′ w rp rq s t (inl x) = inl (only-from-uncons p q a p′ q′ w rp s t x)
   just-one-uncons p q a p′ q′ w rp rq s t (inr x) = inr (only-from-uncons q p a q′ p′ w rq t s x)
 
 -- ---- the shortest
 
-pub shortest-unique : (L : Levels) (Step : Moves) (p q j k : ℕ) → Shortest L Step p q j → Shortest L Step p q k → j ≡ k
-shortest-unique L Step p q j k x y = eq-of-not-lt j k (not-shorter j k x y) (not-shorter k j y x)
+pub shortest-unique : (v : View) (p q j k : ℕ) → Shortest v p q j → Shortest v p q k → j ≡ k
+shortest-unique v p q j k x y = eq-of-not-lt j k (not-shorter j k x y) (not-shorter k j y x)
   where
-    not-shorter : (j k : ℕ) → Shortest L Step p q j → Shortest L Step p q k → j < k → ⊥
-    not-shorter j k x y l = just-one-not-both Step p q (x .word) (x .just-one)
+    not-shorter : (j k : ℕ) → Shortest v p q j → Shortest v p q k → j < k → ⊥
+    not-shorter j k x y l = just-one-not-both (v .Step) p q (x .word) (x .just-one)
         (y .none-shorter (x .word) (x .is-low) (omega (arith, x .length-is)))
 
 -- States that the round k separates allow the same low sequences shorter than k.
-pub separated-allows : (L : Levels) (Step : Moves) (p q k : ℕ) → Separated (LowMove L Step) p q k → (w : List ℕ)
-    → Low L w → length w < k → Allows Step p w ↔ Allows Step q w
-separated-allows L Step p q k x w l h =
-    alike-allows L Step (length w) w p q l (omega arith) (x .alike-before (length w) h)
+pub separated-allows : (v : View) (p q k : ℕ) → Separated (LowMove v) p q k → (w : List ℕ) → Low (v .levels) w
+    → length w < k → Allows (v .Step) p w ↔ Allows (v .Step) q w
+separated-allows v p q k x w l h =
+    alike-allows v (length w) w p q l (omega arith) (x .alike-before (length w) h)
 
 -- So a low sequence that just one of them allows is no shorter than k.
-pub separated-length-le : (L : Levels) (Step : Moves) (p q k : ℕ) → Separated (LowMove L Step) p q k → (w : List ℕ)
-    → Low L w → JustOne Step p q w → k ≤ length w
-separated-length-le L Step p q k x w l j =
-    le-of-not-lt k (length w) (λ h. just-one-not-both Step p q w j (separated-allows L Step p q k x w l h))
+pub separated-length-le : (v : View) (p q k : ℕ) → Separated (LowMove v) p q k → (w : List ℕ) → Low (v .levels) w
+    → JustOne (v .Step) p q w → k ≤ length w
+separated-length-le v p q k x w l j =
+    le-of-not-lt k (length w) (λ h. just-one-not-both (v .Step) p q w j (separated-allows v p q k x w l h))
 
-module _ (L : Levels) (Step : Moves) (Start : ℕ → Type 0) (n : ℕ) (round : (ℕ → ℕ → Bool) → ℕ → ℕ → Bool)
-    (G : Game (LowMove L Step) n round) (det : Deterministic Step Start) where
+module _ (v : View) (round : (ℕ → ℕ → Bool) → ℕ → ℕ → Bool)
+    (G : Game (LowMove v) (v .states) round) (det : Deterministic v) where
   -- Any two reachable states that are not k-alike have a low sequence of length at most k that just one allows.
   abbrev HasWord : ℕ → Type 0
-  HasWord k = (p q : ℕ) → Reachable Step Start p → Reachable Step Start q → T (not (alike? round k p q))
-      → WordWithin L Step k p q
+  HasWord k = (p q : ℕ) → Reachable v p → Reachable v q → T (not (alike? round k p q))
+      → WordWithin v k p q
 
   -- A letter that both allow, and a word of the targets.
-  word-cons : (k p q a p′ q′ : ℕ) → Reachable Step Start p → Reachable Step Start q → LowMove L Step p a p′
-      → LowMove L Step q a q′ → WordWithin L Step k p′ q′ → WordWithin L Step (suc k) p q
+  word-cons : (k p q a p′ q′ : ℕ) → Reachable v p → Reachable v q → LowMove v p a p′ → LowMove v q a q′
+      → WordWithin v k p′ q′ → WordWithin v (suc k) p q
   unfolding Low
   word-cons k p q a p′ q′ rp rq m o t = record {
     word = a ∷ t .word;
     is-low = (m .0, t .is-low);
     length-le = omega (arith, t .length-le);
-    just-one = just-one-cons Step Start det p q a p′ q′ (t .word) rp rq (m .1) (o .1) (t .just-one);
+    just-one = just-one-cons v det p q a p′ q′ (t .word) rp rq (m .1) (o .1) (t .just-one);
   }
 
   -- A letter that just one allows.
-  word-one : (k p q : ℕ) → Opening (LowMove L Step) (alike? round 0) p q → WordWithin L Step (suc k) p q
+  word-one : (k p q : ℕ) → Opening (LowMove v) (alike? round 0) p q → WordWithin v (suc k) p q
   unfolding alike? Run Low
   word-one k p q (by-first a p′ m f) = record {
     word = a ∷ [];
@@ -127,8 +128,8 @@ module _ (L : Levels) (Step : Moves) (Start : ℕ → Type 0) (n : ℕ) (round :
   word-within zero p q rp rq t = absurd t
   word-within (suc k) p q rp rq t = go (T-cases (alike? round 1 p q)) (word-within k)
     where
-      next : Answers (LowMove L Step) (λ x y. T (alike? round 0 x y)) p q
-          → Opening (LowMove L Step) (alike? round k) p q → HasWord k → WordWithin L Step (suc k) p q
+      next : Answers (LowMove v) (λ x y. T (alike? round 0 x y)) p q → Opening (LowMove v) (alike? round k) p q
+          → HasWord k → WordWithin v (suc k) p q
       next h (by-first a p′ m f) ih =
           let o = h .there a p′ m in
           word-cons k p q a p′ (o .0) rp rq m (o .1)
@@ -138,39 +139,38 @@ module _ (L : Levels) (Step : Moves) (Start : ℕ → Type 0) (n : ℕ) (round :
           word-cons k p q a (o .0) q′ rp rq (o .1) m
           (ih (o .0) q′ (onward rp (o .1 .1)) (onward rq (m .1)) (f (o .0) (o .1)))
 
-      go : T (alike? round 1 p q) ⊎ T (not (alike? round 1 p q)) → HasWord k → WordWithin L Step (suc k) p q
+      go : T (alike? round 1 p q) ⊎ T (not (alike? round 1 p q)) → HasWord k → WordWithin v (suc k) p q
       go (inl u) ih = next (G .passes (alike? round 0) p q u) (G .fails (alike? round k) p q t) ih
       go (inr u) ih = word-one k p q (G .fails (alike? round 0) p q u)
 
-  pub separated→Shortest : (p q k : ℕ) → Reachable Step Start p → Reachable Step Start q
-      → Separated (LowMove L Step) p q k → Shortest L Step p q k
+  pub separated→Shortest : (p q k : ℕ) → Reachable v p → Reachable v q → Separated (LowMove v) p q k → Shortest v p q k
   separated→Shortest p q k rp rq x =
-      go (word-within k p q rp rq (¬Alike→not-alike? (LowMove L Step) n round G k p q (x .not-alike)))
+      go (word-within k p q rp rq (¬Alike→not-alike? (LowMove v) (v .states) round G k p q (x .not-alike)))
     where
-      go : WordWithin L Step k p q → Shortest L Step p q k
+      go : WordWithin v k p q → Shortest v p q k
       go t = record {
         word = t .word;
         is-low = t .is-low;
         length-is =
-            omega (arith, t .length-le, separated-length-le L Step p q k x (t .word) (t .is-low) (t .just-one));
+            omega (arith, t .length-le, separated-length-le v p q k x (t .word) (t .is-low) (t .just-one));
         just-one = t .just-one;
-        none-shorter = separated-allows L Step p q k x;
+        none-shorter = separated-allows v p q k x;
       }
 
   -- The rank above 0 is the length of the shortest low sequences possible from just one of the two.
-  pub rank↔Shortest : Bounded Step Start n → (p q k : ℕ) → Reachable Step Start p → Reachable Step Start q → 0 < k
-      → Rank (LowMove L Step) p q k ↔ Shortest L Step p q k
+  pub rank↔Shortest : Bounded v → (p q k : ℕ) → Reachable v p → Reachable v q → 0 < k
+      → Rank (LowMove v) p q k ↔ Shortest v p q k
   rank↔Shortest B p q k rp rq pos =
-      (λ x. separated→Shortest p q k rp rq (separated-of-rank (LowMove L Step) p q k pos x), λ x. back x ranked)
+      (λ x. separated→Shortest p q k rp rq (separated-of-rank (LowMove v) p q k pos x), λ x. back x ranked)
     where
-      ranked : (r : ℕ) × (r < n) × Rank (LowMove L Step) p q r
-      ranked = rank-exists (LowMove L Step) n round G p q (reachable-lt Step Start n B p rp)
-          (reachable-lt Step Start n B q rq)
+      ranked : (r : ℕ) × (r < v .states) × Rank (LowMove v) p q r
+      ranked = rank-exists (LowMove v) (v .states) round G p q (reachable-lt v B p rp)
+          (reachable-lt v B q rq)
 
-      same : Shortest L Step p q k → (r : ℕ) → Rank (LowMove L Step) p q r → r ≡ k
+      same : Shortest v p q k → (r : ℕ) → Rank (LowMove v) p q r → r ≡ k
       same x r (bisimilar b) = absurd
-          (just-one-not-both Step p q (x .word) (x .just-one) (bisimilar→SameLow L Step p q b (x .word) (x .is-low)))
-      same x r (separated d y) = shortest-unique L Step p q r k (separated→Shortest p q r rp rq y) x
+          (just-one-not-both (v .Step) p q (x .word) (x .just-one) (bisimilar→SameLow v p q b (x .word) (x .is-low)))
+      same x r (separated d y) = shortest-unique v p q r k (separated→Shortest p q r rp rq y) x
 
-      back : Shortest L Step p q k → (r : ℕ) × (r < n) × Rank (LowMove L Step) p q r → Rank (LowMove L Step) p q k
+      back : Shortest v p q k → (r : ℕ) × (r < v .states) × Rank (LowMove v) p q r → Rank (LowMove v) p q k
       back x (r, l, y) = rw (same x r y) at y

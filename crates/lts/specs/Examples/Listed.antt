@@ -1,9 +1,11 @@
--- Systems given by lists of steps and starts, with three actions, for the examples. Assumes nothing.
+-- Systems given by lists of steps and starts, with three actions, for the examples: their views and tests.
+-- Assumes nothing.
 use mathlib.Core.List.{List, [], _∷_}
 use mathlib.Core.Bool.{Bool, false, _&&_, _||_}
 use Prim.Native.Nat.{ℕ}
 use lib.Dec.{T, eqb, ltb}
-use Rattle.lts.specs.Alike.{Moves}
+use Rattle.lts.specs.View.{Levels, View}
+use Rattle.lts.specs.Decided.{ViewTest}
 
 -- A step of a listed system.
 pub record Arrow : Type 0 where
@@ -39,10 +41,15 @@ step? M p a q = leads (M .steps) p a q && (ltb p (M .states) && (ltb a 3 && ltb 
 abbrev pub start? : System → ℕ → Bool
 start? M p = has (M .starts) p && ltb p (M .states)
 
--- A step of M with the action a leads from p to q.
-abbrev pub Step : System → Moves
-Step M p a q = T (step? M p a q)
+-- M under the levels L.
+abbrev pub view : Levels → System → View
+view L M = record {
+  levels = L;
+  Step = λ p a q. T (step? M p a q);
+  Start = λ p. T (start? M p);
+  states = M .states;
+}
 
--- p is a start of M.
-abbrev pub Start : System → ℕ → Type 0
-Start M p = T (start? M p)
+-- The tests of M.
+abbrev pub tests : System → ViewTest
+tests M = record { step? = step? M; start? = start? M; actions = 3 }

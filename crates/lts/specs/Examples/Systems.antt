@@ -3,7 +3,7 @@ use mathlib.Core.List.{List, [], _∷_}
 use mathlib.Core.Bool.{false, _||_}
 use Prim.Native.Nat.{ℕ}
 use lib.Dec.{eqb}
-use Rattle.lts.specs.Noninterference.{Levels}
+use Rattle.lts.specs.View.{Levels}
 use Rattle.lts.specs.Examples.Listed.{System, arrow}
 
 -- Action 0.
