@@ -1,9 +1,7 @@
-pub mod ListingLaws
-pub mod StatesListedLaws
-pub mod LeakSearchLaws
-pub mod ModelListsLaws
-pub mod JudgeLaws
-pub mod PromiseOutcomeLaws
-pub mod VerdictsLaws
-pub mod VerdictTestLaws
+pub mod ReachPromiseLaws
+pub mod ReachOutcomeLaws
 pub mod RankPromiseLaws
+pub mod JudgePromiseLaws
+pub mod JudgeOutcomeLaws
+pub mod RunPromiseLaws
+pub mod WordPromiseLaws

@@ -1,4 +1,6 @@
 pub mod Laws
-pub mod Inner
-pub mod Verdicts
-pub mod Promises
+pub mod ReachPromise
+pub mod RankPromise
+pub mod JudgePromise
+pub mod RunPromise
+pub mod WordPromise

@@ -1,9 +1,6 @@
-// Ranks and the verdict of till models.
+// Judging: Reach, Rank, Judge, Run and Word.
 pub mod judge;
-mod moves;
 pub mod rank;
-
-// Roles of actions, as the levels of the store.
-pub const LOW: u16 = 0;
-
-const HIGH: u16 = 2;
+pub mod reach;
+pub mod run;
+pub mod word;

@@ -1,3 +1,4 @@
 pub mod Store
 pub mod Text
 pub mod OnStoreLaws
+pub mod System

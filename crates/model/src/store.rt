@@ -4,23 +4,15 @@ use text::Head;
 use text::State;
 use text::Step;
 use text::StepLine;
+use text::limits::ACTION_SIZE;
+use text::limits::ACTIONS_AT;
+use text::limits::STEP_SIZE;
+use text::limits::STEPS_AT;
 ghost use mathlib.Core.Path.{_≡_};
 ghost use Prim.Native.Nat.{_+_, _≤_, _<_};
 ghost use lib.ListN.{length, getD};
 ghost use Rattle.text.specs.Limits.{actionLimit, stepLimit, storeLength, actionPlace, namePlace, stepPlace};
 ghost use Rattle.model.specs.StoredModel.{headAt, actionAt, stepAt};
-
-pub const STORE_LENGTH: usize = 3972;
-
-// Action i stands from 4 + 14 i on: its level, the length of its name, and the twelve places of its name.
-pub const ACTIONS_AT: usize = 4;
-
-pub const ACTION_SIZE: usize = 14;
-
-// Step j stands from 900 + 3 j on: its source, its action, its target.
-pub const STEPS_AT: usize = 900;
-
-pub const STEP_SIZE: usize = 3;
 
 pub fn states(store: &[u16]) -> u16
     requires { ⌜ storeLength ≤ length (now store) ⌝ }

@@ -1,1 +1,3 @@
 pub mod PageAnswers
+pub mod ReadRefusals
+pub mod PrintAnswers

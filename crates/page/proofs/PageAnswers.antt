@@ -9,9 +9,9 @@ use Rattle.model.specs.Store.{Good}
 use Rattle.model.specs.StoredModel.{modelAt}
 use Rattle.text.specs.Laws.FirstShortLaws.{none-short-six}
 use Rattle.model.specs.Laws.OnStoreLaws.{onStore-short, onStore-not-good, onStore-model}
-use Rattle.judge.specs.Promises.{Filled}
+use Rattle.verdicts.specs.JudgeFilled.{JudgeFilled}
 use Rattle.page.specs.declared.page.PageAnswer.the-variants.{Printed, ShortList, NotGood}
-use Rattle.page.specs.Promises.{pageOutcome, pageLists, PagePrinted, PagePromise}
+use Rattle.page.specs.PagePromise.{pageOutcome, pageLists, PagePrinted, PagePromise}
 use Rattle.page.specs.Inner.PageLists.{LongLists, FirstShort, PageMade}
 
 module _ (store distances table run word out : List ℕ) where
@@ -37,6 +37,6 @@ module _ (store distances table run word out : List ℕ) where
         → PagePromise store distances table run word out (pageOutcome (Printed n)) distances′ table′ run′ word′ out′
     unfolding pageOutcome
     printed-promised good n distances′ table′ run′ word′ out′ made =
-        onStore-model (λ m. Filled m distances table distances′ table′
+        onStore-model (λ m. JudgeFilled m distances table distances′ table′
         × PagePrinted m (answers (n ∷ [])) run word out run′ word′ out′)
         pageLists-none good (made .filled, made .printed)

@@ -1,45 +1,103 @@
--- The page of the worked example, by evaluation from what its lines say.
--- Document 01, "The page".
+-- The worked example and the other starred bench models, from their texts to the bytes of their pages: what the promise
+-- of `print` makes of each.
+-- Document 01, "The page": "Input, then the output whole"; "Bench models". Assumes nothing.
 use mathlib.Core.List.{List, [], _∷_}
-use mathlib.Core.Option.{some}
-use mathlib.Core.Path.{_≡_, refl}
+use mathlib.Core.Option.{none, some}
+use mathlib.Core.Path.{_≡_}
 use Prim.Native.Nat.{ℕ}
-use Rattle.text.specs.Numbers.{digits, digitsUpTo}
-use Rattle.judge.specs.declared.judge.Verdict.the-variants.{Refused}
-use Rattle.word.specs.declared.word.End.the-variants.{Source}
-use Rattle.page.specs.PageLines.{PageLine, verdict-line, state-line, word-line, end-line, last-line}
-use Rattle.page.specs.PageLines.{distanceText, endText, lineText, pageBytes}
+use lib.ListN.{length, take, drop}
+use Rattle.text.specs.Faults.{Outcome, answers}
+use Rattle.verdicts.specs.declared.judging.Verdict.the-variants.{Passed}
+use Rattle.letters.specs.declared.word.End.the-variants.{Target}
+use Rattle.tell.specs.Bench.{refusedAt}
+use Rattle.tell.specs.BenchModels.{workedText, scannedOnceText, releasedText, closeLowText, branchingText, noStepsText}
+use Rattle.tell.specs.BenchModels.{printLoopText, unreachedPrintText}
+use Rattle.lines.specs.Examples.{workedPage}
+use Rattle.lines.specs.PageLines.{PageLine, verdict-line, state-line, word-line, end-line, branch-line, last-line}
+use Rattle.lines.specs.PageLines.{pageBytes}
+use Rattle.page.specs.PrintPromise.{printLists, PrintPromise}
 
-abbrev scan : List ℕ
-scan = 115 ∷ 99 ∷ 97 ∷ 110 ∷ []
+-- The bytes stand at the front of `out`, the answer is how many they are, and behind them stands what stood there.
+pub record BytesPrinted (bytes : List ℕ) (outcome : Outcome) (out out′ : List ℕ) : Type 0 where
+  pub outcome-is : outcome ≡ answers (length bytes ∷ [])
+  pub printed : take (length bytes) out′ ≡ bytes
+  pub kept : drop (length bytes) out′ ≡ drop (length bytes) out
 
-unfoldable pub workedLines : List PageLine
-workedLines =
-    verdict-line (Refused (record { 0 = 1 }) 2)
+-- Whatever the lists held, if none is too short the promise gives these bytes for the text.
+pub record PrintsPage (text bytes : List ℕ) : Type 0 where
+  pub by-promise : {store distances table run word out : List ℕ} {outcome : Outcome}
+      {store′ distances′ table′ run′ word′ out′ : List ℕ}
+      → printLists text store distances table run word out ≡ none
+      → PrintPromise text store distances table run word out outcome store′ distances′ table′ run′ word′ out′
+      → BytesPrinted bytes outcome out out′
+
+-- ---- the pages of the other models; document 01 gives their verdicts alone
+
+unfoldable pub scannedOnceLines : List PageLine
+scannedOnceLines =
+    verdict-line (Passed 1)
     ∷ state-line 0 (some 0) 0
-    ∷ state-line 1 (some 1) 0
-    ∷ state-line 2 (some 1) 2
-    ∷ state-line 3 (some 2) 3
-    ∷ word-line scan
-    ∷ word-line scan
-    ∷ end-line Source
+    ∷ state-line 1 (some 1) 1
+    ∷ state-line 2 (some 1) 0
+    ∷ state-line 3 (some 2) 1
     ∷ last-line
     ∷ []
 
--- V,refuse,1,2 / C,0,0,0 / C,1,1,0 / C,2,1,2 / C,3,2,3 / W,scan / W,scan / B,source / E
-pub workedPage : List ℕ
-workedPage =
-    86 ∷ 44 ∷ 114 ∷ 101 ∷ 102 ∷ 117 ∷ 115 ∷ 101 ∷ 44 ∷ 49 ∷ 44 ∷ 50 ∷ 10
-    ∷ 67 ∷ 44 ∷ 48 ∷ 44 ∷ 48 ∷ 44 ∷ 48 ∷ 10
-    ∷ 67 ∷ 44 ∷ 49 ∷ 44 ∷ 49 ∷ 44 ∷ 48 ∷ 10
-    ∷ 67 ∷ 44 ∷ 50 ∷ 44 ∷ 49 ∷ 44 ∷ 50 ∷ 10
-    ∷ 67 ∷ 44 ∷ 51 ∷ 44 ∷ 50 ∷ 44 ∷ 51 ∷ 10
-    ∷ 87 ∷ 44 ∷ 115 ∷ 99 ∷ 97 ∷ 110 ∷ 10
-    ∷ 87 ∷ 44 ∷ 115 ∷ 99 ∷ 97 ∷ 110 ∷ 10
-    ∷ 66 ∷ 44 ∷ 115 ∷ 111 ∷ 117 ∷ 114 ∷ 99 ∷ 101 ∷ 10
-    ∷ 69 ∷ 10
+unfoldable pub releasedLines : List PageLine
+releasedLines =
+    verdict-line (Passed 1)
+    ∷ state-line 0 (some 0) 0
+    ∷ state-line 1 (some 1) 0
+    ∷ state-line 2 (some 2) 2
+    ∷ last-line
     ∷ []
 
-pub prints : pageBytes workedLines ≡ workedPage
-unfolding pageBytes lineText distanceText endText digits digitsUpTo workedLines workedPage
-prints = refl
+-- its word is close
+unfoldable pub closeLowLines : List PageLine
+closeLowLines =
+    verdict-line (refusedAt 0 1)
+    ∷ state-line 0 (some 0) 0
+    ∷ state-line 1 (some 1) 1
+    ∷ state-line 2 (some 2) 2
+    ∷ word-line (99 ∷ 108 ∷ 111 ∷ 115 ∷ 101 ∷ [])
+    ∷ end-line Target
+    ∷ last-line
+    ∷ []
+
+unfoldable pub branchingLines : List PageLine
+branchingLines =
+    verdict-line (refusedAt 2 2)
+    ∷ state-line 0 (some 0) 0
+    ∷ state-line 1 (some 1) 1
+    ∷ state-line 2 (some 1) 2
+    ∷ state-line 3 (some 1) 3
+    ∷ branch-line
+    ∷ last-line
+    ∷ []
+
+-- of both models with one state
+unfoldable pub oneStateLines : List PageLine
+oneStateLines = verdict-line (Passed 0) ∷ state-line 0 (some 0) 0 ∷ last-line ∷ []
+
+-- "distance `-` if unreachable"
+unfoldable pub unreachedPrintLines : List PageLine
+unreachedPrintLines =
+    verdict-line (Passed 1)
+    ∷ state-line 0 (some 0) 0
+    ∷ state-line 1 none 0
+    ∷ state-line 2 none 2
+    ∷ last-line
+    ∷ []
+
+-- ---- the facts
+
+pub record PagesPrinted : Type 0 where
+  -- "Input, then the output whole", byte by byte
+  pub worked : PrintsPage workedText workedPage
+  pub scanned-once : PrintsPage scannedOnceText (pageBytes scannedOnceLines)
+  pub released : PrintsPage releasedText (pageBytes releasedLines)
+  pub close-low : PrintsPage closeLowText (pageBytes closeLowLines)
+  pub branching : PrintsPage branchingText (pageBytes branchingLines)
+  pub no-steps : PrintsPage noStepsText (pageBytes oneStateLines)
+  pub print-loop : PrintsPage printLoopText (pageBytes oneStateLines)
+  pub unreached-print : PrintsPage unreachedPrintText (pageBytes unreachedPrintLines)

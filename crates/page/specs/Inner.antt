@@ -1,5 +1,3 @@
-pub mod Entries
-pub mod LinesWritten
-pub mod Room
-pub mod Leak
 pub mod PageLists
+pub mod Refusals
+pub mod StateLinesTest

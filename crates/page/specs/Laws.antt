@@ -1,7 +1,11 @@
-pub mod PageLinesLaws
-pub mod LinesWrittenLaws
-pub mod StateLinesLaws
-pub mod LeakLaws
-pub mod LeakShownLaws
 pub mod PageLaws
 pub mod PagePromiseLaws
+pub mod PageSplitLaws
+pub mod PageFieldsLaws
+pub mod PageClaimLaws
+pub mod PageCallsLaws
+pub mod PrintPromiseLaws
+pub mod PrintsLaws
+pub mod PrintsUniqueLaws
+pub mod StateLinesTestLaws
+pub mod ExamplesLaws

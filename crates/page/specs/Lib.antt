@@ -1,6 +1,8 @@
 pub mod Inner
 pub mod Laws
-pub mod PageLines
-pub mod Page
-pub mod Promises
+pub mod PagePromise
+pub mod PrintPromise
+pub mod Claim
+pub mod PageCalls
+pub mod Prints
 pub mod Examples

@@ -1,6 +1,3 @@
-// The page of a model.
-mod class;
-mod leak;
-pub mod lines;
+// The page: Page, and the path from a text to its page.
 pub mod page;
-mod states;
+pub mod print;

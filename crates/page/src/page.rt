@@ -1,21 +1,15 @@
-// Page: what is told of a store, line by line.
-use crate::lines::PageEnd;
-use judge::judge::Verdict;
-use judge::rank::TABLE_LENGTH;
-use model::store::STORE_LENGTH;
-use reach::INDEX_LENGTH;
-use reach::ROLES_LENGTH;
-use reach::reach::DISTANCES_LENGTH;
-use reach::run::RUN_LENGTH;
-use word::word::WORD_LENGTH;
-ghost use Prim.Native.Nat.{_≤_};
+// The operation Page.
+use lines::lines::PageEnd;
+use text::limits::DISTANCES_LENGTH;
+use text::limits::INDEX_LENGTH;
+use text::limits::ROLES_LENGTH;
+use text::limits::RUN_LENGTH;
+use text::limits::STORE_LENGTH;
+use text::limits::TABLE_LENGTH;
+use text::limits::WORD_LENGTH;
 ghost use lib.ListN.{length};
-ghost use Rattle.text.specs.Lists.{pageLength};
 ghost use Rattle.model.specs.StoredModel.{modelAt};
-ghost use Rattle.page.specs.Page.{PageOf};
-ghost use Rattle.page.specs.Promises.{pageOutcome, PagePromise};
-ghost use Rattle.page.specs.Inner.Leak.{JudgedLists};
-ghost use Rattle.page.specs.Inner.LinesWritten.{LinesWritten};
+ghost use Rattle.page.specs.PagePromise.{pageOutcome, PagePromise};
 ghost use Rattle.page.specs.Inner.PageLists.{FirstShort, PageLists, PageMade};
 
 // What Page answers: the bytes written.
@@ -24,8 +18,6 @@ pub enum PageAnswer {
     ShortList(usize),
     NotGood,
 }
-
-pub const PAGE_LENGTH: usize = 5000;
 
 // The first of Page's lists that is below its least length, by their lengths, counted from 1; 0 if none is.
 pub fn first_short(
@@ -59,31 +51,6 @@ pub fn first_short(
     0
 }
 
-// The page of a judged model; the lists are as `judge_good` leaves them.
-fn judged_page(
-    store: &[u16],
-    begins: &[u16],
-    roles: &[u16],
-    distances: &[u16],
-    table: &[u8],
-    v: Verdict,
-    run: &mut [u16],
-    word: &mut [u16],
-    out: &mut [u8],
-) -> PageEnd
-    requires { ⌜ JudgedLists (modelAt (now store)) v (now store) (now begins) (now roles) (now distances) (now table)
-        (now run) (now word) ⌝ }
-    requires { ⌜ pageLength ≤ length (now out) ⌝ }
-    ensures { λ r. ⌜ LinesWritten (PageOf (modelAt (now (store .entry))) (now (run .entry)) (now (word .entry))
-        (now (run .exit)) (now (word .exit))) pageLength (now (out .entry)) 0 (now (out .exit)) (r .at .at) ⌝ }
-{
-    let start = PageEnd::start();
-    let verdict = start.verdict_line(out, v);
-    let states = verdict.state_lines(out, store, distances, table);
-    let leak = states.leak_lines(out, store, begins, roles, distances, table, v, run, word);
-    leak.last_line(out)
-}
-
 // Page on a good store: judged once.
 pub fn page_good(
     store: &[u16],
@@ -100,8 +67,8 @@ pub fn page_good(
 {
     let mut begins = [0u16; INDEX_LENGTH];
     let mut roles = [0u16; ROLES_LENGTH];
-    let v = judge::judge::judge_good(store, &mut begins, &mut roles, distances, table);
-    judged_page(store, &begins, &roles, distances, table, v, run, word, out)
+    let v = verdicts::judging::judge_good(store, &mut begins, &mut roles, distances, table);
+    lines::whole::judged_page(store, &begins, &roles, distances, table, v, run, word, out)
 }
 
 // Fills the distances and the table, the run of a refused model, and the word where it prints one; puts the page at the

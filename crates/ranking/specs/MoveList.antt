@@ -7,10 +7,6 @@ use lib.ListN.{getD}
 use Rattle.lts.specs.Alike.{Moves}
 use Rattle.text.specs.Limits.{stateLimit, actionLimit, stepLimit}
 
--- The places of `first`: one for each state, and one more.
-abbrev pub indexLength : ℕ
-indexLength = stateLimit + 1
-
 -- The lists have a move from p with the action a to q.
 pub record Listed (n : ℕ) (first actions targets : List ℕ) (p a q : ℕ) : Type 0 where
   pub place : ℕ

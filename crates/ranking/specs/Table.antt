@@ -7,7 +7,8 @@ use Prim.Native.Nat.{ℕ, _≤_, _<_}
 use lib.ListN.{getD}
 use Rattle.lts.specs.Alike.{Moves, Separated, Rank}
 use Rattle.text.specs.Limits.{stateLimit}
-use Rattle.text.specs.Lists.{tableLength, pairPlace, Past}
+use Rattle.text.specs.Limits.{tableLength, pairPlace}
+use Rattle.text.specs.Lists.{Past}
 
 -- Two of n states that P holds of.
 pub record SomePair (n : ℕ) (P : ℕ → ℕ → Type 0) : Type 0 where

@@ -1,16 +1,18 @@
 // Ranks by classes, over moves given as lists: entry p of a class list is the lowest state of the class of p, and each
 // round compares states by the classes of the round before.
-use text::ACTION_LIMIT;
-use text::STATE_LIMIT;
-use text::STEP_LIMIT;
 use text::State;
+use text::limits::ACTION_LIMIT;
+use text::limits::INDEX_LENGTH;
+use text::limits::MOVES_LENGTH;
+use text::limits::ROW;
+use text::limits::TABLE_LENGTH;
 ghost use mathlib.Core.Path.{_≡_};
 ghost use Prim.Native.Nat.{ℕ, _+_, _≤_, _<_};
 ghost use lib.ListN.{length, getD};
 ghost use Rattle.lts.specs.Alike.{Answered, Answers};
 ghost use Rattle.text.specs.Decides.{Decides};
 ghost use Rattle.text.specs.Limits.{stateLimit};
-ghost use Rattle.text.specs.Lists.{tableLength};
+ghost use Rattle.text.specs.Limits.{tableLength};
 ghost use Rattle.text.specs.Inner.Clearing.{Cleared};
 ghost use Rattle.ranking.specs.Table.{Ranked};
 ghost use Rattle.ranking.specs.MoveList.{Listed, MoveList};
@@ -20,20 +22,8 @@ ghost use Rattle.ranking.specs.Inner.Marks.{Reaches, Marked, AllMarked, 
 ghost use Rattle.ranking.specs.Inner.TableWrites.{Written, PairWritten, RowWritten, RowsWritten};
 ghost use Rattle.ranking.specs.Inner.TableWrites.{RanksUpTo, Finished};
 
-// One place for each state.
-const STATES_LENGTH: usize = STATE_LIMIT as usize;
-
-// One place more: where the moves of each state begin, and where the last one's end.
-pub const INDEX_LENGTH: usize = STATES_LENGTH + 1;
-
-// One place for each move.
-pub const MOVES_LENGTH: usize = STEP_LIMIT as usize;
-
 // One place for each action and class.
-const MARKS_LENGTH: usize = ACTION_LIMIT as usize * STATES_LENGTH;
-
-// One place for each two states.
-pub const TABLE_LENGTH: usize = STATES_LENGTH * STATES_LENGTH;
+const MARKS_LENGTH: usize = ACTION_LIMIT as usize * ROW;
 
 // A number of a list as a place.
 fn wide(x: u16) -> usize
@@ -43,7 +33,7 @@ fn wide(x: u16) -> usize
 }
 
 // The lowest state of the class of p.
-fn class_of(class: &[u16; STATES_LENGTH], p: State) -> State
+fn class_of(class: &[u16; ROW], p: State) -> State
     requires { ⌜ p .0 < stateLimit ⌝ }
     ensures { λ r. ⌜ r .0 ≡ getD (now (class .entry)) (p .0) 0 ⌝ }
 {
@@ -73,7 +63,7 @@ fn moves_to(first: &[u16; INDEX_LENGTH], p: State) -> usize
 fn move_mark(
     actions: &[u16; MOVES_LENGTH],
     targets: &[u16; MOVES_LENGTH],
-    class: &[u16; STATES_LENGTH],
+    class: &[u16; ROW],
     i: usize,
 ) -> usize
     requires { ⌜ MoveAt (now actions) (now targets) (now class) i ⌝ }
@@ -81,7 +71,7 @@ fn move_mark(
     ensures { λ r. ⌜ r ≡ moveMark (now (actions .entry)) (now (targets .entry)) (now (class .entry)) i ⌝ }
 {
     let c = class_of(class, State(targets[i]));
-    STATES_LENGTH * wide(actions[i]) + wide(c.0)
+    ROW * wide(actions[i]) + wide(c.0)
 }
 
 // Gives the marks of the moves of p the value.
@@ -90,7 +80,7 @@ fn mark(
     first: &[u16; INDEX_LENGTH],
     actions: &[u16; MOVES_LENGTH],
     targets: &[u16; MOVES_LENGTH],
-    class: &[u16; STATES_LENGTH],
+    class: &[u16; ROW],
     p: State,
     value: u8,
     marks: &mut [u8],
@@ -118,7 +108,7 @@ fn all_marked(
     first: &[u16; INDEX_LENGTH],
     actions: &[u16; MOVES_LENGTH],
     targets: &[u16; MOVES_LENGTH],
-    class: &[u16; STATES_LENGTH],
+    class: &[u16; ROW],
     p: State,
     marks: &[u8],
 ) -> bool
@@ -148,7 +138,7 @@ fn answered(
     first: &[u16; INDEX_LENGTH],
     actions: &[u16; MOVES_LENGTH],
     targets: &[u16; MOVES_LENGTH],
-    class: &[u16; STATES_LENGTH],
+    class: &[u16; ROW],
     p: State,
     q: State,
     marks: &mut [u8],
@@ -174,7 +164,7 @@ fn answers(
     first: &[u16; INDEX_LENGTH],
     actions: &[u16; MOVES_LENGTH],
     targets: &[u16; MOVES_LENGTH],
-    class: &[u16; STATES_LENGTH],
+    class: &[u16; ROW],
     p: State,
     q: State,
     marks: &mut [u8],
@@ -200,8 +190,8 @@ fn joins(
     first: &[u16; INDEX_LENGTH],
     actions: &[u16; MOVES_LENGTH],
     targets: &[u16; MOVES_LENGTH],
-    class: &[u16; STATES_LENGTH],
-    next: &[u16; STATES_LENGTH],
+    class: &[u16; ROW],
+    next: &[u16; ROW],
     p: State,
     q: State,
     marks: &mut [u8],
@@ -233,8 +223,8 @@ fn lowest(
     first: &[u16; INDEX_LENGTH],
     actions: &[u16; MOVES_LENGTH],
     targets: &[u16; MOVES_LENGTH],
-    class: &[u16; STATES_LENGTH],
-    next: &[u16; STATES_LENGTH],
+    class: &[u16; ROW],
+    next: &[u16; ROW],
     p: State,
     marks: &mut [u8],
 ) -> State
@@ -264,9 +254,9 @@ fn refine(
     first: &[u16; INDEX_LENGTH],
     actions: &[u16; MOVES_LENGTH],
     targets: &[u16; MOVES_LENGTH],
-    class: &[u16; STATES_LENGTH],
+    class: &[u16; ROW],
     marks: &mut [u8],
-) -> [u16; STATES_LENGTH]
+) -> [u16; ROW]
     requires { ⌜ MoveList n (now first) (now actions) (now targets) ⌝ }
     requires { ⌜ Refinable (Listed n (now first) (now actions) (now targets)) n (now class) ⌝ }
     requires { ⌜ Unmarked (now marks) ⌝ }
@@ -274,7 +264,7 @@ fn refine(
         (now (class .entry)) r n ⌝ }
     ensures { λ r. ⌜ Unmarked (now (marks .exit)) ⌝ }
 {
-    let mut next = [0u16; STATES_LENGTH];
+    let mut next = [0u16; ROW];
     let mut p = 0;
     while p < n {
         let d = lowest(n, first, actions, targets, class, &next, State(p), marks);
@@ -288,8 +278,8 @@ fn refine(
 // Writes the round for p and q both ways, if it separates them.
 fn write_pair(
     table: &mut [u8],
-    class: &[u16; STATES_LENGTH],
-    next: &[u16; STATES_LENGTH],
+    class: &[u16; ROW],
+    next: &[u16; ROW],
     round: u8,
     p: State,
     q: State,
@@ -312,19 +302,12 @@ fn write_pair(
     }
     let x = p.0 as usize;
     let y = q.0 as usize;
-    table[STATES_LENGTH * x + y] = round;
-    table[STATES_LENGTH * y + x] = round;
+    table[ROW * x + y] = round;
+    table[ROW * y + x] = round;
 }
 
 // Writes the round for p and each state that it separates from p.
-fn write_row(
-    table: &mut [u8],
-    class: &[u16; STATES_LENGTH],
-    next: &[u16; STATES_LENGTH],
-    round: u8,
-    n: u16,
-    p: State,
-)
+fn write_row(table: &mut [u8], class: &[u16; ROW], next: &[u16; ROW], round: u8, n: u16, p: State)
     requires { ⌜ tableLength ≤ length (now table) ⌝ }
     requires { ⌜ (n ≤ stateLimit) × (p .0 < n) ⌝ }
     ensures { λ _. ⌜ Written n (now (class .entry)) (now (next .entry)) round (now (table .entry))
@@ -341,8 +324,8 @@ fn write_row(
 // Writes the row of p, if p has left its class.
 fn write_moved(
     table: &mut [u8],
-    class: &[u16; STATES_LENGTH],
-    next: &[u16; STATES_LENGTH],
+    class: &[u16; ROW],
+    next: &[u16; ROW],
     round: u8,
     n: u16,
     p: State,
@@ -367,13 +350,7 @@ fn write_moved(
 }
 
 // Writes the round for each pair that it separates. Answers whether there is one.
-fn separate(
-    table: &mut [u8],
-    class: &[u16; STATES_LENGTH],
-    next: &[u16; STATES_LENGTH],
-    round: u8,
-    n: u16,
-) -> bool
+fn separate(table: &mut [u8], class: &[u16; ROW], next: &[u16; ROW], round: u8, n: u16) -> bool
     requires { ⌜ tableLength ≤ length (now table) ⌝ }
     requires { ⌜ n ≤ stateLimit ⌝ }
     ensures { λ r. ⌜ Written n (now (class .entry)) (now (next .entry)) round (now (table .entry))
@@ -414,7 +391,7 @@ fn rounds(
     ensures { λ r. ⌜ Finished (Listed n (now (first .entry)) (now (actions .entry)) (now (targets .entry))) n r
         (now (table .entry)) (now (table .exit)) ⌝ }
 {
-    let mut class = [0u16; STATES_LENGTH];
+    let mut class = [0u16; ROW];
     let mut marks = [0u8; MARKS_LENGTH];
     let mut k = 0;
     let last = loop {

@@ -4,39 +4,40 @@ use mathlib.Core.List.{List, []}
 use mathlib.Core.Path.{_≡_, refl, sym, subst}
 use Prim.Native.Nat.{ℕ, _≤_, _<_}
 use lib.ListN.{length}
-use Rattle.read.specs.declared.read.ReadAnswer.{ReadAnswer}
-use Rattle.read.specs.declared.read.ReadAnswer.the-variants as read
+use Rattle.reader.specs.declared.answers.ReadAnswer.{ReadAnswer}
+use Rattle.reader.specs.declared.answers.ReadAnswer.the-variants as read
 use Rattle.text.specs.Limits.{storeLength}
-use Rattle.text.specs.Lists.{distancesLength, tableLength, wordLength}
+use Rattle.text.specs.Limits.{distancesLength, tableLength, wordLength}
 use Rattle.text.specs.Faults.{answers}
 use Rattle.text.specs.Laws.OutcomeLaws.{answers-not-refuses}
 use Rattle.text.specs.Model.{Model}
 use Rattle.model.specs.Store.{Good}
 use Rattle.model.specs.StoredModel.{modelAt}
-use Rattle.read.specs.Promises.{readOutcome, ReadPromise, ReadCause}
+use Rattle.read_write.specs.ReadPromise.{readOutcome, ReadPromise, ReadCause}
 use Rattle.text.specs.Laws.ListsLaws.{past-refl}
 use Rattle.model.specs.Laws.Store.StoredModelLaws.{good-of-holds}
-use Rattle.judge.specs.declared.judge.Verdict.{Verdict}
+use Rattle.verdicts.specs.declared.judging.Verdict.{Verdict}
 use Rattle.judge.specs.declared.judge.JudgeAnswer.the-variants as judge
-use Rattle.judge.specs.Inner.Judging.{Judging}
-use Rattle.judge.specs.Promises.{judgeOutcome, Filled}
-use Rattle.judge.specs.Laws.JudgeLaws.{judge-second-short, judge-third-short, judge-done}
-use Rattle.word.specs.declared.word.WordAnswer.{WordAnswer}
-use Rattle.word.specs.declared.word.WordAnswer.the-variants.{ShortList}
+use Rattle.verdicts.specs.Inner.Judging.{Judging}
+use Rattle.judge.specs.JudgePromise.{judgeOutcome}
+use Rattle.verdicts.specs.JudgeFilled.{JudgeFilled}
+use Rattle.judge.specs.Laws.JudgePromiseLaws.{judge-second-short, judge-third-short, judge-done}
+use Rattle.letters.specs.declared.word.WordAnswer.{WordAnswer}
+use Rattle.letters.specs.declared.word.WordAnswer.the-variants.{ShortList}
 use Rattle.tell.specs.declared.tell.TextAnswer.{TextAnswer}
 use Rattle.tell.specs.declared.tell.TextAnswer.the-variants.{Unread, Judged}
 use Rattle.tell.specs.Inner.Telling.{JudgedThenShown, TextJudged}
-use Rattle.word.specs.Promises.{wordOutcome, WordDone}
-use Rattle.word.specs.Laws.ShowableLaws.{distances-long, table-long}
+use Rattle.letters.specs.WordDone.{wordOutcome, WordDone}
+use Rattle.letters.specs.Laws.ShowableLaws.{distances-long, table-long}
 use Rattle.tell.specs.Promises.{TellPromise, TellClaim}
 use Rattle.tell.specs.Laws.ReadTextLaws.{read-exit-long, read-states, read-holds, read↔States}
 use Rattle.tell.specs.Laws.ClaimLaws.{claim-holds}
-use Rattle.word.proofs.WordAnswers.{short-distances-promised, short-table-promised, short-word-promised}
-use Rattle.word.proofs.WordAnswers.{done-promised}
+use Rattle.judge.proofs.WordAnswers.{short-distances-promised, short-table-promised, short-word-promised}
+use Rattle.judge.proofs.WordAnswers.{done-promised}
 
 -- filled lists are filled again by what they hold
-filled-again : {m : Model} {distances table distances′ table′ : List ℕ} → Filled m distances table distances′ table′
-    → Filled m distances′ table′ distances′ table′
+filled-again : {m : Model} {distances table distances′ table′ : List ℕ} → JudgeFilled m distances table distances′ table′
+    → JudgeFilled m distances′ table′ distances′ table′
 filled-again f = record {
   distances-filled = record { list = f .distances-filled .list; past = past-refl _ };
   ranks = f .ranks;

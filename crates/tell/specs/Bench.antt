@@ -8,11 +8,11 @@ use Rattle.lts.specs.Noninterference.{thin, SameLow}
 use Rattle.text.specs.Model.{Model}
 use Rattle.model.specs.Reading.{done, readText}
 use Rattle.model.specs.System.{source, target, levels, Steps, ReachableIn, DeterministicModel}
-use Rattle.judge.specs.declared.judge.Verdict.{Verdict}
-use Rattle.judge.specs.declared.judge.Verdict.the-variants.{Passed, Refused}
-use Rattle.judge.specs.Verdicts.{Judged}
-use Rattle.word.specs.declared.word.End.the-variants.{Source, Target}
-use Rattle.word.specs.Words.{FirstBranch, WordOf}
+use Rattle.verdicts.specs.declared.judging.Verdict.{Verdict}
+use Rattle.verdicts.specs.declared.judging.Verdict.the-variants.{Passed, Refused}
+use Rattle.verdicts.specs.Verdicts.{Judged}
+use Rattle.letters.specs.declared.word.End.the-variants.{Source, Target}
+use Rattle.letters.specs.Words.{FirstBranch, WordOf}
 use Rattle.tell.specs.BenchModels.{scan, print, close}
 use Rattle.tell.specs.BenchModels.{worked, workedText, scannedOnce, scannedOnceText, released, releasedText}
 use Rattle.tell.specs.BenchModels.{closeLow, closeLowText, branching, branchingText, noSteps, noStepsText}

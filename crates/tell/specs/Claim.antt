@@ -21,8 +21,8 @@ use Rattle.text.specs.Model.{Model}
 use Rattle.model.specs.System.{source, target, levels, Steps, Start, HighStep, DeterministicModel}
 use Rattle.model.specs.Text.{textOf}
 use Rattle.model.specs.WellFormed.{WellFormed}
-use Rattle.word.specs.declared.word.End.{End}
-use Rattle.word.specs.Words.{endNumber, endState, otherState}
+use Rattle.letters.specs.declared.word.End.{End}
+use Rattle.letters.specs.Words.{endNumber, endState, otherState}
 
 -- The text has no fault that is listed for Read: it states the model m, line by line. `states↔readText` shows that the
 -- reading, which tests fault by fault, then finds none; such a text has at most 14,420 bytes (`textOf-length-le`).

@@ -5,12 +5,13 @@ use mathlib.Core.List.{List, []}
 use mathlib.Core.Path.{_≡_}
 use Prim.Native.Nat.{ℕ}
 use Rattle.text.specs.Faults.{Outcome, answers}
-use Rattle.read.specs.declared.read.ReadAnswer.{ReadAnswer}
-use Rattle.read.specs.Promises.{readOutcome, ReadPromise, ReadCause}
-use Rattle.judge.specs.Promises.{judgeOutcome, JudgePromise}
+use Rattle.reader.specs.declared.answers.ReadAnswer.{ReadAnswer}
+use Rattle.read_write.specs.ReadPromise.{readOutcome, ReadPromise, ReadCause}
+use Rattle.judge.specs.JudgePromise.{judgeOutcome, JudgePromise}
 use Rattle.tell.specs.declared.tell.TextAnswer.{TextAnswer}
 use Rattle.tell.specs.declared.tell.TextAnswer.the-variants.{Unread, Judged}
-use Rattle.word.specs.Promises.{wordOutcome, WordPromise}
+use Rattle.letters.specs.WordDone.{wordOutcome}
+use Rattle.judge.specs.WordPromise.{WordPromise}
 use Rattle.tell.specs.Claim.{Claim}
 
 -- Where Read refuses, with its cause, the other two are not called.

@@ -1,12 +1,12 @@
 // From a text to what is told of it.
 use judge::judge::JudgeAnswer;
-use judge::rank::TABLE_LENGTH;
-use reach::INDEX_LENGTH;
-use reach::ROLES_LENGTH;
-use reach::reach::DISTANCES_LENGTH;
-use read::read::ReadAnswer;
-use word::word::WORD_LENGTH;
-use word::word::WordAnswer;
+use letters::word::WordAnswer;
+use reader::answers::ReadAnswer;
+use text::limits::DISTANCES_LENGTH;
+use text::limits::INDEX_LENGTH;
+use text::limits::ROLES_LENGTH;
+use text::limits::TABLE_LENGTH;
+use text::limits::WORD_LENGTH;
 ghost use Prim.Native.Nat.{_≤_};
 ghost use lib.ListN.{length};
 ghost use Rattle.text.specs.Limits.{storeLength};
@@ -39,11 +39,11 @@ fn judge_text(
     }
     let mut begins = [0u16; INDEX_LENGTH];
     let mut roles = [0u16; ROLES_LENGTH];
-    let v = judge::judge::judge_good(store, &mut begins, &mut roles, distances, table);
+    let v = verdicts::judging::judge_good(store, &mut begins, &mut roles, distances, table);
     if word.len() < WORD_LENGTH {
         return TextAnswer::Judged(JudgeAnswer::Judged(v), WordAnswer::ShortList(4));
     }
-    let shown = word::word::show(store, &begins, &roles, distances, table, v, word);
+    let shown = letters::word::show(store, &begins, &roles, distances, table, v, word);
     TextAnswer::Judged(JudgeAnswer::Judged(v), shown)
 }
 
@@ -59,7 +59,7 @@ pub fn tell(
         (now (word .entry)) r (now (store .exit)) (now (distances .exit)) (now (table .exit)) (now (word .exit)) ⌝ }
     ensures { λ r. ⌜ TellClaim (now (text .entry)) r (now (word .exit)) ⌝ }
 {
-    let read = read::read::read(text, store);
+    let read = read_write::read::read(text, store);
     match read {
         ReadAnswer::Done => judge_text(store, distances, table, word),
         _ => TextAnswer::Unread(read),

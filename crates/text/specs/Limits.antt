@@ -38,3 +38,34 @@ namePlace i = actionPlace i + 2
 -- "Step j from 900 + 3j: source, action, target"
 abbrev pub stepPlace : ℕ → ℕ
 stepPlace j = 900 + 3 * j
+
+-- "distances 128"
+abbrev pub distancesLength : ℕ
+distancesLength = 128
+
+-- "table 16,384 bytes. Entry 128p + q is the rank of p and q"
+abbrev pub tableLength : ℕ
+tableLength = 16384
+
+abbrev pub pairPlace : ℕ → ℕ → ℕ
+pairPlace p q = 128 * p + q
+
+-- "run 127"
+abbrev pub runLength : ℕ
+runLength = 127
+
+-- "word 127"
+abbrev pub wordLength : ℕ
+wordLength = 127
+
+-- "out 5,000 bytes" of Page
+abbrev pub pageLength : ℕ
+pageLength = 5000
+
+-- "65,535 for unreachable and unused places"
+abbrev pub unreachable : ℕ
+unreachable = 65535
+
+-- The places of `first`: one for each state, and one more.
+abbrev pub indexLength : ℕ
+indexLength = stateLimit + 1

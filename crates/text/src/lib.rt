@@ -1,20 +1,13 @@
 // The lines and fields of the text of a till model, and the numbers that they state.
+
 pub mod bytes;
+pub mod limits;
 pub mod line;
 pub mod number;
 pub mod scan;
 
 ghost use mathlib.Core.Path.{_≡_};
 ghost use Rattle.text.specs.Faults.{faultNumber};
-
-// The limits of line 1, and of a name.
-pub const STATE_LIMIT: u16 = 128;
-
-pub const ACTION_LIMIT: u16 = 64;
-
-pub const STEP_LIMIT: u16 = 1024;
-
-pub const NAME_LIMIT: u16 = 12;
 
 // A state number never stands where an action number or a step number is meant.
 pub struct State(pub u16);

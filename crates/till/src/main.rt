@@ -1,18 +1,18 @@
 // Standard input to standard output: the page of a text, or the line that says why it is not read.
-use judge::rank::TABLE_LENGTH;
 use libc::STDIN_FILENO;
 use libc::STDOUT_FILENO;
-use model::store::STORE_LENGTH;
-use page::page::PAGE_LENGTH;
-use print::print::PrintAnswer;
-use reach::reach::DISTANCES_LENGTH;
-use reach::run::RUN_LENGTH;
-use word::word::WORD_LENGTH;
+use page::print::PrintAnswer;
+use text::limits::DISTANCES_LENGTH;
+use text::limits::PAGE_LENGTH;
+use text::limits::RUN_LENGTH;
+use text::limits::STORE_LENGTH;
+use text::limits::TABLE_LENGTH;
+use text::limits::WORD_LENGTH;
 ghost use Prim.Native.Nat.{_≤_};
 ghost use lib.ListN.{length, take};
 ghost use Rattle.io.specs.Counts.{Counts};
-ghost use Rattle.text.specs.Lists.{pageLength};
-ghost use Rattle.print.specs.Prints.{Prints};
+ghost use Rattle.text.specs.Limits.{pageLength};
+ghost use Rattle.page.specs.Prints.{Prints};
 
 // Puts what is printed of a text at the front of `out`, and answers how many bytes that is; 0 if `out` is shorter than
 // a page may need. The other lists are long enough for any text.
@@ -26,7 +26,7 @@ fn print(text: &[u8], out: &mut [u8]) -> usize
     let mut table = [0u8; TABLE_LENGTH];
     let mut run = [0u16; RUN_LENGTH];
     let mut word = [0u16; WORD_LENGTH];
-    let answer = print::print::print(
+    let answer = page::print::print(
         text,
         &mut store,
         &mut distances,

@@ -1,30 +1,32 @@
 // The operations for callers in C and Rust. Each has the promise of the operation that it calls, of what its answer
 // tells; the rest of the answer is 0.
 use judge::judge::JudgeAnswer;
-use judge::judge::Verdict;
 use judge::rank::RankAnswer;
+use judge::reach::ReachAnswer;
+use judge::run::RunAnswer;
+use letters::word::End;
+use letters::word::WordAnswer;
 use page::page::PageAnswer;
-use print::print::PrintAnswer;
-use reach::reach::ReachAnswer;
-use reach::run::RunAnswer;
-use read::read::ReadAnswer;
+use page::print::PrintAnswer;
+use read_write::write::WriteAnswer;
+use reader::answers::ReadAnswer;
 use text::Fault;
 use text::State;
-use word::word::End;
-use word::word::WordAnswer;
-use write::write::WriteAnswer;
+use verdicts::judging::Verdict;
 ghost use mathlib.Core.Path.{_≡_};
 ghost use mathlib.Core.List.{[], _∷_};
 ghost use Rattle.text.specs.Faults.{answers, refuses, faultNumber};
-ghost use Rattle.read.specs.Promises.{ReadPromise};
-ghost use Rattle.write.specs.Promises.{WritePromise};
-ghost use Rattle.reach.specs.Promises.{ReachPromise, RunPromise};
-ghost use Rattle.judge.specs.Promises.{RankPromise, JudgePromise, verdictOutcome};
-ghost use Rattle.word.specs.Words.{endNumber};
-ghost use Rattle.word.specs.Promises.{WordPromise};
-ghost use Rattle.page.specs.Promises.{PagePromise};
-ghost use Rattle.print.specs.Promises.{PrintPromise};
-ghost use Rattle.print.specs.Claim.{PrintClaim};
+ghost use Rattle.read_write.specs.ReadPromise.{ReadPromise};
+ghost use Rattle.read_write.specs.WritePromise.{WritePromise};
+ghost use Rattle.judge.specs.ReachPromise.{ReachPromise};
+ghost use Rattle.judge.specs.RunPromise.{RunPromise};
+ghost use Rattle.judge.specs.RankPromise.{RankPromise};
+ghost use Rattle.judge.specs.JudgePromise.{JudgePromise, verdictOutcome};
+ghost use Rattle.letters.specs.Words.{endNumber};
+ghost use Rattle.judge.specs.WordPromise.{WordPromise};
+ghost use Rattle.page.specs.PagePromise.{PagePromise};
+ghost use Rattle.page.specs.PrintPromise.{PrintPromise};
+ghost use Rattle.page.specs.Claim.{PrintClaim};
 ghost use Rattle.till_c.specs.Answer.{answerOutcome, Plain, Tells};
 
 // Number 0 with `count` values, or a refusal's number with its place; what is not told is 0.
@@ -123,7 +125,7 @@ pub extern "C" fn till_read(text: &[u8], store: &mut [u16]) -> TillAnswer
     ensures { λ r. ⌜ ReadPromise (now (text .entry)) (now (store .entry)) (answerOutcome r) (now (store .exit)) ⌝ }
     ensures { λ r. ⌜ Plain r ⌝ }
 {
-    let answer = read::read::read(text, store);
+    let answer = read_write::read::read(text, store);
     match answer {
         ReadAnswer::Done => done(),
         ReadAnswer::ShortList(place) => refusal(21, place),
@@ -137,7 +139,7 @@ pub extern "C" fn till_write(store: &[u16], out: &mut [u8]) -> TillAnswer
     ensures { λ r. ⌜ WritePromise (now (store .entry)) (now (out .entry)) (answerOutcome r) (now (out .exit)) ⌝ }
     ensures { λ r. ⌜ Plain r ⌝ }
 {
-    let answer = write::write::write(store, out);
+    let answer = read_write::write::write(store, out);
     match answer {
         WriteAnswer::Written(length) => value(length),
         WriteAnswer::ShortList(place) => refusal(21, place),
@@ -151,7 +153,7 @@ pub extern "C" fn till_reach(store: &[u16], distances: &mut [u16]) -> TillAnswer
         (now (distances .exit)) ⌝ }
     ensures { λ r. ⌜ Plain r ⌝ }
 {
-    let answer = reach::reach::reach(store, distances);
+    let answer = judge::reach::reach(store, distances);
     match answer {
         ReachAnswer::Done => done(),
         ReachAnswer::ShortList(place) => refusal(21, place),
@@ -197,7 +199,7 @@ pub extern "C" fn till_run(
         (now (distances .exit)) (now (run .exit)) ⌝ }
     ensures { λ r. ⌜ Plain r ⌝ }
 {
-    let answer = reach::run::run(store, distances, run, State(state));
+    let answer = judge::run::run(store, distances, run, State(state));
     match answer {
         RunAnswer::Filled(length) => value(length),
         RunAnswer::ShortList(place) => refusal(21, place),
@@ -218,7 +220,7 @@ pub extern "C" fn till_word(
         (answerOutcome r) (now (distances .exit)) (now (table .exit)) (now (word .exit)) ⌝ }
     ensures { λ r. ⌜ Plain r ⌝ }
 {
-    let answer = word::word::word(store, distances, table, word);
+    let answer = judge::word::word(store, distances, table, word);
     match answer {
         WordAnswer::Shown(length, end) => shown(length, end),
         WordAnswer::ShortList(place) => refusal(21, place),
@@ -266,7 +268,7 @@ pub extern "C" fn till_print(
     ensures { λ r. ⌜ PrintClaim (now (text .entry)) (answerOutcome r) (now (word .exit)) (now (out .exit)) ⌝ }
     ensures { λ r. ⌜ Plain r ⌝ }
 {
-    let answer = print::print::print(text, store, distances, table, run, word, out);
+    let answer = page::print::print(text, store, distances, table, run, word, out);
     match answer {
         PrintAnswer::Printed(length) => value(length),
         PrintAnswer::ShortList(place) => refusal(21, place),

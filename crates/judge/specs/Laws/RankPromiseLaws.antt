@@ -6,7 +6,7 @@ use Prim.Native.Nat.{ℕ}
 use Rattle.text.specs.Faults.{Outcome, answers}
 use Rattle.model.specs.Laws.OnStoreLaws.{onStore-unique}
 use Rattle.model.specs.System.{LowStep}
-use Rattle.judge.specs.Promises.{RankPromise}
+use Rattle.judge.specs.RankPromise.{RankPromise}
 use Rattle.ranking.specs.Laws.RankedLaws.{ranked-unique}
 
 pub rankPromise-unique : (store table : List ℕ) (outcome outcome′ : Outcome) (exit exit′ : List ℕ)

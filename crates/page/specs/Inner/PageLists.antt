@@ -8,11 +8,11 @@ use Prim.Native.Nat.{ℕ, _≤_, _<_}
 use lib.ListN.{length}
 use Rattle.text.specs.Faults.{answers, firstShort}
 use Rattle.text.specs.Limits.{storeLength}
-use Rattle.text.specs.Lists.{distancesLength, tableLength, runLength, wordLength, pageLength}
+use Rattle.text.specs.Limits.{distancesLength, tableLength, runLength, wordLength, pageLength}
 use Rattle.text.specs.Model.{Model}
 use Rattle.model.specs.Store.{Good}
-use Rattle.judge.specs.Promises.{Filled}
-use Rattle.page.specs.Promises.{pageLeast, PagePrinted}
+use Rattle.verdicts.specs.JudgeFilled.{JudgeFilled}
+use Rattle.page.specs.PagePromise.{pageLeast, PagePrinted}
 
 -- Lengths that are the least or more.
 pub record LongLengths (store distances table run word out : ℕ) : Type 0 where
@@ -42,5 +42,5 @@ pub record PageLists (store distances table run word out : List ℕ) : Type 0 wh
 -- The page has n bytes.
 pub record PageMade (m : Model) (n : ℕ) (distances table run word out distances′ table′ run′ word′ out′ : List ℕ)
     : Type 0 where
-  pub filled : Filled m distances table distances′ table′
+  pub filled : JudgeFilled m distances table distances′ table′
   pub printed : PagePrinted m (answers (n ∷ [])) run word out run′ word′ out′

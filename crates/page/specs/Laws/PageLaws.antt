@@ -1,63 +1,19 @@
--- The lines of the page one after the other, and the page in its list.
--- Document 01, "The page" and operation 7. Assumes nothing.
-use mathlib.Core.List.{List, [], _∷_, _++_}
-use mathlib.Core.Path.{_≡_, refl, sym, ap}
-use Prim.Native.Nat.{ℕ, _+_, _*_, _≤_}
+-- The page in its list.
+-- Document 01, operation 7. Assumes nothing.
+use mathlib.Core.List.{List, [], _∷_}
+use mathlib.Core.Path.{ap}
+use Prim.Native.Nat.{ℕ, _≤_}
 use native.Mathlib.Omega.{arith}
 use lib.ListN.{length}
 use Rattle.text.specs.Faults.{answers}
-use Rattle.text.specs.Limits.{stateLimit}
-use Rattle.text.specs.Lists.{pageLength}
+use Rattle.text.specs.Limits.{pageLength}
 use Rattle.text.specs.Model.{Model}
-use Rattle.write.specs.Wrote.{Wrote}
-use Rattle.write.specs.Laws.WroteLaws.{wrote-start}
-use Rattle.judge.specs.declared.judge.Verdict.{Verdict}
-use Rattle.judge.specs.Inner.ModelLists.{ModelLists}
-use Rattle.judge.specs.Verdicts.{Judged}
-use Rattle.page.specs.PageLines.{verdict-line, last-line, lineBytes}
-use Rattle.page.specs.Page.{StateLines, AfterStates, PageOf}
-use Rattle.page.specs.Promises.{PagePrinted}
-use Rattle.page.specs.Inner.Entries.{ListsOf}
-use Rattle.page.specs.Inner.LinesWritten.{LinesWritten}
-use Rattle.page.specs.Inner.Room.{verdictRoom, stateRoom, leakRoom}
-use Rattle.page.specs.Laws.PageLinesLaws.{verdict-length-le, last-length}
-use Rattle.page.specs.Laws.LinesWrittenLaws.{written-line, written-exact, written-both, written-of}
-
-pub listsOf : {m : Model} {store roles distances table : List ℕ} → ModelLists m store roles distances table
-    → ListsOf m store distances table
-listsOf x = record {
-  stored = x .stored;
-  distances-length = x .distances-length;
-  distances-are = x .distances-are;
-  table-length = x .table-length;
-  ranks = x .ranks;
-}
+use Rattle.writer.specs.Laws.WroteLaws.{wrote-start}
+use Rattle.lines.specs.Page.{PageOf}
+use Rattle.page.specs.PagePromise.{PagePrinted}
+use Rattle.lines.specs.Inner.LinesWritten.{LinesWritten}
 
 module _ {m : Model} {run word run′ word′ : List ℕ} where
-  -- 21 bytes, 14 per state, 2,930, and 2 for `E`: the page fits its list
-  pub page-written : (v : Verdict) {a b c d : ℕ} {out out₁ out₂ out₃ out₄ : List ℕ} → m .head .states ≤ stateLimit
-      → Judged m v → Wrote out 0 (lineBytes (verdict-line v)) out₁ a
-      → LinesWritten (StateLines m (m .head .states)) (stateRoom * m .head .states) out₁ a out₂ b
-      → LinesWritten (AfterStates m v run word run′ word′) leakRoom out₂ b out₃ c
-      → Wrote out₃ c (lineBytes last-line) out₄ d
-      → LinesWritten (PageOf m run word run′ word′) pageLength out 0 out₄ d
-  page-written v few judged first states after last =
-      let whole = written-both (written-both
-      (written-both (written-line {P = _≡_ (verdict-line v ∷ [])} {room = verdictRoom} (verdict-line v) refl
-      (verdict-length-le v) first)
-      (written-exact states)) (written-exact after))
-      (written-line {P = _≡_ (last-line ∷ [])} {room = 2} last-line refl (omega (arith, last-length)) last) in
-      written-of
-      (λ zs (e : (verdict-line v ∷ []) ++ states .lines ++ after .lines ++ (last-line ∷ []) ≡ zs). record {
-        verdict = v;
-        judged = judged;
-        states = states .lines;
-        state-lines = states .holds;
-        after = after .lines;
-        after-states = after .holds;
-        lines-are = sym e;
-      }) (omega (arith, few)) whole
-
   pub page-printed : {n : ℕ} {out out′ : List ℕ} → pageLength ≤ length out
       → LinesWritten (PageOf m run word run′ word′) pageLength out 0 out′ n
       → PagePrinted m (answers (n ∷ [])) run word out run′ word′ out′

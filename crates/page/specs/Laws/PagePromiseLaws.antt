@@ -15,20 +15,20 @@ use Rattle.text.specs.Laws.OutcomeLaws.{injective-of-inverse}
 use Rattle.text.specs.Model.{Model}
 use Rattle.model.specs.Laws.OnStoreLaws.{onStore-unique}
 use Rattle.model.specs.System.{Steps, Start}
-use Rattle.judge.specs.declared.judge.Verdict.{Verdict}
-use Rattle.judge.specs.declared.judge.Verdict.the-variants.{Passed, Refused}
-use Rattle.judge.specs.Laws.JudgeLaws.{filled-unique}
-use Rattle.reach.specs.Laws.ReachLaws.{good-stored}
-use Rattle.reach.specs.Laws.RunsLaws.{runTo-unique}
-use Rattle.judge.specs.Laws.VerdictsLaws.{judged-unique}
-use Rattle.word.specs.declared.word.End.{End}
-use Rattle.word.specs.Laws.WordPromiseLaws.{wordOf-unique}
-use Rattle.page.specs.PageLines.{PageLine, verdict-line, run-line, end-line, last-line, pageBytes}
-use Rattle.page.specs.Page.{DistanceField, unreached, reached, ClassOf, StateLines, no-state, next-state}
-use Rattle.page.specs.Page.{nameLine, LeakShown, by-word, by-branch, AfterStates, PageOf}
+use Rattle.verdicts.specs.declared.judging.Verdict.{Verdict}
+use Rattle.verdicts.specs.declared.judging.Verdict.the-variants.{Passed, Refused}
+use Rattle.verdicts.specs.Laws.JudgeFilledLaws.{filled-unique}
+use Rattle.model.specs.Laws.System.GoodStoredLaws.{good-stored}
+use Rattle.distances.specs.Laws.RunsLaws.{runTo-unique}
+use Rattle.verdicts.specs.Laws.VerdictsLaws.{judged-unique}
+use Rattle.letters.specs.declared.word.End.{End}
+use Rattle.letters.specs.Laws.WordDoneLaws.{wordOf-unique}
+use Rattle.lines.specs.PageLines.{PageLine, verdict-line, run-line, end-line, last-line, pageBytes}
+use Rattle.lines.specs.Page.{DistanceField, unreached, reached, ClassOf, StateLines, no-state, next-state}
+use Rattle.lines.specs.Page.{nameLine, LeakShown, by-word, by-branch, AfterStates, PageOf}
 use Rattle.page.specs.declared.page.PageAnswer.{PageAnswer}
 use Rattle.page.specs.declared.page.PageAnswer.the-variants.{Printed, ShortList, NotGood}
-use Rattle.page.specs.Promises.{pageOutcome, PagePrinted, PagePromise}
+use Rattle.page.specs.PagePromise.{pageOutcome, PagePrinted, PagePromise}
 
 -- ---- the `C` lines
 

@@ -8,7 +8,7 @@ use lib.ListN.{getD}
 use Rattle.lts.specs.Alike.{Moves, Alike, Separated}
 use Rattle.lts.specs.Game.{Settled, Separates}
 use Rattle.text.specs.Limits.{stateLimit}
-use Rattle.text.specs.Lists.{pairPlace}
+use Rattle.text.specs.Limits.{pairPlace}
 use Rattle.ranking.specs.Inner.ClassList.{Same}
 
 -- "Entry 128p + q"

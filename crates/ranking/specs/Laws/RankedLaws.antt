@@ -13,7 +13,8 @@ use Rattle.lts.specs.AlikeLaws.{rank-unique}
 use Rattle.lts.specs.AgreeLaws.{separated-same, rank-same}
 use Rattle.lts.specs.TestsLaws.{lt-or-le}
 use Rattle.text.specs.Limits.{stateLimit}
-use Rattle.text.specs.Lists.{tableLength, pairPlace, Past}
+use Rattle.text.specs.Limits.{tableLength, pairPlace}
+use Rattle.text.specs.Lists.{Past}
 use Rattle.text.specs.Laws.ListsLaws.{past-getD}
 use Rattle.ranking.specs.MoveList.{Listed, MoveList, Lists}
 use Rattle.ranking.specs.Table.{SomePair, Ranks, LastRound, Greatest, Ranked}

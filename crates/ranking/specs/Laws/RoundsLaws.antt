@@ -15,20 +15,14 @@ use Rattle.lts.specs.AlikeLaws.{alike-suc, bisimilar-refl, rank-of-separated}
 use Rattle.lts.specs.Game.{Game, Settled, Separates}
 use Rattle.lts.specs.GameLaws.{separated-of-separates, bisimilar-of-settled, rank-le-settled}
 use Rattle.text.specs.Limits.{stateLimit}
-use Rattle.text.specs.Lists.{tableLength, pairPlace, Past}
+use Rattle.text.specs.Limits.{tableLength, pairPlace}
+use Rattle.text.specs.Lists.{Past}
 use Rattle.text.specs.Inner.Clearing.{Cleared}
 use Rattle.text.specs.Laws.ListsLaws.{past-getD}
 use Rattle.ranking.specs.Table.{SomePair, Ranked}
 use Rattle.ranking.specs.Inner.ClassList.{Classes, Refined, Moved}
 use Rattle.ranking.specs.Laws.ClassListLaws.{classes-suc, separates-of-moved, settled-of-not-moved}
-use Rattle.ranking.specs.Inner.TableWrites.{
-  entryOf,
-  Written,
-  RowsWritten,
-  RankUpTo,
-  RanksUpTo,
-  Finished,
-}
+use Rattle.ranking.specs.Inner.TableWrites.{entryOf, Written, RowsWritten, RankUpTo, RanksUpTo, Finished}
 use Rattle.ranking.specs.Laws.TableWritesLaws.{ranksUpTo-suc}
 
 -- ---- the cleared table

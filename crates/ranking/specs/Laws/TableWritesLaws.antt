@@ -11,22 +11,11 @@ use borrow.Author.Count.{below-more}
 use Rattle.lts.specs.Alike.{Moves, Alike, Separated}
 use Rattle.lts.specs.AlikeLaws.{alike-le}
 use Rattle.text.specs.Limits.{stateLimit}
-use Rattle.text.specs.Lists.{tableLength, pairPlace}
+use Rattle.text.specs.Limits.{tableLength, pairPlace}
 use Rattle.ranking.specs.Inner.ClassList.{Same, Classes}
 use Rattle.lts.specs.TestsLaws.{eq-or-not}
 use Rattle.ranking.specs.Laws.ClassListLaws.{same-of-alike, alike-of-same}
-use Rattle.ranking.specs.Inner.TableWrites.{
-  entryOf,
-  SeparatedBy,
-  Outside,
-  Written,
-  PairWritten,
-  RowWritten,
-  RowsWritten,
-  RankUpTo,
-  RanksUpTo,
-  Finished,
-}
+use Rattle.ranking.specs.Inner.TableWrites.{entryOf, SeparatedBy, Outside, Written, PairWritten, RowWritten, RowsWritten, RankUpTo, RanksUpTo, Finished}
 
 -- ---- writes one after another
 

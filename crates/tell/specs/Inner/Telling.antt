@@ -3,10 +3,11 @@
 use mathlib.Core.List.{List}
 use Prim.Native.Nat.{ℕ}
 use Rattle.text.specs.Faults.{Outcome}
-use Rattle.judge.specs.Promises.{judgeOutcome, JudgePromise}
+use Rattle.judge.specs.JudgePromise.{judgeOutcome, JudgePromise}
 use Rattle.tell.specs.declared.tell.TextAnswer.{TextAnswer}
 use Rattle.tell.specs.declared.tell.TextAnswer.the-variants.{Unread, Judged}
-use Rattle.word.specs.Promises.{wordOutcome, WordPromise}
+use Rattle.letters.specs.WordDone.{wordOutcome}
+use Rattle.judge.specs.WordPromise.{WordPromise}
 
 -- Judge's promise, and then Word's on the lists as Judge left them.
 pub record JudgedThenShown (store distances table word : List ℕ) (judge shown : Outcome)

@@ -8,9 +8,9 @@ use lib.ListN.{length}
 use Rattle.lts.specs.Tests.{all, any}
 use Rattle.text.specs.Model.{Model}
 use Rattle.model.specs.System.{source, action, target, levels}
-use Rattle.reach.specs.Inner.StepTest.{step?}
-use Rattle.word.specs.declared.word.End.{End}
-use Rattle.word.specs.Words.{endState, otherState}
+use Rattle.model.specs.Inner.StepTest.{step?}
+use Rattle.letters.specs.declared.word.End.{End}
+use Rattle.letters.specs.Words.{endState, otherState}
 
 -- Steps i and j are one, or differ in source or action.
 abbrev pub onlyStep? : Model → ℕ → ℕ → Bool

@@ -32,22 +32,22 @@ use Rattle.model.specs.Laws.Store.StoreLaws.{storeOf-length}
 use Rattle.model.specs.Laws.Store.StoredModelLaws.{holds-storeOf}
 use Rattle.lts.specs.Run.{begin}
 use Rattle.model.specs.System.{levels, Steps, LowStep, ReachableIn, DeterministicModel}
-use Rattle.judge.specs.declared.judge.Verdict.{Verdict}
-use Rattle.judge.specs.declared.judge.Verdict.the-variants.{Passed}
-use Rattle.reach.specs.Inner.Stored.{Stored}
-use Rattle.reach.specs.Laws.GoodStoredLaws.{holds→Stored}
-use Rattle.reach.specs.Inner.StepTest.{step?}
-use Rattle.reach.specs.Laws.StepTestLaws.{decided-steps}
-use Rattle.judge.specs.Verdicts.{Judged}
-use Rattle.judge.specs.Inner.VerdictTest.{greatestBelow, leastBelow, verdictOf}
-use Rattle.judge.specs.Laws.VerdictTestLaws.{verdictOf-judged, Reachable→reachable?}
+use Rattle.verdicts.specs.declared.judging.Verdict.{Verdict}
+use Rattle.verdicts.specs.declared.judging.Verdict.the-variants.{Passed}
+use Rattle.model.specs.Inner.Stored.{Stored}
+use Rattle.model.specs.Laws.System.GoodStoredLaws.{holds→Stored}
+use Rattle.model.specs.Inner.StepTest.{step?}
+use Rattle.model.specs.Laws.System.StepTestLaws.{decided-steps}
+use Rattle.verdicts.specs.Verdicts.{Judged}
+use Rattle.verdicts.specs.Inner.VerdictTest.{greatestBelow, leastBelow, verdictOf}
+use Rattle.verdicts.specs.Laws.VerdictTestLaws.{verdictOf-judged, Reachable→reachable?}
 use Rattle.tell.specs.BenchModels.{worked, workedText, scannedOnce, scannedOnceText, released, releasedText}
 use Rattle.tell.specs.BenchModels.{scan, close}
 use Rattle.tell.specs.BenchModels.{closeLow, closeLowText, branching, branchingText, noSteps, noStepsText}
 use Rattle.tell.specs.BenchModels.{printLoop, printLoopText, unreachedPrint, unreachedPrintText}
 use Rattle.tell.specs.Bench.{ReadsAndJudged, refusedAt, JointFact}
-use Rattle.word.specs.declared.word.End.the-variants.{Source, Target}
-use Rattle.word.specs.Words.{FirstBranch, WordOf}
+use Rattle.letters.specs.declared.word.End.the-variants.{Source, Target}
+use Rattle.letters.specs.Words.{FirstBranch, WordOf}
 use Rattle.tell.specs.Inner.WordTest.{unbranched?, low?, allows?, notAfter?, eachWord?, wordOf?}
 use Rattle.tell.specs.Laws.WordTestLaws.{unbranched?→DeterministicModel, wordOf?→WordOf}
 

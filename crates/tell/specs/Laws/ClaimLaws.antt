@@ -11,25 +11,26 @@ use Rattle.text.specs.Faults.{Outcome, answers}
 use Rattle.text.specs.Laws.OutcomeLaws.{answers-not-refuses}
 use Rattle.text.specs.Model.{Model}
 use Rattle.text.specs.Laws.ListsLaws.{take-filled}
-use Rattle.read.specs.Promises.{ReadPromise}
+use Rattle.read_write.specs.ReadPromise.{ReadPromise}
 use Rattle.model.specs.Store.{Good}
 use Rattle.model.specs.StoredModel.{Holds}
 use Rattle.model.specs.System.{HighStep, DeterministicModel}
-use Rattle.judge.specs.declared.judge.Verdict.{Verdict}
-use Rattle.judge.specs.declared.judge.Verdict.the-variants.{Passed, Refused}
-use Rattle.judge.specs.Verdicts.{RefusedAt, Judged}
-use Rattle.reach.specs.Inner.Stored.{Stored}
-use Rattle.reach.specs.Laws.GoodStoredLaws.{holds→Stored}
-use Rattle.judge.specs.Laws.VerdictsLaws.{no-leak-of-bnid}
-use Rattle.judge.specs.Inner.VerdictTest.{verdictOf}
-use Rattle.judge.specs.Laws.VerdictTestLaws.{verdictOf-judged}
-use Rattle.judge.specs.Promises.{verdictOutcome, judgeLists, JudgePromise}
-use Rattle.word.specs.declared.word.End.{End}
-use Rattle.word.specs.Words.{endNumber, WordOf, WordShown}
-use Rattle.word.specs.Promises.{wordLists, WordDone, WordPromise}
+use Rattle.verdicts.specs.declared.judging.Verdict.{Verdict}
+use Rattle.verdicts.specs.declared.judging.Verdict.the-variants.{Passed, Refused}
+use Rattle.verdicts.specs.Verdicts.{RefusedAt, Judged}
+use Rattle.model.specs.Inner.Stored.{Stored}
+use Rattle.model.specs.Laws.System.GoodStoredLaws.{holds→Stored}
+use Rattle.verdicts.specs.Laws.VerdictsLaws.{no-leak-of-bnid}
+use Rattle.verdicts.specs.Inner.VerdictTest.{verdictOf}
+use Rattle.verdicts.specs.Laws.VerdictTestLaws.{verdictOf-judged}
+use Rattle.judge.specs.JudgePromise.{verdictOutcome, judgeLists, JudgePromise}
+use Rattle.letters.specs.declared.word.End.{End}
+use Rattle.letters.specs.Words.{endNumber, WordOf, WordShown}
+use Rattle.judge.specs.WordPromise.{wordLists, WordPromise}
+use Rattle.letters.specs.WordDone.{WordDone}
 use Rattle.tell.specs.Claim.{States, NotShort, SaysPassed, SaysRefused, JudgeTells, ShowsLeak, Sequence}
 use Rattle.tell.specs.Claim.{WordTells, BothTell, Claim}
-use Rattle.word.specs.Laws.LeastLeakLaws.{bnid↔INI, depth-le}
+use Rattle.letters.specs.Laws.LeastLeakLaws.{bnid↔INI, depth-le}
 use Rattle.tell.specs.Laws.ReadTextLaws.{lists-of-notShort, states→readText, read-exit-long, read-holds}
 use Rattle.tell.specs.Laws.ReadTextLaws.{read↔States}
 

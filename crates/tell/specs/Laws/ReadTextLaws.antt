@@ -15,9 +15,9 @@ use Rattle.text.specs.Model.{Model}
 use Rattle.model.specs.Reading.{done, readText}
 use Rattle.model.specs.Store.{storeOf}
 use Rattle.model.specs.StoredModel.{Holds}
-use Rattle.read.specs.Promises.{readingOutcome, readLists, ReadPromise}
+use Rattle.read_write.specs.ReadPromise.{readingOutcome, readLists, ReadPromise}
 use Rattle.text.specs.Laws.FirstShortLaws.{firstShort-lt, firstShort-le}
-use Rattle.read.specs.Laws.PromisesLaws.{read-done, read-length}
+use Rattle.read_write.specs.Laws.ReadPromiseLaws.{read-done, read-length}
 use Rattle.model.specs.Laws.Text.ReadingLaws.{readText-iff}
 use Rattle.model.specs.Laws.Store.StoredModelLaws.{holds-storeOf}
 use Rattle.tell.specs.Claim.{States, NotShort}

@@ -4,19 +4,21 @@ use mathlib.Core.List.{List, []}
 use mathlib.Core.Path.{_≡_, sym, ap, subst, _∙_}
 use Prim.Native.Nat.{ℕ}
 use Rattle.text.specs.Faults.{Outcome, answers, refuses}
-use Rattle.read.specs.declared.read.ReadAnswer.{ReadAnswer}
-use Rattle.read.specs.Promises.{readOutcome}
-use Rattle.read.specs.Laws.PromisesLaws.{readPromise-unique}
-use Rattle.read.specs.Laws.PromiseOutcomeLaws.{readAnswer-unique}
+use Rattle.reader.specs.declared.answers.ReadAnswer.{ReadAnswer}
+use Rattle.read_write.specs.ReadPromise.{readOutcome}
+use Rattle.read_write.specs.Laws.ReadPromiseLaws.{readPromise-unique}
+use Rattle.read_write.specs.Laws.ReadOutcomeLaws.{readAnswer-unique}
 use Rattle.judge.specs.declared.judge.JudgeAnswer.{JudgeAnswer}
-use Rattle.judge.specs.Promises.{judgeOutcome, JudgePromise}
-use Rattle.judge.specs.Laws.PromiseOutcomeLaws.{judgeOutcome-injective}
-use Rattle.judge.specs.Laws.JudgeLaws.{judgePromise-unique}
+use Rattle.judge.specs.JudgePromise.{judgeOutcome, JudgePromise}
+use Rattle.judge.specs.Laws.JudgeOutcomeLaws.{judgeOutcome-injective}
+use Rattle.judge.specs.Laws.JudgePromiseLaws.{judgePromise-unique}
 use Rattle.tell.specs.declared.tell.TextAnswer.{TextAnswer}
 use Rattle.tell.specs.declared.tell.TextAnswer.the-variants.{Unread, Judged}
-use Rattle.word.specs.Promises.{wordOutcome, WordPromise}
+use Rattle.letters.specs.WordDone.{wordOutcome}
+use Rattle.judge.specs.WordPromise.{WordPromise}
 use Rattle.tell.specs.Promises.{NotRead, ReadJudged, TellPromise}
-use Rattle.word.specs.Laws.WordPromiseLaws.{wordOutcome-injective, wordPromise-unique}
+use Rattle.letters.specs.Laws.WordDoneLaws.{wordOutcome-injective}
+use Rattle.judge.specs.Laws.WordPromiseLaws.{wordPromise-unique}
 
 module _ (text store distances table word : List ℕ) where
   -- What Read refuses is not judged.

@@ -18,12 +18,12 @@ use Rattle.lts.specs.RunLaws.{allows-cons}
 use Rattle.lts.specs.Word.{OnlyFrom, JustOne, NotAfter}
 use Rattle.text.specs.Model.{Model}
 use Rattle.model.specs.System.{source, action, target, levels, Steps, DeterministicModel}
-use Rattle.reach.specs.Inner.Stored.{Stored}
-use Rattle.reach.specs.Inner.StepTest.{step?}
-use Rattle.reach.specs.Laws.StepTestLaws.{decided-steps}
-use Rattle.word.specs.declared.word.End.{End}
-use Rattle.word.specs.declared.word.End.the-variants.{Source, Target}
-use Rattle.word.specs.Words.{endState, otherState, WordOf}
+use Rattle.model.specs.Inner.Stored.{Stored}
+use Rattle.model.specs.Inner.StepTest.{step?}
+use Rattle.model.specs.Laws.System.StepTestLaws.{decided-steps}
+use Rattle.letters.specs.declared.word.End.{End}
+use Rattle.letters.specs.declared.word.End.the-variants.{Source, Target}
+use Rattle.letters.specs.Words.{endState, otherState, WordOf}
 use Rattle.tell.specs.Inner.WordTest.{onlyStep?, unbranched?, low?, allows?, onlyFrom?, justOne?, notAfter?}
 use Rattle.tell.specs.Inner.WordTest.{eachWord?, later?, wordOf?}
 

@@ -3,7 +3,7 @@
 use mathlib.Core.Path.{refl}
 use native.Mathlib.Omega.{arith}
 use borrow.Author.Needs.{needs}
-use Rattle.print.specs.Laws.PrintsLaws.{printed-prints, shortList-not-long}
+use Rattle.page.specs.Laws.PrintsLaws.{printed-prints, shortList-not-long}
 use Rattle.till.proofs.print.Statement.{statement}
 use Rattle.till.proofs.print.Tie as tie
 

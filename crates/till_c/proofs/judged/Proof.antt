@@ -1,7 +1,7 @@
 -- Each verdict is told by the same values.
 use mathlib.Core.Path.{sym, ap}
 use borrow.Author.Needs.{needs}
-use Rattle.judge.specs.Promises.{verdictOutcome}
+use Rattle.judge.specs.JudgePromise.{verdictOutcome}
 use Rattle.till_c.specs.AnswerLaws.{tells-same}
 use Rattle.till_c.proofs.judged.Statement.{statement}
 use Rattle.till_c.proofs.judged.Tie as tie

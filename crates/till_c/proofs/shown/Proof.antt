@@ -4,8 +4,8 @@ use mathlib.Core.Path.{sym, ap}
 use Prim.Native.Nat.{ℕ}
 use borrow.Author.Needs.{needs}
 use Rattle.text.specs.Faults.{Outcome, answers}
-use Rattle.word.specs.declared.word.End.{End}
-use Rattle.word.specs.Words.{endNumber}
+use Rattle.letters.specs.declared.word.End.{End}
+use Rattle.letters.specs.Words.{endNumber}
 use Rattle.till_c.specs.AnswerLaws.{tells-same}
 use Rattle.till_c.proofs.shown.Statement.{statement}
 use Rattle.till_c.proofs.shown.Tie as tie

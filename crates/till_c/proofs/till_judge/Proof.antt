@@ -1,7 +1,7 @@
 -- Each answer of Judge is told by the same number, place and values.
 use mathlib.Core.Path.{refl, sym, ap, _∙_}
 use borrow.Author.Tests.{eqb-false}
-use Rattle.judge.specs.Promises.{judgeOutcome, JudgePromise}
+use Rattle.judge.specs.JudgePromise.{judgeOutcome, JudgePromise}
 use Rattle.till_c.specs.AnswerLaws.{promise-told-two, plain-of-tells}
 use borrow.Author.Needs.{needs}
 use Rattle.till_c.proofs.till_judge.Statement.{statement}

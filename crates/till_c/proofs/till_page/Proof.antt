@@ -2,7 +2,7 @@
 use mathlib.Core.Path.{refl, sym, ap, _∙_}
 use borrow.Author.Needs.{needs}
 use borrow.Author.Tests.{eqb-false}
-use Rattle.page.specs.Promises.{pageOutcome, PagePromise}
+use Rattle.page.specs.PagePromise.{pageOutcome, PagePromise}
 use Rattle.till_c.specs.AnswerLaws.{promise-told-five, plain-of-tells}
 use Rattle.till_c.proofs.till_page.Statement.{statement}
 use Rattle.till_c.proofs.till_page.Tie as tie

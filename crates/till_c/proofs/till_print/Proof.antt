@@ -2,8 +2,8 @@
 use mathlib.Core.Path.{refl, sym, ap, _∙_}
 use borrow.Author.Needs.{needs}
 use borrow.Author.Tests.{eqb-false}
-use Rattle.print.specs.Claim.{PrintClaim}
-use Rattle.print.specs.Promises.{printOutcome, PrintPromise}
+use Rattle.page.specs.Claim.{PrintClaim}
+use Rattle.page.specs.PrintPromise.{printOutcome, PrintPromise}
 use Rattle.till_c.specs.AnswerLaws.{promise-told-six, claim-told, plain-of-tells}
 use Rattle.till_c.proofs.till_print.Statement.{statement}
 use Rattle.till_c.proofs.till_print.Tie as tie

@@ -1,7 +1,7 @@
 -- Each answer of Rank is told by the same number, place and values.
 use mathlib.Core.Path.{refl, sym, ap, _∙_}
 use borrow.Author.Tests.{eqb-false}
-use Rattle.judge.specs.Promises.{rankOutcome, RankPromise}
+use Rattle.judge.specs.RankPromise.{rankOutcome, RankPromise}
 use Rattle.till_c.specs.AnswerLaws.{promise-told, plain-of-tells}
 use borrow.Author.Needs.{needs}
 use Rattle.till_c.proofs.till_rank.Statement.{statement}

@@ -1,7 +1,7 @@
 -- Each answer of Read is told by the same number, place and values.
 use mathlib.Core.Path.{refl, sym, ap, _∙_}
 use borrow.Author.Tests.{eqb-false}
-use Rattle.read.specs.Promises.{readOutcome, ReadPromise}
+use Rattle.read_write.specs.ReadPromise.{readOutcome, ReadPromise}
 use borrow.Author.Needs.{needs}
 use Rattle.till_c.specs.AnswerLaws.{promise-told, plain-of-tells}
 use Rattle.till_c.proofs.till_read.Statement.{statement}

@@ -4,7 +4,7 @@ use mathlib.Core.Path.{refl, sym, ap, _∙_}
 use Prim.Native.Nat.{ℕ}
 use Rattle.text.specs.Faults.{Outcome}
 use borrow.Author.Tests.{eqb-false}
-use Rattle.reach.specs.Promises.{runOutcome, RunPromise}
+use Rattle.judge.specs.RunPromise.{runOutcome, RunPromise}
 use Rattle.till_c.specs.AnswerLaws.{promise-told-two, plain-of-tells}
 use borrow.Author.Needs.{needs}
 use Rattle.till_c.proofs.till_run.Statement.{statement}

@@ -2,7 +2,8 @@
 use mathlib.Core.Path.{refl, sym, ap, _∙_}
 use borrow.Author.Needs.{needs}
 use borrow.Author.Tests.{eqb-false}
-use Rattle.word.specs.Promises.{wordOutcome, WordPromise}
+use Rattle.letters.specs.WordDone.{wordOutcome}
+use Rattle.judge.specs.WordPromise.{WordPromise}
 use Rattle.till_c.specs.AnswerLaws.{promise-told-three, plain-of-tells}
 use Rattle.till_c.proofs.till_word.Statement.{statement}
 use Rattle.till_c.proofs.till_word.Tie as tie

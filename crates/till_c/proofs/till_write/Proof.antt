@@ -2,7 +2,7 @@
 use mathlib.Core.Path.{refl, sym, ap, _∙_}
 use borrow.Author.Needs.{needs}
 use borrow.Author.Tests.{eqb-false}
-use Rattle.write.specs.Promises.{writeOutcome, WritePromise}
+use Rattle.read_write.specs.WritePromise.{writeOutcome, WritePromise}
 use Rattle.till_c.specs.AnswerLaws.{promise-told, plain-of-tells}
 use Rattle.till_c.proofs.till_write.Statement.{statement}
 use Rattle.till_c.proofs.till_write.Tie as tie

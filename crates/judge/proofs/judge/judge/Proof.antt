@@ -3,9 +3,9 @@ use native.Mathlib.Omega.{arith}
 use borrow.Author.Needs.{needs}
 use Rattle.model.specs.Store.{Good}
 use Rattle.text.specs.Laws.DecidesLaws.{decides-passed, decides-refused}
-use Rattle.reach.specs.Laws.GoodStoredLaws.{good→Stored}
-use Rattle.judge.specs.Laws.JudgeLaws.{judge-first-short, judge-second-short, judge-third-short}
-use Rattle.judge.specs.Laws.JudgeLaws.{judge-not-good, judge-done}
+use Rattle.model.specs.Laws.System.GoodStoredLaws.{good→Stored}
+use Rattle.judge.specs.Laws.JudgePromiseLaws.{judge-first-short, judge-second-short, judge-third-short}
+use Rattle.judge.specs.Laws.JudgePromiseLaws.{judge-not-good, judge-done}
 use Rattle.judge.proofs.judge.judge.Statement.{statement}
 use Rattle.judge.proofs.judge.judge.Tie as tie
 

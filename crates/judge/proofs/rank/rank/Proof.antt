@@ -10,8 +10,8 @@ use Rattle.text.specs.Laws.FirstShortLaws.{first-short, second-short, none-shor
 use Rattle.model.specs.Laws.OnStoreLaws.{onStore-short, onStore-not-good, onStore-model}
 use Rattle.text.specs.Laws.DecidesLaws.{decides-passed, decides-refused}
 use Rattle.ranking.specs.Table.{Ranked}
-use Rattle.reach.specs.Laws.GoodStoredLaws.{passed→Stored}
-use Rattle.judge.specs.Promises.{rankOutcome}
+use Rattle.model.specs.Laws.System.GoodStoredLaws.{passed→Stored}
+use Rattle.judge.specs.RankPromise.{rankOutcome}
 use Rattle.judge.proofs.rank.rank.Statement.{statement}
 use Rattle.judge.proofs.rank.rank.Tie as tie
 

@@ -7,7 +7,7 @@ use native.Mathlib.Omega.{arith}
 use Rattle.text.specs.Faults.{firstShort}
 use Rattle.text.specs.Laws.FirstShortLaws.{first-short, second-short, third-short, fourth-short, fifth-short}
 use Rattle.text.specs.Laws.FirstShortLaws.{sixth-short}
-use Rattle.page.specs.Promises.{pageLeast}
+use Rattle.page.specs.PagePromise.{pageLeast}
 use Rattle.page.specs.Inner.PageLists.{FirstShort}
 use Rattle.page.proofs.page.first_short.Statement.{statement}
 use Rattle.page.proofs.page.first_short.Tie as tie

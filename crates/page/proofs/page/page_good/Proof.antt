@@ -1,6 +1,6 @@
 -- The lists are made once, by `judge_good`; the page is printed from them. Assumes nothing.
 use native.Mathlib.Omega.{arith}
-use Rattle.reach.specs.Laws.GoodStoredLaws.{good→Stored}
+use Rattle.model.specs.Laws.System.GoodStoredLaws.{good→Stored}
 use Rattle.page.specs.Laws.PageLaws.{page-printed}
 use borrow.Author.Needs.{needs}
 use Rattle.page.proofs.page.page_good.Statement.{statement}

@@ -1,7 +1,7 @@
 -- The first i entries are 0.
 use Prim.Native.Nat.{_≤_, _-_}
 use native.Mathlib.Omega.{arith}
-use Rattle.text.specs.Lists.{tableLength}
+use Rattle.text.specs.Limits.{tableLength}
 use Rattle.text.specs.Inner.Clearing.{Cleared}
 use Rattle.text.specs.Laws.ClearingLaws.{cleared-zero, cleared-suc, cleared-at}
 use Rattle.ranking.proofs.classes.clear.Statement.{statement}

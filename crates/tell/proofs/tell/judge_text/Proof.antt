@@ -1,8 +1,8 @@
 -- Each list that is short is a way of both promises; the rest is what `judge_good` leaves and what `show` finds.
 use native.Mathlib.Omega.{arith}
 use borrow.Author.Needs.{needs}
-use Rattle.reach.specs.Laws.GoodStoredLaws.{good→Stored}
-use Rattle.word.specs.Laws.ShowableLaws.{judging→Showable}
+use Rattle.model.specs.Laws.System.GoodStoredLaws.{good→Stored}
+use Rattle.letters.specs.Laws.ShowableLaws.{judging→Showable}
 use Rattle.tell.proofs.TextAnswers.{short-distances-answered, short-table-answered, short-word-answered}
 use Rattle.tell.proofs.TextAnswers.{done-answered}
 use Rattle.tell.proofs.tell.judge_text.Statement.{statement}

@@ -1,5 +1,0 @@
-pub mod Listing
-pub mod ModelLists
-pub mod LeakSearch
-pub mod Judging
-pub mod VerdictTest

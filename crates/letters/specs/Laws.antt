@@ -1,0 +1,7 @@
+pub mod WordsLaws
+pub mod LettersLaws
+pub mod LastLetterLaws
+pub mod WordHeadLaws
+pub mod WordDoneLaws
+pub mod LeastLeakLaws
+pub mod ShowableLaws

@@ -1,0 +1,195 @@
+-- What is found among the steps of a state: the first step that a claim holds of, letters, and steps without an answer.
+-- Document 01, operation 6. Assumes nothing.
+use mathlib.Core.List.{List}
+use mathlib.Core.Logic.{⊎-elim}
+use mathlib.Core.Path.{_≡_, sym, subst, _∙_}
+use Prim.Native.Nat.{ℕ, zero, suc, _+_, _≤_, _<_}
+use native.Mathlib.Numerals.{add-one}
+use native.Mathlib.Omega.{arith}
+use lib.Dec.{T}
+use lib.ListN.{length, getD}
+use Rattle.lts.specs.Alike.{Separated, Rank}
+use Rattle.lts.specs.AlikeLaws.{rank-unique, rank-of-separated, separated-of-rank}
+use Rattle.lts.specs.Checked.{lowMove?}
+use Rattle.lts.specs.CheckedLaws.{low-game}
+use Rattle.lts.specs.Decided.{answers?}
+use Rattle.lts.specs.FirstWordLaws.{letter-of-separated}
+use Rattle.lts.specs.Game.{Game}
+use Rattle.lts.specs.RankLaws.{rank-lt}
+use Rattle.lts.specs.TestsLaws.{lt-or-le}
+use Rattle.text.specs.declared.Step.{Step}
+use Rattle.text.specs.Limits.{pairPlace}
+use Rattle.text.specs.Model.{Model, low}
+use Rattle.model.specs.System.{source, action, target, levels, Steps, Start, LowStep, ReachableIn, DeterministicModel}
+use Rattle.model.specs.Laws.Store.SystemLaws.{deterministicModel→Deterministic}
+use Rattle.model.specs.Inner.Index.{Index}
+use Rattle.model.specs.Inner.Stored.{Stored}
+use Rattle.model.specs.Inner.StepTest.{step?}
+use Rattle.model.specs.Laws.System.RolesLaws.{low-of-role, role-of-low}
+use Rattle.model.specs.Laws.System.StepTestLaws.{decided-steps}
+use Rattle.distances.specs.Laws.WavesLaws.{begins-source}
+use Rattle.letters.specs.declared.branch.Found.{Found}
+use Rattle.letters.specs.declared.branch.Found.the-variants.{At, Nothing}
+use Rattle.letters.specs.Inner.Letters.{First, FoundFirst, StepOf, Unanswered, Answer, HasAnswer}
+use Rattle.letters.specs.Inner.Letters.{FirstLetter, StepLists, WordLists, SeparatedPair}
+
+-- ---- the first step
+
+pub first-found : {P : ℕ → Type 0} {j : ℕ} → ((i : ℕ) → i < j → ¬ (P i)) → P j → First P j
+first-found {j = j} none x = record {
+  holds = x;
+  first = λ i y. ⊎-elim (λ l. absurd (none i l y)) (λ l. l) (lt-or-le i j);
+}
+
+pub found-at : (P : ℕ → Type 0) {r : Found} {j : Step} → r ≡ At j → FoundFirst P r → First P (j .0)
+found-at P e x = subst (λ (y : Found). FoundFirst P y) e x
+
+pub found-nothing : (P : ℕ → Type 0) {r : Found} → r ≡ Nothing → FoundFirst P r → (j : ℕ) → ¬ (P j)
+found-nothing P e x = subst (λ (y : Found). FoundFirst P y) e x
+
+-- The steps of p stand from where they begin up to where those of the next state begin.
+module _ {m : Model} {begins : List ℕ} (x : Index m (m .head .states) begins) {p : ℕ} (l : p < m .head .states) where
+  pub own-of-index : (j : ℕ) → getD begins p 0 ≤ j → j < getD begins (p + 1) 0
+      → (j < length (m .steps)) × (source m j ≡ p)
+  own-of-index j from to =
+      let here = x .at p (omega arith) in
+      let next = x .at (p + 1) (omega arith) in
+      (omega (arith, next .from-le), begins-source here next j from to)
+
+  pub index-of-own : (j : ℕ) → j < length (m .steps) → source m j ≡ p
+      → (getD begins p 0 ≤ j) × (j < getD begins (p + 1) 0)
+  index-of-own j k e = (
+    ⊎-elim (λ h. absurd (omega (arith, x .at p (omega arith) .below j h))) (λ h. h) (lt-or-le j (getD begins p 0)),
+    ⊎-elim (λ h. h) (λ h. absurd (omega (arith, x .at (p + 1) (omega arith) .above j h k)))
+        (lt-or-le j (getD begins (p + 1) 0)),
+  )
+
+  -- A claim of steps of p holds of none before them, and of none at all once those are tried.
+  module _ (P : ℕ → Type 0) (own : (j : ℕ) → P j → (j < length (m .steps)) × (source m j ≡ p)) where
+    pub none-before : (i : ℕ) → i < getD begins p 0 → ¬ (P i)
+    none-before i h y = let o = own i y in omega (arith, index-of-own i (o .0) (o .1) .0)
+
+    pub none-after : {j end : ℕ} → end ≡ getD begins (p + 1) 0 → end ≤ j → ((i : ℕ) → i < j → ¬ (P i)) → (i : ℕ)
+        → ¬ (P i)
+    none-after e h none i y =
+        let o = own i y in
+        none i (omega (arith, e, index-of-own i (o .0) (o .1) .1)) y
+
+-- ---- the action a of step j
+
+pub stepOf-at : {m : Model} {q a b i : ℕ} → a ≡ b → StepOf m q a i → StepOf m q b i
+stepOf-at e x = record { number-lt = x .number-lt; source-is = x .source-is; action-is = x .action-is ∙ e }
+
+module _ {m : Model} {store begins roles : List ℕ} (L : StepLists m store begins roles) {a j : ℕ} (e : a ≡ action m j)
+    (l : j < length (m .steps)) where
+  pub role-fits : a < length roles
+  role-fits = omega (arith, e, L .roles-length, L .stored .actions-le, L .stored .action-lt j l)
+
+  pub letter-low : getD roles a 0 ≡ low → T (levels m .low? (action m j))
+  letter-low z = low-of-role (L .roles-are) e (L .stored .action-lt j l) z
+
+  pub letter-role : T (levels m .low? (action m j)) → getD roles a 0 ≡ low
+  letter-role t = role-of-low (L .roles-are) e (L .stored .action-lt j l) t
+
+  pub unanswered-of : {q : ℕ} → getD roles a 0 ≡ low → ((i : ℕ) → ¬ (StepOf m q a i)) → Unanswered m q j
+  unanswered-of z none = record {
+    number-lt = l;
+    is-low = letter-low z;
+    none = λ i x. none i (stepOf-at (sym e) x);
+  }
+
+-- ---- the entry of two targets x and y
+
+module _ {m : Model} {store begins roles table : List ℕ} (L : WordLists m store begins roles table) {j i : ℕ}
+    (l : j < length (m .steps)) (n : i < length (m .steps)) {x y : ℕ} (e : x ≡ target m j) (f : y ≡ target m i) where
+  target-rank : Rank (LowStep m) (target m j) (target m i) (getD table (pairPlace x y) 0)
+  target-rank =
+      let st = L .step-lists .stored in
+      let same : getD table (pairPlace (target m j) (target m i)) 0 ≡ getD table (pairPlace x y) 0 =
+      (λ t. getD table (pairPlace (sym e t) (sym f t)) 0) in
+      subst (Rank (LowStep m) (target m j) (target m i)) same
+      (L .ranks .ranks (target m j) (target m i) (st .target-lt j l) (st .target-lt i n))
+
+  pub entry-fits : pairPlace x y < length table
+  entry-fits =
+      let st = L .step-lists .stored in
+      omega (arith, e, f, L .table-length, st .states-le, st .target-lt j l, st .target-lt i n)
+
+  pub separated-of-entry : {k : ℕ} → 0 < k → getD table (pairPlace x y) 0 ≡ k
+      → Separated (LowStep m) (target m j) (target m i) k
+  separated-of-entry {k} pos z = separated-of-rank (LowStep m) (target m j) (target m i) k pos
+      (subst (Rank (LowStep m) (target m j) (target m i)) z target-rank)
+
+  pub target-entry-of-separated : {k : ℕ} → Separated (LowStep m) (target m j) (target m i) k
+      → getD table (pairPlace x y) 0 ≡ k
+  target-entry-of-separated {k} s = rank-unique (LowStep m) (target m j) (target m i) (getD table (pairPlace x y) 0) k
+      target-rank (rank-of-separated (LowStep m) (target m j) (target m i) k s)
+
+  -- Step i is the one step of q with that action.
+  pub not-answer : {q a k : ℕ} → DeterministicModel m → ReachableIn m q → a ≡ action m j → StepOf m q a i
+      → ¬ (getD table (pairPlace x y) 0 ≡ k) → (o : ℕ) → ¬ (Answer m q k j o)
+  not-answer {q} {a} {k} d r g s z o h =
+      let t = h .step-of in
+      let same : o ≡ i = d .one-step o i (t .number-lt) n (subst (ReachableIn m) (sym (t .source-is)) r)
+      (t .source-is ∙ sym (s .source-is)) (t .action-is ∙ sym g ∙ sym (s .action-is)) in
+      z (target-entry-of-separated
+      (subst (λ (u : ℕ). Separated (LowStep m) (target m j) (target m u) k) same (h .targets)))
+
+-- ---- the first letter
+
+module _ {m : Model} {p q k b x y : ℕ} where
+  pub has-answer-of : (u : LowStep m p b x) → LowStep m q b y → Separated (LowStep m) x y k
+      → HasAnswer m p q k (u .1 .number)
+  has-answer-of u v s = record {
+    number-lt = u .1 .number-lt;
+    source-is = u .1 .source-is;
+    by = v .1 .number;
+    answer = record {
+      is-low = subst (λ (a : ℕ). T (levels m .low? a)) (sym (u .1 .action-is)) (u .0);
+      step-of = record {
+        number-lt = v .1 .number-lt;
+        source-is = v .1 .source-is;
+        action-is = v .1 .action-is ∙ sym (u .1 .action-is);
+      };
+      targets = subst (λ (w : ℕ). Separated (LowStep m) w (target m (v .1 .number)) k) (sym (u .1 .target-is))
+          (subst (λ (w : ℕ). Separated (LowStep m) x w k) (sym (v .1 .target-is)) s);
+    };
+  }
+
+module _ {s : List ℕ} {m : Model} (st : Stored s m) where
+  pub low-step-game : Game (LowStep m) (m .head .states)
+      (answers? (m .head .states) (m .head .actions) (lowMove? (levels m) (step? m)))
+  low-step-game =
+      low-game (levels m) (Steps m) (m .head .states) (m .head .actions) (step? m) (decided-steps st)
+
+  pub stored-rank-lt : {p q k : ℕ} → p < m .head .states → q < m .head .states → Rank (LowStep m) p q k
+      → k < m .head .states
+  stored-rank-lt {p} {q} {k} = rank-lt (LowStep m) (m .head .states) _ low-step-game p q k
+
+  -- Of two states that the round k+1 separates, some low step has an answer.
+  pub has-answer-some : (p q k : ℕ) → 0 < k → SeparatedPair m p q (k + 1) → (j : ℕ) × HasAnswer m p q k j
+  has-answer-some p q zero pos x = absurd (omega arith)
+  has-answer-some p q (suc k) pos x =
+      let (a, y, z, u, v, w) = letter-of-separated (levels m) (Steps m) (Start m) (m .head .states) _ low-step-game
+      (deterministicModel→Deterministic m (x .deterministic)) k p q (x .second-reachable)
+      (subst (Separated (LowStep m) p q) (add-one (suc k)) (x .separated)) in
+      (u .1 .number, has-answer-of u v w)
+
+  -- Steps rise by action, so the first step that has an answer has the lowest action.
+  pub first-letter-of : {p q k j i : ℕ} → (j < length (m .steps)) × (source m j ≡ p) → Answer m q k j i
+      → ((o : ℕ) → o < j → ¬ (HasAnswer m p q k o)) → FirstLetter m p q k j i
+  first-letter-of {j = j} (l, e) x none = record {
+    number-lt = l;
+    source-is = e;
+    answer = x;
+    first = λ b y z below u v w.
+        let n = u .1 .number in
+        ⊎-elim
+        (λ h. none n h (has-answer-of u v w))
+        (λ h. omega (
+          arith,
+          st .action-le j n h (u .1 .number-lt) (e ∙ sym (u .1 .source-is)),
+          u .1 .action-is,
+        ))
+        (lt-or-le n j);
+  }

@@ -1,0 +1,29 @@
+-- What Word does on a good store.
+-- Document 01, operation 6, and "Refused because of the state", 23 and 24.
+use mathlib.Core.List.{List, [], _∷_}
+use mathlib.Core.Path.{_≡_}
+use Prim.Native.Nat.{ℕ}
+use lib.ListN.{length}
+use Rattle.lts.specs.Noninterference.{BNID}
+use Rattle.text.specs.Faults.{Outcome, answers, refuses}
+use Rattle.text.specs.Model.{Model}
+use Rattle.model.specs.System.{levels, Steps, Start, DeterministicModel}
+use Rattle.verdicts.specs.Verdicts.{RefusedAt}
+use Rattle.letters.specs.declared.word.WordAnswer.{WordAnswer}
+use Rattle.letters.specs.declared.word.WordAnswer.the-variants.{Shown, ShortList, NotGood, NotDeterministic, NoLeak}
+use Rattle.letters.specs.Words.{FirstBranch, endNumber, WordShown}
+
+-- "23 (Word): not deterministic; place: the first step with a reachable source that shares source and action with the
+-- step before it." "24 (Word): deterministic and passed; place 0."
+unfoldable pub wordOutcome : WordAnswer → Outcome
+wordOutcome (Shown length end) = answers (length ∷ endNumber end ∷ [])
+wordOutcome (ShortList place) = refuses 21 place
+wordOutcome NotGood = refuses 22 0
+wordOutcome (NotDeterministic j) = refuses 23 (j .0)
+wordOutcome NoLeak = refuses 24 0
+
+-- What Word shows of a model: its outcome, and the word's list.
+pub record WordDone (m : Model) (outcome : Outcome) (word word′ : List ℕ) : Type 0 where
+  pub branching : (j : ℕ) → FirstBranch m j → (outcome ≡ refuses 23 j) × (word′ ≡ word)
+  pub passed : DeterministicModel m → BNID (levels m) (Steps m) (Start m) → (outcome ≡ refuses 24 0) × (word′ ≡ word)
+  pub refused : DeterministicModel m → (j depth : ℕ) → RefusedAt m j depth → WordShown m j depth outcome word word′

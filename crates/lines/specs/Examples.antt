@@ -1,0 +1,45 @@
+-- The page of the worked example, by evaluation from what its lines say.
+-- Document 01, "The page".
+use mathlib.Core.List.{List, [], _∷_}
+use mathlib.Core.Option.{some}
+use mathlib.Core.Path.{_≡_, refl}
+use Prim.Native.Nat.{ℕ}
+use Rattle.text.specs.Numbers.{digits, digitsUpTo}
+use Rattle.verdicts.specs.declared.judging.Verdict.the-variants.{Refused}
+use Rattle.letters.specs.declared.word.End.the-variants.{Source}
+use Rattle.lines.specs.PageLines.{PageLine, verdict-line, state-line, word-line, end-line, last-line}
+use Rattle.lines.specs.PageLines.{distanceText, endText, lineText, pageBytes}
+
+abbrev scan : List ℕ
+scan = 115 ∷ 99 ∷ 97 ∷ 110 ∷ []
+
+unfoldable pub workedLines : List PageLine
+workedLines =
+    verdict-line (Refused (record { 0 = 1 }) 2)
+    ∷ state-line 0 (some 0) 0
+    ∷ state-line 1 (some 1) 0
+    ∷ state-line 2 (some 1) 2
+    ∷ state-line 3 (some 2) 3
+    ∷ word-line scan
+    ∷ word-line scan
+    ∷ end-line Source
+    ∷ last-line
+    ∷ []
+
+-- V,refuse,1,2 / C,0,0,0 / C,1,1,0 / C,2,1,2 / C,3,2,3 / W,scan / W,scan / B,source / E
+pub workedPage : List ℕ
+workedPage =
+    86 ∷ 44 ∷ 114 ∷ 101 ∷ 102 ∷ 117 ∷ 115 ∷ 101 ∷ 44 ∷ 49 ∷ 44 ∷ 50 ∷ 10
+    ∷ 67 ∷ 44 ∷ 48 ∷ 44 ∷ 48 ∷ 44 ∷ 48 ∷ 10
+    ∷ 67 ∷ 44 ∷ 49 ∷ 44 ∷ 49 ∷ 44 ∷ 48 ∷ 10
+    ∷ 67 ∷ 44 ∷ 50 ∷ 44 ∷ 49 ∷ 44 ∷ 50 ∷ 10
+    ∷ 67 ∷ 44 ∷ 51 ∷ 44 ∷ 50 ∷ 44 ∷ 51 ∷ 10
+    ∷ 87 ∷ 44 ∷ 115 ∷ 99 ∷ 97 ∷ 110 ∷ 10
+    ∷ 87 ∷ 44 ∷ 115 ∷ 99 ∷ 97 ∷ 110 ∷ 10
+    ∷ 66 ∷ 44 ∷ 115 ∷ 111 ∷ 117 ∷ 114 ∷ 99 ∷ 101 ∷ 10
+    ∷ 69 ∷ 10
+    ∷ []
+
+pub prints : pageBytes workedLines ≡ workedPage
+unfolding pageBytes lineText distanceText endText digits digitsUpTo workedLines workedPage
+prints = refl

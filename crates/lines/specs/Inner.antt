@@ -1,0 +1,4 @@
+pub mod Entries
+pub mod LinesWritten
+pub mod Room
+pub mod Leak

@@ -1,0 +1,41 @@
+-- The word in its list, and the lines that are taken from it. Only the contracts of inner functions cite it.
+use mathlib.Core.List.{List, [], _∷_, _++_, map}
+use Prim.Native.Nat.{ℕ, _≤_, _<_}
+use lib.ListN.{length, getD, take}
+use Rattle.text.specs.Limits.{runLength, wordLength}
+use Rattle.text.specs.Model.{Model}
+use Rattle.model.specs.Store.{Good}
+use Rattle.verdicts.specs.declared.judging.Verdict.{Verdict}
+use Rattle.letters.specs.declared.word.WordAnswer.{WordAnswer}
+use Rattle.letters.specs.declared.word.WordAnswer.the-variants.{Shown, ShortList, NotGood, NotDeterministic, NoLeak}
+use Rattle.letters.specs.Inner.Letters.{Showable}
+use Rattle.lines.specs.PageLines.{PageLine, end-line, branch-line}
+use Rattle.lines.specs.Page.{nameLine}
+
+-- The first n places of a list are actions of the model.
+pub record Letters (m : Model) (n : ℕ) (word : List ℕ) : Type 0 where
+  pub word-le : n ≤ wordLength
+  pub list-le : n ≤ length word
+  pub actions : (i : ℕ) → i < n → getD word i 0 < length (m .actions)
+
+-- A word that Word answers stands in its list.
+abbrev pub Spelled : Model → WordAnswer → List ℕ → Type 0
+Spelled m (Shown n end) word = Letters m n word
+Spelled m (ShortList place) word = Unit {0}
+Spelled m NotGood word = Unit {0}
+Spelled m (NotDeterministic j) word = Unit {0}
+Spelled m NoLeak word = Unit {0}
+
+-- The lines for what Word answers.
+abbrev pub shownLines : Model → WordAnswer → List ℕ → List PageLine
+shownLines m (Shown n end) word = map (nameLine m) (take n word) ++ (end-line end ∷ [])
+shownLines m (ShortList place) word = branch-line ∷ []
+shownLines m NotGood word = branch-line ∷ []
+shownLines m (NotDeterministic j) word = branch-line ∷ []
+shownLines m NoLeak word = branch-line ∷ []
+
+-- A good store, judged, with the lists made from it and room for a run and a word.
+pub record JudgedLists (m : Model) (v : Verdict) (store begins roles distances table run word : List ℕ) : Type 0 where
+  pub good : Good store
+  pub showable : Showable m v store begins roles distances table word
+  pub run-length : runLength ≤ length run

@@ -1,0 +1,162 @@
+-- What Word does for a refused model, as the lines that show its leak.
+-- Document 01, "The page" and operation 6. Assumes nothing.
+use mathlib.Core.List.{List, [], _∷_, _++_, map}
+use mathlib.Core.Logic.{⊎-elim}
+use mathlib.Core.Path.{_≡_, sym, ap, subst, _∙_}
+use Prim.Native.Nat.{ℕ, zero, suc, _+_, _*_, _<_}
+use native.Mathlib.Omega.{arith}
+use lib.ListN.{length, getD, take, drop, length-append, List·getD-append}
+use Rattle.lts.specs.Noninterference.{Low}
+use Rattle.text.specs.Faults.{answers, refuses}
+use Rattle.text.specs.Laws.OutcomeLaws.{answers-not-refuses}
+use Rattle.text.specs.Model.{Model}
+use Rattle.model.specs.System.{source, levels, DeterministicModel}
+use Rattle.text.specs.Laws.ListsLaws.{take-filled}
+use Rattle.model.specs.Laws.Store.SystemLaws.{low-lt}
+use Rattle.model.specs.Inner.Stored.{Stored}
+use Rattle.distances.specs.Inner.RunTail.{RunWritten}
+use Rattle.distances.specs.Runs.{RunTo}
+use Rattle.distances.specs.Laws.RunsLaws.{runTo-length}
+use Rattle.verdicts.specs.declared.judging.Verdict.{Verdict}
+use Rattle.verdicts.specs.declared.judging.Verdict.the-variants.{Refused}
+use Rattle.text.specs.declared.Step.{Step}
+use Rattle.verdicts.specs.Verdicts.{RefusedAt, Judged}
+use Rattle.letters.specs.declared.word.End.{End}
+use Rattle.letters.specs.declared.word.WordAnswer.{WordAnswer}
+use Rattle.letters.specs.declared.word.WordAnswer.the-variants.{Shown, ShortList, NotGood, NotDeterministic, NoLeak}
+use Rattle.letters.specs.Words.{endNumber, WordShown}
+use Rattle.letters.specs.WordDone.{wordOutcome, WordDone}
+use Rattle.letters.specs.Laws.LettersLaws.{stored-rank-lt}
+use Rattle.letters.specs.Laws.WordDoneLaws.{branch-cases, endNumber-injective}
+use Rattle.lines.specs.Page.{nameLine, LeakShown, by-word, by-branch, LeakLines, AfterStates}
+use Rattle.lines.specs.PageLines.{PageLine, run-line, end-line, branch-line}
+use Rattle.lines.specs.Inner.Leak.{Letters, Spelled, shownLines}
+use Rattle.lines.specs.Inner.LinesWritten.{LinesWritten}
+use Rattle.lines.specs.Inner.Room.{runRoom, shownRoom, leakRoom}
+use Rattle.lines.specs.Laws.LinesWrittenLaws.{written-append, written-of}
+
+-- ---- the letters of a low word are actions
+
+letters-lt : (m : Model) (w : List ℕ) → Low (levels m) w → (i : ℕ) → i < length w → getD w i 0 < length (m .actions)
+unfolding Low
+letters-lt m [] x i l = absurd (omega arith)
+letters-lt m (a ∷ w) x zero l = low-lt m a (x .0)
+letters-lt m (a ∷ w) x (suc i) l = letters-lt m w (x .1) i (omega arith)
+
+pub refused-of : {m : Model} {v : Verdict} {j : Step} {depth : ℕ} → v ≡ Refused j depth → Judged m v
+    → RefusedAt m (j .0) depth
+refused-of {m} e x = subst (Judged m) e x
+
+-- the lines after the states, of a verdict that refuses
+pub after-refused : {m : Model} {v : Verdict} {j : Step} {depth : ℕ} {run word run′ word′ : List ℕ}
+    {room at next : ℕ} {entry exit : List ℕ} → v ≡ Refused j depth
+    → LinesWritten (LeakLines m (j .0) depth run word run′ word′) room entry at exit next
+    → LinesWritten (AfterStates m v run word run′ word′) room entry at exit next
+after-refused {m} {run = run} {word} {run′} {word′} {room} {at} {next} {entry} {exit} e x =
+    subst (λ (u : Verdict). LinesWritten (AfterStates m u run word run′ word′) room entry at exit next) (sym e) x
+
+module _ {s : List ℕ} {m : Model} (st : Stored s m) {j depth : ℕ} (refused : RefusedAt m j depth) where
+  pub depth-lt : depth < m .head .states
+  depth-lt =
+      let l = refused .leak .high-step .number-lt in
+      stored-rank-lt st (st .source-lt j l) (st .target-lt j l) (refused .leak .rank)
+
+  module _ {word word′ : List ℕ} where
+    -- ---- a word is shown
+
+    module _ {n : ℕ} (end : End) (done : WordDone m (answers (n ∷ endNumber end ∷ [])) word word′) where
+      word-deterministic : DeterministicModel m
+      word-deterministic = ⊎-elim
+          (λ b. absurd (answers-not-refuses (done .branching (b .0) (b .1) .0))) (λ det. det) (branch-cases st)
+
+      word-shown : WordShown m j depth (answers (n ∷ endNumber end ∷ [])) word word′
+      word-shown = done .refused word-deterministic j depth refused
+
+      word-length : n ≡ length (word-shown .word)
+      word-length =
+          let e = word-shown .outcome-is in
+          let f : n ≡ depth = cc in
+          f ∙ sym (word-shown .length-is)
+
+      word-end : end ≡ word-shown .end
+      word-end =
+          let e = word-shown .outcome-is in
+          let f : endNumber end ≡ endNumber (word-shown .end) = cc in
+          endNumber-injective end (word-shown .end) f
+
+      word-taken : take n word′ ≡ word-shown .word
+      word-taken = take-filled (word-shown .word) _ (word-shown .list) n word-length
+
+      word-letters : Letters m n word′
+      word-letters =
+          let w = word-shown .word in
+          let l = ap length (word-shown .list) ∙ length-append w (drop (length w) word) in record {
+            word-le = omega (arith, word-length, word-shown .length-is, depth-lt, st .states-le);
+            list-le = omega (arith, word-length, l);
+            actions = λ i k.
+                let h : i < length w = omega (arith, word-length) in
+                let e : getD word′ i 0 ≡ getD w i 0 =
+                ap (λ (x : List ℕ). getD x i 0) (word-shown .list)
+                ∙ List·getD-append w (drop (length w) word) 0 i h in
+                omega (arith, e, letters-lt m w (word-shown .word-of .first-word .is-low) i h);
+          }
+
+      by-word-shown : LeakShown m j depth word word′ (map (nameLine m) (take n word′) ++ (end-line end ∷ []))
+      by-word-shown =
+          subst (λ (e : End). LeakShown m j depth word word′ (map (nameLine m) (take n word′) ++ (end-line e ∷ [])))
+          (sym word-end)
+          (subst
+          (λ (w : List ℕ). LeakShown m j depth word word′ (map (nameLine m) w ++ (end-line (word-shown .end) ∷ [])))
+          (sym word-taken)
+          (by-word word-deterministic (word-shown .word-of) (word-shown .length-is) (word-shown .list)))
+
+    -- ---- no word is shown
+
+    module _ {number place : ℕ} (done : WordDone m (refuses number place) word word′) where
+      not-deterministic : ¬ (DeterministicModel m)
+      not-deterministic det = answers-not-refuses (sym (done .refused det j depth refused .outcome-is))
+
+      word-kept : word′ ≡ word
+      word-kept =
+          ⊎-elim (λ b. done .branching (b .0) (b .1) .1) (λ det. absurd (not-deterministic det)) (branch-cases st)
+
+      by-branch-shown : LeakShown m j depth word word′ (branch-line ∷ [])
+      by-branch-shown = by-branch not-deterministic word-kept
+
+    -- ---- whatever Word answers
+
+    pub spelled-of : (shown : WordAnswer) → WordDone m (wordOutcome shown) word word′ → Spelled m shown word′
+    unfolding wordOutcome
+    spelled-of (Shown n end) done = word-letters end done
+    spelled-of (ShortList place) done = tt
+    spelled-of NotGood done = tt
+    spelled-of (NotDeterministic i) done = tt
+    spelled-of NoLeak done = tt
+
+    pub leak-shown-of : (shown : WordAnswer) → WordDone m (wordOutcome shown) word word′
+        → LeakShown m j depth word word′ (shownLines m shown word′)
+    unfolding wordOutcome
+    leak-shown-of (Shown n end) done = by-word-shown end done
+    leak-shown-of (ShortList place) done = by-branch-shown done
+    leak-shown-of NotGood done = by-branch-shown done
+    leak-shown-of (NotDeterministic i) done = by-branch-shown done
+    leak-shown-of NoLeak done = by-branch-shown done
+
+    -- the lines of the run, and those
+    pub leak-lines-written : {p n at mid next : ℕ} {run run′ entry middle exit : List ℕ} (shown : WordAnswer)
+        → p ≡ source m j → RunWritten m p n run run′ → WordDone m (wordOutcome shown) word word′
+        → LinesWritten (_≡_ (map run-line (take n run′))) (runRoom * n) entry at middle mid
+        → LinesWritten (_≡_ (shownLines m shown word′)) shownRoom middle mid exit next
+        → LinesWritten (LeakLines m j depth run word run′ word′) leakRoom entry at exit next
+    leak-lines-written {p} {n} {run = run} {run′} shown e ran done x y =
+        let taken = take-filled (ran .steps) _ (ran .list) n (sym (ran .length-is)) in
+        written-of (λ (zs : List PageLine) (z : LeakLines m j depth run word run′ word′ zs). z)
+        (omega (arith, runTo-length st (ran .run-to), ran .length-is)) (written-append
+        (λ us vs (u : map run-line (take n run′) ≡ us) (v : shownLines m shown word′ ≡ vs). record {
+          steps = ran .steps;
+          run-to = subst (λ (q : ℕ). RunTo m q (ran .steps)) e (ran .run-to);
+          run-list = ran .list;
+          rest = vs;
+          shown = subst (LeakShown m j depth word word′) v (leak-shown-of shown done);
+          lines-are = ap (λ (z : List PageLine). z ++ vs) (sym u ∙ ap (map run-line) taken);
+        }) x y)

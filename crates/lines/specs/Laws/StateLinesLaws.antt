@@ -1,0 +1,94 @@
+-- The `C` lines: what their fields say, and one more of them.
+-- Document 01, "The page". Assumes nothing.
+use mathlib.Core.List.{List, [], _∷_, _++_}
+use mathlib.Core.Logic.{_⊎_, inl, inr}
+use mathlib.Core.Option.{Option, none, some}
+use mathlib.Core.Path.{_≡_, refl, sym, subst}
+use Prim.Native.Nat.{ℕ, suc, _+_, _*_, _≤_, _<_}
+use native.Mathlib.Omega.{arith}
+use native.Mathlib.Numerals.{add-one}
+use lib.ListN.{length, getD, length-append}
+use Rattle.lts.specs.Alike.{Rank, bisimilar}
+use Rattle.lts.specs.AlikeLaws.{rank-unique, bisimilar-refl}
+use Rattle.lts.specs.TestsLaws.{eq-or-not}
+use Rattle.text.specs.Limits.{pairPlace, unreachable}
+use Rattle.text.specs.Model.{Model}
+use Rattle.text.specs.Laws.DigitsLaws.{digits-length-le}
+use Rattle.model.specs.System.{LowStep}
+use Rattle.writer.specs.Wrote.{Wrote}
+use Rattle.model.specs.Laws.System.StepTestLaws.{distance-lt}
+use Rattle.distances.specs.Laws.DistancesLaws.{list-distance, list-unreachable}
+use Rattle.lines.specs.Page.{DistanceField, unreached, reached, ClassOf, StateLines, no-state, next-state}
+use Rattle.lines.specs.PageLines.{PageLine, state-line, distanceText, lineBytes}
+use Rattle.lines.specs.Inner.Entries.{ListsOf, distanceOf, LowestZero}
+use Rattle.lines.specs.Inner.LinesWritten.{LinesWritten}
+use Rattle.lines.specs.Inner.Room.{stateRoom}
+use Rattle.lines.specs.Laws.PageLinesLaws.{state-length, distanceOf-unreachable, distanceOf-reachable}
+use Rattle.lines.specs.Laws.LinesWrittenLaws.{written-line, written-append, written-of}
+
+module _ {s : List ℕ} {m : Model} {distances table : List ℕ} (L : ListsOf m s distances table) where
+  -- ---- the distance
+
+  pub distance-field : (p : ℕ) → p < m .head .states → DistanceField m p (distanceOf (getD distances p 0))
+  distance-field p l = go (eq-or-not (getD distances p 0) unreachable)
+    where
+      go : (getD distances p 0 ≡ unreachable) ⊎ (¬ (getD distances p 0 ≡ unreachable))
+          → DistanceField m p (distanceOf (getD distances p 0))
+      go (inl e) = rw (distanceOf-unreachable (getD distances p 0) e)
+          (unreached (list-unreachable (L .stored) (L .distances-are) e))
+      go (inr n) = rw (distanceOf-reachable (getD distances p 0) n)
+          (reached (list-distance (L .stored) (L .distances-are) (omega (arith, L .stored .states-le)) refl n))
+
+  -- ---- the class
+
+  pub diagonal-zero : (p : ℕ) → p < m .head .states → getD table (pairPlace p p) 0 ≡ 0
+  diagonal-zero p l = rank-unique (LowStep m) p p (getD table (pairPlace p p) 0) 0 (L .ranks .ranks p p l l)
+      (bisimilar (bisimilar-refl (LowStep m) p))
+
+  pub class-of-zero : (p q : ℕ) → p < m .head .states → LowestZero table p q → ClassOf m p q
+  class-of-zero p q l z = record {
+    rank-zero = subst (Rank (LowStep m) p q) (z .zero) (L .ranks .ranks p q l (omega (arith, z .le)));
+    lowest = λ i k x. z .lowest i k (rank-unique (LowStep m) p i (getD table (pairPlace p i) 0) 0
+        (L .ranks .ranks p i l (omega (arith, z .le))) x);
+  }
+
+  -- ---- the line
+
+  distanceText-length : (p : ℕ) (d : Option ℕ) → DistanceField m p d → length (distanceText d) ≤ 3
+  unfolding distanceText
+  distanceText-length p none (unreached n) = omega arith
+  distanceText-length p (some d) (reached x) =
+      digits-length-le 3 d (omega (arith, distance-lt (L .stored) x, L .stored .states-le)) (omega arith) (omega arith)
+
+  pub state-length-le : (p : ℕ) (d : Option ℕ) (class : ℕ) → p < m .head .states → DistanceField m p d → class ≤ p
+      → length (lineBytes (state-line p d class)) ≤ stateRoom
+  state-length-le p d class l x k =
+      let a = digits-length-le 3 p (omega (arith, L .stored .states-le)) (omega arith) (omega arith) in
+      let b = distanceText-length p d x in
+      let c = digits-length-le 3 class (omega (arith, L .stored .states-le)) (omega arith) (omega arith) in
+      omega (arith, state-length p d class)
+
+-- as many lines as states
+pub stateLines-length : {m : Model} {n : ℕ} {lines : List PageLine} → StateLines m n lines → length lines ≡ n
+stateLines-length no-state = refl
+stateLines-length (next-state {n = n} {lines = lines} {distance = d} {class = c} x f k) =
+    omega (arith, stateLines-length x, length-append lines (state-line n d c ∷ []))
+
+-- one line more
+pub state-lines-next : {m : Model} {i class at mid next : ℕ} {distance : Option ℕ} {entry middle exit : List ℕ}
+    → LinesWritten (StateLines m i) (stateRoom * i) entry at middle mid → DistanceField m i distance → ClassOf m i class
+    → length (lineBytes (state-line i distance class)) ≤ stateRoom
+    → Wrote middle mid (lineBytes (state-line i distance class)) exit next
+    → LinesWritten (StateLines m (i + 1)) (stateRoom * (i + 1)) entry at exit next
+state-lines-next {m} {i} {class} {distance = distance} x f k l w = rw add-one (written-of
+    (λ (xs : List PageLine) (y : StateLines m (suc i) xs). y) (omega arith) (written-append
+    (λ xs ys (p : StateLines m i xs) (q : ys ≡ state-line i distance class ∷ []).
+    subst (λ (zs : List PageLine). StateLines m (suc i) (xs ++ zs)) (sym q) (next-state p f k)) x
+    (written-line (state-line i distance class) refl l w)))
+
+-- all of them
+pub state-lines-all : {m : Model} {i at next : ℕ} {entry exit : List ℕ} → i ≡ m .head .states
+    → LinesWritten (StateLines m i) (stateRoom * i) entry at exit next
+    → LinesWritten (StateLines m (m .head .states)) (stateRoom * m .head .states) entry at exit next
+state-lines-all {m} {at = at} {next} {entry} {exit} e x =
+    subst (λ (n : ℕ). LinesWritten (StateLines m n) (stateRoom * n) entry at exit next) e x

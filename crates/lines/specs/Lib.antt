@@ -1,0 +1,5 @@
+pub mod Inner
+pub mod Laws
+pub mod PageLines
+pub mod Page
+pub mod Examples

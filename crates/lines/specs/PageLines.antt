@@ -1,0 +1,65 @@
+-- The lines of a page, and its bytes.
+-- Document 01, "The page".
+use mathlib.Core.List.{List, [], _∷_, _++_}
+use mathlib.Core.Option.{Option, none, some}
+use Prim.Native.Nat.{ℕ}
+use Rattle.text.specs.Numbers.{digits}
+use Rattle.model.specs.Text.{field}
+use Rattle.verdicts.specs.declared.judging.Verdict.{Verdict}
+use Rattle.verdicts.specs.declared.judging.Verdict.the-variants.{Passed, Refused}
+use Rattle.letters.specs.declared.word.End.{End}
+use Rattle.letters.specs.declared.word.End.the-variants.{Source, Target}
+
+-- What a line says.
+pub data PageLine : Type 0 where
+  verdict-line : Verdict → PageLine
+  state-line : (state : ℕ) (distance : Option ℕ) (class : ℕ) → PageLine
+  run-line : (step : ℕ) → PageLine
+  word-line : (name : List ℕ) → PageLine
+  end-line : End → PageLine
+  branch-line : PageLine
+  last-line : PageLine
+
+-- `pass` and `refuse`
+abbrev pub passText : List ℕ
+passText = 112 ∷ 97 ∷ 115 ∷ 115 ∷ []
+
+abbrev pub refuseText : List ℕ
+refuseText = 114 ∷ 101 ∷ 102 ∷ 117 ∷ 115 ∷ 101 ∷ []
+
+-- "distance `-` if unreachable"
+unfoldable pub distanceText : Option ℕ → List ℕ
+distanceText none = 45 ∷ []
+distanceText (some d) = digits d
+
+-- `source` or `target`
+unfoldable pub endText : End → List ℕ
+endText Source = 115 ∷ 111 ∷ 117 ∷ 114 ∷ 99 ∷ 101 ∷ []
+endText Target = 116 ∷ 97 ∷ 114 ∷ 103 ∷ 101 ∷ 116 ∷ []
+
+-- `V,pass,rank` or `V,refuse,step,depth`, `C,state,distance,class`, `R,step`, `W,name`, `B,source` or `B,target`, `N`
+-- and `E`
+unfoldable pub lineText : PageLine → List ℕ
+lineText (verdict-line (Passed rank)) = (86 ∷ []) ++ field passText ++ field (digits rank)
+lineText (verdict-line (Refused j depth)) =
+    (86 ∷ []) ++ field refuseText ++ field (digits (j .0)) ++ field (digits depth)
+lineText (state-line p distance class) =
+    (67 ∷ []) ++ field (digits p) ++ field (distanceText distance) ++ field (digits class)
+lineText (run-line j) = (82 ∷ []) ++ field (digits j)
+lineText (word-line name) = (87 ∷ []) ++ field name
+lineText (end-line end) = (66 ∷ []) ++ field (endText end)
+lineText branch-line = 78 ∷ []
+lineText last-line = 69 ∷ []
+
+-- "each line ends in byte 10"
+abbrev pub lineBytes : PageLine → List ℕ
+lineBytes l = lineText l ++ (10 ∷ [])
+
+-- The bytes of a page: its lines, one after the other.
+unfoldable pub pageBytes : List PageLine → List ℕ
+pageBytes [] = []
+pageBytes (l ∷ ls) = lineBytes l ++ pageBytes ls
+
+-- `F,number,place` and its end
+unfoldable pub faultBytes : ℕ → ℕ → List ℕ
+faultBytes number place = (70 ∷ []) ++ field (digits number) ++ field (digits place) ++ (10 ∷ [])

@@ -1,0 +1,111 @@
+// The lines that show the leak of a refused model.
+use crate::lines::PageEnd;
+use letters::word::WordAnswer;
+use text::Action;
+use text::Step;
+use verdicts::judging::Verdict;
+ghost use mathlib.Core.List.{map};
+ghost use mathlib.Core.Path.{_≡_};
+ghost use Prim.Native.Nat.{_+_, _*_, _≤_, _<_};
+ghost use lib.ListN.{length, take};
+ghost use Rattle.model.specs.StoredModel.{modelAt};
+ghost use Rattle.writer.specs.Inner.Writable.{Writable};
+ghost use Rattle.writer.specs.Wrote.{Wrote};
+ghost use Rattle.lines.specs.PageLines.{run-line, lineBytes};
+ghost use Rattle.lines.specs.Page.{nameLine, AfterStates};
+ghost use Rattle.lines.specs.Inner.LinesWritten.{LinesWritten};
+ghost use Rattle.lines.specs.Inner.Room.{runRoom, nameRoom, shownRoom, leakRoom};
+ghost use Rattle.lines.specs.Inner.Leak.{Letters, Spelled, shownLines, JudgedLists};
+
+impl PageEnd {
+    // A line for each of the first n steps of a run.
+    fn run_lines(self, out: &mut [u8], run: &[u16], n: usize) -> PageEnd
+        requires { ⌜ (n ≤ length (now run)) × (self .at .at + runRoom * n ≤ length (now out)) ⌝ }
+        ensures { λ r. ⌜ LinesWritten (_≡_ (map run-line (take n (now (run .entry))))) (runRoom * n) (now (out .entry))
+            (self .at .at) (now (out .exit)) (r .at .at) ⌝ }
+    {
+        let mut page = self;
+        let mut i: usize = 0;
+        while i < n {
+            page = page.run_line(out, Step(run[i]));
+            i += 1;
+        }
+        page
+    }
+
+    // The line of an action's name, which the store holds.
+    fn name_line(self, out: &mut [u8], store: &[u16], a: Action) -> PageEnd
+        requires { ⌜ Writable (now store) ⌝ }
+        requires { ⌜ a .0 < length (modelAt (now store) .actions) ⌝ }
+        requires { ⌜ self .at .at + nameRoom ≤ length (now out) ⌝ }
+        ensures { λ r. ⌜ Wrote (now (out .entry)) (self .at .at)
+            (lineBytes (nameLine (modelAt (now (store .entry))) (a .0))) (now (out .exit)) (r .at .at) ⌝ }
+    {
+        let from = model::store::name_place(a);
+        let to = from + model::store::name_length(store, a) as usize;
+        self.word_line(out, &store[from..to])
+    }
+
+    // A line for each of the first n letters of a word.
+    fn word_lines(self, out: &mut [u8], store: &[u16], word: &[u16], n: usize) -> PageEnd
+        requires { ⌜ Writable (now store) ⌝ }
+        requires { ⌜ Letters (modelAt (now store)) n (now word) ⌝ }
+        requires { ⌜ self .at .at + nameRoom * n ≤ length (now out) ⌝ }
+        ensures { λ r. ⌜ LinesWritten (_≡_ (map (nameLine (modelAt (now (store .entry)))) (take n (now (word .entry)))))
+            (nameRoom * n) (now (out .entry)) (self .at .at) (now (out .exit)) (r .at .at) ⌝ }
+    {
+        let mut page = self;
+        let mut i: usize = 0;
+        while i < n {
+            page = page.name_line(out, store, Action(word[i]));
+            i += 1;
+        }
+        page
+    }
+
+    // What Word shows: at most 127 letters and the end, or `N`.
+    fn shown_lines(self, out: &mut [u8], store: &[u16], word: &[u16], shown: WordAnswer) -> PageEnd
+        requires { ⌜ Writable (now store) ⌝ }
+        requires { ⌜ Spelled (modelAt (now store)) shown (now word) ⌝ }
+        requires { ⌜ self .at .at + shownRoom ≤ length (now out) ⌝ }
+        ensures { λ r. ⌜ LinesWritten (_≡_ (shownLines (modelAt (now (store .entry))) shown (now (word .entry))))
+            shownRoom (now (out .entry)) (self .at .at) (now (out .exit)) (r .at .at) ⌝ }
+    {
+        if let WordAnswer::Shown(n, end) = shown {
+            let page = self.word_lines(out, store, word, n);
+            return page.end_line(out, end);
+        }
+        self.branch_line(out)
+    }
+
+    // What follows the `C` lines: for a refused model the run to the source of Judge's step and what Word shows. The
+    // lists are as `judge_good` leaves them.
+    pub fn leak_lines(
+        self,
+        out: &mut [u8],
+        store: &[u16],
+        begins: &[u16],
+        roles: &[u16],
+        distances: &[u16],
+        table: &[u8],
+        v: Verdict,
+        run: &mut [u16],
+        word: &mut [u16],
+    ) -> PageEnd
+        requires { ⌜ JudgedLists (modelAt (now store)) v (now store) (now begins) (now roles) (now distances)
+            (now table) (now run) (now word) ⌝ }
+        requires { ⌜ self .at .at + leakRoom ≤ length (now out) ⌝ }
+        ensures { λ r. ⌜ LinesWritten (AfterStates (modelAt (now (store .entry))) v (now (run .entry))
+            (now (word .entry)) (now (run .exit)) (now (word .exit))) leakRoom (now (out .entry)) (self .at .at)
+            (now (out .exit)) (r .at .at) ⌝ }
+    {
+        let Verdict::Refused(j, _) = v else {
+            return self;
+        };
+        let p = model::store::source(store, j);
+        let n = distances::run::fill_run(store, distances, run, p);
+        let page = self.run_lines(out, run, n);
+        let shown = letters::word::show(store, begins, roles, distances, table, v, word);
+        page.shown_lines(out, store, word, shown)
+    }
+}

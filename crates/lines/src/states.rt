@@ -1,0 +1,40 @@
+// The `C` lines of a page.
+use crate::class::class_of;
+use crate::lines::PageEnd;
+use text::State;
+ghost use Prim.Native.Nat.{_+_, _*_, _≤_};
+ghost use lib.ListN.{length};
+ghost use Rattle.model.specs.StoredModel.{modelAt};
+ghost use Rattle.lines.specs.Page.{StateLines};
+ghost use Rattle.lines.specs.Inner.Entries.{ListsOf};
+ghost use Rattle.lines.specs.Inner.LinesWritten.{LinesWritten};
+ghost use Rattle.lines.specs.Inner.Room.{stateRoom};
+
+impl PageEnd {
+    // The lines of all states.
+    pub fn state_lines(
+        self,
+        out: &mut [u8],
+        store: &[u16],
+        distances: &[u16],
+        table: &[u8],
+    ) -> PageEnd
+        requires { ⌜ ListsOf (modelAt (now store)) (now store) (now distances) (now table) ⌝ }
+        requires { ⌜ self .at .at + stateRoom * modelAt (now store) .head .states ≤ length (now out) ⌝ }
+        ensures { λ r. ⌜ LinesWritten
+            (StateLines (modelAt (now (store .entry))) (modelAt (now (store .entry)) .head .states))
+            (stateRoom * modelAt (now (store .entry)) .head .states) (now (out .entry)) (self .at .at) (now (out .exit))
+            (r .at .at) ⌝ }
+    {
+        let n = model::store::states(store);
+        let mut page = self;
+        let mut i: u16 = 0;
+        while i < n {
+            let place = i as usize;
+            let class = class_of(table, State(i));
+            page = page.state_line(out, State(i), distances[place], class);
+            i += 1;
+        }
+        page
+    }
+}

@@ -1,0 +1,35 @@
+// The whole page of a judged model.
+use crate::lines::PageEnd;
+use verdicts::judging::Verdict;
+ghost use Prim.Native.Nat.{_≤_};
+ghost use lib.ListN.{length};
+ghost use Rattle.text.specs.Limits.{pageLength};
+ghost use Rattle.model.specs.StoredModel.{modelAt};
+ghost use Rattle.lines.specs.Page.{PageOf};
+ghost use Rattle.lines.specs.Inner.Leak.{JudgedLists};
+ghost use Rattle.lines.specs.Inner.LinesWritten.{LinesWritten};
+
+// The page of a judged model; the lists are as `judge_good` leaves them.
+pub fn judged_page(
+    store: &[u16],
+    begins: &[u16],
+    roles: &[u16],
+    distances: &[u16],
+    table: &[u8],
+    v: Verdict,
+    run: &mut [u16],
+    word: &mut [u16],
+    out: &mut [u8],
+) -> PageEnd
+    requires { ⌜ JudgedLists (modelAt (now store)) v (now store) (now begins) (now roles) (now distances) (now table)
+        (now run) (now word) ⌝ }
+    requires { ⌜ pageLength ≤ length (now out) ⌝ }
+    ensures { λ r. ⌜ LinesWritten (PageOf (modelAt (now (store .entry))) (now (run .entry)) (now (word .entry))
+        (now (run .exit)) (now (word .exit))) pageLength (now (out .entry)) 0 (now (out .exit)) (r .at .at) ⌝ }
+{
+    let start = PageEnd::start();
+    let verdict = start.verdict_line(out, v);
+    let states = verdict.state_lines(out, store, distances, table);
+    let leak = states.leak_lines(out, store, begins, roles, distances, table, v, run, word);
+    leak.last_line(out)
+}

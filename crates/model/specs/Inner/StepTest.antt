@@ -1,0 +1,20 @@
+-- The tests of a model's steps and of its start.
+-- Document 01, "The meaning".
+use mathlib.Core.Bool.{Bool, _&&_}
+use Prim.Native.Nat.{ℕ}
+use lib.Dec.{eqb}
+use lib.ListN.{length}
+use Rattle.lts.specs.Tests.{any}
+use Rattle.text.specs.Model.{Model}
+use Rattle.model.specs.System.{source, action, target}
+
+-- Step j leads from p with the action a to q.
+abbrev pub leads? : Model → ℕ → ℕ → ℕ → ℕ → Bool
+leads? m p a q j = eqb (source m j) p && (eqb (action m j) a && eqb (target m j) q)
+
+-- Some step does.
+unfoldable pub step? : Model → ℕ → ℕ → ℕ → Bool
+step? m p a q = any (length (m .steps)) (leads? m p a q)
+
+abbrev pub start? : Model → ℕ → Bool
+start? m p = eqb p (m .head .start .0)

@@ -1,0 +1,6 @@
+pub mod StoredLaws
+pub mod GoodStoredLaws
+pub mod IndexLaws
+pub mod RolesLaws
+pub mod StepTestLaws
+pub mod RankBoundLaws

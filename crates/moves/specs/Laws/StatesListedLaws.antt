@@ -1,0 +1,146 @@
+-- The lists grow state by state, until they have just the moves that are played.
+-- Document 01, "Alike": "Release and high steps are never played." Assumes nothing.
+use mathlib.Core.List.{List}
+use mathlib.Core.Logic.{⊎-elim}
+use mathlib.Core.Path.{_≡_, sym, ap, _∙_, subst}
+use Prim.Native.Nat.{ℕ, _+_, _≤_, _<_}
+use native.Mathlib.Omega.{arith}
+use lib.ListN.{length, getD, set}
+use lib.Seq.{getD-set-same, getD-set-other}
+use borrow.Author.Count.{below-more}
+use Rattle.lts.specs.Alike.{Moves}
+use Rattle.lts.specs.TestsLaws.{lt-or-le}
+use Rattle.text.specs.Limits.{stepLimit}
+use Rattle.text.specs.Model.{Model}
+use Rattle.model.specs.System.{LowStep}
+use Rattle.model.specs.Inner.Stored.{Stored}
+use Rattle.ranking.specs.MoveList.{Listed, Lists}
+use Rattle.moves.specs.Inner.Listing.{Appended, StatesListed}
+
+-- ---- one state more
+
+pub statesListed-zero : {Move : Moves} (first : List ℕ) {actions targets : List ℕ} → 0 < length first
+    → StatesListed Move 0 0 (set first 0 0) actions targets
+statesListed-zero first l = record {
+  end-is = at;
+  first-le = λ p k. let e : p ≡ 0 = omega arith in omega (arith, ap (λ (x : ℕ). getD (set first 0 0) x 0) e, at);
+  rising = λ p k. absurd (omega arith);
+  each = λ i k. absurd (omega arith);
+  sound = λ p a q x. absurd (omega (arith, x .source-lt));
+  complete = λ p a q k. absurd (omega arith);
+}
+  where
+    at : getD (set first 0 0) 0 0 ≡ 0
+    at = getD-set-same first 0 0 0 l
+
+module _ {Move : Moves} {n from to : ℕ} {first actions targets actions′ targets′ : List ℕ}
+    (long : n + 1 < length first) (x : StatesListed Move n from first actions targets)
+    (y : Appended (Move n) from to actions targets actions′ targets′) where
+  abbrev next : List ℕ
+  next = set first (n + 1) to
+
+  last-is : getD next (n + 1) 0 ≡ to
+  last-is = getD-set-same first (n + 1) to 0 long
+
+  before-is : (p : ℕ) → p ≤ n → getD next p 0 ≡ getD first p 0
+  before-is p l = getD-set-other first (n + 1) p to 0 (λ e. omega arith)
+
+  -- a listed move of a state below n stood in the lists before
+  listed-before : (p a q : ℕ) → p < n → Listed (n + 1) next actions′ targets′ p a q
+      → Listed n first actions targets p a q
+  listed-before p a q l z =
+      let k : z .place < from =
+      omega (arith, z .place-lt, before-is (p + 1) (omega arith), x .first-le (p + 1) (omega arith)) in
+      record {
+        place = z .place;
+        source-lt = l;
+        first-le = omega (arith, z .first-le, before-is p (omega arith));
+        place-lt = omega (arith, z .place-lt, before-is (p + 1) (omega arith));
+        action-is = sym (y .actions-kept _ k) ∙ z .action-is;
+        target-is = sym (y .targets-kept _ k) ∙ z .target-is;
+      }
+
+  listed-after : (p a q : ℕ) → Listed n first actions targets p a q → Listed (n + 1) next actions′ targets′ p a q
+  listed-after p a q z =
+      let l = z .source-lt in
+      let k : z .place < from = omega (arith, z .place-lt, x .first-le (p + 1) (omega arith)) in
+      record {
+        place = z .place;
+        source-lt = omega arith;
+        first-le = omega (arith, z .first-le, before-is p (omega arith));
+        place-lt = omega (arith, z .place-lt, before-is (p + 1) (omega arith));
+        action-is = y .actions-kept _ k ∙ z .action-is;
+        target-is = y .targets-kept _ k ∙ z .target-is;
+      }
+
+  listed-new : (a q : ℕ) → Move n a q → Listed (n + 1) next actions′ targets′ n a q
+  listed-new a q o =
+      let c = y .complete a q o in
+      record {
+        place = c .0;
+        source-lt = omega arith;
+        first-le = omega (arith, before-is n (omega arith), x .end-is, c .1);
+        place-lt = omega (arith, last-is, c .2);
+        action-is = c .3;
+        target-is = c .4;
+      }
+
+  new-sound : (a q : ℕ) → Listed (n + 1) next actions′ targets′ n a q → Move n a q
+  new-sound a q z =
+      let from-le : from ≤ z .place = omega (arith, before-is n (omega arith), x .end-is, z .first-le) in
+      let m = y .sound (z .place) from-le (omega (arith, last-is, z .place-lt)) in
+      subst (λ (b : ℕ). Move n b q) (z .action-is) (subst (Move n _) (z .target-is) m)
+
+  pub statesListed-suc : StatesListed Move (n + 1) to next actions′ targets′
+  statesListed-suc = record {
+    end-is = last-is;
+    first-le = λ p l.
+        below-more (λ r. getD next r 0 ≤ to) (n + 1)
+        (λ r k. omega (arith, before-is r (omega arith), x .first-le r (omega arith), y .from-le))
+        (omega (arith, last-is)) p (omega arith);
+    rising =
+        below-more (λ p. getD next p 0 ≤ getD next (p + 1) 0) n
+        (λ p k. omega (arith, before-is p (omega arith), before-is (p + 1) (omega arith), x .rising p k))
+        (omega (arith, before-is n (omega arith), x .end-is, last-is, y .from-le));
+    each = λ i l. ⊎-elim
+        (λ k.
+        let s = x .each i k in (
+          s .0,
+          subst (λ (a : ℕ). Move (s .0) a (getD targets′ i 0)) (sym (y .actions-kept i k))
+              (subst (Move (s .0) _) (sym (y .targets-kept i k)) (s .1)),
+        ))
+        (λ k. (n, y .sound i k l))
+        (lt-or-le i from);
+    sound = λ p a q z.
+        below-more (λ r. Listed (n + 1) next actions′ targets′ r a q → Move r a q) n
+        (λ r k w. x .sound r a q (listed-before r a q k w)) (new-sound a q) p (z .source-lt) z;
+    complete = λ p a q l.
+        below-more (λ r. Move r a q → Listed (n + 1) next actions′ targets′ r a q) n
+        (λ r k o. listed-after r a q (x .complete r a q k o)) (listed-new a q) p l;
+  }
+
+-- ---- all states
+
+pub lists-of-statesListed : {s : List ℕ} {m : Model} {n to : ℕ} {first actions targets : List ℕ} → Stored s m
+    → n ≡ m .head .states → to ≤ stepLimit → StatesListed (LowStep m) n to first actions targets
+    → Lists (LowStep m) (m .head .states) first actions targets
+lists-of-statesListed {m = m} {to = to} {first} {actions} {targets} st e l listed =
+    let x = subst (λ (n : ℕ). StatesListed (LowStep m) n to first actions targets) e listed in
+    record {
+      moves = record {
+        some-state = st .states-pos;
+        states-le = st .states-le;
+        rising = x .rising;
+        last-le = λ p k. omega (arith, x .first-le p k);
+        action-lt = λ i k.
+            let s = x .each i (omega (arith, x .end-is)) .1 .1 in
+            omega (arith, s .action-is, st .action-lt (s .number) (s .number-lt), st .actions-le);
+        target-lt = λ i k.
+            let s = x .each i (omega (arith, x .end-is)) .1 .1 in
+            omega (arith, s .target-is, st .target-lt (s .number) (s .number-lt));
+      };
+      sound = x .sound;
+      complete = λ p a q o.
+          let s = o .1 in
+          x .complete p a q (omega (arith, s .source-is, st .source-lt (s .number) (s .number-lt))) o;
+    }

@@ -1,0 +1,3 @@
+// The moves that are played in a model, listed, and the table of their ranks.
+pub mod moves;
+pub mod table;

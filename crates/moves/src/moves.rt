@@ -1,0 +1,106 @@
+// The moves that are played, as lists: the low steps of each state. No other module knows what a move is.
+use text::State;
+use text::Step;
+use text::limits::LOW;
+ghost use Prim.Native.Nat.{_+_, _≤_, _<_};
+ghost use lib.ListN.{length, getD};
+ghost use Rattle.text.specs.Limits.{actionLimit, stepLimit};
+ghost use Rattle.model.specs.StoredModel.{modelAt};
+ghost use Rattle.model.specs.System.{levels, LowStep};
+ghost use Rattle.model.specs.Inner.Stored.{Stored};
+ghost use Rattle.model.specs.Inner.Index.{Index};
+ghost use Rattle.model.specs.Inner.Roles.{Roles};
+ghost use Rattle.text.specs.Limits.{indexLength};
+ghost use Rattle.ranking.specs.MoveList.{Lists};
+ghost use Rattle.moves.specs.Inner.Listing.{Appended, LowAmong};
+
+// Appends a step to the lists at place `at` if it is low, and yields the next free place.
+fn list_step(
+    store: &[u16],
+    roles: &[u16],
+    j: Step,
+    at: u16,
+    actions: &mut [u16],
+    targets: &mut [u16],
+) -> u16
+    requires { ⌜ Stored (now store) (modelAt (now store)) ⌝ }
+    requires { ⌜ (actionLimit ≤ length (now roles))
+        × Roles (levels (modelAt (now store))) (modelAt (now store) .head .actions) (now roles) ⌝ }
+    requires { ⌜ (j .0 < length (modelAt (now store) .steps)) × (at < stepLimit) ⌝ }
+    requires { ⌜ (stepLimit ≤ length (now actions)) × (stepLimit ≤ length (now targets)) ⌝ }
+    ensures { λ r. ⌜ Appended (LowAmong (modelAt (now (store .entry))) (j .0) (j .0 + 1)) at r
+        (now (actions .entry)) (now (targets .entry)) (now (actions .exit)) (now (targets .exit)) ⌝ }
+    ensures { λ r. ⌜ r ≤ at + 1 ⌝ }
+{
+    let a = model::store::action(store, j);
+    let of = a.0 as usize;
+    if LOW < roles[of] {
+        return at;
+    }
+    let q = model::store::target(store, j);
+    let to = at as usize;
+    actions[to] = a.0;
+    targets[to] = q.0;
+    at + 1
+}
+
+// Appends the low steps of p to the lists from place `from` on, and yields the next free place.
+fn list_state(
+    store: &[u16],
+    begins: &[u16],
+    roles: &[u16],
+    p: State,
+    from: u16,
+    actions: &mut [u16],
+    targets: &mut [u16],
+) -> u16
+    requires { ⌜ Stored (now store) (modelAt (now store)) ⌝ }
+    requires { ⌜ (indexLength ≤ length (now begins))
+        × Index (modelAt (now store)) (modelAt (now store) .head .states) (now begins) ⌝ }
+    requires { ⌜ (actionLimit ≤ length (now roles))
+        × Roles (levels (modelAt (now store))) (modelAt (now store) .head .actions) (now roles) ⌝ }
+    requires { ⌜ (p .0 < modelAt (now store) .head .states) × (from ≤ getD (now begins) (p .0) 0) ⌝ }
+    requires { ⌜ (stepLimit ≤ length (now actions)) × (stepLimit ≤ length (now targets)) ⌝ }
+    ensures { λ r. ⌜ Appended (LowStep (modelAt (now (store .entry))) (p .0)) from r
+        (now (actions .entry)) (now (targets .entry)) (now (actions .exit)) (now (targets .exit)) ⌝ }
+    ensures { λ r. ⌜ r ≤ getD (now (begins .entry)) (p .0 + 1) 0 ⌝ }
+{
+    let of = p.0 as usize;
+    let end = begins[of + 1];
+    let mut j = begins[of];
+    let mut at = from;
+    while j < end {
+        at = list_step(store, roles, Step(j), at, actions, targets);
+        j += 1;
+    }
+    at
+}
+
+// Lists the low steps of all states.
+pub fn list_moves(
+    store: &[u16],
+    begins: &[u16],
+    roles: &[u16],
+    first: &mut [u16],
+    actions: &mut [u16],
+    targets: &mut [u16],
+)
+    requires { ⌜ Stored (now store) (modelAt (now store)) ⌝ }
+    requires { ⌜ (indexLength ≤ length (now begins))
+        × Index (modelAt (now store)) (modelAt (now store) .head .states) (now begins) ⌝ }
+    requires { ⌜ (actionLimit ≤ length (now roles))
+        × Roles (levels (modelAt (now store))) (modelAt (now store) .head .actions) (now roles) ⌝ }
+    requires { ⌜ (indexLength ≤ length (now first)) × (stepLimit ≤ length (now actions))
+        × (stepLimit ≤ length (now targets)) ⌝ }
+    ensures { λ _. ⌜ Lists (LowStep (modelAt (now (store .entry)))) (modelAt (now (store .entry)) .head .states)
+        (now (first .exit)) (now (actions .exit)) (now (targets .exit)) ⌝ }
+{
+    let n = model::store::states(store);
+    let mut at = 0;
+    first[0] = 0;
+    for p in 0..n {
+        at = list_state(store, begins, roles, State(p), at, actions, targets);
+        let next = p as usize + 1;
+        first[next] = at;
+    }
+}

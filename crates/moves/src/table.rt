@@ -1,0 +1,34 @@
+// The table of ranks of a model.
+use text::limits::INDEX_LENGTH;
+use text::limits::MOVES_LENGTH;
+ghost use Prim.Native.Nat.{_≤_};
+ghost use lib.ListN.{length};
+ghost use Rattle.text.specs.Limits.{actionLimit};
+ghost use Rattle.model.specs.StoredModel.{modelAt};
+ghost use Rattle.model.specs.System.{levels, LowStep};
+ghost use Rattle.text.specs.Limits.{tableLength};
+ghost use Rattle.model.specs.Inner.Stored.{Stored};
+ghost use Rattle.model.specs.Inner.Index.{Index};
+ghost use Rattle.model.specs.Inner.Roles.{Roles};
+ghost use Rattle.text.specs.Limits.{indexLength};
+ghost use Rattle.ranking.specs.Table.{Ranked};
+
+// Fills the table with the ranks of a good store's states, and yields the last round that separated two of them. The
+// steps of each state begin where `begins` says.
+pub fn fill_table(store: &[u16], begins: &[u16], roles: &[u16], table: &mut [u8]) -> u8
+    requires { ⌜ Stored (now store) (modelAt (now store)) ⌝ }
+    requires { ⌜ (indexLength ≤ length (now begins))
+        × Index (modelAt (now store)) (modelAt (now store) .head .states) (now begins) ⌝ }
+    requires { ⌜ (actionLimit ≤ length (now roles))
+        × Roles (levels (modelAt (now store))) (modelAt (now store) .head .actions) (now roles) ⌝ }
+    requires { ⌜ tableLength ≤ length (now table) ⌝ }
+    ensures { λ r. ⌜ Ranked (LowStep (modelAt (now (store .entry)))) (modelAt (now (store .entry)) .head .states)
+        (now (table .entry)) (now (table .exit)) r ⌝ }
+{
+    let mut first = [0u16; INDEX_LENGTH];
+    let mut actions = [0u16; MOVES_LENGTH];
+    let mut targets = [0u16; MOVES_LENGTH];
+    crate::moves::list_moves(store, begins, roles, &mut first, &mut actions, &mut targets);
+    let n = model::store::states(store);
+    ranking::classes::rank_moves(n, &first, &actions, &targets, table)
+}

@@ -1,0 +1,156 @@
+-- The pages of the starred bench models, by evaluation: the joint fact has their verdicts and words, and which are
+-- deterministic; the `C` lines are computed; and a model has one page.
+-- Document 01, "The page" and "Bench models". Assumes nothing.
+use mathlib.Core.List.{List, [], _∷_, _++_, map}
+use mathlib.Core.Path.{_≡_, refl, sym, ap, subst, _∙_}
+use Prim.Native.Nat.{ℕ}
+use native.Mathlib.Omega.{arith}
+use lib.ListN.{length, take, drop}
+use lib.Seq.{take-append-seam, drop-append-seam}
+use Rattle.lts.specs.Tests.{all, any}
+use Rattle.lts.specs.Game.{alike?, rankBelow}
+use Rattle.lts.specs.Decided.{answered?, answers?, within?}
+use Rattle.text.specs.Faults.{answers}
+use Rattle.text.specs.Model.{Model}
+use Rattle.model.specs.Laws.Text.ReadingLaws.{readText-iff}
+use Rattle.model.specs.System.{Start, DeterministicModel, source}
+use Rattle.model.specs.Inner.StepTest.{step?}
+use Rattle.model.specs.Laws.System.GoodStoredLaws.{well-formed-stored}
+use Rattle.distances.specs.Runs.{at-start}
+use Rattle.verdicts.specs.declared.judging.Verdict.{Verdict}
+use Rattle.verdicts.specs.declared.judging.Verdict.the-variants.{Passed}
+use Rattle.letters.specs.declared.word.End.{End}
+use Rattle.letters.specs.declared.word.End.the-variants.{Source, Target}
+use Rattle.letters.specs.Words.{WordOf}
+use Rattle.tell.specs.Bench.{ReadsAndJudged, refusedAt}
+use Rattle.tell.specs.BenchModels.{worked, workedText, scannedOnce, released, closeLow, branching, noSteps, printLoop}
+use Rattle.tell.specs.BenchModels.{unreachedPrint}
+use Rattle.tell.specs.Laws.BenchLaws.{joint-fact}
+use Rattle.lines.specs.Examples.{workedLines, prints}
+use Rattle.page.specs.Laws.PagePromiseLaws.{pagePrinted-unique}
+use Rattle.lines.specs.Page.{nameLine, by-word, by-branch, AfterStates}
+use Rattle.lines.specs.PageLines.{PageLine, verdict-line, end-line, branch-line, last-line, pageBytes}
+use Rattle.page.specs.PagePromise.{PagePrinted}
+use Rattle.page.specs.Examples.{PrintsPage, PagesPrinted, scannedOnceLines, releasedLines, closeLowLines}
+use Rattle.page.specs.Examples.{branchingLines, oneStateLines, unreachedPrintLines}
+use Rattle.page.specs.Inner.StateLinesTest.{leastPassing, stateLinesOf}
+use Rattle.page.specs.Laws.StateLinesTestLaws.{stateLinesOf-lines}
+
+-- ---- what evaluation finds
+
+-- The page of a verdict, with these lines after those of the states.
+abbrev pageWith : Model → Verdict → List PageLine → List PageLine
+pageWith m v after = (verdict-line v ∷ []) ++ stateLinesOf m (m .head .states) ++ after ++ (last-line ∷ [])
+
+-- The lines of a word.
+abbrev wordLines : Model → List ℕ → End → List PageLine
+wordLines m w end = map (nameLine m) w ++ (end-line end ∷ [])
+
+record Computed : Type 0 where
+  worked : pageWith worked (refusedAt 1 2) (wordLines worked (0 ∷ 0 ∷ []) Source) ≡ workedLines
+  scanned-once : pageWith scannedOnce (Passed 1) [] ≡ scannedOnceLines
+  released : pageWith released (Passed 1) [] ≡ releasedLines
+  close-low : pageWith closeLow (refusedAt 0 1) (wordLines closeLow (2 ∷ []) Target) ≡ closeLowLines
+  branching : pageWith branching (refusedAt 2 2) (branch-line ∷ []) ≡ branchingLines
+  no-steps : pageWith noSteps (Passed 0) [] ≡ oneStateLines
+  print-loop : pageWith printLoop (Passed 0) [] ≡ oneStateLines
+  unreached-print : pageWith unreachedPrint (Passed 1) [] ≡ unreachedPrintLines
+
+computed : Computed
+unfolding stateLinesOf leastPassing step? rankBelow alike? answers? answered? within? all any workedLines
+    scannedOnceLines releasedLines closeLowLines branchingLines oneStateLines unreachedPrintLines
+computed = record {
+  worked = refl;
+  scanned-once = refl;
+  released = refl;
+  close-low = refl;
+  branching = refl;
+  no-steps = refl;
+  print-loop = refl;
+  unreached-print = refl;
+}
+
+-- ---- and so the promise says
+
+-- No page of these fills the run; `word′` is how it leaves the word.
+module _ {text : List ℕ} {m : Model} {v : Verdict} (x : ReadsAndJudged text m v) (after : List PageLine)
+    {lines : List PageLine} (e : pageWith m v after ≡ lines) (word′ : List ℕ → List ℕ)
+    (after-states : (run word : List ℕ) → AfterStates m v run word run (word′ word) after) where
+  abbrev bytes : List ℕ
+  bytes = pageBytes lines
+
+  pagePrinted-lines : (run word out : List ℕ) → PagePrinted m (answers (length bytes ∷ [])) run word out run
+      (word′ word) (bytes ++ drop (length bytes) out)
+  pagePrinted-lines run word out = record {
+    lines = lines;
+    page = record {
+      verdict = v;
+      judged = x .judged;
+      states = stateLinesOf m (m .head .states);
+      state-lines = stateLinesOf-lines (well-formed-stored (readText-iff text m .0 (x .reads) .0)) (m .head .states)
+          (omega arith);
+      after = after;
+      after-states = after-states run word;
+      lines-are = sym e;
+    };
+    outcome-is = refl;
+    list = refl;
+  }
+
+  prints-lines : PrintsPage text (pageBytes lines)
+  prints-lines = record {
+    by-promise = λ {run = run} {word = word} {out = out} long p.
+        let same = pagePrinted-unique (p .read long m (x .reads) .printed) (pagePrinted-lines run word out) in
+        record {
+          outcome-is = same .0;
+          printed = ap (take (length bytes)) (same .3) ∙ take-append-seam bytes (drop (length bytes) out);
+          kept = ap (drop (length bytes)) (same .3) ∙ drop-append-seam bytes (drop (length bytes) out);
+        };
+  }
+
+module _ {text : List ℕ} {m : Model} where
+  prints-passed : {top : ℕ} {lines : List PageLine} → ReadsAndJudged text m (Passed top)
+      → pageWith m (Passed top) [] ≡ lines → PrintsPage text (pageBytes lines)
+  prints-passed x e =
+      prints-lines x [] e (λ word. word) (λ run word. record { run-kept = refl; word-kept = refl; lines-are = refl })
+
+  -- the step leaves the start, so that the run to its source is empty
+  module _ {j depth : ℕ} (x : ReadsAndJudged text m (refusedAt j depth)) (s : Start m (source m j)) where
+    prints-word : {w : List ℕ} {end : End} {lines : List PageLine} → DeterministicModel m → WordOf m j w end
+        → length w ≡ depth → pageWith m (refusedAt j depth) (wordLines m w end) ≡ lines
+        → PrintsPage text (pageBytes lines)
+    prints-word {w} {end} d y l e =
+        prints-lines x (wordLines m w end) e (λ word. w ++ drop (length w) word) (λ run word. record {
+          steps = [];
+          run-to = at-start s;
+          run-list = refl;
+          rest = wordLines m w end;
+          shown = by-word d y l refl;
+          lines-are = refl;
+        })
+
+    prints-branch : {lines : List PageLine} → ¬ (DeterministicModel m)
+        → pageWith m (refusedAt j depth) (branch-line ∷ []) ≡ lines → PrintsPage text (pageBytes lines)
+    prints-branch n e = prints-lines x (branch-line ∷ []) e (λ word. word) (λ run word. record {
+      steps = [];
+      run-to = at-start s;
+      run-list = refl;
+      rest = branch-line ∷ [];
+      shown = by-branch n refl;
+      lines-are = refl;
+    })
+
+pub pages-printed : PagesPrinted
+pages-printed = record {
+  worked = subst (PrintsPage workedText) prints (prints-word (joint-fact .worked-refused) refl
+      (joint-fact .worked-deterministic) (joint-fact .worked-word) refl (computed .worked));
+  scanned-once = prints-passed (joint-fact .scanned-once-passed) (computed .scanned-once);
+  released = prints-passed (joint-fact .released-passed) (computed .released);
+  close-low = prints-word (joint-fact .close-low-refused) refl (joint-fact .close-low-deterministic)
+      (joint-fact .close-low-word) refl (computed .close-low);
+  branching = prints-branch (joint-fact .branching-refused) refl (joint-fact .branching-not-deterministic)
+      (computed .branching);
+  no-steps = prints-passed (joint-fact .no-steps-passed) (computed .no-steps);
+  print-loop = prints-passed (joint-fact .print-loop-passed) (computed .print-loop);
+  unreached-print = prints-passed (joint-fact .unreached-print-passed) (computed .unreached-print);
+}

@@ -1,0 +1,120 @@
+// From a text to its page.
+use crate::page::first_short;
+use crate::page::page_good;
+use lines::lines::PageEnd;
+use reader::answers::ReadAnswer;
+ghost use mathlib.Core.List.{[], _∷_};
+ghost use mathlib.Core.Path.{_≡_};
+ghost use Prim.Native.Nat.{_≤_};
+ghost use lib.ListN.{length};
+ghost use Rattle.text.specs.Faults.{answers, refuses};
+ghost use Rattle.text.specs.Limits.{pageLength};
+ghost use Rattle.read_write.specs.ReadPromise.{readOutcome};
+ghost use Rattle.page.specs.Inner.PageLists.{LongLists};
+ghost use Rattle.page.specs.Claim.{PrintClaim};
+ghost use Rattle.page.specs.PrintPromise.{printOutcome, PrintPromise};
+ghost use Rattle.page.specs.Inner.Refusals.{Refuses, FaultWritten};
+
+// The bytes written.
+pub enum PrintAnswer {
+    Printed(usize),
+    ShortList(usize),
+}
+
+// The number and the place of a refusal.
+struct Refusal {
+    number: u16,
+    place: u16,
+}
+
+fn refusal_of(read: ReadAnswer) -> Refusal
+    requires { ⌜ Refuses read ⌝ }
+    ensures { λ r. ⌜ readOutcome read ≡ refuses (r .number) (r .place) ⌝ }
+{
+    match read {
+        ReadAnswer::Done => Refusal {
+            number: 0,
+            place: 0,
+        },
+        ReadAnswer::ShortList(k) => Refusal {
+            number: 21,
+            place: k as u16,
+        },
+        ReadAnswer::TooLong => Refusal {
+            number: 1,
+            place: 0,
+        },
+        ReadAnswer::Faulty { fault, line } => {
+            let n = text::fault_number(fault);
+            Refusal {
+                number: n,
+                place: line as u16,
+            }
+        }
+    }
+}
+
+// What is printed of a text that Read refuses.
+fn unread_page(read: ReadAnswer, out: &mut [u8]) -> PageEnd
+    requires { ⌜ Refuses read × (pageLength ≤ length (now out)) ⌝ }
+    ensures { λ r. ⌜ FaultWritten (readOutcome read) (now (out .entry)) (now (out .exit)) (r .at .at) ⌝ }
+{
+    let refusal = refusal_of(read);
+    let start = PageEnd::start();
+    start.fault_line(out, refusal.number, refusal.place)
+}
+
+// Prints the page of a text, or why Read refuses it, where all lists are long enough.
+fn print_text(
+    text: &[u8],
+    store: &mut [u16],
+    distances: &mut [u16],
+    table: &mut [u8],
+    run: &mut [u16],
+    word: &mut [u16],
+    out: &mut [u8],
+) -> PageEnd
+    requires { ⌜ LongLists (now store) (now distances) (now table) (now run) (now word) (now out) ⌝ }
+    ensures { λ r. ⌜ PrintPromise (now (text .entry)) (now (store .entry)) (now (distances .entry)) (now (table .entry))
+        (now (run .entry)) (now (word .entry)) (now (out .entry)) (answers (r .at .at ∷ [])) (now (store .exit))
+        (now (distances .exit)) (now (table .exit)) (now (run .exit)) (now (word .exit)) (now (out .exit)) ⌝ }
+{
+    let read = read_write::read::read(text, store);
+    match read {
+        ReadAnswer::Done => page_good(store, distances, table, run, word, out),
+        _ => unread_page(read, out),
+    }
+}
+
+// Reads a text and prints its page, or why Read refuses it.
+pub fn print(
+    text: &[u8],
+    store: &mut [u16],
+    distances: &mut [u16],
+    table: &mut [u8],
+    run: &mut [u16],
+    word: &mut [u16],
+    out: &mut [u8],
+) -> PrintAnswer
+    ensures { λ r. ⌜ PrintPromise (now (text .entry)) (now (store .entry)) (now (distances .entry)) (now (table .entry))
+        (now (run .entry)) (now (word .entry)) (now (out .entry)) (printOutcome r) (now (store .exit))
+        (now (distances .exit)) (now (table .exit)) (now (run .exit)) (now (word .exit)) (now (out .exit)) ⌝ }
+    ensures { λ r. ⌜ PrintClaim (now (text .entry)) (printOutcome r) (now (word .exit)) (now (out .exit)) ⌝ }
+{
+    let short = first_short(
+        store.len(),
+        distances.len(),
+        table.len(),
+        run.len(),
+        word.len(),
+        out.len(),
+    );
+    if 0 < short {
+        // The text, of no least length, is list 1.
+        let place = short + 1;
+        return PrintAnswer::ShortList(place);
+    }
+    let printed = print_text(text, store, distances, table, run, word, out);
+    let at = printed.at;
+    PrintAnswer::Printed(at.at)
+}

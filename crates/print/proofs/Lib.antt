@@ -1,2 +1,0 @@
-pub mod ReadRefusals
-pub mod PrintAnswers

@@ -1,2 +1,0 @@
-// From a text to its page.
-pub mod print;

@@ -1,0 +1,3 @@
+// Reading and writing: Read and Write.
+pub mod read;
+pub mod write;

@@ -1,0 +1,73 @@
+-- The local store holds the model where the lines are good, and its copy is what the promise asks; else nothing is
+-- stored.
+use borrow.Author.Needs.{needs}
+use mathlib.Core.Path.{_∙_}
+use Rattle.reader.specs.Laws.FillLaws.{storeOf-head}
+use Rattle.reader.specs.Laws.ReadLaws.{after-head, Further-next, Further-refused}
+use Rattle.reader.specs.Laws.ReadAnswerLaws.{ReadOut-done, ReadOut-faulty}
+use Rattle.reader.proofs.body.model.Statement.{statement}
+use Rattle.reader.proofs.body.model.Tie as tie
+
+kinds-requires : tie.Need-kinds-requires
+kinds-requires c κs = search needs
+
+slice-aggregate-put-head : tie.Need-slice-aggregate-put-head
+slice-aggregate-put-head c = search needs
+
+put-head-requires : tie.Need-put-head-requires
+put-head-requires c κs = search needs
+
+slice-aggregate-lines : tie.Need-slice-aggregate-lines
+slice-aggregate-lines c = search needs
+
+lines-requires : tie.Need-lines-requires
+lines-requires c κs =
+    let p = c .before .before .before in
+    let k = p .before .before in
+    let start = k .before .before .before in
+    (rw (p .put-head .ensures ∙ storeOf-head _) (after-head _ _ _ (start .pre .0)), k .kinds .ensures)
+
+enum-told : tie.Need-enum-told
+enum-told c = search needs
+
+slice-aggregate-copy : tie.Need-slice-aggregate-copy
+slice-aggregate-copy c = search needs
+
+copy-requires : tie.Need-copy-requires
+copy-requires c κs = search needs
+
+enum-known-read : tie.Need-enum-known-read
+enum-known-read c = search needs
+
+same-length : tie.Need-same-length
+same-length c = search needs
+
+returns : tie.Need-returns
+returns c =
+    let p = c .before .before in
+    let t = p .before .before .before in
+    let r = t .before .before .before in
+    let kept = r .lines .kept .1 .1 .1 .1 .0 ∙ r .before .before .before .before .put-head .kept .0 in
+    ReadOut-done _ _ _ _ (Further-next _ _ _ _ (t .enum-told .given .1) (r .lines .ensures)) kept (p .copy .ensures)
+
+returns-2 : tie.Need-returns-2
+returns-2 c =
+    let r = c .before .before .before .before in
+    ReadOut-faulty _ _ _ _ (Further-refused _ _ _ _ _ (c .before .read .given .1) (r .lines .ensures))
+
+pub model-spec : {M : Type 1} → statement M
+model-spec =
+    tie.close
+    (tie.spec
+    kinds-requires
+    slice-aggregate-put-head
+    put-head-requires
+    slice-aggregate-lines
+    lines-requires
+    enum-told
+    slice-aggregate-copy
+    copy-requires
+    enum-known-read
+    same-length
+    returns
+    returns-2)

@@ -1,0 +1,131 @@
+-- How far a text has been read: what the store holds after some of its lines, and that what remains reads as the
+-- whole does.
+-- Only the contracts of inner functions cite it. Document 01, "The text" and "The model store".
+use mathlib.Core.List.{List, [], _∷_, _++_}
+use mathlib.Core.Path.{_≡_}
+use Prim.Native.Nat.{ℕ, _+_, _-_, _*_, _≤_}
+use lib.ListN.{length, drop}
+use Rattle.text.specs.declared.Fault.the-variants.{Absent}
+use Rattle.text.specs.declared.Head.{Head}
+use Rattle.text.specs.declared.StepLine.{StepLine}
+use Rattle.text.specs.declared.line.HeadRead.{HeadRead}
+use Rattle.text.specs.declared.line.HeadRead.the-variants as head-read
+use Rattle.reader.specs.declared.answers.LinesRead.{LinesRead}
+use Rattle.reader.specs.declared.answers.LinesRead.the-variants as lines-read
+use Rattle.reader.specs.declared.answers.ReadAnswer.{ReadAnswer}
+use Rattle.text.specs.Limits.{stateLimit, actionLimit, stepLimit, nameLimit}
+use Rattle.text.specs.Bytes.{lineEnd}
+use Rattle.text.specs.Split.{split}
+use Rattle.text.specs.Model.{ActionLine, Model}
+use Rattle.text.specs.Lines.{Line, bad, headOf}
+use Rattle.text.specs.Inner.LineAnswers.{Last}
+use Rattle.model.specs.Reading.{Reading, faulty, done, headModel, readModel, readActions, readSteps}
+use Rattle.model.specs.Store.{actionNumbers, actionsNumbers, storeOf}
+use Rattle.reader.specs.Answers.{readAnswer, readingStore}
+
+-- ---- an action in the store
+
+-- an action stands from place `at` on, and its name has at most twelve bytes
+pub record ActionStored (store : List ℕ) (at : ℕ) (a : ActionLine) : Type 0 where
+  pub after : List ℕ
+  pub stored : drop at store ≡ actionNumbers a ++ after
+  pub short : length (a .name) ≤ nameLimit
+
+-- each name has at most twelve bytes
+unfoldable pub Short : List ActionLine → Type 0
+Short [] = Unit {0}
+Short (a ∷ rest) = (length (a .name) ≤ nameLimit) × Short rest
+
+-- actions stand one after the other from place `at` on
+pub record ActionsStored (store : List ℕ) (at : ℕ) (actions : List ActionLine) : Type 0 where
+  pub after : List ℕ
+  pub stored : drop at store ≡ actionsNumbers actions ++ after
+  pub short : Short actions
+
+-- ---- after some lines
+
+-- what reading a text comes to, by its lines
+abbrev pub whole : List ℕ → Reading
+whole text = readModel (split lineEnd text)
+
+-- the limits that a good first line keeps
+pub record InLimits (h : Head) : Type 0 where
+  pub states : h .states ≤ stateLimit
+  pub actions : h .actions ≤ actionLimit
+  pub steps : h .steps ≤ stepLimit
+
+-- after a first line that states h, at a place of the text
+pub record AfterHead (h : Head) (text : List ℕ) (at : ℕ) : Type 0 where
+  pub limits : InLimits h
+  pub place : at ≤ length text
+  pub rest : whole text ≡ readActions (h .actions) 2 (headModel h) (split lineEnd (drop at text))
+
+-- after i actions
+pub record AfterActions (h : Head) (text : List ℕ) (at i : ℕ) (store : List ℕ) : Type 0 where
+  pub limits : InLimits h
+  pub place : at ≤ length text
+  pub actions : List ActionLine
+  pub count : length actions ≡ i
+  pub short : Short actions
+  pub stored : store ≡ storeOf (record { head = h; actions = actions; steps = [] })
+  pub rest : whole text
+      ≡ readActions (h .actions - i) (2 + i) (record { head = h; actions = actions; steps = [] })
+      (split lineEnd (drop at text))
+
+-- after all actions and j steps, of which `last` is the last
+pub record AfterStep (h : Head) (text : List ℕ) (at j : ℕ) (last : StepLine) (store : List ℕ) : Type 0 where
+  pub limits : InLimits h
+  pub place : at ≤ length text
+  pub actions : List ActionLine
+  pub action-places : length (actionsNumbers actions) ≤ 14 * actionLimit
+  pub steps : List StepLine
+  pub count : length steps ≡ j
+  pub last-step : Last steps j last
+  pub stored : store ≡ storeOf (record { head = h; actions = actions; steps = steps })
+  pub rest : whole text
+      ≡ readSteps (h .steps - j) (2 + h .actions + j) (record { head = h; actions = actions; steps = steps })
+      (split lineEnd (drop at text))
+
+-- after all actions and steps
+pub record AfterSteps (h : Head) (text : List ℕ) (at : ℕ) (store : List ℕ) : Type 0 where
+  pub limits : InLimits h
+  pub place : at ≤ length text
+  pub model : Model
+  pub stored : store ≡ storeOf model
+  pub rest : whole text ≡ readSteps 0 (2 + h .actions + h .steps) model (split lineEnd (drop at text))
+
+-- after the end of the text
+pub record AfterEnd (text store : List ℕ) : Type 0 where
+  pub model : Model
+  pub stored : store ≡ storeOf model
+  pub reads : whole text ≡ done model
+
+-- what reading some lines comes to: P of the place after them, or the text is refused
+unfoldable pub Further : (ℕ → Type 0) → List ℕ → LinesRead → Type 0
+Further P text (lines-read.Next at) = P at
+Further P text (lines-read.Faulty fault line) = whole text ≡ faulty fault line
+
+-- ---- the first line
+
+-- what the first of a text's parts states as line 1, if it is there with its end
+unfoldable pub firstLine : List (List ℕ) → Line Head
+firstLine [] = bad Absent
+firstLine (line ∷ []) = bad Absent
+firstLine (line ∷ part ∷ parts) = headOf line
+
+-- `next` is the place after the line at a place of a text, if that is there with its end
+pub record AfterLine (text : List ℕ) (at next : ℕ) : Type 0 where
+  pub place : next ≤ length text
+  pub rest : (line part : List ℕ) (parts : List (List ℕ)) → split lineEnd (drop at text) ≡ line ∷ part ∷ parts
+      → split lineEnd (drop next text) ≡ part ∷ parts
+
+-- after the first line, good or bad
+unfoldable pub AfterFirst : HeadRead → List ℕ → ℕ → Type 0
+AfterFirst (head-read.Good h) text at = AfterHead h text at
+AfterFirst (head-read.Bad fault) text at = whole text ≡ faulty fault 1
+
+-- ---- what the lines of a text come to
+
+pub record ReadOut (text store : List ℕ) (r : ReadAnswer) (exit : List ℕ) : Type 0 where
+  pub answer : r ≡ readAnswer (whole text)
+  pub filled : exit ≡ readingStore (whole text) store

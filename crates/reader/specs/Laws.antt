@@ -1,0 +1,5 @@
+pub mod FillLaws
+pub mod ReadLaws
+pub mod ReadStepsLaws
+pub mod ReadAnswerLaws
+pub mod NameLaws

@@ -1,0 +1,189 @@
+-- The reading of a text goes on line by line: what a line that is missing, bad or good makes of what has been read
+-- so far.
+-- Document 01, "The text" and "Refused because of the input". Assumes nothing.
+use mathlib.Core.Bool.{true, false}
+use mathlib.Core.List.{List, [], _∷_, _++_}
+use mathlib.Core.Path.{_≡_, refl, subst, _∙_}
+use Prim.Native.Nat.{ℕ, suc, _+_, _-_, _≤_, _<_}
+use native.Mathlib.Omega.{arith}
+use lib.Dec.{T}
+use lib.ListN.{length, take, drop, getD, length-append}
+use lib.Seq.{sets}
+use Rattle.text.specs.declared.Fault.{Fault}
+use Rattle.text.specs.declared.Fault.the-variants.{Absent, Repeated, Range}
+use Rattle.text.specs.declared.Head.{Head}
+use Rattle.reader.specs.declared.answers.LinesRead.{LinesRead}
+use Rattle.reader.specs.declared.answers.LinesRead.the-variants.{Next, Faulty}
+use Rattle.text.specs.Limits.{nameLimit, storeLength, actionPlace}
+use Rattle.text.specs.Bytes.{lineEnd}
+use Rattle.text.specs.Split.{split, indexOf}
+use Rattle.text.specs.Laws.SplitLaws.{split-first, split-part, split-last}
+use Rattle.text.specs.Model.{ActionLine, Model}
+use Rattle.text.specs.Lines.{Line, good, bad, headFits?, headFrom, headOf, headNumbers, numbersLine, levelOf}
+use Rattle.text.specs.Lines.{actionFields, fieldsOf, used?, actionFrom, actionOf}
+use Rattle.text.specs.Laws.RangesLaws.{headFits?→HeadRanges}
+use Rattle.model.specs.Laws.Text.JoinedFieldsLaws.{good-checked}
+use Rattle.model.specs.Laws.Text.ActionLineLaws.{good-nameFrom, name-length}
+use Rattle.model.specs.Reading.{Reading, faulty, onLine, orFault, readActions, headModel}
+use Rattle.model.specs.Store.{storeOf}
+use Rattle.reader.specs.Inner.ReadSoFar.{Short, whole, InLimits, AfterHead, AfterActions, Further}
+use Rattle.model.specs.Laws.Store.StoreLaws.{storeOf-length-of-places}
+use Rattle.reader.specs.Laws.FillLaws.{actionsNumbers-length-of-Short, Short-snoc, storeOf-withAction}
+
+-- ---- a line, found by its end
+
+module _ (text : List ℕ) (at e : ℕ) (le : at ≤ length text) (found : e ≡ at + indexOf lineEnd (drop at text))
+    (k : ℕ) (read : List ℕ → List (List ℕ) → Reading) where
+  pub onLine-absent : length text ≤ e → onLine k (split lineEnd (drop at text)) read ≡ faulty Absent k
+  unfolding onLine
+  onLine-absent l = rw (split-last lineEnd text at e le found l)
+
+  pub onLine-line : e < length text
+      → onLine k (split lineEnd (drop at text)) read
+      ≡ read (take (e - at) (drop at text)) (split lineEnd (drop (e + 1) text))
+  unfolding onLine
+  onLine-line l =
+      let w = split-first lineEnd (drop (e + 1) text) in rw (split-part lineEnd text at e le found l, w .2)
+
+pub orFault-bad : {A : Type 0} (k : ℕ) (l : Line A) (read : A → Reading) (fault : Fault) → l ≡ bad fault
+    → orFault k l read ≡ faulty fault k
+unfolding orFault
+orFault-bad k l read fault e = rw e
+
+pub orFault-good : {A : Type 0} (k : ℕ) (l : Line A) (read : A → Reading) (a : A) → l ≡ good a
+    → orFault k l read ≡ read a
+unfolding orFault
+orFault-good k l read a e = rw e
+
+-- ---- what some lines came to
+
+pub Further-faulty : (P Q : ℕ → Type 0) (text : List ℕ) (r : LinesRead) (fault : Fault) (line : ℕ)
+    → r ≡ Faulty fault line
+    → Further P text r → Further Q text r
+unfolding Further
+Further-faulty P Q text (Next at) fault line e h = let z : _≡_ {A = ℕ} 0 1 = cc in absurd (omega arith)
+Further-faulty P Q text (Faulty f k) fault line e h = h
+
+pub Further-refused : (P : ℕ → Type 0) (text : List ℕ) (r : LinesRead) (fault : Fault) (line : ℕ)
+    → r ≡ Faulty fault line
+    → Further P text r → whole text ≡ faulty fault line
+unfolding Further
+Further-refused P text r fault line e h = rw e at h
+
+pub Further-next : (P : ℕ → Type 0) (text : List ℕ) (r : LinesRead) (at : ℕ) → r ≡ Next at → Further P text r → P at
+unfolding Further
+Further-next P text r at e h = rw e at h
+
+-- ---- what a good line keeps
+
+headFits?-limits : (h : Head) → T (headFits? h) → InLimits h
+headFits?-limits h t =
+    let r = headFits?→HeadRanges h t in record { states = r .states; actions = r .actions; steps = r .steps }
+
+headFrom-limits : (l : Line (List ℕ)) (h : Head) → headFrom l ≡ good h → InLimits h
+unfolding headFrom
+headFrom-limits (good ns) h e =
+    let c = good-checked Range (headFits? (headNumbers ns)) (headNumbers ns) h e in
+    headFits?-limits h (subst (λ (x : Head). T (headFits? x)) (c .1) (c .0))
+headFrom-limits (bad fault) h e = let z : _≡_ {A = ℕ} 0 1 = cc in absurd (omega arith)
+
+pub headOf-limits : (line : List ℕ) (h : Head) → headOf line ≡ good h → InLimits h
+unfolding headOf
+headOf-limits line h e = headFrom-limits (numbersLine 77 4 line) h e
+
+-- a name that was read has 1 to 12 bytes
+pub actionFields-length : (l : Line (List (List ℕ))) (a : ActionLine) → actionFields l ≡ good a
+    → (1 ≤ length (a .name)) × (length (a .name) ≤ nameLimit)
+unfolding actionFields
+actionFields-length (good fs) a e =
+    let n = good-nameFrom (levelOf (getD fs 0 [])) (getD fs 1 []) a e in name-length (a .name) (n .2)
+actionFields-length (bad fault) a e = let z : _≡_ {A = ℕ} 0 1 = cc in absurd (omega arith)
+
+-- ---- the actions
+
+pub after-head : (h : Head) (text : List ℕ) (at : ℕ) → AfterHead h text at
+    → AfterActions h text at 0 (storeOf (headModel h))
+unfolding Short
+after-head h text at b =
+    let z : h .actions - 0 ≡ h .actions = omega arith in
+    record {
+      limits = b .limits;
+      place = b .place;
+      actions = [];
+      count = refl;
+      short = tt;
+      stored = refl;
+      rest = b .rest ∙ rw z;
+    }
+
+pub AfterActions-count : (h : Head) (text : List ℕ) (at i k : ℕ) (store : List ℕ) → i ≡ k
+    → AfterActions h text at i store
+    → AfterActions h text at k store
+AfterActions-count h text at i k store e b = rw e at b
+
+pub AfterActions-length : (h : Head) (text : List ℕ) (at i : ℕ) (store : List ℕ) → AfterActions h text at i store
+    → i ≤ h .actions
+    → length store ≡ storeLength
+AfterActions-length h text at i store b l =
+    let n = b .limits .actions in
+    let c = b .count in
+    let m = actionsNumbers-length-of-Short (b .actions) (b .short) in
+    let model : Model = record { head = h; actions = b .actions; steps = [] } in
+    rw (b .stored) (storeOf-length-of-places model (omega arith) (omega arith))
+
+module _ (h : Head) (text : List ℕ) (at i : ℕ) (store : List ℕ) (b : AfterActions h text at i store)
+    (lt : i < h .actions) (e : ℕ) (found : e ≡ at + indexOf lineEnd (drop at text)) where
+  actions-suc : h .actions - i ≡ suc (h .actions - (i + 1))
+  actions-suc = omega arith
+
+  pub action-absent : length text ≤ e → whole text ≡ faulty Absent (2 + i)
+  unfolding readActions
+  action-absent l = b .rest ∙ rw (actions-suc) (onLine-absent text at e (b .place) found (2 + i) _ l)
+
+  module _ (l : e < length text) where
+    line : List ℕ
+    line = take (e - at) (drop at text)
+
+    pub action-bad : (fault : Fault) → actionOf (b .actions) (take (e - at) (drop at text)) ≡ bad fault
+        → whole text ≡ faulty fault (2 + i)
+    unfolding readActions
+    action-bad fault a =
+        b .rest ∙ rw (actions-suc)
+        (onLine-line text at e (b .place) found (2 + i) _ l ∙ orFault-bad (2 + i) _ _ fault a)
+
+    pub action-next : (a : ActionLine) → actionOf (b .actions) (take (e - at) (drop at text)) ≡ good a
+        → length (a .name) ≤ nameLimit
+        → AfterActions h text (e + 1) (i + 1) (sets store (actionPlace i) (a .level ∷ length (a .name) ∷ a .name))
+    unfolding readActions
+    action-next a r n =
+        let c : suc (2 + i) ≡ 2 + (i + 1) = omega arith in
+        let m = b .limits .actions in
+        record {
+          limits = b .limits;
+          place = omega arith;
+          actions = b .actions ++ (a ∷ []);
+          count = length-append (b .actions) (a ∷ []) ∙ omega arith;
+          short = Short-snoc (b .actions) a (b .short) n;
+          stored = rw (b .stored) (storeOf-withAction h (b .actions) a i (b .count) (omega arith) (b .short) n);
+          rest = b .rest ∙ rw (actions-suc)
+              (onLine-line text at e (b .place) found (2 + i) _ l ∙ orFault-good (2 + i) _ _ a r ∙ rw c);
+        }
+
+-- an action's line by its fields and the names used before
+pub actionOf-bad : (before : List ActionLine) (line : List ℕ) (fault : Fault)
+    → actionFields (fieldsOf 65 2 line) ≡ bad fault
+    → actionOf before line ≡ bad fault
+unfolding actionOf actionFrom
+actionOf-bad before line fault e = rw (e, actionFrom)
+
+pub actionOf-used : (before : List ActionLine) (line : List ℕ) (a : ActionLine)
+    → actionFields (fieldsOf 65 2 line) ≡ good a
+    → used? (a .name) before ≡ true → actionOf before line ≡ bad Repeated
+unfolding actionOf actionFrom
+actionOf-used before line a e u = rw (e, actionFrom, u)
+
+pub actionOf-good : (before : List ActionLine) (line : List ℕ) (a : ActionLine)
+    → actionFields (fieldsOf 65 2 line) ≡ good a
+    → used? (a .name) before ≡ false → actionOf before line ≡ good a
+unfolding actionOf actionFrom
+actionOf-good before line a e u = rw (e, actionFrom, u)

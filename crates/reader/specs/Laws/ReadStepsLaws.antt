@@ -1,0 +1,225 @@
+-- The reading of a text goes on through its steps to its end, and what it then comes to.
+-- Document 01, "The text" and "Refused because of the input". Assumes nothing.
+use mathlib.Core.Bool.{Bool, true, false, cond}
+use mathlib.Core.List.{List, [], _∷_, _++_}
+use mathlib.Core.Logic.{_⊎_, inl, inr}
+use mathlib.Core.Path.{_≡_, refl, sym, ap, _∙_}
+use Prim.Native.Nat.{ℕ, suc, _+_, _-_, _≤_, _<_}
+use native.Mathlib.Omega.{arith}
+use lib.ListN.{length, take, drop, getD, length-append, length-drop}
+use lib.Seq.{sets, length-take-le, getD-drop}
+use Rattle.text.specs.declared.Fault.{Fault}
+use Rattle.text.specs.declared.Fault.the-variants.{Absent, Shape}
+use Rattle.text.specs.declared.Head.{Head}
+use Rattle.text.specs.declared.StepLine.{StepLine}
+use Rattle.text.specs.Limits.{storeLength, stepPlace}
+use Rattle.text.specs.Bytes.{lineEnd, kindOf}
+use Rattle.text.specs.Split.{consFirst, split, indexOf, same?}
+use Rattle.text.specs.Laws.SplitLaws.{Is, same, other, is, split-nil, split-end, split-cons, split-first, found-le}
+use Rattle.text.specs.Laws.SameLaws.{same?-length}
+use Rattle.text.specs.Laws.FieldsLaws.{same?-byte, same?-other, take-one}
+use Rattle.text.specs.Model.{Model, above?, aboveLast?}
+use Rattle.text.specs.Lines.{good, bad, stepOf}
+use Rattle.text.specs.Inner.LineAnswers.{stepRead, Last}
+use Rattle.model.specs.Reading.{done, faulty, readNothing, readEnd, readSteps, readActions}
+use Rattle.text.specs.declared.line.StepRead.the-variants as step-read
+use Rattle.text.specs.Inner.Scan.{NoLineAt, StepLineAt}
+use Rattle.reader.specs.Inner.ReadSoFar.{whole, AfterActions, AfterStep, AfterSteps, AfterEnd}
+use Rattle.model.specs.Laws.Store.StoreLaws.{storeOf-length-of-places}
+use Rattle.reader.specs.Laws.FillLaws.{actionsNumbers-length-of-Short, storeOf-withStep}
+use Rattle.reader.specs.Laws.ReadLaws.{onLine-absent, onLine-line, orFault-bad, orFault-good}
+
+-- ---- the steps
+
+Last-nil : (s : StepLine) → Last [] 0 s
+Last-nil s = record { nil = λ e. refl; cons = λ p t. absurd (omega arith) }
+
+aboveLast?-snoc : (steps : List StepLine) (s t : StepLine) → aboveLast? (steps ++ (s ∷ [])) t ≡ above? s t
+unfolding aboveLast?
+aboveLast?-snoc [] s t = refl
+aboveLast?-snoc (r ∷ []) s t = refl
+aboveLast?-snoc (r ∷ q ∷ rest) s t = aboveLast?-snoc (q ∷ rest) s t
+
+Last-snoc : (steps : List StepLine) (j : ℕ) (s : StepLine) → Last (steps ++ (s ∷ [])) (j + 1) s
+Last-snoc steps j s = record { nil = λ e. absurd (omega arith); cons = λ p t. aboveLast?-snoc steps s t }
+
+-- after the last action come the steps
+pub after-actions : (h : Head) (text : List ℕ) (at : ℕ) (store : List ℕ) (last : StepLine)
+    → AfterActions h text at (h .actions) store → AfterStep h text at 0 last store
+unfolding readActions
+after-actions h text at store last b =
+    let z : h .actions - h .actions ≡ 0 = omega arith in
+    let y : h .steps - 0 ≡ h .steps = omega arith in
+    let x : 2 + h .actions + 0 ≡ 2 + h .actions = omega arith in
+    let n = actionsNumbers-length-of-Short (b .actions) (b .short) in
+    let m = b .limits .actions in
+    record {
+      limits = b .limits;
+      place = b .place;
+      actions = b .actions;
+      action-places = omega arith;
+      steps = [];
+      count = refl;
+      last-step = Last-nil last;
+      stored = b .stored;
+      rest = b .rest ∙ rw (z, y, x);
+    }
+
+module _ (h : Head) (text : List ℕ) (at j : ℕ) (last : StepLine) (store : List ℕ) (b : AfterStep h text at j last store)
+    (lt : j < h .steps) (e : ℕ) (found : e ≡ at + indexOf lineEnd (drop at text)) where
+  steps-suc : h .steps - j ≡ suc (h .steps - (j + 1))
+  steps-suc = omega arith
+
+  step-absent : length text ≤ e → whole text ≡ faulty Absent (2 + h .actions + j)
+  unfolding readSteps
+  step-absent l = b .rest ∙ rw steps-suc (onLine-absent text at e (b .place) found (2 + h .actions + j) _ l)
+
+  module _ (l : e < length text) where
+    step-bad : (fault : Fault) → stepOf h (b .steps) (take (e - at) (drop at text)) ≡ bad fault
+        → whole text ≡ faulty fault (2 + h .actions + j)
+    unfolding readSteps
+    step-bad fault a =
+        b .rest ∙ rw steps-suc
+        (onLine-line text at e (b .place) found (2 + h .actions + j) _ l ∙ orFault-bad (2 + h .actions + j) _ _ fault a)
+
+    step-next : (s : StepLine) → stepOf h (b .steps) (take (e - at) (drop at text)) ≡ good s
+        → AfterStep h text (e + 1) (j + 1) s
+        (sets store (stepPlace j) (s .source .0 ∷ s .action .0 ∷ s .target .0 ∷ []))
+    unfolding readSteps
+    step-next s r =
+        let c : suc (2 + h .actions + j) ≡ 2 + h .actions + (j + 1) = omega arith in
+        let m = b .limits .steps in
+        record {
+          limits = b .limits;
+          place = omega arith;
+          actions = b .actions;
+          action-places = b .action-places;
+          steps = b .steps ++ (s ∷ []);
+          count = length-append (b .steps) (s ∷ []) ∙ omega arith;
+          last-step = Last-snoc (b .steps) j s;
+          stored = rw (b .stored)
+              (storeOf-withStep h (b .actions) (b .steps) s j (b .action-places) (b .count) (omega arith));
+          rest = b .rest ∙ rw steps-suc
+              (onLine-line text at e (b .place) found (2 + h .actions + j) _ l
+              ∙ orFault-good (2 + h .actions + j) _ _ s r ∙ rw c);
+        }
+
+-- by what the line at the place was read as
+module _ (h : Head) (text : List ℕ) (at j : ℕ) (last : StepLine) (store : List ℕ) (b : AfterStep h text at j last store)
+    (lt : j < h .steps) where
+  pub step-refused : (fault : Fault)
+      → (e : ℕ) × (NoLineAt text at fault e ⊎ StepLineAt h text at j last (step-read.Bad fault) e)
+      → whole text ≡ faulty fault (2 + h .actions + j)
+  unfolding stepRead
+  step-refused fault (e, inl n) =
+      step-absent h text at j last store b lt e (n .found) (n .outside)
+      ∙ ap (λ (f : Fault). faulty f (2 + h .actions + j)) (sym (n .absent))
+  step-refused fault (e, inr l) =
+      step-bad h text at j last store b lt e (l .found) (l .inside) fault (l .reads (b .steps) (b .last-step))
+
+  pub step-taken : (s : StepLine) (next : ℕ)
+      → (e : ℕ) × (next ≡ e + 1) × StepLineAt h text at j last (step-read.Good s) e
+      → AfterStep h text next (j + 1) s (sets store (stepPlace j) (s .source .0 ∷ s .action .0 ∷ s .target .0 ∷ []))
+  unfolding stepRead
+  step-taken s next (e, n, l) =
+      rw n (step-next h text at j last store b lt e (l .found) (l .inside) s (l .reads (b .steps) (b .last-step)))
+
+pub AfterStep-length : (h : Head) (text : List ℕ) (at j : ℕ) (last : StepLine) (store : List ℕ)
+    → AfterStep h text at j last store
+    → j ≤ h .steps → length store ≡ storeLength
+AfterStep-length h text at j last store b l =
+    let n = b .limits .steps in
+    let c = b .count in
+    let model : Model = record { head = h; actions = b .actions; steps = b .steps } in
+    rw (b .stored) (storeOf-length-of-places model (b .action-places) (omega arith))
+
+pub after-steps : (h : Head) (text : List ℕ) (at j : ℕ) (last : StepLine) (store : List ℕ)
+    → AfterStep h text at j last store → j ≡ h .steps → AfterSteps h text at store
+after-steps h text at j last store b c =
+    let z : h .steps - j ≡ 0 = omega arith in
+    record {
+      limits = b .limits;
+      place = b .place;
+      model = record { head = h; actions = b .actions; steps = b .steps };
+      stored = b .stored;
+      rest = b .rest ∙ rw (z, c);
+    }
+
+-- ---- the end
+
+-- bytes after the end
+readNothing-more : (k : ℕ) (m : Model) (s : List ℕ) → 0 < length s → readNothing k m (split lineEnd s) ≡ faulty Absent k
+unfolding readNothing consFirst
+readNothing-more k m [] h = absurd (omega arith)
+readNothing-more k m (b ∷ bs) h = go (is (kindOf b) lineEnd) (split-first lineEnd bs)
+  where
+    go : Is (kindOf b) lineEnd → (part : List ℕ) × (parts : List (List ℕ)) × (split lineEnd bs ≡ part ∷ parts)
+        → readNothing k m (split lineEnd (b ∷ bs)) ≡ faulty Absent k
+    go (same e) w = rw (split-end lineEnd b bs e, w .2)
+    go (other e) w = rw (split-cons lineEnd b bs e, w .2)
+
+readNothing-nil : (k : ℕ) (m : Model) (s : List ℕ) → length s ≡ 0 → readNothing k m (split lineEnd s) ≡ done m
+unfolding readNothing
+readNothing-nil k m [] h = rw (split-nil lineEnd)
+readNothing-nil k m (b ∷ bs) h = absurd (omega arith)
+
+module _ (h : Head) (text : List ℕ) (at : ℕ) (store : List ℕ) (b : AfterSteps h text at store) (e : ℕ)
+    (found : e ≡ at + indexOf lineEnd (drop at text)) where
+  pub end-absent : length text ≤ e → whole text ≡ faulty Absent (2 + h .actions + h .steps)
+  unfolding readSteps readEnd
+  end-absent l = b .rest ∙ onLine-absent text at e (b .place) found (2 + h .actions + h .steps) _ l
+
+  module _ (l : e < length text) where
+    end-line : (t : Bool) → same? (take (e - at) (drop at text)) (69 ∷ []) ≡ t
+        → whole text ≡ cond t
+        (readNothing (suc (2 + h .actions + h .steps)) (b .model) (split lineEnd (drop (e + 1) text)))
+        (faulty Shape (2 + h .actions + h .steps))
+    unfolding readSteps readEnd
+    end-line t s = b .rest ∙ onLine-line text at e (b .place) found (2 + h .actions + h .steps) _ l ∙ rw s
+
+    line-length : length (take (e - at) (drop at text)) ≡ e - at
+    line-length = let d = length-drop at text in length-take-le (e - at) (drop at text) (omega arith)
+
+    pub end-long : (e ≡ at + 1 → ⊥) → whole text ≡ faulty Shape (2 + h .actions + h .steps)
+    end-long n =
+        let f = found-le lineEnd text at e (b .place) found in
+        let m = line-length in
+        let long : length (take (e - at) (drop at text)) ≡ 1 → ⊥ = λ y. n (omega (arith, y)) in
+        end-line false (same?-length (take (e - at) (drop at text)) (69 ∷ []) long)
+
+    module _ (one : e ≡ at + 1) where
+      line-byte : take (e - at) (drop at text) ≡ getD text at 0 ∷ []
+      line-byte =
+          let d = length-drop at text in
+          let k : e - at ≡ 1 = omega arith in
+          let n : 0 < length (drop at text) = omega arith in
+          let z : at + 0 ≡ at = omega arith in
+          rw (k, take-one (drop at text) n, getD-drop, z)
+
+      pub end-other : (getD text at 0 ≡ 69 → ⊥) → whole text ≡ faulty Shape (2 + h .actions + h .steps)
+      end-other n = end-line false (rw line-byte (same?-other (getD text at 0) 69 n))
+
+      module _ (letter : getD text at 0 ≡ 69) where
+        end-letter : whole text
+            ≡ readNothing (suc (2 + h .actions + h .steps)) (b .model) (split lineEnd (drop (e + 1) text))
+        end-letter = end-line true (rw line-byte (same?-byte (getD text at 0) 69 letter))
+
+        pub end-more : (e + 1 ≡ length text → ⊥) → whole text ≡ faulty Absent (2 + h .actions + h .steps + 1)
+        end-more n =
+            let d = length-drop (e + 1) text in
+            let c : suc (2 + h .actions + h .steps) ≡ 2 + h .actions + h .steps + 1 = omega arith in
+            let p : 0 < length (drop (e + 1) text) = lt-more n in
+            end-letter ∙ rw c (readNothing-more (2 + h .actions + h .steps + 1) (b .model) (drop (e + 1) text) p)
+          where
+            lt-more : (e + 1 ≡ length text → ⊥) → 0 < length (drop (e + 1) text)
+            lt-more n = rw length-drop (omega arith)
+
+        pub end-done : e + 1 ≡ length text → AfterEnd text store
+        end-done c =
+            let d = length-drop (e + 1) text in
+            record {
+              model = b .model;
+              stored = b .stored;
+              reads = end-letter
+                  ∙ readNothing-nil (suc (2 + h .actions + h .steps)) (b .model) (drop (e + 1) text) (omega arith);
+            }

@@ -1,0 +1,6 @@
+// The lines of a text, read into a store.
+mod actions;
+pub mod answers;
+mod body;
+pub mod reader;
+mod steps;

@@ -1,0 +1,4 @@
+pub mod ModelLists
+pub mod LeakSearch
+pub mod Judging
+pub mod VerdictTest

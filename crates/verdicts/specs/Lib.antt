@@ -1,0 +1,4 @@
+pub mod Laws
+pub mod Inner
+pub mod Verdicts
+pub mod JudgeFilled

@@ -1,0 +1,2 @@
+// The verdict on a model, from its distances and ranks.
+pub mod judging;

@@ -1,7 +1,0 @@
-pub mod WordsLaws
-pub mod LettersLaws
-pub mod LastLetterLaws
-pub mod WordHeadLaws
-pub mod WordPromiseLaws
-pub mod LeastLeakLaws
-pub mod ShowableLaws

@@ -1,4 +1,0 @@
-pub mod Inner
-pub mod Laws
-pub mod Words
-pub mod Promises

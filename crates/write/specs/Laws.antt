@@ -1,5 +1,0 @@
-pub mod PromisesLaws
-pub mod WroteLaws
-pub mod WritableLaws
-pub mod WritingLaws
-pub mod PromiseOutcomeLaws

@@ -1,0 +1,76 @@
+-- Behind the loop stand the lines of the first i actions, and each round writes one more. Assumes nothing.
+use Prim.Native.Nat.{_-_, _≤_, _<_}
+use mathlib.Core.Path.{_≡_}
+use native.Mathlib.Omega.{arith}
+use borrow.Author.Needs.{needs}
+use lib.ListN.{length, getD}
+use denote.Ref.{now}
+use Rattle.model.specs.StoredModel.{listed, actionAt, modelAt}
+use Rattle.model.specs.Text.{actionsText}
+use Rattle.writer.specs.Wrote.{Wrote}
+use Rattle.writer.specs.Laws.WroteLaws.{wrote-nil, wrote-append}
+use Rattle.writer.specs.Laws.WritingLaws.{actionsText-next, actionsText-room}
+use Rattle.writer.proofs.position.Position.action_lines.Statement.{statement}
+use Rattle.writer.proofs.position.Position.action_lines.Tie as tie
+
+abbrev Inv-loop : tie.InvT-loop
+Inv-loop out₀ store n p₀ i₀ out p i =
+    (i ≤ n) × (length out ≡ length out₀) × Wrote out₀ (p₀ .at) (actionsText (listed i (actionAt store))) out (p .at)
+
+abbrev μ-loop : tie.MeasureT-loop
+μ-loop out₀ store n p₀ i₀ out p i = n - i
+
+actions-requires : tie.Need-actions-requires Inv-loop μ-loop
+actions-requires c κs = c .before .before .pre .0 .long
+
+loop-holds : tie.Need-loop-holds Inv-loop μ-loop
+unfolding listed actionsText
+loop-holds c = (search needs, search needs, wrote-nil)
+
+action-at-requires : tie.Need-action-at-requires Inv-loop μ-loop
+unfolding modelAt
+action-at-requires c κs =
+    let loop = c .before .before in
+    let s = loop .before .before .before .before in
+    let i = loop .loop .i in
+    let store = now (s .args .store) in
+    let h : i < getD store 1 0 = omega (arith, loop .before .actions .ensures, c .before .loop-test .taken) in
+    (s .pre .0, (h, omega (arith, s .pre .1, actionsText-room (actionAt store) i (getD store 1 0) h)))
+
+add-i : tie.Need-add-i Inv-loop μ-loop
+add-i c = search needs
+
+loop-less : tie.Need-loop-less Inv-loop μ-loop
+loop-less c = search needs
+
+loop-again : tie.Need-loop-again Inv-loop μ-loop
+loop-again c =
+    let loop = c .before .before .before .before .before in
+    let line = c .before .before .action-at .ensures in
+    (search needs, search needs, rw (← actionsText-next) (wrote-append (loop .loop .inv .2) line))
+
+same-length : tie.Need-same-length Inv-loop μ-loop
+same-length c = search needs
+
+returns : tie.Need-returns Inv-loop μ-loop
+unfolding modelAt
+returns c =
+    let loop = c .before in
+    let s = loop .before .before .before .before in
+    let e : loop .loop .i ≡ getD (now (s .args .store)) 1 0 = omega (arith, loop .before .actions .ensures) in
+    rw (← e) (loop .loop .inv .2)
+
+pub action-lines-spec : {M : Type 1} → statement M
+action-lines-spec =
+    tie.close
+    (tie.spec
+    Inv-loop
+    μ-loop
+    actions-requires
+    loop-holds
+    action-at-requires
+    add-i
+    loop-less
+    loop-again
+    same-length
+    returns)

@@ -1,0 +1,3 @@
+pub mod WroteLaws
+pub mod WritableLaws
+pub mod WritingLaws

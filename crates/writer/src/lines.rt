@@ -1,0 +1,133 @@
+// The text of the model that a store holds, line by line.
+use crate::position::Position;
+use model::store;
+use text::Action;
+use text::Head;
+use text::Step;
+use text::StepLine;
+ghost use mathlib.Core.Path.{_≡_};
+ghost use Prim.Native.Nat.{ℕ, _+_, _≤_, _<_};
+ghost use lib.ListN.{length, getD};
+ghost use Rattle.text.specs.All.{All};
+ghost use Rattle.model.specs.StoredModel.{actionAt, modelAt};
+ghost use Rattle.model.specs.Text.{levelByte, headText, actionText, actionsText, stepText, stepsText, textOf};
+ghost use Rattle.writer.specs.Inner.Writable.{Writable};
+ghost use Rattle.writer.specs.Wrote.{Wrote};
+
+// `L`, `D` or `H`.
+fn level_letter(level: u16) -> u8
+    ensures { λ r. ⌜ r ≡ levelByte level ⌝ }
+{
+    if level == 0 {
+        return b'L';
+    }
+    if level == 1 {
+        return b'D';
+    }
+    b'H'
+}
+
+// Each line asks for room for just its own bytes, and each loop for room for all of its lines.
+impl Position {
+    // `M,states,actions,steps,start` and the line end.
+    fn head_line(self, out: &mut [u8], h: Head) -> Position
+        requires { ⌜ self .at + length (headText h) ≤ length (now out) ⌝ }
+        ensures { λ r. ⌜ Wrote (now (out .entry)) (self .at) (headText h) (now (out .exit)) (r .at) ⌝ }
+    {
+        let p = self.byte(out, b'M');
+        let q = p.field(out, h.states);
+        let u = q.field(out, h.actions);
+        let v = u.field(out, h.steps);
+        let w = v.field(out, h.start.0);
+        w.byte(out, b'\n')
+    }
+
+    // `S,source,action,target` and the line end.
+    fn step_line(self, out: &mut [u8], s: StepLine) -> Position
+        requires { ⌜ self .at + length (stepText s) ≤ length (now out) ⌝ }
+        ensures { λ r. ⌜ Wrote (now (out .entry)) (self .at) (stepText s) (now (out .exit)) (r .at) ⌝ }
+    {
+        let p = self.byte(out, b'S');
+        let q = p.field(out, s.source.0);
+        let u = q.field(out, s.action.0);
+        let v = u.field(out, s.target.0);
+        v.byte(out, b'\n')
+    }
+
+    // `A,level,name` and the line end.
+    fn action_line(self, out: &mut [u8], level: u16, name: &[u16]) -> Position
+        requires { ⌜ self .at + length (now name) + 5 ≤ length (now out) ⌝ }
+        requires { ⌜ All (λ (b : ℕ). b < 256) (now name) ⌝ }
+        ensures { λ r. ⌜ Wrote (now (out .entry)) (self .at)
+            (actionText (record { level = level; name = now (name .entry) })) (now (out .exit)) (r .at) ⌝ }
+    {
+        let letter = level_letter(level);
+        let p = self.byte(out, b'A');
+        let q = p.byte(out, b',');
+        let u = q.byte(out, letter);
+        let v = u.byte(out, b',');
+        let w = v.name(out, name);
+        w.byte(out, b'\n')
+    }
+
+    // The line of an action that a store holds.
+    fn action_at(self, out: &mut [u8], store: &[u16], a: Action) -> Position
+        requires { ⌜ Writable (now store) ⌝ }
+        requires { ⌜ a .0 < getD (now store) 1 0 ⌝ }
+        requires { ⌜ self .at + length (actionText (actionAt (now store) (a .0))) ≤ length (now out) ⌝ }
+        ensures { λ r. ⌜ Wrote (now (out .entry)) (self .at) (actionText (actionAt (now (store .entry)) (a .0)))
+            (now (out .exit)) (r .at) ⌝ }
+    {
+        let level = store::level(store, a);
+        let from = store::name_place(a);
+        let end = from + store::name_length(store, a) as usize;
+        self.action_line(out, level, &store[from..end])
+    }
+
+    // The lines of all actions that a store holds.
+    fn action_lines(self, out: &mut [u8], store: &[u16]) -> Position
+        requires { ⌜ Writable (now store) ⌝ }
+        requires { ⌜ self .at + length (actionsText (modelAt (now store) .actions)) ≤ length (now out) ⌝ }
+        ensures { λ r. ⌜ Wrote (now (out .entry)) (self .at) (actionsText (modelAt (now (store .entry)) .actions))
+            (now (out .exit)) (r .at) ⌝ }
+    {
+        let n = store::actions(store);
+        let mut p = self;
+        let mut i: u16 = 0;
+        while i < n {
+            p = p.action_at(out, store, Action(i));
+            i += 1;
+        }
+        p
+    }
+
+    // The lines of all steps that a store holds.
+    fn step_lines(self, out: &mut [u8], store: &[u16]) -> Position
+        requires { ⌜ Writable (now store) ⌝ }
+        requires { ⌜ self .at + length (stepsText (modelAt (now store) .steps)) ≤ length (now out) ⌝ }
+        ensures { λ r. ⌜ Wrote (now (out .entry)) (self .at) (stepsText (modelAt (now (store .entry)) .steps))
+            (now (out .exit)) (r .at) ⌝ }
+    {
+        let n = store::steps(store);
+        let mut p = self;
+        let mut i: u16 = 0;
+        while i < n {
+            p = p.step_line(out, store::step_line(store, Step(i)));
+            i += 1;
+        }
+        p
+    }
+
+    // The text of the model that a store holds.
+    fn model(self, out: &mut [u8], store: &[u16]) -> Position
+        requires { ⌜ Writable (now store) ⌝ }
+        requires { ⌜ self .at + length (textOf (modelAt (now store))) ≤ length (now out) ⌝ }
+        ensures { λ r. ⌜ Wrote (now (out .entry)) (self .at) (textOf (modelAt (now (store .entry))))
+            (now (out .exit)) (r .at) ⌝ }
+    {
+        let p = self.head_line(out, store::head(store));
+        let q = p.action_lines(out, store);
+        let u = q.step_lines(out, store);
+        u.text(out, b"E\n")
+    }
+}
