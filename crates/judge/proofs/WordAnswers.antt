@@ -15,7 +15,7 @@ use Rattle.text.specs.Limits.{distancesLength, tableLength, wordLength}
 use Rattle.text.specs.Model.{Model}
 use Rattle.model.specs.Store.{Good}
 use Rattle.model.specs.StoredModel.{modelAt}
-use Rattle.model.specs.System.{source, target, LowStep, DeterministicModel}
+use Rattle.model.specs.System.{source, target, DeterministicModel, view}
 use Rattle.text.specs.Laws.FirstShortLaws.{first-short, second-short, third-short, fourth-short, none-short-four}
 use Rattle.model.specs.Laws.Store.SystemLaws.{own-step}
 use Rattle.model.specs.Laws.OnStoreLaws.{onStore-short, onStore-not-good, onStore-model}
@@ -34,6 +34,7 @@ use Rattle.judge.specs.WordPromise.{wordLists, WordPromise}
 use Rattle.letters.specs.Inner.Letters.{First, Showable, WordLists, SeparatedPair}
 use Rattle.letters.specs.Inner.WordHead.{WordFrom, WordWritten}
 use Rattle.letters.specs.Laws.WordsLaws.{not-branches}
+use Rattle.lts.specs.Noninterference.{LowMove}
 
 -- ---- what is lent to the word's functions
 
@@ -59,7 +60,7 @@ leak-pair {m} {j} {d} {p} {q} det x e f =
       deterministic = det;
       first-reachable = x .high-step .reachable;
       second-reachable = onward (x .high-step .reachable) (own-step m j (x .high-step .number-lt));
-      separated = separated-of-rank (LowStep m) (source m j) (target m j) d (x .above-zero) (x .rank);
+      separated = separated-of-rank (LowMove (view m)) (source m j) (target m j) d (x .above-zero) (x .rank);
     }))
 
 -- ---- on a good store

@@ -8,11 +8,12 @@ use lib.ListN.{length}
 use Rattle.text.specs.Limits.{storeLength}
 use Rattle.text.specs.Limits.{tableLength}
 use Rattle.text.specs.Faults.{Outcome, answers, refuses, firstShort}
-use Rattle.model.specs.System.{LowStep}
 use Rattle.model.specs.OnStore.{OnStore}
 use Rattle.ranking.specs.Table.{Ranked}
 use Rattle.judge.specs.declared.rank.RankAnswer.{RankAnswer}
 use Rattle.judge.specs.declared.rank.RankAnswer.the-variants as rank
+use Rattle.model.specs.System.{view}
+use Rattle.lts.specs.Noninterference.{LowMove}
 
 -- "that number is the answer"
 unfoldable pub rankOutcome : RankAnswer → Outcome
@@ -27,4 +28,4 @@ abbrev pub RankPromise : List ℕ → List ℕ → Outcome → List ℕ → Type
 RankPromise store table outcome exit =
     OnStore (rankLists store table) store outcome (exit ≡ table)
     (λ g. (last : ℕ) × (outcome ≡ answers (last ∷ []))
-    × Ranked (LowStep (g .model)) (g .model .head .states) table exit last)
+    × Ranked (LowMove (view (g .model))) (g .model .head .states) table exit last)

@@ -7,7 +7,7 @@ use lib.ListN.{length}
 use Rattle.lts.specs.Noninterference.{BNID}
 use Rattle.text.specs.Faults.{Outcome, answers, refuses}
 use Rattle.text.specs.Model.{Model}
-use Rattle.model.specs.System.{levels, Steps, Start, DeterministicModel}
+use Rattle.model.specs.System.{DeterministicModel, view}
 use Rattle.verdicts.specs.Verdicts.{RefusedAt}
 use Rattle.letters.specs.declared.word.WordAnswer.{WordAnswer}
 use Rattle.letters.specs.declared.word.WordAnswer.the-variants.{Shown, ShortList, NotGood, NotDeterministic, NoLeak}
@@ -25,5 +25,5 @@ wordOutcome NoLeak = refuses 24 0
 -- What Word shows of a model: its outcome, and the word's list.
 pub record WordDone (m : Model) (outcome : Outcome) (word word′ : List ℕ) : Type 0 where
   pub branching : (j : ℕ) → FirstBranch m j → (outcome ≡ refuses 23 j) × (word′ ≡ word)
-  pub passed : DeterministicModel m → BNID (levels m) (Steps m) (Start m) → (outcome ≡ refuses 24 0) × (word′ ≡ word)
+  pub passed : DeterministicModel m → BNID (view m) → (outcome ≡ refuses 24 0) × (word′ ≡ word)
   pub refused : DeterministicModel m → (j depth : ℕ) → RefusedAt m j depth → WordShown m j depth outcome word word′

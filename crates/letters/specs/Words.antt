@@ -7,7 +7,7 @@ use lib.ListN.{length, drop}
 use Rattle.lts.specs.Word.{OnlyFrom, FirstWord}
 use Rattle.text.specs.Faults.{Outcome, answers}
 use Rattle.text.specs.Model.{Model}
-use Rattle.model.specs.System.{source, action, target, levels, Steps, ReachableIn}
+use Rattle.model.specs.System.{source, action, target, ReachableIn, view}
 use Rattle.letters.specs.declared.word.End.{End}
 use Rattle.letters.specs.declared.word.End.the-variants.{Source, Target}
 
@@ -41,8 +41,8 @@ otherState m j Target = source m j
 -- The word of step j, with the end that allows it: "among the shortest low sequences possible from just one end of
 -- Judge's step, the first by action numbers".
 pub record WordOf (m : Model) (j : ℕ) (word : List ℕ) (end : End) : Type 0 where
-  pub first-word : FirstWord (levels m) (Steps m) (source m j) (target m j) word
-  pub only-from-end : OnlyFrom (Steps m) (endState m j end) (otherState m j end) word
+  pub first-word : FirstWord (view m) (source m j) (target m j) word
+  pub only-from-end : OnlyFrom (view m .Step) (endState m j end) (otherState m j end) word
 
 -- It stands in a list: "places of [..] word [..] past the answered length [..] keep their old contents". "Answers its
 -- length, which is the depth, and the end that allows it."

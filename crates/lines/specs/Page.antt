@@ -7,7 +7,7 @@ use Prim.Native.Nat.{ℕ, suc, _<_}
 use lib.ListN.{length, getD, drop}
 use Rattle.lts.specs.Alike.{Rank}
 use Rattle.text.specs.Model.{Model, noAction}
-use Rattle.model.specs.System.{source, LowStep, ReachableIn, DistanceIn, DeterministicModel}
+use Rattle.model.specs.System.{source, ReachableIn, DistanceIn, DeterministicModel, view}
 use Rattle.verdicts.specs.declared.judging.Verdict.{Verdict}
 use Rattle.verdicts.specs.declared.judging.Verdict.the-variants.{Passed, Refused}
 use Rattle.distances.specs.Runs.{RunTo}
@@ -16,6 +16,7 @@ use Rattle.letters.specs.declared.word.End.{End}
 use Rattle.letters.specs.Words.{WordOf}
 use Rattle.lines.specs.PageLines.{PageLine, verdict-line, state-line, run-line, word-line, end-line, branch-line}
 use Rattle.lines.specs.PageLines.{last-line}
+use Rattle.lts.specs.Noninterference.{LowMove}
 
 -- What stands in a `C` line as the distance of state p: "distance `-` if unreachable".
 pub data DistanceField (m : Model) (p : ℕ) : Option ℕ → Type 0 where
@@ -24,8 +25,8 @@ pub data DistanceField (m : Model) (p : ℕ) : Option ℕ → Type 0 where
 
 -- "class is the lowest state of rank 0 to it"
 pub record ClassOf (m : Model) (p class : ℕ) : Type 0 where
-  pub rank-zero : Rank (LowStep m) p class 0
-  pub lowest : (q : ℕ) → q < class → ¬ (Rank (LowStep m) p q 0)
+  pub rank-zero : Rank (LowMove (view m)) p class 0
+  pub lowest : (q : ℕ) → q < class → ¬ (Rank (LowMove (view m)) p q 0)
 
 -- The `C` lines of the states below n, "per state" one.
 pub data StateLines (m : Model) : ℕ → List PageLine → Type 0 where

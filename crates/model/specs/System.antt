@@ -4,8 +4,7 @@ use mathlib.Core.Path.{_≡_}
 use Prim.Native.Nat.{ℕ, _<_}
 use lib.Dec.{eqb}
 use lib.ListN.{length, getD}
-use Rattle.lts.specs.Alike.{Moves}
-use Rattle.lts.specs.Noninterference.{Levels, LowMove}
+use Rattle.lts.specs.View.{View}
 use Rattle.lts.specs.Run.{Reachable, Distance}
 use Rattle.text.specs.declared.StepLine.{StepLine}
 use Rattle.text.specs.Model.{low, release, high, Model, noAction}
@@ -32,33 +31,31 @@ pub record Steps (m : Model) (p a q : ℕ) : Type 0 where
   pub action-is : action m number ≡ a
   pub target-is : target m number ≡ q
 
--- The start that line 1 names.
-abbrev pub Start : Model → ℕ → Type 0
-Start m p = p ≡ m .head .start .0
-
 -- The level of action a; 3, which is none, past the last action.
 abbrev pub level : Model → ℕ → ℕ
 level m a = getD (m .actions) a noAction .level
 
--- "An action is low (L), release (D) or high (H)."
-abbrev pub levels : Model → Levels
-levels m = record {
-  low? = λ a. eqb (level m a) low;
-  release? = λ a. eqb (level m a) release;
-  high? = λ a. eqb (level m a) high;
+-- The check of a model: "An action is low (L), release (D) or high (H)"; its steps; the start that line 1 names; its
+-- states. All that is said of runs, ranks, BNID and INI is said of this view, and nothing else gives one.
+abbrev pub view : Model → View
+view m = record {
+  levels = record {
+    low? = λ a. eqb (level m a) low;
+    release? = λ a. eqb (level m a) release;
+    high? = λ a. eqb (level m a) high;
+  };
+  Step = Steps m;
+  Start = λ p. p ≡ m .head .start .0;
+  states = m .head .states;
 }
-
--- The moves that are played: "Release and high steps are never played."
-abbrev pub LowStep : Model → Moves
-LowStep m = LowMove (levels m) (Steps m)
 
 -- "A state is reachable if steps of any level lead to it from the start."
 abbrev pub ReachableIn : Model → ℕ → Type 0
-ReachableIn m p = Reachable (Steps m) (Start m) p
+ReachableIn m p = Reachable (view m) p
 
 -- d is the "least number of steps from the start" to p.
 abbrev pub DistanceIn : Model → ℕ → ℕ → Type 0
-DistanceIn m p d = Distance (Steps m) (Start m) p d
+DistanceIn m p d = Distance (view m) p d
 
 -- Step j is a high step that can be reached: "a step is reachable if its source is".
 pub record HighStep (m : Model) (j : ℕ) : Type 0 where

@@ -6,11 +6,11 @@ ghost use Prim.Native.Nat.{_+_, _≤_, _<_};
 ghost use lib.ListN.{length};
 ghost use Rattle.text.specs.Limits.{actionLimit};
 ghost use Rattle.model.specs.StoredModel.{modelAt};
-ghost use Rattle.model.specs.System.{levels};
 ghost use Rattle.text.specs.Limits.{indexLength};
 ghost use Rattle.model.specs.Inner.Stored.{Stored};
 ghost use Rattle.model.specs.Inner.Index.{Begins, Index};
 ghost use Rattle.model.specs.Inner.Roles.{Roles};
+ghost use Rattle.model.specs.System.{view};
 
 // Where the steps of q end, which begin at `from`.
 fn end_of(store: &[u16], q: State, from: u16) -> u16
@@ -52,7 +52,7 @@ pub fn index(store: &[u16], begins: &mut [u16])
 pub fn roles(store: &[u16], out: &mut [u16])
     requires { ⌜ Stored (now store) (modelAt (now store)) ⌝ }
     requires { ⌜ actionLimit ≤ length (now out) ⌝ }
-    ensures { λ _. ⌜ Roles (levels (modelAt (now (store .entry))))
+    ensures { λ _. ⌜ Roles (view (modelAt (now (store .entry))) .levels)
         (modelAt (now (store .entry)) .head .actions) (now (out .exit)) ⌝ }
 {
     let n = crate::store::actions(store);

@@ -6,13 +6,14 @@ ghost use Prim.Native.Nat.{_+_, _≤_, _<_};
 ghost use lib.ListN.{length, getD};
 ghost use Rattle.text.specs.Limits.{actionLimit, stepLimit};
 ghost use Rattle.model.specs.StoredModel.{modelAt};
-ghost use Rattle.model.specs.System.{levels, LowStep};
 ghost use Rattle.model.specs.Inner.Stored.{Stored};
 ghost use Rattle.model.specs.Inner.Index.{Index};
 ghost use Rattle.model.specs.Inner.Roles.{Roles};
 ghost use Rattle.text.specs.Limits.{indexLength};
 ghost use Rattle.ranking.specs.MoveList.{Lists};
 ghost use Rattle.moves.specs.Inner.Listing.{Appended, LowAmong};
+ghost use Rattle.model.specs.System.{view};
+ghost use Rattle.lts.specs.Noninterference.{LowMove};
 
 // Appends a step to the lists at place `at` if it is low, and yields the next free place.
 fn list_step(
@@ -25,7 +26,7 @@ fn list_step(
 ) -> u16
     requires { ⌜ Stored (now store) (modelAt (now store)) ⌝ }
     requires { ⌜ (actionLimit ≤ length (now roles))
-        × Roles (levels (modelAt (now store))) (modelAt (now store) .head .actions) (now roles) ⌝ }
+        × Roles (view (modelAt (now store)) .levels) (modelAt (now store) .head .actions) (now roles) ⌝ }
     requires { ⌜ (j .0 < length (modelAt (now store) .steps)) × (at < stepLimit) ⌝ }
     requires { ⌜ (stepLimit ≤ length (now actions)) × (stepLimit ≤ length (now targets)) ⌝ }
     ensures { λ r. ⌜ Appended (LowAmong (modelAt (now (store .entry))) (j .0) (j .0 + 1)) at r
@@ -58,10 +59,10 @@ fn list_state(
     requires { ⌜ (indexLength ≤ length (now begins))
         × Index (modelAt (now store)) (modelAt (now store) .head .states) (now begins) ⌝ }
     requires { ⌜ (actionLimit ≤ length (now roles))
-        × Roles (levels (modelAt (now store))) (modelAt (now store) .head .actions) (now roles) ⌝ }
+        × Roles (view (modelAt (now store)) .levels) (modelAt (now store) .head .actions) (now roles) ⌝ }
     requires { ⌜ (p .0 < modelAt (now store) .head .states) × (from ≤ getD (now begins) (p .0) 0) ⌝ }
     requires { ⌜ (stepLimit ≤ length (now actions)) × (stepLimit ≤ length (now targets)) ⌝ }
-    ensures { λ r. ⌜ Appended (LowStep (modelAt (now (store .entry))) (p .0)) from r
+    ensures { λ r. ⌜ Appended (LowMove (view (modelAt (now (store .entry)))) (p .0)) from r
         (now (actions .entry)) (now (targets .entry)) (now (actions .exit)) (now (targets .exit)) ⌝ }
     ensures { λ r. ⌜ r ≤ getD (now (begins .entry)) (p .0 + 1) 0 ⌝ }
 {
@@ -89,10 +90,10 @@ pub fn list_moves(
     requires { ⌜ (indexLength ≤ length (now begins))
         × Index (modelAt (now store)) (modelAt (now store) .head .states) (now begins) ⌝ }
     requires { ⌜ (actionLimit ≤ length (now roles))
-        × Roles (levels (modelAt (now store))) (modelAt (now store) .head .actions) (now roles) ⌝ }
+        × Roles (view (modelAt (now store)) .levels) (modelAt (now store) .head .actions) (now roles) ⌝ }
     requires { ⌜ (indexLength ≤ length (now first)) × (stepLimit ≤ length (now actions))
         × (stepLimit ≤ length (now targets)) ⌝ }
-    ensures { λ _. ⌜ Lists (LowStep (modelAt (now (store .entry)))) (modelAt (now (store .entry)) .head .states)
+    ensures { λ _. ⌜ Lists (LowMove (view (modelAt (now (store .entry))))) (modelAt (now (store .entry)) .head .states)
         (now (first .exit)) (now (actions .exit)) (now (targets .exit)) ⌝ }
 {
     let n = model::store::states(store);

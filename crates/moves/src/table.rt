@@ -5,13 +5,14 @@ ghost use Prim.Native.Nat.{_≤_};
 ghost use lib.ListN.{length};
 ghost use Rattle.text.specs.Limits.{actionLimit};
 ghost use Rattle.model.specs.StoredModel.{modelAt};
-ghost use Rattle.model.specs.System.{levels, LowStep};
 ghost use Rattle.text.specs.Limits.{tableLength};
 ghost use Rattle.model.specs.Inner.Stored.{Stored};
 ghost use Rattle.model.specs.Inner.Index.{Index};
 ghost use Rattle.model.specs.Inner.Roles.{Roles};
 ghost use Rattle.text.specs.Limits.{indexLength};
 ghost use Rattle.ranking.specs.Table.{Ranked};
+ghost use Rattle.model.specs.System.{view};
+ghost use Rattle.lts.specs.Noninterference.{LowMove};
 
 // Fills the table with the ranks of a good store's states, and yields the last round that separated two of them. The
 // steps of each state begin where `begins` says.
@@ -20,9 +21,9 @@ pub fn fill_table(store: &[u16], begins: &[u16], roles: &[u16], table: &mut [u8]
     requires { ⌜ (indexLength ≤ length (now begins))
         × Index (modelAt (now store)) (modelAt (now store) .head .states) (now begins) ⌝ }
     requires { ⌜ (actionLimit ≤ length (now roles))
-        × Roles (levels (modelAt (now store))) (modelAt (now store) .head .actions) (now roles) ⌝ }
+        × Roles (view (modelAt (now store)) .levels) (modelAt (now store) .head .actions) (now roles) ⌝ }
     requires { ⌜ tableLength ≤ length (now table) ⌝ }
-    ensures { λ r. ⌜ Ranked (LowStep (modelAt (now (store .entry)))) (modelAt (now (store .entry)) .head .states)
+    ensures { λ r. ⌜ Ranked (LowMove (view (modelAt (now (store .entry))))) (modelAt (now (store .entry)) .head .states)
         (now (table .entry)) (now (table .exit)) r ⌝ }
 {
     let mut first = [0u16; INDEX_LENGTH];

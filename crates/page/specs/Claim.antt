@@ -14,7 +14,7 @@ use Rattle.text.specs.Model.{Model}
 use Rattle.text.specs.Numbers.{numberOf}
 use Rattle.text.specs.Split.{split}
 use Rattle.text.specs.declared.number.Number.the-variants.{Value}
-use Rattle.model.specs.System.{source, levels, Steps, Start, LowStep, HighStep, DeterministicModel}
+use Rattle.model.specs.System.{source, HighStep, DeterministicModel, view}
 use Rattle.model.specs.Text.{field}
 use Rattle.ranking.specs.Table.{Greatest}
 use Rattle.verdicts.specs.declared.judging.Verdict.the-variants.{Refused}
@@ -24,6 +24,7 @@ use Rattle.tell.specs.Claim.{States, ShowsLeak}
 use Rattle.lines.specs.PageLines.{PageLine, verdict-line, run-line, end-line, last-line, passText, refuseText}
 use Rattle.lines.specs.PageLines.{lineText, pageBytes}
 use Rattle.lines.specs.Page.{StateLines, nameLine}
+use Rattle.lts.specs.Noninterference.{LowMove}
 
 -- The page begins with `V,pass,`, or with `V,refuse,`.
 abbrev pub SaysPass : List ℕ → Type 0
@@ -55,7 +56,7 @@ pub record RefuseFields (bytes : List ℕ) (step depth : ℕ) : Type 0 where
 pub record PassPage (m : Model) (bytes : List ℕ) : Type 0 where
   pub rank : ℕ
   pub verdict-fields : PassFields bytes rank
-  pub greatest : Greatest (LowStep m) (m .head .states) rank
+  pub greatest : Greatest (LowMove (view m)) (m .head .states) rank
 
 -- What the page of a refused deterministic model tells, line by line. `word` is the list that Page filled.
 pub record LeakPage (m : Model) (bytes word : List ℕ) : Type 0 where
@@ -89,7 +90,7 @@ pub record PageTells (m : Model) (bytes word : List ℕ) : Type 0 where
   pub verdict : SaysPass bytes ⊎ SaysRefuse bytes
   -- "It is passed exactly when this holds of every sequence of actions, however long, that can be run from the start
   -- [..]"
-  pub pass-iff : SaysPass bytes ↔ INI (levels m) (Steps m) (Start m)
+  pub pass-iff : SaysPass bytes ↔ INI (view m)
   pub pass : SaysPass bytes → PassPage m bytes
   pub leak : SaysRefuse bytes → LeakPage m bytes word
 

@@ -7,7 +7,7 @@ use Prim.Native.Nat.{ℕ}
 use Rattle.lts.specs.Noninterference.{thin, SameLow}
 use Rattle.text.specs.Model.{Model}
 use Rattle.model.specs.Reading.{done, readText}
-use Rattle.model.specs.System.{source, target, levels, Steps, ReachableIn, DeterministicModel}
+use Rattle.model.specs.System.{source, target, ReachableIn, DeterministicModel, view}
 use Rattle.verdicts.specs.declared.judging.Verdict.{Verdict}
 use Rattle.verdicts.specs.declared.judging.Verdict.the-variants.{Passed, Refused}
 use Rattle.verdicts.specs.Verdicts.{Judged}
@@ -44,7 +44,7 @@ pub record JointFact : Type 0 where
   pub close-low-word : WordOf closeLow 0 (close ∷ []) Target
   -- "refused, step 2, depth 2, though both ends allow the same words; Word gives 23 at 1."
   pub branching-refused : ReadsAndJudged branchingText branching (refusedAt 2 2)
-  pub branching-same-words : SameLow (levels branching) (Steps branching) (source branching 2) (target branching 2)
+  pub branching-same-words : SameLow (view branching) (source branching 2) (target branching 2)
   pub branching-not-deterministic : ¬ (DeterministicModel branching)
   pub branching-first : FirstBranch branching 1
   -- "One state, no steps: passed, rank 0." "One state, 0 print 0: passed, rank 0."
@@ -57,5 +57,5 @@ pub record JointFact : Type 0 where
   pub unreached-print-deterministic : DeterministicModel unreachedPrint
   pub print-unreachable : ¬ (ReachableIn unreachedPrint (source unreachedPrint 0))
   -- "print scan close print scan thins to print scan close scan. The empty sequence thins to itself."
-  pub thinned : thin (levels worked) (print ∷ scan ∷ close ∷ print ∷ scan ∷ []) ≡ print ∷ scan ∷ close ∷ scan ∷ []
-  pub thinned-empty : thin (levels worked) [] ≡ []
+  pub thinned : thin (view worked .levels) (print ∷ scan ∷ close ∷ print ∷ scan ∷ []) ≡ print ∷ scan ∷ close ∷ scan ∷ []
+  pub thinned-empty : thin (view worked .levels) [] ≡ []

@@ -18,7 +18,7 @@ use Rattle.lts.specs.Run.{Allows}
 use Rattle.lts.specs.Word.{JustOne, FirstWord}
 use Rattle.text.specs.Faults.{Outcome, answers, refuses}
 use Rattle.text.specs.Model.{Model}
-use Rattle.model.specs.System.{source, target, levels, Steps, Start, HighStep, DeterministicModel}
+use Rattle.model.specs.System.{source, target, HighStep, DeterministicModel, view}
 use Rattle.model.specs.Text.{textOf}
 use Rattle.model.specs.WellFormed.{WellFormed}
 use Rattle.letters.specs.declared.word.End.{End}
@@ -47,23 +47,23 @@ pub record JudgeTells (m : Model) (judge : Outcome) : Type 0 where
   -- "It is passed exactly when this holds of every sequence of actions, however long, that can be run from the start:
   -- with each high action that no later release follows taken out it can still be run from the start, and the two
   -- states where the full and the thinned sequence end allow the same low sequences."
-  pub passed-iff : SaysPassed judge ↔ INI (levels m) (Steps m) (Start m)
+  pub passed-iff : SaysPassed judge ↔ INI (view m)
   -- "the step told, a reachable high step"
   pub step-told : (j depth : ℕ) → SaysRefused judge j depth → HighStep m j
 
 -- All that demand 3 says of the sequence shown for a step and a depth, and of the end named.
 pub record ShowsLeak (m : Model) (j depth : ℕ) (sequence : List ℕ) (end : End) : Type 0 where
   -- "a low sequence is shown"
-  pub low : Low (levels m) sequence
+  pub low : Low (view m .levels) sequence
   -- "it is possible from the named end of the step told [..] and not from that step's other end"
-  pub possible : Allows (Steps m) (endState m j end) sequence
-  pub not-possible : ¬ (Allows (Steps m) (otherState m j end) sequence)
+  pub possible : Allows (view m .Step) (endState m j end) sequence
+  pub not-possible : ¬ (Allows (view m .Step) (otherState m j end) sequence)
   -- "the one that document 01 fixes for Word": the first by action numbers among the shortest such of that step
-  pub first : FirstWord (levels m) (Steps m) (source m j) (target m j) sequence
+  pub first : FirstWord (view m) (source m j) (target m j) sequence
   -- "Every other low sequence that is possible from just one end of any reachable high step has at least as many
   -- actions."
-  pub shortest : (i : ℕ) → HighStep m i → (v : List ℕ) → Low (levels m) v
-      → JustOne (Steps m) (source m i) (target m i) v → length sequence ≤ length v
+  pub shortest : (i : ℕ) → HighStep m i → (v : List ℕ) → Low (view m .levels) v
+      → JustOne (view m .Step) (source m i) (target m i) v → length sequence ≤ length v
   -- "The depth told is the number of actions in the sequence shown."
   pub depth-is : depth ≡ length sequence
 
@@ -78,7 +78,7 @@ pub record Sequence (m : Model) (j depth : ℕ) (word : Outcome) (list : List �
 -- What Word tells of a deterministic model: never 23, and 24 exactly when every sequence passes the test above.
 pub record WordTells (m : Model) (word : Outcome) : Type 0 where
   pub not-branching : (j : ℕ) → ¬ (word ≡ refuses 23 j)
-  pub no-word-iff : (word ≡ refuses 24 0) ↔ INI (levels m) (Steps m) (Start m)
+  pub no-word-iff : (word ≡ refuses 24 0) ↔ INI (view m)
 
 -- What the two tell together: 24 exactly when passed, else the sequence of Judge's step.
 pub record BothTell (m : Model) (judge word : Outcome) (list : List ℕ) : Type 0 where

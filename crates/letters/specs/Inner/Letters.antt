@@ -9,7 +9,7 @@ use Rattle.lts.specs.Alike.{Separated}
 use Rattle.text.specs.Limits.{actionLimit}
 use Rattle.text.specs.Limits.{tableLength, wordLength}
 use Rattle.text.specs.Model.{Model}
-use Rattle.model.specs.System.{source, action, target, levels, LowStep, ReachableIn, DeterministicModel}
+use Rattle.model.specs.System.{source, action, target, ReachableIn, DeterministicModel, view}
 use Rattle.text.specs.Limits.{indexLength}
 use Rattle.ranking.specs.Table.{Ranks}
 use Rattle.verdicts.specs.declared.judging.Verdict.{Verdict}
@@ -20,6 +20,7 @@ use Rattle.model.specs.Inner.Roles.{Roles}
 use Rattle.model.specs.Inner.Stored.{Stored}
 use Rattle.letters.specs.declared.branch.Found.{Found}
 use Rattle.letters.specs.declared.branch.Found.the-variants.{At, Nothing}
+use Rattle.lts.specs.Noninterference.{LowMove}
 
 -- ---- what is found
 
@@ -42,7 +43,7 @@ pub record StepOf (m : Model) (p a j : ℕ) : Type 0 where
 -- Step j is low, and q has no step of its action.
 pub record Unanswered (m : Model) (q j : ℕ) : Type 0 where
   pub number-lt : j < length (m .steps)
-  pub is-low : T (levels m .low? (action m j))
+  pub is-low : T (view m .levels .low? (action m j))
   pub none : (i : ℕ) → ¬ (StepOf m q (action m j) i)
 
 -- It is a step of p.
@@ -52,9 +53,9 @@ pub record Alone (m : Model) (p q j : ℕ) : Type 0 where
 
 -- Step j is low, step i is the step of q with the same action, and the round k separates their targets.
 pub record Answer (m : Model) (q k j i : ℕ) : Type 0 where
-  pub is-low : T (levels m .low? (action m j))
+  pub is-low : T (view m .levels .low? (action m j))
   pub step-of : StepOf m q (action m j) i
-  pub targets : Separated (LowStep m) (target m j) (target m i) k
+  pub targets : Separated (LowMove (view m)) (target m j) (target m i) k
 
 -- Step j of p has such an answer.
 pub record HasAnswer (m : Model) (p q k j : ℕ) : Type 0 where
@@ -68,7 +69,7 @@ pub record FirstLetter (m : Model) (p q k j i : ℕ) : Type 0 where
   pub number-lt : j < length (m .steps)
   pub source-is : source m j ≡ p
   pub answer : Answer m q k j i
-  pub first : (b x y : ℕ) → b < action m j → LowStep m p b x → LowStep m q b y → ¬ (Separated (LowStep m) x y k)
+  pub first : (b x y : ℕ) → b < action m j → LowMove (view m) p b x → LowMove (view m) q b y → ¬ (Separated (LowMove (view m)) x y k)
 
 -- ---- what is taken
 
@@ -78,20 +79,20 @@ pub record StepLists (m : Model) (store begins roles : List ℕ) : Type 0 where
   pub index-length : indexLength ≤ length begins
   pub index : Index m (m .head .states) begins
   pub roles-length : actionLimit ≤ length roles
-  pub roles-are : Roles (levels m) (m .head .actions) roles
+  pub roles-are : Roles (view m .levels) (m .head .actions) roles
 
 -- The same with the ranks of its states.
 pub record WordLists (m : Model) (store begins roles table : List ℕ) : Type 0 where
   pub step-lists : StepLists m store begins roles
   pub table-length : tableLength ≤ length table
-  pub ranks : Ranks (LowStep m) (m .head .states) table
+  pub ranks : Ranks (LowMove (view m)) (m .head .states) table
 
 -- Two reachable states of a deterministic model, which the round k separates.
 pub record SeparatedPair (m : Model) (p q k : ℕ) : Type 0 where
   pub deterministic : DeterministicModel m
   pub first-reachable : ReachableIn m p
   pub second-reachable : ReachableIn m q
-  pub separated : Separated (LowStep m) p q k
+  pub separated : Separated (LowMove (view m)) p q k
 
 -- A good store, judged, with the lists made from it and room for a word.
 pub record Showable (m : Model) (v : Verdict) (store begins roles distances table word : List ℕ) : Type 0 where

@@ -6,18 +6,18 @@ use Prim.Native.Nat.{ℕ}
 use lib.ListN.{length, drop}
 use Rattle.lts.specs.Word.{OnlyFrom, FirstWord}
 use Rattle.text.specs.Model.{Model}
-use Rattle.model.specs.System.{levels, Steps}
 use Rattle.letters.specs.declared.word.End.{End}
 use Rattle.letters.specs.declared.word.End.the-variants.{Source, Target}
+use Rattle.model.specs.System.{view}
 
 -- Of two states p and q, as source and target, the end alone allows w.
 abbrev pub OnlyFromEnd : Model → ℕ → ℕ → End → List ℕ → Type 0
-OnlyFromEnd m p q Source w = OnlyFrom (Steps m) p q w
-OnlyFromEnd m p q Target w = OnlyFrom (Steps m) q p w
+OnlyFromEnd m p q Source w = OnlyFrom (view m .Step) p q w
+OnlyFromEnd m p q Target w = OnlyFrom (view m .Step) q p w
 
 -- The word of two states, with the end that allows it.
 pub record WordFrom (m : Model) (p q : ℕ) (w : List ℕ) (end : End) : Type 0 where
-  pub first-word : FirstWord (levels m) (Steps m) p q w
+  pub first-word : FirstWord (view m) p q w
   pub only-from : OnlyFromEnd m p q end w
 
 -- It stands in the first places of a list, and the others are as they were.

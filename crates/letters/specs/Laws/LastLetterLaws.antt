@@ -10,7 +10,7 @@ use Rattle.lts.specs.FirstWordLaws.{first-word-one, letter-of-separated-one}
 use Rattle.lts.specs.Run.{Run}
 use Rattle.lts.specs.Word.{OnlyFrom, JustOne, FirstWord}
 use Rattle.text.specs.Model.{Model}
-use Rattle.model.specs.System.{action, target, levels, Steps, Start}
+use Rattle.model.specs.System.{action, target, Steps, view}
 use Rattle.model.specs.Laws.Store.SystemLaws.{own-step, deterministicModel→Deterministic}
 use Rattle.model.specs.Inner.Stored.{Stored}
 use Rattle.letters.specs.declared.word.End.the-variants.{Source, Target}
@@ -19,7 +19,7 @@ use Rattle.letters.specs.Inner.WordHead.{WordFrom}
 use Rattle.letters.specs.Laws.LettersLaws.{low-step-game}
 
 module _ {m : Model} {p q : ℕ} where
-  pub alone→OnlyFrom : {j : ℕ} → Alone m p q j → OnlyFrom (Steps m) p q (action m j ∷ [])
+  pub alone→OnlyFrom : {j : ℕ} → Alone m p q j → OnlyFrom (view m .Step) p q (action m j ∷ [])
   unfolding Run
   alone→OnlyFrom {j} x = (
     (target m j, (target m j, own, refl)),
@@ -36,7 +36,7 @@ module _ {m : Model} {p q : ℕ} where
       own = subst (λ (o : ℕ). Steps m o (action m j) (target m j)) (x .source-is)
           (own-step m j (x .unanswered .number-lt))
 
-  pub OnlyFrom→alone : {a : ℕ} → T (levels m .low? a) → OnlyFrom (Steps m) p q (a ∷ [])
+  pub OnlyFrom→alone : {a : ℕ} → T (view m .levels .low? a) → OnlyFrom (view m .Step) p q (a ∷ [])
       → (j : ℕ) × Alone m p q j × (action m j ≡ a)
   unfolding Run
   OnlyFrom→alone {a} lo (x, y) = (s .number, alone, s .action-is)
@@ -49,7 +49,7 @@ module _ {m : Model} {p q : ℕ} where
         source-is = s .source-is;
         unanswered = record {
           number-lt = s .number-lt;
-          is-low = subst (λ (b : ℕ). T (levels m .low? b)) (sym (s .action-is)) lo;
+          is-low = subst (λ (b : ℕ). T (view m .levels .low? b)) (sym (s .action-is)) lo;
           none = λ i z. y (
             target m i,
             (
@@ -74,12 +74,12 @@ module _ {m : Model} {p q : ℕ} where
       (x .holds .source-is ∙ sym (y .source-is))
 
 module _ {m : Model} {p q : ℕ} where
-  first-word-of-alone : (a : ℕ) → T (levels m .low? a) → JustOne (Steps m) p q (a ∷ [])
+  first-word-of-alone : (a : ℕ) → T (view m .levels .low? a) → JustOne (view m .Step) p q (a ∷ [])
       → ((i : ℕ) → Alone m p q i → a ≤ action m i) → ((i : ℕ) → Alone m q p i → a ≤ action m i)
-      → FirstWord (levels m) (Steps m) p q (a ∷ [])
-  first-word-of-alone a lo o f g = first-word-one (levels m) (Steps m) p q a lo o least
+      → FirstWord (view m) p q (a ∷ [])
+  first-word-of-alone a lo o f g = first-word-one (view m) p q a lo o least
     where
-      least : (b : ℕ) → b < a → T (levels m .low? b) → ¬ (JustOne (Steps m) p q (b ∷ []))
+      least : (b : ℕ) → b < a → T (view m .levels .low? b) → ¬ (JustOne (view m .Step) p q (b ∷ []))
       least b l lb (inl x) = let y = OnlyFrom→alone lb x in omega (arith, f (y .0) (y .1), y .2)
       least b l lb (inr x) = let y = OnlyFrom→alone lb x in omega (arith, g (y .0) (y .1), y .2)
 
@@ -87,10 +87,10 @@ module _ {m : Model} {p q : ℕ} where
     pub source-letter : First (Alone m p q) j → ((i : ℕ) → Alone m q p i → a ≤ action m i)
         → WordFrom m p q (a ∷ []) Source
     source-letter x f =
-        let o = subst (λ (b : ℕ). OnlyFrom (Steps m) p q (b ∷ [])) (sym e) (alone→OnlyFrom (x .holds)) in
+        let o = subst (λ (b : ℕ). OnlyFrom (view m .Step) p q (b ∷ [])) (sym e) (alone→OnlyFrom (x .holds)) in
         record {
           first-word = first-word-of-alone a
-              (subst (λ (b : ℕ). T (levels m .low? b)) (sym e) (x .holds .unanswered .is-low)) (inl o)
+              (subst (λ (b : ℕ). T (view m .levels .low? b)) (sym e) (x .holds .unanswered .is-low)) (inl o)
               (λ i y. omega (arith, e, first-alone-le st x i y)) f;
           only-from = o;
         }
@@ -98,10 +98,10 @@ module _ {m : Model} {p q : ℕ} where
     pub target-letter : First (Alone m q p) j → ((i : ℕ) → Alone m p q i → a ≤ action m i)
         → WordFrom m p q (a ∷ []) Target
     target-letter x f =
-        let o = subst (λ (b : ℕ). OnlyFrom (Steps m) q p (b ∷ [])) (sym e) (alone→OnlyFrom (x .holds)) in
+        let o = subst (λ (b : ℕ). OnlyFrom (view m .Step) q p (b ∷ [])) (sym e) (alone→OnlyFrom (x .holds)) in
         record {
           first-word = first-word-of-alone a
-              (subst (λ (b : ℕ). T (levels m .low? b)) (sym e) (x .holds .unanswered .is-low)) (inr o)
+              (subst (λ (b : ℕ). T (view m .levels .low? b)) (sym e) (x .holds .unanswered .is-low)) (inr o)
               f (λ i y. omega (arith, e, first-alone-le st x i y));
           only-from = o;
         }
@@ -110,10 +110,10 @@ module _ {m : Model} {p q : ℕ} where
 pub alone-some : {s : List ℕ} {m : Model} {p q : ℕ} → Stored s m → SeparatedPair m p q 1
     → ((i : ℕ) → ¬ (Alone m p q i)) → ((i : ℕ) → ¬ (Alone m q p i)) → ⊥
 alone-some {m = m} {p} {q} st x f g =
-    let (a, lo, o) = letter-of-separated-one (levels m) (Steps m) (Start m) (m .head .states) _ (low-step-game st)
+    let (a, lo, o) = letter-of-separated-one (view m) (m .head .states) _ (low-step-game st)
     (deterministicModel→Deterministic m (x .deterministic)) p q (x .separated) in
     go a lo o
   where
-    go : (a : ℕ) → T (levels m .low? a) → JustOne (Steps m) p q (a ∷ []) → ⊥
+    go : (a : ℕ) → T (view m .levels .low? a) → JustOne (view m .Step) p q (a ∷ []) → ⊥
     go a lo (inl y) = let z = OnlyFrom→alone lo y in f (z .0) (z .1)
     go a lo (inr y) = let z = OnlyFrom→alone lo y in g (z .0) (z .1)

@@ -20,7 +20,7 @@ use Rattle.lts.specs.TestsLaws.{lt-or-le}
 use Rattle.text.specs.declared.Step.{Step}
 use Rattle.text.specs.Limits.{pairPlace}
 use Rattle.text.specs.Model.{Model, low}
-use Rattle.model.specs.System.{source, action, target, levels, Steps, Start, LowStep, ReachableIn, DeterministicModel}
+use Rattle.model.specs.System.{source, action, target, Steps, ReachableIn, DeterministicModel, view}
 use Rattle.model.specs.Laws.Store.SystemLaws.{deterministicModel→Deterministic}
 use Rattle.model.specs.Inner.Index.{Index}
 use Rattle.model.specs.Inner.Stored.{Stored}
@@ -32,6 +32,7 @@ use Rattle.letters.specs.declared.branch.Found.{Found}
 use Rattle.letters.specs.declared.branch.Found.the-variants.{At, Nothing}
 use Rattle.letters.specs.Inner.Letters.{First, FoundFirst, StepOf, Unanswered, Answer, HasAnswer}
 use Rattle.letters.specs.Inner.Letters.{FirstLetter, StepLists, WordLists, SeparatedPair}
+use Rattle.lts.specs.Noninterference.{LowMove}
 
 -- ---- the first step
 
@@ -85,10 +86,10 @@ module _ {m : Model} {store begins roles : List ℕ} (L : StepLists m store begi
   pub role-fits : a < length roles
   role-fits = omega (arith, e, L .roles-length, L .stored .actions-le, L .stored .action-lt j l)
 
-  pub letter-low : getD roles a 0 ≡ low → T (levels m .low? (action m j))
+  pub letter-low : getD roles a 0 ≡ low → T (view m .levels .low? (action m j))
   letter-low z = low-of-role (L .roles-are) e (L .stored .action-lt j l) z
 
-  pub letter-role : T (levels m .low? (action m j)) → getD roles a 0 ≡ low
+  pub letter-role : T (view m .levels .low? (action m j)) → getD roles a 0 ≡ low
   letter-role t = role-of-low (L .roles-are) e (L .stored .action-lt j l) t
 
   pub unanswered-of : {q : ℕ} → getD roles a 0 ≡ low → ((i : ℕ) → ¬ (StepOf m q a i)) → Unanswered m q j
@@ -102,12 +103,12 @@ module _ {m : Model} {store begins roles : List ℕ} (L : StepLists m store begi
 
 module _ {m : Model} {store begins roles table : List ℕ} (L : WordLists m store begins roles table) {j i : ℕ}
     (l : j < length (m .steps)) (n : i < length (m .steps)) {x y : ℕ} (e : x ≡ target m j) (f : y ≡ target m i) where
-  target-rank : Rank (LowStep m) (target m j) (target m i) (getD table (pairPlace x y) 0)
+  target-rank : Rank (LowMove (view m)) (target m j) (target m i) (getD table (pairPlace x y) 0)
   target-rank =
       let st = L .step-lists .stored in
       let same : getD table (pairPlace (target m j) (target m i)) 0 ≡ getD table (pairPlace x y) 0 =
       (λ t. getD table (pairPlace (sym e t) (sym f t)) 0) in
-      subst (Rank (LowStep m) (target m j) (target m i)) same
+      subst (Rank (LowMove (view m)) (target m j) (target m i)) same
       (L .ranks .ranks (target m j) (target m i) (st .target-lt j l) (st .target-lt i n))
 
   pub entry-fits : pairPlace x y < length table
@@ -116,14 +117,14 @@ module _ {m : Model} {store begins roles table : List ℕ} (L : WordLists m stor
       omega (arith, e, f, L .table-length, st .states-le, st .target-lt j l, st .target-lt i n)
 
   pub separated-of-entry : {k : ℕ} → 0 < k → getD table (pairPlace x y) 0 ≡ k
-      → Separated (LowStep m) (target m j) (target m i) k
-  separated-of-entry {k} pos z = separated-of-rank (LowStep m) (target m j) (target m i) k pos
-      (subst (Rank (LowStep m) (target m j) (target m i)) z target-rank)
+      → Separated (LowMove (view m)) (target m j) (target m i) k
+  separated-of-entry {k} pos z = separated-of-rank (LowMove (view m)) (target m j) (target m i) k pos
+      (subst (Rank (LowMove (view m)) (target m j) (target m i)) z target-rank)
 
-  pub target-entry-of-separated : {k : ℕ} → Separated (LowStep m) (target m j) (target m i) k
+  pub target-entry-of-separated : {k : ℕ} → Separated (LowMove (view m)) (target m j) (target m i) k
       → getD table (pairPlace x y) 0 ≡ k
-  target-entry-of-separated {k} s = rank-unique (LowStep m) (target m j) (target m i) (getD table (pairPlace x y) 0) k
-      target-rank (rank-of-separated (LowStep m) (target m j) (target m i) k s)
+  target-entry-of-separated {k} s = rank-unique (LowMove (view m)) (target m j) (target m i) (getD table (pairPlace x y) 0) k
+      target-rank (rank-of-separated (LowMove (view m)) (target m j) (target m i) k s)
 
   -- Step i is the one step of q with that action.
   pub not-answer : {q a k : ℕ} → DeterministicModel m → ReachableIn m q → a ≡ action m j → StepOf m q a i
@@ -133,46 +134,46 @@ module _ {m : Model} {store begins roles table : List ℕ} (L : WordLists m stor
       let same : o ≡ i = d .one-step o i (t .number-lt) n (subst (ReachableIn m) (sym (t .source-is)) r)
       (t .source-is ∙ sym (s .source-is)) (t .action-is ∙ sym g ∙ sym (s .action-is)) in
       z (target-entry-of-separated
-      (subst (λ (u : ℕ). Separated (LowStep m) (target m j) (target m u) k) same (h .targets)))
+      (subst (λ (u : ℕ). Separated (LowMove (view m)) (target m j) (target m u) k) same (h .targets)))
 
 -- ---- the first letter
 
 module _ {m : Model} {p q k b x y : ℕ} where
-  pub has-answer-of : (u : LowStep m p b x) → LowStep m q b y → Separated (LowStep m) x y k
+  pub has-answer-of : (u : LowMove (view m) p b x) → LowMove (view m) q b y → Separated (LowMove (view m)) x y k
       → HasAnswer m p q k (u .1 .number)
   has-answer-of u v s = record {
     number-lt = u .1 .number-lt;
     source-is = u .1 .source-is;
     by = v .1 .number;
     answer = record {
-      is-low = subst (λ (a : ℕ). T (levels m .low? a)) (sym (u .1 .action-is)) (u .0);
+      is-low = subst (λ (a : ℕ). T (view m .levels .low? a)) (sym (u .1 .action-is)) (u .0);
       step-of = record {
         number-lt = v .1 .number-lt;
         source-is = v .1 .source-is;
         action-is = v .1 .action-is ∙ sym (u .1 .action-is);
       };
-      targets = subst (λ (w : ℕ). Separated (LowStep m) w (target m (v .1 .number)) k) (sym (u .1 .target-is))
-          (subst (λ (w : ℕ). Separated (LowStep m) x w k) (sym (v .1 .target-is)) s);
+      targets = subst (λ (w : ℕ). Separated (LowMove (view m)) w (target m (v .1 .number)) k) (sym (u .1 .target-is))
+          (subst (λ (w : ℕ). Separated (LowMove (view m)) x w k) (sym (v .1 .target-is)) s);
     };
   }
 
 module _ {s : List ℕ} {m : Model} (st : Stored s m) where
-  pub low-step-game : Game (LowStep m) (m .head .states)
-      (answers? (m .head .states) (m .head .actions) (lowMove? (levels m) (step? m)))
+  pub low-step-game : Game (LowMove (view m)) (m .head .states)
+      (answers? (m .head .states) (m .head .actions) (lowMove? (view m .levels) (step? m)))
   low-step-game =
-      low-game (levels m) (Steps m) (m .head .states) (m .head .actions) (step? m) (decided-steps st)
+      low-game (view m) (m .head .states) (m .head .actions) (step? m) (decided-steps st)
 
-  pub stored-rank-lt : {p q k : ℕ} → p < m .head .states → q < m .head .states → Rank (LowStep m) p q k
+  pub stored-rank-lt : {p q k : ℕ} → p < m .head .states → q < m .head .states → Rank (LowMove (view m)) p q k
       → k < m .head .states
-  stored-rank-lt {p} {q} {k} = rank-lt (LowStep m) (m .head .states) _ low-step-game p q k
+  stored-rank-lt {p} {q} {k} = rank-lt (LowMove (view m)) (m .head .states) _ low-step-game p q k
 
   -- Of two states that the round k+1 separates, some low step has an answer.
   pub has-answer-some : (p q k : ℕ) → 0 < k → SeparatedPair m p q (k + 1) → (j : ℕ) × HasAnswer m p q k j
   has-answer-some p q zero pos x = absurd (omega arith)
   has-answer-some p q (suc k) pos x =
-      let (a, y, z, u, v, w) = letter-of-separated (levels m) (Steps m) (Start m) (m .head .states) _ low-step-game
+      let (a, y, z, u, v, w) = letter-of-separated (view m) (m .head .states) _ low-step-game
       (deterministicModel→Deterministic m (x .deterministic)) k p q (x .second-reachable)
-      (subst (Separated (LowStep m) p q) (add-one (suc k)) (x .separated)) in
+      (subst (Separated (LowMove (view m)) p q) (add-one (suc k)) (x .separated)) in
       (u .1 .number, has-answer-of u v w)
 
   -- Steps rise by action, so the first step that has an answer has the lowest action.

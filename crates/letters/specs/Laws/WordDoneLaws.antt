@@ -15,7 +15,7 @@ use Rattle.lts.specs.WordLaws.{only-from-unique}
 use Rattle.text.specs.Faults.{Outcome, answers, refuses}
 use Rattle.text.specs.Laws.OutcomeLaws.{injective-of-inverse}
 use Rattle.text.specs.Model.{Model}
-use Rattle.model.specs.System.{source, action, target, levels, Steps, ReachableIn, DeterministicModel}
+use Rattle.model.specs.System.{source, action, target, ReachableIn, DeterministicModel, view}
 use Rattle.verdicts.specs.declared.judging.Verdict.{Verdict}
 use Rattle.verdicts.specs.declared.judging.Verdict.the-variants.{Passed, Refused}
 use Rattle.model.specs.Inner.Stored.{Stored}
@@ -112,21 +112,21 @@ module _ {s : List ℕ} {m : Model} (st : Stored s m) where
 
 -- ---- one word
 
-end-unique : (m : Model) (j : ℕ) (w : List ℕ) (d e : End) → OnlyFrom (Steps m) (endState m j d) (otherState m j d) w
-    → OnlyFrom (Steps m) (endState m j e) (otherState m j e) w → d ≡ e
+end-unique : (m : Model) (j : ℕ) (w : List ℕ) (d e : End) → OnlyFrom (view m .Step) (endState m j d) (otherState m j d) w
+    → OnlyFrom (view m .Step) (endState m j e) (otherState m j e) w → d ≡ e
 end-unique m j w Source Source x y = refl
-end-unique m j w Source Target x y = absurd (only-from-unique (Steps m) (source m j) (target m j) w x y)
-end-unique m j w Target Source x y = absurd (only-from-unique (Steps m) (target m j) (source m j) w x y)
+end-unique m j w Source Target x y = absurd (only-from-unique (view m .Step) (source m j) (target m j) w x y)
+end-unique m j w Target Source x y = absurd (only-from-unique (view m .Step) (target m j) (source m j) w x y)
 end-unique m j w Target Target x y = refl
 
 pub wordOf-unique : {m : Model} {j : ℕ} {w u : List ℕ} {d e : End} → WordOf m j w d → WordOf m j u e
     → (w ≡ u) × (d ≡ e)
 wordOf-unique {m} {j} {w} {u} {d} {e} x y =
-    let f : w ≡ u = first-word-unique (levels m) (Steps m) (source m j) (target m j) w u (x .first-word) (y .first-word)
+    let f : w ≡ u = first-word-unique (view m) (source m j) (target m j) w u (x .first-word) (y .first-word)
     in (
       f,
       end-unique m j w d e (x .only-from-end)
-          (subst (OnlyFrom (Steps m) (endState m j e) (otherState m j e)) (sym f) (y .only-from-end)),
+          (subst (OnlyFrom (view m .Step) (endState m j e) (otherState m j e)) (sym f) (y .only-from-end)),
     )
 
 pub wordShown-unique : {m : Model} {j d : ℕ} {t u : Outcome} {entry exit exit′ : List ℕ} → WordShown m j d t entry exit

@@ -9,10 +9,11 @@ use lib.Dec.{eqb}
 use lib.ListN.{length, getD}
 use Rattle.text.specs.Limits.{distancesLength, tableLength, pairPlace, unreachable}
 use Rattle.text.specs.Model.{Model}
-use Rattle.model.specs.System.{LowStep}
 use Rattle.ranking.specs.Table.{Ranks}
 use Rattle.distances.specs.Distances.{DistanceList}
 use Rattle.model.specs.Inner.Stored.{Stored}
+use Rattle.model.specs.System.{view}
+use Rattle.lts.specs.Noninterference.{LowMove}
 
 -- A good store, with the distances and the table of its model.
 pub record ListsOf (m : Model) (store distances table : List ℕ) : Type 0 where
@@ -20,7 +21,7 @@ pub record ListsOf (m : Model) (store distances table : List ℕ) : Type 0 where
   pub distances-length : distancesLength ≤ length distances
   pub distances-are : DistanceList m distances
   pub table-length : tableLength ≤ length table
-  pub ranks : Ranks (LowStep m) (m .head .states) table
+  pub ranks : Ranks (LowMove (view m)) (m .head .states) table
 
 -- An entry of the distances.
 unfoldable pub distanceOf : ℕ → Option ℕ

@@ -10,7 +10,7 @@ use Rattle.lts.specs.Noninterference.{Low}
 use Rattle.text.specs.Faults.{answers, refuses}
 use Rattle.text.specs.Laws.OutcomeLaws.{answers-not-refuses}
 use Rattle.text.specs.Model.{Model}
-use Rattle.model.specs.System.{source, levels, DeterministicModel}
+use Rattle.model.specs.System.{source, DeterministicModel, view}
 use Rattle.text.specs.Laws.ListsLaws.{take-filled}
 use Rattle.model.specs.Laws.Store.SystemLaws.{low-lt}
 use Rattle.model.specs.Inner.Stored.{Stored}
@@ -37,7 +37,7 @@ use Rattle.lines.specs.Laws.LinesWrittenLaws.{written-append, written-of
 
 -- ---- the letters of a low word are actions
 
-letters-lt : (m : Model) (w : List ℕ) → Low (levels m) w → (i : ℕ) → i < length w → getD w i 0 < length (m .actions)
+letters-lt : (m : Model) (w : List ℕ) → Low (view m .levels) w → (i : ℕ) → i < length w → getD w i 0 < length (m .actions)
 unfolding Low
 letters-lt m [] x i l = absurd (omega arith)
 letters-lt m (a ∷ w) x zero l = low-lt m a (x .0)

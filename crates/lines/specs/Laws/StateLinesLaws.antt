@@ -14,7 +14,6 @@ use Rattle.lts.specs.TestsLaws.{eq-or-not}
 use Rattle.text.specs.Limits.{pairPlace, unreachable}
 use Rattle.text.specs.Model.{Model}
 use Rattle.text.specs.Laws.DigitsLaws.{digits-length-le}
-use Rattle.model.specs.System.{LowStep}
 use Rattle.writer.specs.Wrote.{Wrote}
 use Rattle.model.specs.Laws.System.StepTestLaws.{distance-lt}
 use Rattle.distances.specs.Laws.DistancesLaws.{list-distance, list-unreachable}
@@ -25,6 +24,8 @@ use Rattle.lines.specs.Inner.LinesWritten.{LinesWritten}
 use Rattle.lines.specs.Inner.Room.{stateRoom}
 use Rattle.lines.specs.Laws.PageLinesLaws.{state-length, distanceOf-unreachable, distanceOf-reachable}
 use Rattle.lines.specs.Laws.LinesWrittenLaws.{written-line, written-append, written-of}
+use Rattle.model.specs.System.{view}
+use Rattle.lts.specs.Noninterference.{LowMove}
 
 module _ {s : List ℕ} {m : Model} {distances table : List ℕ} (L : ListsOf m s distances table) where
   -- ---- the distance
@@ -42,13 +43,13 @@ module _ {s : List ℕ} {m : Model} {distances table : List ℕ} (L : ListsOf m 
   -- ---- the class
 
   pub diagonal-zero : (p : ℕ) → p < m .head .states → getD table (pairPlace p p) 0 ≡ 0
-  diagonal-zero p l = rank-unique (LowStep m) p p (getD table (pairPlace p p) 0) 0 (L .ranks .ranks p p l l)
-      (bisimilar (bisimilar-refl (LowStep m) p))
+  diagonal-zero p l = rank-unique (LowMove (view m)) p p (getD table (pairPlace p p) 0) 0 (L .ranks .ranks p p l l)
+      (bisimilar (bisimilar-refl (LowMove (view m)) p))
 
   pub class-of-zero : (p q : ℕ) → p < m .head .states → LowestZero table p q → ClassOf m p q
   class-of-zero p q l z = record {
-    rank-zero = subst (Rank (LowStep m) p q) (z .zero) (L .ranks .ranks p q l (omega (arith, z .le)));
-    lowest = λ i k x. z .lowest i k (rank-unique (LowStep m) p i (getD table (pairPlace p i) 0) 0
+    rank-zero = subst (Rank (LowMove (view m)) p q) (z .zero) (L .ranks .ranks p q l (omega (arith, z .le)));
+    lowest = λ i k x. z .lowest i k (rank-unique (LowMove (view m)) p i (getD table (pairPlace p i) 0) 0
         (L .ranks .ranks p i l (omega (arith, z .le))) x);
   }
 

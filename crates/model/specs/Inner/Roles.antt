@@ -1,12 +1,12 @@
--- The role of each action, found once and handed down: 0 low, 1 release, 2 high, as the levels of the store.
+-- The role of each action, found once and handed down: 0 low, 1 release, 2 high, as the view of .levels the store.
 -- Only the contracts of inner functions cite it.
 use mathlib.Core.List.{List}
 use mathlib.Core.Path.{_≡_}
 use Prim.Native.Nat.{ℕ, _<_}
 use lib.Dec.{eqb}
 use lib.ListN.{getD}
-use Rattle.lts.specs.Noninterference.{Levels}
 use Rattle.text.specs.Model.{low, release, high}
+use Rattle.lts.specs.View.{Levels}
 
 -- The list has the roles of the first n actions.
 pub record Roles (L : Levels) (n : ℕ) (roles : List ℕ) : Type 0 where

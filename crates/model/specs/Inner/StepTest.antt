@@ -5,6 +5,7 @@ use Prim.Native.Nat.{ℕ}
 use lib.Dec.{eqb}
 use lib.ListN.{length}
 use Rattle.lts.specs.Tests.{any}
+use Rattle.lts.specs.Decided.{ViewTest}
 use Rattle.text.specs.Model.{Model}
 use Rattle.model.specs.System.{source, action, target}
 
@@ -18,3 +19,7 @@ step? m p a q = any (length (m .steps)) (leads? m p a q)
 
 abbrev pub start? : Model → ℕ → Bool
 start? m p = eqb p (m .head .start .0)
+
+-- The tests of a model's view.
+abbrev pub tests : Model → ViewTest
+tests m = record { step? = step? m; start? = start? m; actions = m .head .actions }

@@ -6,7 +6,7 @@ use lib.Dec.{T}
 use lib.ListN.{getD}
 use Rattle.lts.specs.Alike.{Moves}
 use Rattle.text.specs.Model.{Model}
-use Rattle.model.specs.System.{action, target, levels}
+use Rattle.model.specs.System.{action, target, view}
 use Rattle.ranking.specs.MoveList.{Listed}
 
 -- From place `from` up to place `to` the lists have the actions and targets of Out, each of them; the places before are
@@ -24,7 +24,7 @@ pub record LowAmong (m : Model) (from to a q : ℕ) : Type 0 where
   pub number : ℕ
   pub from-le : from ≤ number
   pub to-lt : number < to
-  pub is-low : T (levels m .low? a)
+  pub is-low : T (view m .levels .low? a)
   pub action-is : action m number ≡ a
   pub target-is : target m number ≡ q
 

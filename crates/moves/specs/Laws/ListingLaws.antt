@@ -10,9 +10,10 @@ use lib.Seq.{getD-set-same, getD-set-other}
 use lib.Dec.{T}
 use Rattle.lts.specs.TestsLaws.{lt-or-le}
 use Rattle.text.specs.Model.{Model}
-use Rattle.model.specs.System.{action, target, levels, LowStep}
+use Rattle.model.specs.System.{action, target, view}
 use Rattle.model.specs.Inner.Index.{Begins}
 use Rattle.moves.specs.Inner.Listing.{Appended, LowAmong}
+use Rattle.lts.specs.Noninterference.{LowMove}
 
 -- ---- appended moves
 
@@ -105,20 +106,20 @@ module _ {m : Model} where
       (ap (action m) e ∙ x .action-is, ap (target m) e ∙ x .target-is)
 
   -- a step that is not low is passed over, one that is low is appended
-  pub appended-not-low : {j at : ℕ} {actions targets : List ℕ} → ¬ (T (levels m .low? (action m j)))
+  pub appended-not-low : {j at : ℕ} {actions targets : List ℕ} → ¬ (T (view m .levels .low? (action m j)))
       → Appended (LowAmong m j (j + 1)) at at actions targets actions targets
   appended-not-low h = appended-nil (λ a q x.
-      h (subst (λ (b : ℕ). T (levels m .low? b)) (sym (lowAmong-only a q x .0)) (x .is-low)))
+      h (subst (λ (b : ℕ). T (view m .levels .low? b)) (sym (lowAmong-only a q x .0)) (x .is-low)))
 
   pub appended-low : {j at a q : ℕ} {actions targets : List ℕ} → at < length actions → at < length targets
-      → action m j ≡ a → target m j ≡ q → T (levels m .low? (action m j))
+      → action m j ≡ a → target m j ≡ q → T (view m .levels .low? (action m j))
       → Appended (LowAmong m j (j + 1)) at (at + 1) actions targets (set actions at a) (set targets at q)
   appended-low {j} la lt e f h = appended-one la lt
       (record {
         number = j;
         from-le = omega arith;
         to-lt = omega arith;
-        is-low = subst (λ (b : ℕ). T (levels m .low? b)) e h;
+        is-low = subst (λ (b : ℕ). T (view m .levels .low? b)) e h;
         action-is = e;
         target-is = f;
       })
@@ -165,7 +166,7 @@ module _ {m : Model} where
   -- the steps of p are those between where its steps begin and where they end
   pub appended-state : {p start end j from to : ℕ} {actions targets actions′ targets′ : List ℕ} → Begins m p start
       → Begins m (p + 1) end → j ≡ end → Appended (LowAmong m start j) from to actions targets actions′ targets′
-      → Appended (LowStep m p) from to actions targets actions′ targets′
+      → Appended (LowMove (view m) p) from to actions targets actions′ targets′
   appended-state {p} {start} {end} {j} b e at-end = appended-same
       (λ a q x.
       let k : x .number < end = omega (arith, x .to-lt, at-end) in

@@ -12,10 +12,11 @@ use Rattle.lts.specs.Alike.{Moves}
 use Rattle.lts.specs.TestsLaws.{lt-or-le}
 use Rattle.text.specs.Limits.{stepLimit}
 use Rattle.text.specs.Model.{Model}
-use Rattle.model.specs.System.{LowStep}
 use Rattle.model.specs.Inner.Stored.{Stored}
 use Rattle.ranking.specs.MoveList.{Listed, Lists}
 use Rattle.moves.specs.Inner.Listing.{Appended, StatesListed}
+use Rattle.model.specs.System.{view}
+use Rattle.lts.specs.Noninterference.{LowMove}
 
 -- ---- one state more
 
@@ -122,10 +123,10 @@ module _ {Move : Moves} {n from to : ℕ} {first actions targets actions′ targ
 -- ---- all states
 
 pub lists-of-statesListed : {s : List ℕ} {m : Model} {n to : ℕ} {first actions targets : List ℕ} → Stored s m
-    → n ≡ m .head .states → to ≤ stepLimit → StatesListed (LowStep m) n to first actions targets
-    → Lists (LowStep m) (m .head .states) first actions targets
+    → n ≡ m .head .states → to ≤ stepLimit → StatesListed (LowMove (view m)) n to first actions targets
+    → Lists (LowMove (view m)) (m .head .states) first actions targets
 lists-of-statesListed {m = m} {to = to} {first} {actions} {targets} st e l listed =
-    let x = subst (λ (n : ℕ). StatesListed (LowStep m) n to first actions targets) e listed in
+    let x = subst (λ (n : ℕ). StatesListed (LowMove (view m)) n to first actions targets) e listed in
     record {
       moves = record {
         some-state = st .states-pos;

@@ -7,9 +7,10 @@ use Prim.Native.Nat.{ℕ, zero, suc}
 use lib.Dec.{eqb, ltb}
 use Rattle.lts.specs.Decided.{within?}
 use Rattle.text.specs.Model.{Model}
-use Rattle.model.specs.Inner.StepTest.{step?, start?}
 use Rattle.verdicts.specs.Inner.VerdictTest.{rankIn}
 use Rattle.lines.specs.PageLines.{PageLine, state-line}
+use Rattle.model.specs.System.{view}
+use Rattle.model.specs.Inner.StepTest.{tests}
 
 -- The least number below n that passes f; n if none does.
 unfoldable pub leastPassing : ℕ → (ℕ → Bool) → ℕ
@@ -21,7 +22,7 @@ leastPassing (suc n) f =
 
 -- At most k steps lead from the start to p.
 abbrev pub near? : Model → ℕ → ℕ → Bool
-near? m p k = within? (m .head .states) (m .head .actions) (step? m) (start? m) k p
+near? m p k = within? (view m) (tests m) k p
 
 -- The least number of steps to p, which is below the number of states; none if p is not reachable.
 abbrev pub leastDistance : Model → ℕ → Option ℕ

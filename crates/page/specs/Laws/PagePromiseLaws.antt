@@ -14,7 +14,6 @@ use Rattle.text.specs.Faults.{Outcome, answers, refuses}
 use Rattle.text.specs.Laws.OutcomeLaws.{injective-of-inverse}
 use Rattle.text.specs.Model.{Model}
 use Rattle.model.specs.Laws.OnStoreLaws.{onStore-unique}
-use Rattle.model.specs.System.{Steps, Start}
 use Rattle.verdicts.specs.declared.judging.Verdict.{Verdict}
 use Rattle.verdicts.specs.declared.judging.Verdict.the-variants.{Passed, Refused}
 use Rattle.verdicts.specs.Laws.JudgeFilledLaws.{filled-unique}
@@ -29,6 +28,7 @@ use Rattle.lines.specs.Page.{nameLine, LeakShown, by-word, by-branch, AfterStat
 use Rattle.page.specs.declared.page.PageAnswer.{PageAnswer}
 use Rattle.page.specs.declared.page.PageAnswer.the-variants.{Printed, ShortList, NotGood}
 use Rattle.page.specs.PagePromise.{pageOutcome, PagePrinted, PagePromise}
+use Rattle.model.specs.System.{view}
 
 -- ---- the `C` lines
 
@@ -37,7 +37,7 @@ distanceField-unique (unreached f) (unreached g) = refl
 distanceField-unique (unreached f) (reached y) = absurd (f (distance→Reachable y))
 distanceField-unique (reached x) (unreached g) = absurd (g (distance→Reachable x))
 distanceField-unique {m} {p} (reached {d = d} x) (reached {d = e} y) =
-    ap some (distance-unique (Steps m) (Start m) p d e x y)
+    ap some (distance-unique (view m) p d e x y)
 
 classOf-unique : {m : Model} {p c d : ℕ} → ClassOf m p c → ClassOf m p d → c ≡ d
 classOf-unique {c = c} {d} x y =

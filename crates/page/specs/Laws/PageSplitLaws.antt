@@ -17,7 +17,6 @@ use Rattle.text.specs.Split.{split}
 use Rattle.text.specs.Laws.SplitLaws.{split-nil}
 use Rattle.model.specs.Inner.LineText.{NameByte}
 use Rattle.text.specs.Join.{Without}
-use Rattle.model.specs.System.{levels}
 use Rattle.model.specs.Text.{field}
 use Rattle.model.specs.WellFormed.{WellFormed}
 use Rattle.model.specs.Laws.Store.SystemLaws.{low-lt}
@@ -35,6 +34,7 @@ use Rattle.lines.specs.PageLines.{last-line, passText, refuseText, distanceText
 use Rattle.lines.specs.PageLines.{pageBytes}
 use Rattle.lines.specs.Page.{StateLines, no-state, next-state, nameOf, nameLine, LeakShown, by-word, by-branch}
 use Rattle.lines.specs.Page.{AfterStates, PageOf}
+use Rattle.model.specs.System.{view}
 
 -- ---- texts without a line end
 
@@ -117,7 +117,7 @@ nameByte-plain b (inl e) h = omega (arith, e, h)
 nameByte-plain b (inr e) h = omega (arith, e, h)
 
 module _ {m : Model} (w : WellFormed m) where
-  plain-names : (word : List ℕ) → Low (levels m) word → All (λ a. PlainLine (nameLine m a)) word
+  plain-names : (word : List ℕ) → Low (view m .levels) word → All (λ a. PlainLine (nameLine m a)) word
   unfolding Low
   plain-names [] x = tt
   plain-names (a ∷ word) x =

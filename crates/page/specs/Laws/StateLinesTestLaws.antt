@@ -15,7 +15,6 @@ use Rattle.lts.specs.DistanceLaws.{distance-of-least}
 use Rattle.lts.specs.Tests.{Each, Least}
 use Rattle.lts.specs.TestsLaws.{T-cases, T-eqb, T→true, not-T→false, lt-suc-cases}
 use Rattle.text.specs.Model.{Model}
-use Rattle.model.specs.System.{Steps, Start, LowStep}
 use Rattle.model.specs.Inner.Stored.{Stored}
 use Rattle.model.specs.Inner.StepTest.{step?, start?}
 use Rattle.model.specs.Laws.System.StepTestLaws.{decided-steps, decided-start}
@@ -23,6 +22,8 @@ use Rattle.verdicts.specs.Inner.VerdictTest.{rankIn}
 use Rattle.verdicts.specs.Laws.VerdictTestLaws.{rankIn→Rank, Reachable→reachable?}
 use Rattle.lines.specs.Page.{DistanceField, unreached, reached, ClassOf, StateLines, no-state, next-state}
 use Rattle.page.specs.Inner.StateLinesTest.{leastPassing, near?, rankZero?, stateLinesOf}
+use Rattle.model.specs.System.{view}
+use Rattle.lts.specs.Noninterference.{LowMove}
 
 -- ---- the least number that passes
 
@@ -52,25 +53,25 @@ module _ {s : List ℕ} {m : Model} (st : Stored s m) where
   distanceField-of-least : (p d : ℕ) → LeastUpTo (m .head .states) (near? m p) d
       → DistanceField m p (cond (ltb d (m .head .states)) (some d) none)
   distanceField-of-least p d (found l x) = rw (lt-ltb d (m .head .states) l)
-      (reached (distance-of-least (Steps m) (Start m) (m .head .states) (m .head .actions) (step? m) (start? m)
+      (reached (distance-of-least (view m) (m .head .states) (m .head .actions) (step? m) (start? m)
       (decided-steps st) (decided-start st) p d x))
   distanceField-of-least p _ (nowhere x) = rw (le-ltb (m .head .states) (m .head .states) (omega arith))
       (unreached (λ r. T-not (near? m p (m .head .states - 1)) (x (m .head .states - 1) (omega (arith, st .states-pos)))
       (Reachable→reachable? st p r)))
 
   not-rankZero?→not-Rank : (p q : ℕ) → p < m .head .states → q < m .head .states → T (not (rankZero? m p q))
-      → ¬ (Rank (LowStep m) p q 0)
+      → ¬ (Rank (LowMove (view m)) p q 0)
   not-rankZero?→not-Rank p q lp lq t r = T-not (rankZero? m p q) t
-      (T-eqb (rank-unique (LowStep m) p q (rankIn m p q) 0 (rankIn→Rank st p q lp lq) r))
+      (T-eqb (rank-unique (LowMove (view m)) p q (rankIn m p q) 0 (rankIn→Rank st p q lp lq) r))
 
   classOf-of-least : (p c : ℕ) → p < m .head .states → LeastUpTo p (rankZero? m p) c → ClassOf m p c
   classOf-of-least p c lp (found l x) = record {
-    rank-zero = subst (Rank (LowStep m) p c) (eqb→eq (rankIn m p c) 0 (x .passes))
+    rank-zero = subst (Rank (LowMove (view m)) p c) (eqb→eq (rankIn m p c) 0 (x .passes))
         (rankIn→Rank st p c lp (omega arith));
     lowest = λ q k. not-rankZero?→not-Rank p q lp (omega arith) (x .none-below q k);
   }
   classOf-of-least p _ lp (nowhere x) = record {
-    rank-zero = bisimilar (bisimilar-refl (LowStep m) p);
+    rank-zero = bisimilar (bisimilar-refl (LowMove (view m)) p);
     lowest = λ q k. not-rankZero?→not-Rank p q lp (omega arith) (x q k);
   }
 

@@ -135,25 +135,26 @@ module _ {Move : Moves} {n : ℕ} (target-lt : (p a q : ℕ) → Move p a q → 
     alike-of-same p q lp lq e = alike-trans Move k p (getD class q 0) q
         (subst (Alike Move k p) e (C .alike p lp)) (alike-sym Move k q (getD class q 0) (C .alike q lq))
 
-    pub alike-of-answers : {p q : ℕ} → Answers Move (Same class) p q → Alike Move (suc k) p q
+    pub alike-of-answers : {p q : ℕ} → p < n → q < n → Answers Move (Same class) p q → Alike Move (suc k) p q
     unfolding Alike
-    alike-of-answers h = answers-below Move n target-lt alike-of-same h
+    alike-of-answers lp lq h = answers-below Move n (λ p a q _ m. target-lt p a q m) lp lq alike-of-same h
 
-    pub answers-of-alike : {p q : ℕ} → Alike Move (suc k) p q → Answers Move (Same class) p q
+    pub answers-of-alike : {p q : ℕ} → p < n → q < n → Alike Move (suc k) p q → Answers Move (Same class) p q
     unfolding Alike
-    answers-of-alike h = answers-below Move n target-lt same-of-alike h
+    answers-of-alike lp lq h = answers-below Move n (λ p a q _ m. target-lt p a q m) lp lq same-of-alike h
 
     pub classes-refinable : Refinable Move n class
     classes-refinable = record {
       lowest-le = C .lowest-le;
-      same-of-answers = λ p q lp lq h. same-of-alike p q lp lq (alike-suc Move k p q (alike-of-answers h));
+      same-of-answers = λ p q lp lq h. same-of-alike p q lp lq (alike-suc Move k p q (alike-of-answers lp lq h));
     }
 
     pub classes-suc : {next : List ℕ} → Refined Move class next n → Classes Move n (suc k) next
     classes-suc r = record {
       lowest-le = λ p l. r .lowest p l .lowest-le;
-      alike = λ p l. alike-of-answers (r .lowest p l .answers);
-      none-lower = λ p q l m h. r .lowest p l .none-lower q m (answers-of-alike h);
+      alike = λ p l. alike-of-answers l (omega (arith, r .lowest p l .lowest-le, l)) (r .lowest p l .answers);
+      none-lower = λ p q l m h. r .lowest p l .none-lower q m
+          (answers-of-alike l (omega (arith, r .lowest p l .lowest-le, l, m)) h);
     }
 
   -- ---- what the round separated

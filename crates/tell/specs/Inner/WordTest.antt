@@ -7,7 +7,7 @@ use lib.Dec.{eqb, ltb}
 use lib.ListN.{length}
 use Rattle.lts.specs.Tests.{all, any}
 use Rattle.text.specs.Model.{Model}
-use Rattle.model.specs.System.{source, action, target, levels}
+use Rattle.model.specs.System.{source, action, target, view}
 use Rattle.model.specs.Inner.StepTest.{step?}
 use Rattle.letters.specs.declared.word.End.{End}
 use Rattle.letters.specs.Words.{endState, otherState}
@@ -23,7 +23,7 @@ unbranched? m = all (length (m .steps)) (λ i. all (length (m .steps)) (onlyStep
 -- The test of `Low`.
 unfoldable pub low? : Model → List ℕ → Bool
 low? m [] = true
-low? m (a ∷ w) = levels m .low? a && low? m w
+low? m (a ∷ w) = view m .levels .low? a && low? m w
 
 -- The test of `Allows`.
 unfoldable pub allows? : Model → ℕ → List ℕ → Bool

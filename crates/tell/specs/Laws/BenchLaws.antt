@@ -31,7 +31,7 @@ use Rattle.model.specs.Store.{storeOf}
 use Rattle.model.specs.Laws.Store.StoreLaws.{storeOf-length}
 use Rattle.model.specs.Laws.Store.StoredModelLaws.{holds-storeOf}
 use Rattle.lts.specs.Run.{begin}
-use Rattle.model.specs.System.{levels, Steps, LowStep, ReachableIn, DeterministicModel}
+use Rattle.model.specs.System.{Steps, ReachableIn, DeterministicModel, view}
 use Rattle.verdicts.specs.declared.judging.Verdict.{Verdict}
 use Rattle.verdicts.specs.declared.judging.Verdict.the-variants.{Passed}
 use Rattle.model.specs.Inner.Stored.{Stored}
@@ -50,6 +50,7 @@ use Rattle.letters.specs.declared.word.End.the-variants.{Source, Target}
 use Rattle.letters.specs.Words.{FirstBranch, WordOf}
 use Rattle.tell.specs.Inner.WordTest.{unbranched?, low?, allows?, notAfter?, eachWord?, wordOf?}
 use Rattle.tell.specs.Laws.WordTestLaws.{unbranched?→DeterministicModel, wordOf?→WordOf}
+use Rattle.lts.specs.Noninterference.{LowMove}
 
 -- ---- what evaluation finds
 
@@ -145,20 +146,20 @@ module _ (text : List ℕ) (m : Model) (e : readText text ≡ done m) where
   judged-of-computed v f = record { reads = e; judged = subst (Judged m) f (verdictOf-judged stored-of-read) }
 
 -- Each end of the print step follows the other: where 0 stops in 3, 1 goes on to 2.
-branching-same-words : SameLow (levels branching) (Steps branching) 0 1
+branching-same-words : SameLow (view branching) 0 1
 unfolding simulation? answered? all any step?
 branching-same-words w l = (
-  simulation-allows (levels branching) (Steps branching) (λ x y. (x < 4) × (y < 4) × T (there x y))
-      (simulation?→Answered (LowStep branching) 4 3 moved? decides there tt) w l 0 1 (omega arith, omega arith, tt),
-  simulation-allows (levels branching) (Steps branching) (λ x y. (x < 4) × (y < 4) × T (back x y))
-      (simulation?→Answered (LowStep branching) 4 3 moved? decides back tt) w l 1 0 (omega arith, omega arith, tt),
+  simulation-allows (view branching) (λ x y. (x < 4) × (y < 4) × T (there x y))
+      (simulation?→Answered (LowMove (view branching)) 4 3 moved? decides there tt) w l 0 1 (omega arith, omega arith, tt),
+  simulation-allows (view branching) (λ x y. (x < 4) × (y < 4) × T (back x y))
+      (simulation?→Answered (LowMove (view branching)) 4 3 moved? decides back tt) w l 1 0 (omega arith, omega arith, tt),
 )
   where
     moved? : ℕ → ℕ → ℕ → Bool
-    moved? = lowMove? (levels branching) (step? branching)
+    moved? = lowMove? (view branching .levels) (step? branching)
 
-    decides : Decided (LowStep branching) 4 3 moved?
-    decides = decided-low (levels branching) (Steps branching) 4 3 (step? branching)
+    decides : Decided (LowMove (view branching)) 4 3 moved?
+    decides = decided-low (view branching) 4 3 (step? branching)
         (decided-steps (stored-of-read branchingText branching (read .branching)))
 
     there : ℕ → ℕ → Bool

@@ -17,7 +17,7 @@ use Rattle.lts.specs.Run.{Run, Allows}
 use Rattle.lts.specs.RunLaws.{allows-cons}
 use Rattle.lts.specs.Word.{OnlyFrom, JustOne, NotAfter}
 use Rattle.text.specs.Model.{Model}
-use Rattle.model.specs.System.{source, action, target, levels, Steps, DeterministicModel}
+use Rattle.model.specs.System.{source, action, target, DeterministicModel, view}
 use Rattle.model.specs.Inner.Stored.{Stored}
 use Rattle.model.specs.Inner.StepTest.{step?}
 use Rattle.model.specs.Laws.System.StepTestLaws.{decided-steps}
@@ -40,16 +40,16 @@ unbranched?→DeterministicModel m t = record {
 -- ---- low sequences and their order
 
 module _ (m : Model) where
-  low?→Low : (w : List ℕ) → T (low? m w) → Low (levels m) w
+  low?→Low : (w : List ℕ) → T (low? m w) → Low (view m .levels) w
   unfolding low? Low
   low?→Low [] t = tt
   low?→Low (a ∷ w) t =
-      (and-left (levels m .low? a) (low? m w) t, low?→Low w (and-right (levels m .low? a) (low? m w) t))
+      (and-left (view m .levels .low? a) (low? m w) t, low?→Low w (and-right (view m .levels .low? a) (low? m w) t))
 
-  Low→low? : (w : List ℕ) → Low (levels m) w → T (low? m w)
+  Low→low? : (w : List ℕ) → Low (view m .levels) w → T (low? m w)
   unfolding low? Low
   Low→low? [] l = tt
-  Low→low? (a ∷ w) l = and-intro (levels m .low? a) (low? m w) (l .0) (Low→low? w (l .1))
+  Low→low? (a ∷ w) l = and-intro (view m .levels .low? a) (low? m w) (l .0) (Low→low? w (l .1))
 
 notAfter?→NotAfter : (u v : List ℕ) → T (notAfter? u v) → NotAfter u v
 unfolding notAfter? NotAfter
@@ -64,22 +64,22 @@ notAfter?→NotAfter (a ∷ u) (b ∷ v) t = go (notAfter?→NotAfter u v) (or-c
         (eqb→eq a b (and-left (eqb a b) (notAfter? u v) x), f (and-right (eqb a b) (notAfter? u v) x))
 
 module _ {s : List ℕ} {m : Model} (st : Stored s m) where
-  decided : Decided (Steps m) (m .head .states) (m .head .actions) (step? m)
+  decided : Decided (view m .Step) (m .head .states) (m .head .actions) (step? m)
   decided = decided-steps st
 
   -- ---- possible sequences
 
-  allows?→Allows : (w : List ℕ) (p : ℕ) → T (allows? m p w) → Allows (Steps m) p w
+  allows?→Allows : (w : List ℕ) (p : ℕ) → T (allows? m p w) → Allows (view m .Step) p w
   unfolding allows? Run
   allows?→Allows [] p t = (p, refl)
   allows?→Allows (a ∷ w) p t =
       let x = any→Some (m .head .states) (λ q. step? m p a q && allows? m q w) t in
       let q = x .0 in
-      allows-cons (Steps m) p a q w
+      allows-cons (view m .Step) p a q w
       (decided .move?→Move p a q (and-left (step? m p a q) (allows? m q w) (x .2)))
       (allows?→Allows w q (and-right (step? m p a q) (allows? m q w) (x .2)))
 
-  Allows→allows? : (w : List ℕ) (p : ℕ) → Allows (Steps m) p w → T (allows? m p w)
+  Allows→allows? : (w : List ℕ) (p : ℕ) → Allows (view m .Step) p w → T (allows? m p w)
   unfolding allows? Run
   Allows→allows? [] p h = tt
   Allows→allows? (a ∷ w) p (e, h) =
@@ -87,23 +87,23 @@ module _ {s : List ℕ} {m : Model} (st : Stored s m) where
       Some→any (m .head .states) (λ q. step? m p a q && allows? m q w) q (decided .target-lt p a q (h .1))
       (and-intro (step? m p a q) (allows? m q w) (decided .Move→move? p a q (h .1)) (Allows→allows? w q (e, h .2)))
 
-  onlyFrom?→OnlyFrom : (p q : ℕ) (w : List ℕ) → T (onlyFrom? m p q w) → OnlyFrom (Steps m) p q w
+  onlyFrom?→OnlyFrom : (p q : ℕ) (w : List ℕ) → T (onlyFrom? m p q w) → OnlyFrom (view m .Step) p q w
   onlyFrom?→OnlyFrom p q w t = (
     allows?→Allows w p (and-left (allows? m p w) (not (allows? m q w)) t),
     λ h. T-not (allows? m q w) (and-right (allows? m p w) (not (allows? m q w)) t) (Allows→allows? w q h),
   )
 
-  OnlyFrom→onlyFrom? : (p q : ℕ) (w : List ℕ) → OnlyFrom (Steps m) p q w → T (onlyFrom? m p q w)
+  OnlyFrom→onlyFrom? : (p q : ℕ) (w : List ℕ) → OnlyFrom (view m .Step) p q w → T (onlyFrom? m p q w)
   OnlyFrom→onlyFrom? p q w (x, y) = and-intro (allows? m p w) (not (allows? m q w)) (Allows→allows? w p x)
       (not-T (allows? m q w) (λ t. y (allows?→Allows w q t)))
 
-  JustOne→justOne? : (p q : ℕ) (w : List ℕ) → JustOne (Steps m) p q w → T (justOne? m p q w)
+  JustOne→justOne? : (p q : ℕ) (w : List ℕ) → JustOne (view m .Step) p q w → T (justOne? m p q w)
   JustOne→justOne? p q w (inl x) = or-left (onlyFrom? m p q w) (onlyFrom? m q p w) (OnlyFrom→onlyFrom? p q w x)
   JustOne→justOne? p q w (inr x) = or-right (onlyFrom? m p q w) (onlyFrom? m q p w) (OnlyFrom→onlyFrom? q p w x)
 
   -- What each sequence passes, each possible one does: it has actions of the model only.
   possible-passes : (k : ℕ) (f : List ℕ → Bool) → T (eachWord? (m .head .actions) k f) → (v : List ℕ) (p : ℕ)
-      → length v ≡ k → Allows (Steps m) p v → T (f v)
+      → length v ≡ k → Allows (view m .Step) p v → T (f v)
   unfolding eachWord? Run
   possible-passes zero f t [] p e h = t
   possible-passes zero f t (a ∷ v) p e h = absurd (omega arith)
@@ -122,22 +122,22 @@ module _ {s : List ℕ} {m : Model} (st : Stored s m) where
     abbrev q : ℕ
     q = target m j
 
-    just-one : (end : End) → OnlyFrom (Steps m) (endState m j end) (otherState m j end) w → JustOne (Steps m) p q w
+    just-one : (end : End) → OnlyFrom (view m .Step) (endState m j end) (otherState m j end) w → JustOne (view m .Step) p q w
     just-one Source x = inl x
     just-one Target x = inr x
 
     abbrev first? : ℕ → Bool
     first? k = eachWord? (m .head .actions) k (later? m p q w)
 
-    passes : T (all (suc (length w)) first?) → (v : List ℕ) → length v ≤ length w → JustOne (Steps m) p q v
+    passes : T (all (suc (length w)) first?) → (v : List ℕ) → length v ≤ length w → JustOne (view m .Step) p q v
         → T (later? m p q w v)
     passes t v l (inl x) = possible-passes (length v) (later? m p q w)
         (all→Each (suc (length w)) first? t (length v) (omega arith)) v p refl (x .0)
     passes t v l (inr x) = possible-passes (length v) (later? m p q w)
         (all→Each (suc (length w)) first? t (length v) (omega arith)) v q refl (x .0)
 
-    later : T (all (suc (length w)) first?) → (v : List ℕ) → length v ≤ length w → Low (levels m) v
-        → JustOne (Steps m) p q v → (length v ≡ length w) × NotAfter w v
+    later : T (all (suc (length w)) first?) → (v : List ℕ) → length v ≤ length w → Low (view m .levels) v
+        → JustOne (view m .Step) p q v → (length v ≡ length w) × NotAfter w v
     later t v l lv x =
         let u = implies-elim (low? m v && justOne? m p q v) (eqb (length v) (length w) && notAfter? w v)
         (passes t v l x)
@@ -146,7 +146,7 @@ module _ {s : List ℕ} {m : Model} (st : Stored s m) where
           notAfter?→NotAfter w v (and-right (eqb (length v) (length w)) (notAfter? w v) u),
         )
 
-    shortest : T (all (suc (length w)) first?) → (v : List ℕ) → Low (levels m) v → JustOne (Steps m) p q v
+    shortest : T (all (suc (length w)) first?) → (v : List ℕ) → Low (view m .levels) v → JustOne (view m .Step) p q v
         → length w ≤ length v
     shortest t v lv x = go (lt-or-le (length v) (length w))
       where

@@ -7,18 +7,18 @@ use lib.ListN.{length}
 use Rattle.lts.specs.Decided.{within?}
 use Rattle.lts.specs.Checked.{lowRank}
 use Rattle.text.specs.Model.{high, Model}
-use Rattle.model.specs.System.{source, action, target, level, levels}
+use Rattle.model.specs.System.{source, action, target, level, view}
 use Rattle.verdicts.specs.declared.judging.Verdict.{Verdict}
 use Rattle.verdicts.specs.declared.judging.Verdict.the-variants.{Passed, Refused}
-use Rattle.model.specs.Inner.StepTest.{step?, start?}
+use Rattle.model.specs.Inner.StepTest.{tests}
 
 -- The rank of p and q.
 abbrev pub rankIn : Model → ℕ → ℕ → ℕ
-rankIn m p q = lowRank (levels m) (m .head .states) (m .head .actions) (step? m) p q
+rankIn m p q = lowRank (view m) (tests m) p q
 
 -- Some run leads from the start to p: one of fewer steps than there are states.
 abbrev pub reachable? : Model → ℕ → Bool
-reachable? m p = within? (m .head .states) (m .head .actions) (step? m) (start? m) (m .head .states - 1) p
+reachable? m p = within? (view m) (tests m) (m .head .states - 1) p
 
 -- The greatest of f 0 up to f (n - 1); 0 if n is 0.
 unfoldable pub greatestBelow : ℕ → (ℕ → ℕ) → ℕ

@@ -16,7 +16,7 @@ use Rattle.lts.specs.TestsLaws.{T-cases, T→true, and-intro, and-left, and-rig
 use Rattle.lts.specs.CheckedLaws.{lowRank→Rank}
 use Rattle.lts.specs.DistanceLaws.{Reachable→within?, within?→Reachable}
 use Rattle.text.specs.Model.{high, Model}
-use Rattle.model.specs.System.{source, action, target, level, levels, Steps, Start, LowStep, ReachableIn}
+use Rattle.model.specs.System.{source, action, target, level, ReachableIn, view}
 use Rattle.model.specs.Inner.Stored.{Stored}
 use Rattle.model.specs.Inner.StepTest.{step?, start?}
 use Rattle.lts.specs.TestsLaws.{T-eqb}
@@ -30,6 +30,7 @@ use Rattle.verdicts.specs.Laws.LeakSearchLaws.{refused-of-found, no-leak
 use Rattle.verdicts.specs.Inner.VerdictTest.{rankIn, reachable?, greatestBelow, greatestRank, highStep?}
 use Rattle.verdicts.specs.Inner.VerdictTest.{depthAt, Least}
 use Rattle.verdicts.specs.Inner.VerdictTest.{lookAt, leastBelow, verdictFrom, verdictOf}
+use Rattle.lts.specs.Noninterference.{LowMove}
 
 not-eqb : (i j : ℕ) → T (not (eqb i j)) → ¬ (i ≡ j)
 not-eqb i j t e = T-not (eqb i j) t (T-eqb e)
@@ -73,10 +74,10 @@ attained zero f l = absurd (omega arith)
 attained (suc n) f l = greatestBelow-attained n f
 
 module _ {s : List ℕ} {m : Model} (st : Stored s m) where
-  pub rankIn→Rank : (p q : ℕ) → p < m .head .states → q < m .head .states → Rank (LowStep m) p q (rankIn m p q)
-  rankIn→Rank = lowRank→Rank (levels m) (Steps m) (m .head .states) (m .head .actions) (step? m) (decided-steps st)
+  pub rankIn→Rank : (p q : ℕ) → p < m .head .states → q < m .head .states → Rank (LowMove (view m)) p q (rankIn m p q)
+  rankIn→Rank = lowRank→Rank (view m) (m .head .states) (m .head .actions) (step? m) (decided-steps st)
 
-  pub greatestRank-greatest : Greatest (LowStep m) (m .head .states) (greatestRank m)
+  pub greatestRank-greatest : Greatest (LowMove (view m)) (m .head .states) (greatestRank m)
   greatestRank-greatest =
       let n = m .head .states in
       let x = attained n (λ p. greatestBelow n (rankIn m p)) (st .states-pos) in
@@ -87,10 +88,10 @@ module _ {s : List ℕ} {m : Model} (st : Stored s m) where
           other = y .0;
           one-lt = x .1;
           other-lt = y .1;
-          holds = subst (Rank (LowStep m) (x .0) (y .0)) (y .2 ∙ x .2) (rankIn→Rank (x .0) (y .0) (x .1) (y .1));
+          holds = subst (Rank (LowMove (view m)) (x .0) (y .0)) (y .2 ∙ x .2) (rankIn→Rank (x .0) (y .0) (x .1) (y .1));
         };
         bound = λ p q k lp lq r.
-            let e = rank-unique (LowStep m) p q k (rankIn m p q) r (rankIn→Rank p q lp lq) in
+            let e = rank-unique (LowMove (view m)) p q k (rankIn m p q) r (rankIn→Rank p q lp lq) in
             omega (
               arith,
               e,
@@ -102,11 +103,11 @@ module _ {s : List ℕ} {m : Model} (st : Stored s m) where
   -- ---- the depth of a step
 
   pub reachable?→Reachable : (p : ℕ) → T (reachable? m p) → ReachableIn m p
-  reachable?→Reachable p t = within?→Reachable (Steps m) (Start m) (m .head .states) (m .head .actions) (step? m)
+  reachable?→Reachable p t = within?→Reachable (view m) (m .head .states) (m .head .actions) (step? m)
       (start? m) (decided-steps st) (decided-start st) (m .head .states - 1) p t
 
   pub Reachable→reachable? : (p : ℕ) → ReachableIn m p → T (reachable? m p)
-  Reachable→reachable? p r = Reachable→within? (Steps m) (Start m) (m .head .states) (m .head .actions) (step? m)
+  Reachable→reachable? p r = Reachable→within? (view m) (m .head .states) (m .head .actions) (step? m)
       (start? m) (decided-steps st) (decided-start st) p r
 
   leak-high : (j d : ℕ) → Leak m j d → T (highStep? m j)
@@ -119,13 +120,13 @@ module _ {s : List ℕ} {m : Model} (st : Stored s m) where
       r : ℕ
       r = rankIn m (source m j) (target m j)
 
-      rank : Rank (LowStep m) (source m j) (target m j) r
+      rank : Rank (LowMove (view m)) (source m j) (target m j) r
       rank = rankIn→Rank (source m j) (target m j) (st .source-lt j l) (st .target-lt j l)
 
       at-high : T (highStep? m j) → DepthAt m j r
       at-high t = record {
         none = λ z d x.
-            let e = rank-unique (LowStep m) (source m j) (target m j) r d rank (x .rank) in
+            let e = rank-unique (LowMove (view m)) (source m j) (target m j) r d rank (x .rank) in
             omega (arith, x .above-zero);
         some = λ z. record {
           high-step = record {

@@ -13,7 +13,7 @@ use Rattle.lts.specs.Noninterference.{BNID}
 use Rattle.lts.specs.Checked.{lowRank}
 use Rattle.lts.specs.CheckedLaws.{lowRank→Rank}
 use Rattle.text.specs.Model.{high, Model}
-use Rattle.model.specs.System.{source, action, target, level, levels, Steps, Start, LowStep, HighStep, ReachableIn}
+use Rattle.model.specs.System.{source, action, target, level, HighStep, ReachableIn, view}
 use Rattle.model.specs.Laws.Store.SystemLaws.{own-step}
 use Rattle.verdicts.specs.declared.judging.Verdict.{Verdict}
 use Rattle.verdicts.specs.declared.judging.Verdict.the-variants.{Passed, Refused}
@@ -24,6 +24,8 @@ use Rattle.model.specs.Laws.System.StepTestLaws.{decided-steps}
 use Rattle.ranking.specs.Table.{Greatest}
 use Rattle.ranking.specs.Laws.RankedLaws.{greatest-unique}
 use Rattle.verdicts.specs.Verdicts.{Leak, PassedWith, RefusedAt, Judged}
+use Rattle.model.specs.Inner.StepTest.{tests}
+use Rattle.lts.specs.Noninterference.{LowMove}
 
 -- the verdict is passed, or refused, with whatever numbers
 abbrev pub IsPassed : Verdict → Type 0
@@ -37,25 +39,25 @@ IsRefused (Refused j d) = Unit {0}
 -- ---- leaks and BNID
 
 module _ (m : Model) where
-  pub no-leak-of-bnid : BNID (levels m) (Steps m) (Start m) → (j d : ℕ) → ¬ (Leak m j d)
+  pub no-leak-of-bnid : BNID (view m) → (j d : ℕ) → ¬ (Leak m j d)
   no-leak-of-bnid b j d x =
       let pair = b (source m j) (action m j) (target m j) (x .high-step .reachable) (T-eqb (x .high-step .is-high))
       (own-step m j (x .high-step .number-lt)) in
-      let e : d ≡ 0 = rank-unique (LowStep m) (source m j) (target m j) d 0 (x .rank) (bisimilar pair) in
+      let e : d ≡ 0 = rank-unique (LowMove (view m)) (source m j) (target m j) d 0 (x .rank) (bisimilar pair) in
       omega (arith, x .above-zero)
 
   module _ {s : List ℕ} (st : Stored s m) where
     -- two states have a rank
-    pub rank-of-states : (p q : ℕ) → p < m .head .states → q < m .head .states → (r : ℕ) × Rank (LowStep m) p q r
+    pub rank-of-states : (p q : ℕ) → p < m .head .states → q < m .head .states → (r : ℕ) × Rank (LowMove (view m)) p q r
     rank-of-states p q lp lq = (
-      lowRank (levels m) (m .head .states) (m .head .actions) (step? m) p q,
-      lowRank→Rank (levels m) (Steps m) (m .head .states) (m .head .actions) (step? m) (decided-steps st) p q lp lq,
+      lowRank (view m) (tests m) p q,
+      lowRank→Rank (view m) (m .head .states) (m .head .actions) (step? m) (decided-steps st) p q lp lq,
     )
 
-    pub bnid-of-no-leak : ((j d : ℕ) → ¬ (Leak m j d)) → BNID (levels m) (Steps m) (Start m)
+    pub bnid-of-no-leak : ((j d : ℕ) → ¬ (Leak m j d)) → BNID (view m)
     bnid-of-no-leak h p a q r t x =
-        subst (λ (y : ℕ). Bisimilar (LowStep m) y q) (x .source-is)
-        (subst (λ (y : ℕ). Bisimilar (LowStep m) (source m j) y) (x .target-is) (pair (rank-of-states (source m j)
+        subst (λ (y : ℕ). Bisimilar (LowMove (view m)) y q) (x .source-is)
+        (subst (λ (y : ℕ). Bisimilar (LowMove (view m)) (source m j) y) (x .target-is) (pair (rank-of-states (source m j)
         (target m j) (st .source-lt j (x .number-lt)) (st .target-lt j (x .number-lt)))))
       where
         j : ℕ
@@ -68,14 +70,14 @@ module _ (m : Model) where
           reachable = subst (ReachableIn m) (sym (x .source-is)) r;
         }
 
-        pair : ((k : ℕ) × Rank (LowStep m) (source m j) (target m j) k)
-            → Bisimilar (LowStep m) (source m j) (target m j)
+        pair : ((k : ℕ) × Rank (LowMove (view m)) (source m j) (target m j) k)
+            → Bisimilar (LowMove (view m)) (source m j) (target m j)
         pair (k, w) = ⊎-elim
             (λ l. absurd (h j k (record { high-step = high-step; rank = w; above-zero = l })))
-            (λ l. bisimilar-of-rank (LowStep m) (source m j) (target m j) k (omega arith) w)
+            (λ l. bisimilar-of-rank (LowMove (view m)) (source m j) (target m j) k (omega arith) w)
             (lt-or-le 0 k)
 
-    pub passed-of-no-leak : {top : ℕ} → ((j d : ℕ) → ¬ (Leak m j d)) → Greatest (LowStep m) (m .head .states) top
+    pub passed-of-no-leak : {top : ℕ} → ((j d : ℕ) → ¬ (Leak m j d)) → Greatest (LowMove (view m)) (m .head .states) top
         → PassedWith m top
     passed-of-no-leak h g = record { bnid = bnid-of-no-leak h; greatest = g }
 
@@ -95,7 +97,7 @@ module _ (m : Model) where
 
   pub judged-unique : (v w : Verdict) → Judged m v → Judged m w → v ≡ w
   judged-unique (Passed top) (Passed top′) x y =
-      ap Passed (greatest-unique (LowStep m) (m .head .states) top top′ (x .greatest) (y .greatest))
+      ap Passed (greatest-unique (LowMove (view m)) (m .head .states) top top′ (x .greatest) (y .greatest))
   judged-unique (Passed top) (Refused j d) x y = absurd (passed-not-refused top (j .0) d x y)
   judged-unique (Refused j d) (Passed top) x y = absurd (passed-not-refused top (j .0) d y x)
   judged-unique (Refused i d) (Refused j e) x y =
@@ -104,10 +106,10 @@ module _ (m : Model) where
 
   -- ---- passed exactly when BNID
 
-  pub passed↔BNID : (v : Verdict) → Judged m v → IsPassed v ↔ BNID (levels m) (Steps m) (Start m)
+  pub passed↔BNID : (v : Verdict) → Judged m v → IsPassed v ↔ BNID (view m)
   passed↔BNID (Passed top) x = (λ _. x .bnid, λ _. tt)
   passed↔BNID (Refused j d) x = (λ n. absurd n, λ b. no-leak-of-bnid b (j .0) d (x .leak))
 
-  pub refused↔¬BNID : (v : Verdict) → Judged m v → IsRefused v ↔ (¬ (BNID (levels m) (Steps m) (Start m)))
+  pub refused↔¬BNID : (v : Verdict) → Judged m v → IsRefused v ↔ (¬ (BNID (view m)))
   refused↔¬BNID (Passed top) x = (λ n. absurd n, λ n. n (x .bnid))
   refused↔¬BNID (Refused j d) x = (λ _ b. no-leak-of-bnid b (j .0) d (x .leak), λ _. tt)

@@ -5,7 +5,6 @@ use Prim.Native.Nat.{ℕ}
 use native.Mathlib.Omega.{arith}
 use borrow.Author.Needs.{needs}
 use Rattle.text.specs.Faults.{Outcome, answers}
-use Rattle.model.specs.System.{LowStep}
 use Rattle.text.specs.Laws.FirstShortLaws.{first-short, second-short, none-short-two}
 use Rattle.model.specs.Laws.OnStoreLaws.{onStore-short, onStore-not-good, onStore-model}
 use Rattle.text.specs.Laws.DecidesLaws.{decides-passed, decides-refused}
@@ -14,6 +13,8 @@ use Rattle.model.specs.Laws.System.GoodStoredLaws.{passed→Stored}
 use Rattle.judge.specs.RankPromise.{rankOutcome}
 use Rattle.judge.proofs.rank.rank.Statement.{statement}
 use Rattle.judge.proofs.rank.rank.Tie as tie
+use Rattle.model.specs.System.{view}
+use Rattle.lts.specs.Noninterference.{LowMove}
 
 returns : tie.Need-returns
 unfolding rankOutcome
@@ -84,7 +85,7 @@ returns-4 c =
     let tested = passed .before .good2 in
     let good = decides-passed (tested .result) _ (tested .ensures) (passed .if3 .left) in
     onStore-model (λ m. (last : ℕ) × (_≡_ {A = Outcome} (answers (filled .result ∷ [])) (answers (last ∷ [])))
-    × Ranked (LowStep m) (m .head .states) _ _ last)
+    × Ranked (LowMove (view m)) (m .head .states) _ _ last)
     (none-short-two (passed .before .before .before .if1 .left) (passed .before .before .if2 .left)) good
     (filled .result, refl, filled .ensures)
 

@@ -10,7 +10,7 @@ use lib.ListN.{length, List·getD-eq-default}
 use Rattle.lts.specs.Run.{Deterministic}
 use Rattle.lts.specs.TestsLaws.{lt-or-le}
 use Rattle.text.specs.Model.{low, ActionLine, Model, noAction}
-use Rattle.model.specs.System.{source, action, target, level, levels, Steps, Start, ReachableIn}
+use Rattle.model.specs.System.{source, action, target, level, Steps, ReachableIn, view}
 use Rattle.model.specs.System.{DeterministicModel}
 use Rattle.model.specs.WellFormed.{WellFormed}
 use Rattle.model.specs.Laws.Store.WellFormedLaws.{step-above}
@@ -19,13 +19,13 @@ use Rattle.model.specs.Laws.Store.WellFormedLaws.{step-above}
 pub own-step : (m : Model) (j : ℕ) → j < length (m .steps) → Steps m (source m j) (action m j) (target m j)
 own-step m j l = record { number = j; number-lt = l; source-is = refl; action-is = refl; target-is = refl }
 
-pub low-lt : (m : Model) (a : ℕ) → T (levels m .low? a) → a < length (m .actions)
+pub low-lt : (m : Model) (a : ℕ) → T (view m .levels .low? a) → a < length (m .actions)
 low-lt m a t = ⊎-elim (λ l. l) (λ l.
     let e = ap (λ (x : ActionLine). x .level) (List·getD-eq-default (m .actions) noAction {n = a} l) in
     absurd (omega (arith, e, eqb→eq (level m a) low t))) (lt-or-le a (length (m .actions)))
 
 module _ (m : Model) where
-  pub deterministicModel→Deterministic : DeterministicModel m → Deterministic (Steps m) (Start m)
+  pub deterministicModel→Deterministic : DeterministicModel m → Deterministic (view m)
   deterministicModel→Deterministic d p a q r reach x y =
       let e : x .number ≡ y .number =
       d .one-step (x .number) (y .number) (x .number-lt) (y .number-lt)
@@ -34,7 +34,7 @@ module _ (m : Model) where
       sym (x .target-is) ∙ ap (target m) e ∙ y .target-is
 
   module _ (w : WellFormed m) where
-    pub Deterministic→deterministicModel : Deterministic (Steps m) (Start m) → DeterministicModel m
+    pub Deterministic→deterministicModel : Deterministic (view m) → DeterministicModel m
     Deterministic→deterministicModel d = record { one-step = λ i j li lj r s a. go i j li lj r s a (lt-or-le i j) (lt-or-le j i) }
       where
         same-target : (i j : ℕ) → i < length (m .steps) → j < length (m .steps) → ReachableIn m (source m i)
@@ -56,5 +56,5 @@ module _ (m : Model) where
             absurd (omega arith)
         go i j li lj r s a (inr l) (inr k) = omega arith
 
-    pub deterministic↔Deterministic : DeterministicModel m ↔ Deterministic (Steps m) (Start m)
+    pub deterministic↔Deterministic : DeterministicModel m ↔ Deterministic (view m)
     deterministic↔Deterministic = (deterministicModel→Deterministic, Deterministic→deterministicModel)

@@ -9,15 +9,15 @@ use lib.Dec.{T, eqb, eqb→eq}
 use lib.ListN.{length, getD, set}
 use lib.Seq.{getD-set-same, getD-set-other}
 use borrow.Author.Tests.{eq-eqb}
-use Rattle.lts.specs.Noninterference.{Levels}
 use Rattle.lts.specs.TestsLaws.{lt-suc-cases}
 use Rattle.text.specs.Model.{low, release, high, Model}
-use Rattle.model.specs.System.{level, levels}
+use Rattle.model.specs.System.{level, view}
 use Rattle.model.specs.Inner.Roles.{Roles}
+use Rattle.lts.specs.View.{Levels}
 
--- a list of levels is a list of roles
+-- a list of view is .levels a list of roles
 pub roles-of-levels : (m : Model) (n : ℕ) (roles : List ℕ) → ((a : ℕ) → a < n → getD roles a 0 ≡ level m a)
-    → Roles (levels m) n roles
+    → Roles (view m .levels) n roles
 roles-of-levels m n roles h = record {
   low-is = λ a l. ap (λ (x : ℕ). eqb x low) (sym (h a l));
   release-is = λ a l. ap (λ (x : ℕ). eqb x release) (sym (h a l));

@@ -5,18 +5,19 @@ use native.Mathlib.Omega.{arith}
 use lib.ListN.{length, getD, length-set}
 use borrow.Author.Needs.{needs}
 use Rattle.model.specs.StoredModel.{modelAt}
-use Rattle.model.specs.System.{LowStep}
 use Rattle.model.specs.Laws.System.StoredLaws.{stored-states}
 use Rattle.moves.specs.Inner.Listing.{StatesListed}
 use Rattle.moves.specs.Laws.StatesListedLaws.{statesListed-zero, statesListed-suc, lists-of-statesListed}
 use Rattle.moves.proofs.moves.list_moves.Statement.{statement}
 use Rattle.moves.proofs.moves.list_moves.Tie as tie
+use Rattle.model.specs.System.{view}
+use Rattle.lts.specs.Noninterference.{LowMove}
 
 abbrev Inv-loop : tie.InvT-loop
 Inv-loop store begins roles first₀ actions₀ targets₀ n at₀ p₀ first actions targets at p =
     (n ≡ modelAt store .head .states) × (p ≤ n) × (at ≤ getD begins p 0)
     × (length first ≡ length first₀) × (length actions ≡ length actions₀) × (length targets ≡ length targets₀)
-    × StatesListed (LowStep (modelAt store)) p at first actions targets
+    × StatesListed (LowMove (view (modelAt store))) p at first actions targets
 
 abbrev μ-loop : tie.MeasureT-loop
 μ-loop store begins roles first₀ actions₀ targets₀ n at₀ p₀ first actions targets at p = n - p
