@@ -17,7 +17,7 @@ use Rattle.lts.specs.TestsLaws.{T-cases, T-eqb, T→true, not-T→false, lt-suc
 use Rattle.text.specs.Model.{Model}
 use Rattle.model.specs.Inner.Stored.{Stored}
 use Rattle.model.specs.Inner.StepTest.{step?, start?}
-use Rattle.model.specs.Laws.System.StepTestLaws.{decided-steps, decided-start}
+use Rattle.model.specs.Laws.System.StepTestLaws.{decided-view}
 use Rattle.verdicts.specs.Inner.VerdictTest.{rankIn}
 use Rattle.verdicts.specs.Laws.VerdictTestLaws.{rankIn→Rank, Reachable→reachable?}
 use Rattle.lines.specs.Page.{DistanceField, unreached, reached, ClassOf, StateLines, no-state, next-state}
