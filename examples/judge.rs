@@ -1,5 +1,7 @@
-//! Judges the model on standard input through the archive `libtill_c.a`.
-use std::io::Read;
+//! Judges the model on standard input through the archive `libtill_c.a`. Ends as the script `till` does: with 0 for
+//! passed, 1 for refused, 2 for a text that is not read, 3 for a failure, where it gives no verdict.
+use std::io::{self, Read, Write};
+use std::process::ExitCode;
 
 #[repr(C)]
 struct TillAnswer {
@@ -8,6 +10,8 @@ struct TillAnswer {
     count: u64,
     first: u64,
     second: u64,
+    #[allow(dead_code)] // neither Read nor Judge tells a third value
+    third: u64,
 }
 
 extern "C" {
@@ -28,22 +32,50 @@ fn read(text: &[u8], store: &mut [u16]) -> TillAnswer {
 }
 
 fn judge(store: &[u16], distances: &mut [u16], table: &mut [u8]) -> TillAnswer {
-    let (p, q, r) = (store.as_ptr(), distances.as_mut_ptr(), table.as_mut_ptr());
-    unsafe { till_judge(p, store.len(), q, distances.len(), r, table.len()) }
+    unsafe {
+        till_judge(
+            store.as_ptr(),
+            store.len(),
+            distances.as_mut_ptr(),
+            distances.len(),
+            table.as_mut_ptr(),
+            table.len(),
+        )
+    }
 }
 
-fn main() -> std::io::Result<()> {
-    let mut text = Vec::new();
-    std::io::stdin().read_to_end(&mut text)?;
+/// What is said of a text, and the status.
+fn told(text: &[u8]) -> io::Result<(String, u8)> {
     let mut store = [0; 3_972];
-    let mut answer = read(&text, &mut store);
-    if answer.number == 0 {
-        answer = judge(&store, &mut [0; 128], &mut [0; 16_384]);
+    let answer = read(text, &mut store);
+    if answer.number != 0 {
+        let (number, place) = (answer.number, answer.place);
+        return Ok((format!("not read: number {number}, place {place}"), 2));
     }
+    let answer = judge(&store, &mut [0; 128], &mut [0; 16_384]);
+    let (first, second) = (answer.first, answer.second);
     match (answer.number, answer.count) {
-        (0, 1) => println!("passed, rank {}", answer.first),
-        (0, _) => println!("refused at step {}, depth {}", answer.first, answer.second),
-        (number, _) => println!("not read: number {number}, place {}", answer.place),
+        (0, 1) => Ok((format!("passed, rank {first}"), 0)),
+        (0, 2..) => Ok((format!("refused at step {first}, depth {second}"), 1)),
+        _ => Err(io::Error::other("no verdict")),
     }
-    Ok(())
+}
+
+fn tell() -> io::Result<u8> {
+    let mut text = Vec::new();
+    // One byte more than a text may have, so that a longer text is told from the longest.
+    io::stdin().take(16_385).read_to_end(&mut text)?;
+    let (line, status) = told(&text)?;
+    let mut out = io::stdout();
+    writeln!(out, "{line}")?;
+    out.flush()?;
+    Ok(status)
+}
+
+fn main() -> ExitCode {
+    let status = tell().unwrap_or_else(|error| {
+        eprintln!("judge: {error}");
+        3
+    });
+    ExitCode::from(status)
 }

@@ -1,28 +1,113 @@
-/* The operations for callers in C. A list passes as a pointer and the number of its elements; the operation fills no
-   list past its least length. No pointer may be null, and no two lists of one call may overlap. */
+/* The operations for callers in C and C++. A list passes as a pointer and the number of its elements; the operation
+   fills no list past its least length. No pointer may be null, and no two lists of one call may overlap.
+
+   For firmware: the archive has no globals, allocates nothing, calls nothing back, and needs only memcpy and memset
+   from outside; a call takes less than 16 kB of stack (till_read less than 9 kB; till_reach, till_run and till_write
+   less than 1 kB). It is for x86-64 and uses the SSE registers. */
 #ifndef TILL_H
 #define TILL_H
 
 #include <stddef.h>
 #include <stdint.h>
 
+#ifdef __cplusplus
+extern "C" {
+#endif
+
+/* The most of each that a text may have. */
+#define TILL_STATE_LIMIT 128
+#define TILL_ACTION_LIMIT 64
+#define TILL_STEP_LIMIT 1024
+#define TILL_NAME_LIMIT 12    /* bytes of a name */
+#define TILL_TEXT_LIMIT 16384 /* bytes of a text */
+
+/* The store has a head, a row for each action and a row for each step. Unused places are 0. */
+#define TILL_HEAD_SIZE 4
+#define TILL_ACTION_SIZE (2 + TILL_NAME_LIMIT)
+#define TILL_STEP_SIZE 3
+#define TILL_ACTIONS_AT TILL_HEAD_SIZE
+#define TILL_STEPS_AT (TILL_ACTIONS_AT + TILL_ACTION_LIMIT * TILL_ACTION_SIZE)
+
+/* Places of the head: how many states, actions and steps there are, and the start. */
+#define TILL_STATES 0
+#define TILL_ACTIONS 1
+#define TILL_STEPS 2
+#define TILL_START 3
+
+/* Places of action i: its level, the length of its name, and the name's first byte. */
+#define TILL_ACTION_LEVEL(i) (TILL_ACTIONS_AT + (i) * TILL_ACTION_SIZE)
+#define TILL_ACTION_NAME_LENGTH(i) (TILL_ACTION_LEVEL(i) + 1)
+#define TILL_ACTION_NAME(i) (TILL_ACTION_LEVEL(i) + 2)
+
+/* Places of step j: its source, its action and its target. */
+#define TILL_STEP_SOURCE(j) (TILL_STEPS_AT + (j) * TILL_STEP_SIZE)
+#define TILL_STEP_ACTION(j) (TILL_STEP_SOURCE(j) + 1)
+#define TILL_STEP_TARGET(j) (TILL_STEP_SOURCE(j) + 2)
+
+/* Levels. */
+#define TILL_LOW 0
+#define TILL_RELEASE 1
+#define TILL_HIGH 2
+
+/* Least lengths of the lists, in elements. */
+#define TILL_STORE (TILL_STEPS_AT + TILL_STEP_LIMIT * TILL_STEP_SIZE)
+#define TILL_DISTANCES TILL_STATE_LIMIT
+#define TILL_TABLE (TILL_STATE_LIMIT * TILL_STATE_LIMIT)
+#define TILL_RUN (TILL_STATE_LIMIT - 1)
+#define TILL_WORD (TILL_STATE_LIMIT - 1)
+#define TILL_PAGE 5000
+#define TILL_WRITTEN 14420
+
+/* The distance of a state that cannot be reached, and of places past the states. */
+#define TILL_NO_DISTANCE 65535
+
+/* The place in the table of the rank of states p and q. */
+#define TILL_PAIR(p, q) ((p) * TILL_STATE_LIMIT + (q))
+
+/* Refusals: of a text, by till_read. */
+#define TILL_TOO_LONG 1 /* more than TILL_TEXT_LIMIT bytes */
+#define TILL_FORM 2     /* wrong letter, field count, digits, level or name; a line that is missing; bytes after E */
+#define TILL_RANGE 3    /* a number outside its range */
+#define TILL_REPEATED 4 /* a name used before */
+#define TILL_ORDER 5    /* a step not above the one before it */
+
+/* Refusals: of what a call finds. */
+#define TILL_SHORT_LIST 21        /* a list below its least length */
+#define TILL_NOT_GOOD 22          /* no text reads to the store */
+#define TILL_NOT_DETERMINISTIC 23 /* till_word: some reachable state has two steps of one action */
+#define TILL_NO_LEAK 24           /* till_word: deterministic and passed */
+#define TILL_NO_STATE 25          /* till_run: the state is not below states */
+#define TILL_UNREACHABLE 26       /* till_run: the state cannot be reached */
+
+/* Ends of a step, as till_word names them. */
+#define TILL_SOURCE 0
+#define TILL_TARGET 1
+
 /* Number 0 with `count` values, or a refusal's number with its place; what is not told is 0. */
-typedef struct {
+typedef struct TillAnswer {
     uint64_t number;
     uint64_t place;
     uint64_t count;
     uint64_t first;
     uint64_t second;
+    uint64_t third;
 } TillAnswer;
 
-/* Least lengths of the lists, in elements. */
-#define TILL_STORE 3972
-#define TILL_DISTANCES 128
-#define TILL_TABLE 16384
-#define TILL_RUN 127
-#define TILL_WORD 127
-#define TILL_PAGE 5000
-#define TILL_WRITTEN 14420
+/* What till_read, till_judge and till_word answer of one text. */
+typedef struct TillTold {
+    TillAnswer read;
+    TillAnswer judge;
+    TillAnswer word;
+} TillTold;
+
+/* Whether an answer of till_judge says that the model passed, or that it is refused. Neither, where it gives no
+   verdict. */
+static inline int till_passed(TillAnswer judged) {
+    return judged.number == 0 && judged.count == 1;
+}
+static inline int till_refused(TillAnswer judged) {
+    return judged.number == 0 && judged.count > 1;
+}
 
 /* Fills the store from a text. No value. */
 TillAnswer till_read(const uint8_t *text, size_t text_len, uint16_t *store, size_t store_len);
@@ -42,7 +127,7 @@ TillAnswer till_run(const uint16_t *store, size_t store_len, uint16_t *distances
                     uint16_t *run, size_t run_len, uint16_t state);
 
 /* Fills distances and ranks, and the action numbers of the first shortest low sequence that just one end of Judge's
-   step allows. Two values: its length, and the end that allows it, 0 for the source and 1 for the target. */
+   step allows. Two values: its length, and the end that allows it, TILL_SOURCE or TILL_TARGET. */
 TillAnswer till_word(const uint16_t *store, size_t store_len, uint16_t *distances, size_t distances_len,
                      uint8_t *table, size_t table_len, uint16_t *word, size_t word_len);
 
@@ -58,7 +143,16 @@ TillAnswer till_print(const uint8_t *text, size_t text_len, uint16_t *store, siz
                       size_t distances_len, uint8_t *table, size_t table_len, uint16_t *run, size_t run_len,
                       uint16_t *word, size_t word_len, uint8_t *out, size_t out_len);
 
+/* From a text to what is told of it: Read, then Judge and Word on the store that it filled, each with its own answer
+   and lists. Where Read refuses, the answers of the other two are all 0. */
+TillTold till_tell(const uint8_t *text, size_t text_len, uint16_t *store, size_t store_len, uint16_t *distances,
+                   size_t distances_len, uint8_t *table, size_t table_len, uint16_t *word, size_t word_len);
+
 /* Fills the text that reads to the store. One value: its length. */
 TillAnswer till_write(const uint16_t *store, size_t store_len, uint8_t *out, size_t out_len);
+
+#ifdef __cplusplus
+}
+#endif
 
 #endif

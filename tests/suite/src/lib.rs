@@ -2,6 +2,7 @@
 //! is seen.
 pub mod archive;
 pub mod bench;
+pub mod command;
 pub mod lists;
 pub mod same;
 pub mod stores;

@@ -3,7 +3,7 @@ use std::fs;
 use std::fs::File;
 use std::os::unix::fs::symlink;
 use std::path::Path;
-use std::process::{Command, Output};
+use std::process::{Command, Output, Stdio};
 
 use suite::bench::{examples, root, Folder, WORKED_PAGE};
 
@@ -40,33 +40,55 @@ fn readme_line(start: &str) -> String {
     line.expect("the README has the line").trim().to_string()
 }
 
-/// What the README's callers say where the page begins with this line.
-fn told(first_line: &str) -> String {
+/// What the README's callers say where the page begins with this line, and their status.
+fn told(first_line: &str) -> (String, i32) {
     let fields: Vec<&str> = first_line.split(',').collect();
     match fields[..] {
-        ["V", "pass", rank] => format!("passed, rank {rank}\n"),
-        ["V", "refuse", step, depth] => format!("refused at step {step}, depth {depth}\n"),
-        ["F", number, place] => format!("not read: number {number}, place {place}\n"),
+        ["V", "pass", rank] => (format!("passed, rank {rank}\n"), 0),
+        ["V", "refuse", step, depth] => (format!("refused at step {step}, depth {depth}\n"), 1),
+        ["F", number, place] => (format!("not read: number {number}, place {place}\n"), 2),
         _ => panic!("{first_line}"),
     }
 }
 
-/// The README's line is run as it stands, with the compiler's warnings on top; then its program on every example.
-fn readme_caller(name: &str, start: &str, warnings: &str) {
+/// What the README's caller says of an input, and its status.
+fn judged(folder: &Folder, input: &Path, output: Stdio) -> (String, Option<i32>) {
+    let mut judge = Command::new(folder.0.join("target/judge"));
+    judge
+        .stdin(File::open(input).expect("an input"))
+        .stdout(output);
+    let child = judge
+        .stderr(Stdio::null())
+        .spawn()
+        .expect("the program starts");
+    let judged = child.wait_with_output().expect("the program ends");
+    (
+        String::from_utf8(judged.stdout).expect("words"),
+        judged.status.code(),
+    )
+}
+
+/// The README's line is run as it stands, with more words for the compiler; then its program on every example, on an
+/// input that cannot be read and with no place to write to.
+fn readme_caller(name: &str, start: &str, words: &str) {
     let folder = folder(name);
-    make(&format!("{} {warnings}", readme_line(start)), &folder.0);
+    make(&format!("{} {words}", readme_line(start)), &folder.0);
     for (file, _, page) in examples() {
-        let text = File::open(&file).expect("a text");
-        let mut judge = Command::new(folder.0.join("target/judge"));
-        let judged = judge.stdin(text).output().expect("the program starts");
         let page = String::from_utf8(page).expect("a page");
-        let first_line = page.lines().next().expect("a line");
-        assert_eq!(
-            String::from_utf8_lossy(&judged.stdout),
-            told(first_line),
-            "{file:?}"
-        );
+        let (line, status) = told(page.lines().next().expect("a line"));
+        let judged = judged(&folder, &file, Stdio::piped());
+        assert_eq!(judged, (line, Some(status)), "{file:?}");
     }
+    assert_eq!(
+        judged(&folder, &folder.0, Stdio::piped()),
+        (String::new(), Some(3))
+    );
+    let full = File::options()
+        .write(true)
+        .open("/dev/full")
+        .expect("a device");
+    let worked = root().join("examples/worked.txt");
+    assert_eq!(judged(&folder, &worked, full.into()).1, Some(3));
 }
 
 #[test]
@@ -78,6 +100,28 @@ fn the_caller_in_c() {
     );
 }
 
+/// The header and the caller are C++ too. A machine need not have a compiler for it.
+#[test]
+fn the_caller_in_cpp() {
+    if Command::new("c++").arg("--version").output().is_err() {
+        println!("no compiler for C++");
+        return;
+    }
+    let folder = folder("caller_cpp");
+    let line = "c++ -x c++ examples/judge.c -I crates/till_c -std=c++11 -Wall -Wextra -Werror -c -o target/judge.o";
+    make(line, &folder.0);
+    make(
+        "c++ target/judge.o target/staticlib/libtill_c.a -o target/judge",
+        &folder.0,
+    );
+    let worked = root().join("examples/worked.txt");
+    let (line, status) = told("V,refuse,1,2");
+    assert_eq!(
+        judged(&folder, &worked, Stdio::piped()),
+        (line, Some(status))
+    );
+}
+
 #[test]
 fn the_caller_in_rust() {
     readme_caller("caller_rust", "rustc examples/judge.rs ", "-D warnings");
@@ -86,13 +130,50 @@ fn the_caller_in_rust() {
 /// Every function of the header, on the worked example.
 #[test]
 fn the_header() {
-    let folder = folder("header");
-    let program = root().join("tests/suite/tests/worked.c");
-    fs::copy(program, folder.0.join("worked.c")).expect("a copy");
-    let line =
-        "cc worked.c -I crates/till_c target/staticlib/libtill_c.a -std=c11 -Wall -Wextra -Werror";
-    make(line, &folder.0);
+    let printed = printed("worked");
+    assert_eq!(
+        String::from_utf8_lossy(&printed),
+        String::from_utf8_lossy(WORKED_PAGE)
+    );
+}
+
+/// What the program of this name in C prints.
+fn printed(name: &str) -> Vec<u8> {
+    let folder = folder(name);
+    let program = format!("{name}.c");
+    let file = root().join("tests/suite/tests").join(&program);
+    fs::copy(file, folder.0.join(&program)).expect("a copy");
+    let options = "-I crates/till_c -std=c11 -Wall -Wextra -Werror";
+    let archive = "target/staticlib/libtill_c.a";
+    make(&format!("cc {program} {archive} {options}"), &folder.0);
     let printed = output("./a.out", &folder.0);
     assert!(printed.status.success(), "{printed:?}");
-    assert_eq!(printed.stdout, WORKED_PAGE);
+    printed.stdout
+}
+
+/// What the header says for firmware: the symbols that the archive needs, its writable data, and the stack.
+#[test]
+fn the_needs() {
+    let symbols = output("nm target/staticlib/libtill_c.a", &root());
+    let symbols = String::from_utf8(symbols.stdout).expect("symbols");
+    let of_kind = |kinds: &str| -> Vec<&str> {
+        let lines = symbols.lines().map(|line| line.split_whitespace().rev());
+        let symbols = lines.filter_map(|mut words| Some((words.next()?, words.next()?)));
+        let of_kind = symbols.filter(|(_, kind)| kind.len() == 1 && kinds.contains(kind));
+        of_kind.map(|(name, _)| name).collect()
+    };
+    assert_eq!(of_kind("U"), ["memcpy", "memset"]);
+    assert_eq!(of_kind("BbCDdGgSsVvWw"), [""; 0]);
+    let stack = String::from_utf8(printed("stack")).expect("lines");
+    assert_eq!(stack.lines().count(), 10, "{stack}");
+    for line in stack.lines() {
+        let (name, bytes) = line.split_once(' ').expect("a name and a number");
+        let most = match name {
+            "till_reach" | "till_run" | "till_write" => 1 << 10,
+            "till_read" => 9 << 10,
+            _ => 16 << 10,
+        };
+        let bytes: usize = bytes.parse().expect("a number");
+        assert!(0 < bytes && bytes < most, "{line}");
+    }
 }

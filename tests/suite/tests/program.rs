@@ -1,14 +1,10 @@
-//! The program and the script `till` against the second checker.
-use std::fs::{self, File};
-use std::io::Write;
-use std::os::unix::fs::symlink;
-use std::path::Path;
-use std::process::{Command, Output, Stdio};
-use std::thread::sleep;
+//! The program against the second checker.
+use std::process::Command;
 use std::time::Duration;
 
 use second::gen::{self, shown, Fault, Rng};
-use suite::bench::{examples, root, Folder, WORKED, WORKED_PAGE};
+use suite::bench::{examples, root, WORKED, WORKED_PAGE};
+use suite::command::run_in_pieces;
 use suite::texts::{models_to_damage, one_of_each};
 
 const SEED: u64 = 7_500;
@@ -16,32 +12,9 @@ const SEED: u64 = 7_500;
 /// The most bytes that a text may have.
 const LONGEST: usize = 16_384;
 
-/// Runs a command on a text that comes in pieces, with a pause before each but the first.
-fn run(command: &mut Command, pieces: &[&[u8]], pause: Duration) -> Output {
-    let mut child = command
-        .stdin(Stdio::piped())
-        .stdout(Stdio::piped())
-        .stderr(Stdio::piped())
-        .spawn()
-        .expect("`rt check till` makes the program");
-    let mut input = child.stdin.take().expect("standard input is piped");
-    for (index, piece) in pieces.iter().enumerate() {
-        if index > 0 {
-            sleep(pause);
-        }
-        // The program does not read past the first byte too many, so the pipe may be closed by then.
-        let _ = input.write_all(piece);
-    }
-    drop(input);
-    child.wait_with_output().expect("the command ends")
-}
-
 fn in_pieces(pieces: &[&[u8]], pause: Duration) -> Vec<u8> {
-    let output = run(
-        &mut Command::new(root().join("target/bin/till")),
-        pieces,
-        pause,
-    );
+    let mut program = Command::new(root().join("target/bin/till"));
+    let output = run_in_pieces(&mut program, pieces, pause);
     assert!(output.status.success(), "{output:?}");
     assert!(output.stderr.is_empty(), "{output:?}");
     output.stdout
@@ -195,82 +168,4 @@ fn every_fault_of_a_text() {
         tried += faults.len();
     }
     assert!(tried > 3_000, "{tried}");
-}
-
-/// The script's status and what it prints; it speaks for itself only where it fails.
-fn script(arguments: &[&Path], input: &[u8]) -> (Option<i32>, Vec<u8>) {
-    let mut command = Command::new(root().join("till"));
-    let output = run(command.args(arguments), &[input], Duration::ZERO);
-    let status = output.status.code();
-    if status == Some(3) {
-        assert!(
-            output.stdout.is_empty() && output.stderr.starts_with(b"till: "),
-            "{output:?}"
-        );
-    }
-    (status, output.stdout)
-}
-
-#[test]
-fn the_script() {
-    for (file, text, page) in examples() {
-        let status = match &page[..2] {
-            b"F," => 2,
-            _ if page.starts_with(b"V,refuse,") => 1,
-            _ => 0,
-        };
-        assert_eq!(
-            script(&[&file], b""),
-            (Some(status), page.clone()),
-            "{}",
-            file.display()
-        );
-        assert_eq!(
-            script(&[], &text),
-            (Some(status), page),
-            "{}",
-            file.display()
-        );
-    }
-    let (file, ..) = &examples()[0];
-    assert_eq!(
-        script(&[&root().join("examples/none.txt")], b""),
-        (Some(3), Vec::new())
-    );
-    assert_eq!(script(&[&root()], b""), (Some(3), Vec::new()));
-    assert_eq!(script(&[file, file], b""), (Some(3), Vec::new()));
-}
-
-/// An input that cannot be read is no empty text: the script fails, and gives no verdict.
-#[test]
-fn the_script_without_a_text() {
-    let folder = File::open(root()).expect("a folder");
-    let output = Command::new(root().join("till")).stdin(folder).output();
-    let output = output.expect("the script starts");
-    assert_eq!(output.status.code(), Some(3), "{output:?}");
-    assert!(output.stdout.is_empty(), "{output:?}");
-    assert!(output.stderr.starts_with(b"till: "), "{output:?}");
-}
-
-/// Away from the program and with nothing but `dirname` on the PATH, the script says what is missing.
-#[test]
-fn the_script_without_the_kit() {
-    let folder = Folder::new("without_the_kit");
-    let tools = folder.0.join("tools");
-    fs::create_dir(&tools).expect("a folder");
-    let dirname = ["/usr/bin/dirname", "/bin/dirname"].map(Path::new);
-    let dirname = dirname.into_iter().find(|file| file.exists());
-    symlink(dirname.expect("dirname"), tools.join("dirname")).expect("a link");
-    let script = folder.0.join("till");
-    fs::copy(root().join("till"), &script).expect("a copy");
-    let mut command = Command::new("/bin/bash");
-    let output = run(
-        command.arg(&script).env("PATH", &tools),
-        &[b""],
-        Duration::ZERO,
-    );
-    assert_eq!(output.status.code(), Some(3), "{output:?}");
-    assert!(output.stdout.is_empty(), "{output:?}");
-    let missing = b"till: the Rattle kit is missing";
-    assert!(output.stderr.starts_with(missing), "{output:?}");
 }

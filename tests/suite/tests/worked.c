@@ -6,6 +6,10 @@
 
 #include "till.h"
 
+_Static_assert(TILL_ACTION_LEVEL(0) == 4 && TILL_ACTION_NAME(1) == 20, "actions");
+_Static_assert(TILL_STEP_SOURCE(0) == 900 && TILL_STEP_TARGET(1) == 905, "steps");
+_Static_assert(TILL_PAIR(1, 2) == 130, "pairs");
+_Static_assert(TILL_TEXT_LIMIT == 16384, "text");
 _Static_assert(TILL_STORE == 3972, "store");
 _Static_assert(TILL_DISTANCES == 128, "distances");
 _Static_assert(TILL_TABLE == 16384, "table");
@@ -35,8 +39,9 @@ static void expect(const char *what, uint64_t is, uint64_t expected) {
 static void answers(const char *what, TillAnswer is, uint64_t count, uint64_t first, uint64_t second) {
     expect(what, is.number, 0);
     expect(what, is.count, count);
-    if (count > 0) expect(what, is.first, first);
-    if (count > 1) expect(what, is.second, second);
+    expect(what, is.first, first);
+    expect(what, is.second, second);
+    expect(what, is.third, 0);
 }
 
 static void refuses(const char *what, TillAnswer is, uint64_t number, uint64_t place) {
@@ -56,15 +61,15 @@ static void forget(void) {
 static void expect_distances(void) {
     static const uint16_t first[4] = {0, 1, 1, 2};
     for (size_t state = 0; state < TILL_DISTANCES; state++)
-        expect("a distance", distances[state], state < 4 ? first[state] : 65535);
+        expect("a distance", distances[state], state < 4 ? first[state] : TILL_NO_DISTANCE);
     expect("the number after the distances", distances[TILL_DISTANCES], 0x0707);
 }
 
 static void expect_table(void) {
     static const uint8_t ranks[4][4] = {{0, 0, 2, 1}, {0, 0, 2, 1}, {2, 2, 0, 1}, {1, 1, 1, 0}};
-    for (size_t p = 0; p < 128; p++)
-        for (size_t q = 0; q < 128; q++)
-            expect("a rank", table[128 * p + q], p < 4 && q < 4 ? ranks[p][q] : 0);
+    for (size_t p = 0; p < TILL_STATE_LIMIT; p++)
+        for (size_t q = 0; q < TILL_STATE_LIMIT; q++)
+            expect("a rank", table[TILL_PAIR(p, q)], p < 4 && q < 4 ? ranks[p][q] : 0);
     expect("the byte after the table", table[TILL_TABLE], 7);
 }
 
@@ -76,15 +81,29 @@ static void expect_out(const char *bytes, size_t length) {
     for (size_t i = 0; i < sizeof out; i++) expect("a byte out", out[i], i < length ? (uint8_t)bytes[i] : 7);
 }
 
-static void reads(void) {
-    static const uint16_t head[4] = {4, 3, 4, 0};
-    static const uint16_t steps[12] = {0, 0, 1, 0, 1, 2, 1, 0, 1, 2, 0, 3};
-    memset(store, 7, sizeof store);
-    answers("Read", till_read((const uint8_t *)text, TEXT_LENGTH, store, TILL_STORE), 0, 0, 0);
-    for (size_t i = 0; i < 4; i++) expect("a number of the store", store[i], head[i]);
-    for (size_t i = 0; i < 12; i++) expect("a number of a step", store[900 + i], steps[i]);
+static void expect_store(void) {
+    static const uint16_t levels[3] = {TILL_LOW, TILL_HIGH, TILL_RELEASE};
+    static const uint16_t steps[4][3] = {{0, 0, 1}, {0, 1, 2}, {1, 0, 1}, {2, 0, 3}};
+    expect("states", store[TILL_STATES], 4);
+    expect("actions", store[TILL_ACTIONS], 3);
+    expect("steps", store[TILL_STEPS], 4);
+    expect("the start", store[TILL_START], 0);
+    for (size_t i = 0; i < 3; i++) expect("a level", store[TILL_ACTION_LEVEL(i)], levels[i]);
+    expect("the length of print", store[TILL_ACTION_NAME_LENGTH(1)], 5);
+    expect("the first letter of print", store[TILL_ACTION_NAME(1)], 'p');
+    for (size_t j = 0; j < 4; j++) {
+        expect("a source", store[TILL_STEP_SOURCE(j)], steps[j][0]);
+        expect("an action", store[TILL_STEP_ACTION(j)], steps[j][1]);
+        expect("a target", store[TILL_STEP_TARGET(j)], steps[j][2]);
+    }
     expect("an unused number", store[TILL_STORE - 1], 0);
     expect("the number after the store", store[TILL_STORE], 0x0707);
+}
+
+static void reads(void) {
+    memset(store, 7, sizeof store);
+    answers("Read", till_read((const uint8_t *)text, TEXT_LENGTH, store, TILL_STORE), 0, 0, 0);
+    expect_store();
 }
 
 static void judges(void) {
@@ -102,7 +121,7 @@ static void judges(void) {
     expect("the first step", run[0], 1);
     expect("the second step", run[1], 3);
     expect("the number after the run", run[2], 0x0707);
-    refuses("Run", till_run(store, TILL_STORE, distances, TILL_DISTANCES, run, TILL_RUN, 4), 25, 4);
+    refuses("Run", till_run(store, TILL_STORE, distances, TILL_DISTANCES, run, TILL_RUN, 4), TILL_NO_STATE, 4);
 }
 
 static void shows(void) {
@@ -125,7 +144,32 @@ static void shows(void) {
     forget();
     answers("Write", till_write(store, TILL_STORE, out, TILL_WRITTEN), 1, TEXT_LENGTH, 0);
     expect_out(text, TEXT_LENGTH);
-    refuses("Write", till_write(store, TILL_STORE, out, TILL_WRITTEN - 1), 21, 2);
+    refuses("Write", till_write(store, TILL_STORE, out, TILL_WRITTEN - 1), TILL_SHORT_LIST, 2);
+}
+
+static TillTold tell(size_t length) {
+    forget();
+    memset(store, 7, sizeof store);
+    return till_tell((const uint8_t *)text, length, store, TILL_STORE, distances, TILL_DISTANCES, table, TILL_TABLE,
+                     word, TILL_WORD);
+}
+
+static void tells(void) {
+    TillTold told = tell(TEXT_LENGTH);
+    answers("Read", told.read, 0, 0, 0);
+    answers("Judge", told.judge, 2, 1, 2);
+    answers("Word", told.word, 2, 2, TILL_SOURCE);
+    expect("refused", (uint64_t)till_refused(told.judge), 1);
+    expect("not passed", (uint64_t)till_passed(told.judge), 0);
+    expect_store();
+    expect_distances();
+    expect_table();
+    expect_word();
+    told = tell(TEXT_LENGTH - 1);
+    refuses("Read", told.read, TILL_FORM, 9);
+    answers("Judge", told.judge, 0, 0, 0);
+    answers("Word", told.word, 0, 0, 0);
+    expect("no verdict", (uint64_t)(till_refused(told.judge) + till_passed(told.judge)), 0);
 }
 
 static TillAnswer print(size_t length) {
@@ -139,6 +183,7 @@ int main(void) {
     reads();
     judges();
     shows();
+    tells();
     answers("print", print(TEXT_LENGTH - 1), 1, 6, 0);
     expect_out("F,2,9\n", 6);
     answers("print", print(TEXT_LENGTH), 1, PAGE_LENGTH, 0);

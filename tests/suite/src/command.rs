@@ -1,0 +1,30 @@
+//! Commands, run on a text.
+use std::io::Write;
+use std::process::{Command, Output, Stdio};
+use std::thread::sleep;
+use std::time::Duration;
+
+/// Runs a command on a text.
+pub fn run(command: &mut Command, text: &[u8]) -> Output {
+    run_in_pieces(command, &[text], Duration::ZERO)
+}
+
+/// Runs a command on a text that comes in pieces, with a pause before each but the first.
+pub fn run_in_pieces(command: &mut Command, pieces: &[&[u8]], pause: Duration) -> Output {
+    let mut child = command
+        .stdin(Stdio::piped())
+        .stdout(Stdio::piped())
+        .stderr(Stdio::piped())
+        .spawn()
+        .unwrap_or_else(|error| panic!("{command:?}: {error}"));
+    let mut input = child.stdin.take().expect("standard input is piped");
+    for (index, piece) in pieces.iter().enumerate() {
+        if index > 0 {
+            sleep(pause);
+        }
+        // The program does not read past the first byte too many, so the pipe may be closed by then.
+        let _ = input.write_all(piece);
+    }
+    drop(input);
+    child.wait_with_output().expect("the command ends")
+}

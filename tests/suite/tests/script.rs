@@ -1,0 +1,384 @@
+//! The script `till`: what it prints, its statuses, and when it makes the program.
+use std::fs::{self, File};
+use std::os::unix::fs::{symlink, PermissionsExt};
+use std::os::unix::net::UnixListener;
+use std::path::{Path, PathBuf};
+use std::process::{Command, Output};
+use std::thread;
+
+use suite::bench::{examples, root, Folder};
+use suite::command::run;
+
+/// Status 3: the script says why and prints nothing.
+fn fails(output: Output, why: &str) {
+    assert_eq!(output.status.code(), Some(3), "{output:?}");
+    assert!(output.stdout.is_empty(), "{output:?}");
+    let said = String::from_utf8_lossy(&output.stderr);
+    assert!(said.starts_with("till: ") && said.contains(why), "{said}");
+}
+
+/// The status and what is printed; nothing else is said.
+fn prints(output: Output, status: i32, printed: &str) {
+    assert_eq!(output.status.code(), Some(status), "{output:?}");
+    assert_eq!(String::from_utf8_lossy(&output.stdout), printed);
+    assert!(output.stderr.is_empty(), "{output:?}");
+}
+
+// ---- with the program
+
+fn script() -> Command {
+    Command::new(root().join("till"))
+}
+
+/// An example with its page and the status that its page stands for.
+fn pages() -> Vec<(PathBuf, Vec<u8>, String, i32)> {
+    let status = |page: &str| match page {
+        _ if page.starts_with("F,") => 2,
+        _ if page.starts_with("V,refuse,") => 1,
+        _ => 0,
+    };
+    let with_status = |(file, text, page)| {
+        let page = String::from_utf8(page).expect("a page");
+        let status = status(&page);
+        (file, text, page, status)
+    };
+    examples().into_iter().map(with_status).collect()
+}
+
+fn example(name: &str) -> PathBuf {
+    root().join("examples").join(name)
+}
+
+#[test]
+fn one_file_or_standard_input() {
+    for (file, text, page, status) in pages() {
+        prints(run(script().arg(&file), b""), status, &page);
+        prints(run(&mut script(), &text), status, &page);
+    }
+}
+
+/// A line for each file; the worst status counts.
+#[test]
+fn several_files() {
+    let line = |(file, _, page, _): &(PathBuf, Vec<u8>, String, i32)| {
+        let first = page.lines().next().expect("a line");
+        format!("{}: {first}\n", file.display())
+    };
+    for worst in 0..=2 {
+        let mut few = pages();
+        few.retain(|(.., status)| *status <= worst);
+        let lines: String = few.iter().map(line).collect();
+        let files = few.iter().map(|(file, ..)| file);
+        prints(run(script().args(files), b""), worst, &lines);
+    }
+    let (none, refused) = (example("none.txt"), example("worked.txt"));
+    let output = run(script().args([&none, &refused, &root()]), b"");
+    assert_eq!(output.status.code(), Some(3), "{output:?}");
+    let printed = format!("{}: V,refuse,1,2\n", refused.display());
+    assert_eq!(String::from_utf8_lossy(&output.stdout), printed);
+    let said = String::from_utf8_lossy(&output.stderr);
+    assert_eq!(said.lines().count(), 2, "{said}");
+}
+
+#[test]
+fn words_and_options() {
+    for option in ["--help", "-h"] {
+        let output = run(script().arg(option), b"");
+        assert_eq!(output.status.code(), Some(0), "{output:?}");
+        assert!(output.stdout.starts_with(b"usage: ./till "), "{output:?}");
+        assert!(output.stderr.is_empty(), "{output:?}");
+    }
+    prints(run(script().arg("--make"), b""), 0, "");
+    for option in ["--halp", "-x", "-"] {
+        let why = format!("no option {option}:");
+        fails(run(script().arg(option), b""), &why);
+    }
+    let folder = Folder::new("words");
+    fs::copy(example("released.txt"), folder.0.join("-x")).expect("a copy");
+    let page = fs::read_to_string(example("released.page")).expect("a page");
+    let mut named = script();
+    named.args(["--", "-x"]).current_dir(&folder.0);
+    prints(run(&mut named, b""), 0, &page);
+}
+
+/// What cannot be read is no empty text and not the text on standard input: there is no verdict.
+#[test]
+fn no_text() {
+    let passed = fs::read(example("released.txt")).expect("a text");
+    let fails_on = |file: &Path, why| fails(run(script().arg(file), &passed), why);
+    let folder = Folder::new("no_text");
+    let socket = folder.0.join("socket");
+    let _listener = UnixListener::bind(&socket).expect("a socket");
+    fails_on(&socket, "cannot be read");
+    fails_on(&folder.0, "a folder");
+    fails_on(&folder.0.join("none"), "no such file");
+    let secret = folder.0.join("secret");
+    fs::write(&secret, &passed).expect("a file");
+    fs::set_permissions(&secret, fs::Permissions::from_mode(0)).expect("a file");
+    // Root may read it.
+    if File::open(&secret).is_err() {
+        fails_on(&secret, "no permission");
+    }
+    let mut of_a_folder = script();
+    of_a_folder.stdin(File::open(&folder.0).expect("a folder"));
+    let output = of_a_folder.output().expect("the script starts");
+    fails(output, "standard input cannot be read");
+    fails(shell("exec \"$0\" <&-"), "standard input cannot be read");
+}
+
+/// What a line of a shell makes of the script and a model that passes.
+fn shell(line: &str) -> Output {
+    let mut shell = Command::new("sh");
+    shell.args(["-c", line]).arg(root().join("till"));
+    run(shell.arg(example("released.txt")), b"")
+}
+
+#[test]
+fn no_place_to_print() {
+    for to in ["/dev/full", "&-"] {
+        for words in ["\"$1\"", "\"$1\" \"$1\"", "--help"] {
+            let output = shell(&format!("exec \"$0\" {words} >{to}"));
+            fails(output, "nothing can be printed");
+        }
+    }
+}
+
+/// However the script is started.
+#[test]
+fn ways_to_start() {
+    let page = fs::read_to_string(example("released.page")).expect("a page");
+    let folder = Folder::new("ways_to_start");
+    let link = folder.0.join("link");
+    symlink(root().join("till"), &link).expect("a link");
+    prints(
+        run(Command::new(&link).arg(example("released.txt")), b""),
+        0,
+        &page,
+    );
+    assert!(!folder.0.join("target").exists(), "made beside the link");
+    for line in [
+        "sh \"$0\" \"$1\"",
+        "bash --posix \"$0\" \"$1\"",
+        "\"$0\" \"$1\" <&-",
+    ] {
+        prints(shell(line), 0, &page);
+    }
+    let mut from_above = Command::new("bash");
+    let words = [Path::new("till"), Path::new("examples/released.txt")];
+    from_above.args(words).current_dir(root());
+    prints(run(from_above.env("CDPATH", "examples:.:/"), b""), 0, &page);
+}
+
+// ---- with another kit
+
+/// Stands in for the kit: the program that it makes passes each text, and tells the source's number as the rank.
+const KIT: &str = r#"#!/bin/sh
+kit=$(dirname "$0")
+case $1 in
+version) cat "$kit/version" ;;
+check)
+    echo making >>"$kit/makings"
+    rank=$(cat crates/a/src/lib.rt)
+    sleep "$(cat "$kit/pause")"
+    [ ! -f "$kit/broken" ] || { echo "rt: FAILED: a" && exit 1; }
+    printf '#!/bin/sh\ncat >/dev/null\necho V,pass,%s\necho E\n' "$rank" >target/bin/till
+    chmod +x target/bin/till
+    [ ! -f "$kit/edit" ] || mv "$kit/edit" crates/a/src/lib.rt
+    ;;
+esac
+"#;
+
+/// A checkout with the script, one source and that kit.
+struct Checkout(Folder);
+
+impl Checkout {
+    fn new(name: &str) -> Checkout {
+        let checkout = Checkout(Folder::new(name));
+        for folder in ["crates/a/src", "kit"] {
+            fs::create_dir_all(checkout.file(folder)).expect("a folder");
+        }
+        fs::copy(root().join("till"), checkout.file("till")).expect("a copy");
+        let files = [
+            ("crates.txt", "a:\n"),
+            ("crates/a/src/lib.rt", "1\n"),
+            ("kit/rt", KIT),
+        ];
+        for (name, contents) in files {
+            checkout.write(name, contents);
+        }
+        checkout.write("kit/version", "first\n");
+        checkout.write("kit/pause", "0\n");
+        let executable = fs::Permissions::from_mode(0o755);
+        fs::set_permissions(checkout.file("kit/rt"), executable).expect("the kit");
+        checkout
+    }
+
+    fn file(&self, name: &str) -> PathBuf {
+        self.0 .0.join(name)
+    }
+
+    fn write(&self, name: &str, contents: &str) {
+        fs::write(self.file(name), contents).expect("a file");
+    }
+
+    /// As if the file had been written long ago.
+    fn write_old(&self, name: &str, contents: &str) {
+        self.write(name, contents);
+        let file = File::options()
+            .write(true)
+            .open(self.file(name))
+            .expect("a file");
+        file.set_modified(std::time::UNIX_EPOCH).expect("a time");
+    }
+
+    /// The script's output on a text that the program does not look at.
+    fn run(&self) -> Output {
+        let path = std::env::var("PATH").expect("a PATH");
+        let path = format!("{}:{path}", self.file("kit").display());
+        run(
+            Command::new("bash")
+                .arg(self.file("till"))
+                .env("PATH", path),
+            b"",
+        )
+    }
+
+    fn makings(&self) -> usize {
+        let makings = fs::read_to_string(self.file("kit/makings"));
+        makings.map_or(0, |makings| makings.lines().count())
+    }
+
+    /// The script passes a text with this rank; by now the program has been made so many times.
+    fn passes(&self, rank: u16, makings: usize) {
+        let output = self.run();
+        assert_eq!(output.status.code(), Some(0), "{output:?}");
+        assert_eq!(output.stdout, format!("V,pass,{rank}\nE\n").into_bytes());
+        assert_eq!(self.makings(), makings, "{output:?}");
+    }
+}
+
+/// What counts are the contents of the sources, the kit and the program, and not the times of files.
+#[test]
+fn made_by_contents() {
+    let checkout = Checkout::new("made_by_contents");
+    checkout.passes(1, 1);
+    checkout.passes(1, 1);
+    checkout.write_old("crates/a/src/lib.rt", "2\n");
+    checkout.passes(2, 2);
+    checkout.write("crates/a/src/lib.rt", "2\n");
+    checkout.passes(2, 2);
+    checkout.write_old("kit/version", "second\n");
+    checkout.passes(2, 3);
+    let other = "#!/bin/sh\necho V,pass,7\necho E\n";
+    checkout.write("target/bin/till", other);
+    checkout.passes(2, 4);
+    fs::remove_file(checkout.file("target/bin/till")).expect("a program");
+    checkout.passes(2, 5);
+    checkout.write_old("crates.txt", "a:\n#\n");
+    checkout.passes(2, 6);
+}
+
+/// An edit made while the program is proved is not lost: nor is it when it is taken back.
+#[test]
+fn edited_meanwhile() {
+    let checkout = Checkout::new("edited_meanwhile");
+    checkout.write_old("kit/edit", "2\n");
+    checkout.passes(2, 2);
+    checkout.write_old("crates/a/src/lib.rt", "1\n");
+    checkout.passes(1, 3);
+}
+
+/// One of several first runs makes the program. The others wait for it, and say so.
+#[test]
+fn four_first_runs() {
+    let checkout = Checkout::new("four_first_runs");
+    checkout.write("kit/pause", "2\n");
+    let outputs = thread::scope(|scope| {
+        let runs = [(); 4].map(|()| scope.spawn(|| checkout.run()));
+        runs.map(|run| run.join().expect("a run"))
+    });
+    assert_eq!(checkout.makings(), 1);
+    let mut waited = 0;
+    for output in outputs {
+        assert_eq!(output.stdout, b"V,pass,1\nE\n", "{output:?}");
+        let said = String::from_utf8_lossy(&output.stderr);
+        waited += usize::from(said.starts_with("till: waiting for another run"));
+    }
+    assert!(waited > 0, "no run says that it waits");
+}
+
+#[test]
+fn not_made() {
+    let checkout = Checkout::new("not_made");
+    checkout.write("kit/broken", "");
+    let said = |output: Output| String::from_utf8_lossy(&output.stderr).into_owned();
+    let output = checkout.run();
+    assert_eq!(output.status.code(), Some(3), "{output:?}");
+    assert!(said(output).contains("could not be made: rt: FAILED: a, see "));
+    fs::remove_dir_all(checkout.file("target")).expect("a folder");
+    checkout.write("target", "");
+    fails(checkout.run(), "nothing can be written to");
+    fs::remove_file(checkout.file("crates.txt")).expect("a file");
+    fails(checkout.run(), "the sources cannot be read");
+}
+
+/// A program that is made needs no kit. Where it is to be made, the script says what is missing.
+#[test]
+fn without_the_kit() {
+    let checkout = Checkout::new("without_the_kit");
+    checkout.passes(1, 1);
+    let tools = checkout.file("tools");
+    fs::create_dir(&tools).expect("a folder");
+    let path = std::env::var("PATH").expect("a PATH");
+    for name in [
+        "bash",
+        "cat",
+        "dirname",
+        "find",
+        "head",
+        "readlink",
+        "sed",
+        "sha256sum",
+        "sort",
+    ] {
+        let mut files = path.split(':').map(|folder| Path::new(folder).join(name));
+        let file = files.find(|file| file.exists());
+        symlink(file.expect(name), tools.join(name)).expect("a link");
+    }
+    let without = || {
+        let mut command = Command::new("bash");
+        command.arg(checkout.file("till")).env("PATH", &tools);
+        run(&mut command, b"")
+    };
+    prints(without(), 0, "V,pass,1\nE\n");
+    checkout.write("crates/a/src/lib.rt", "2\n");
+    fails(without(), "the Rattle kit is missing");
+}
+
+/// A page that is cut short, or that comes with a failure, is no verdict.
+#[test]
+fn a_program_that_fails() {
+    let checkout = Checkout::new("a_program_that_fails");
+    let programs = [
+        ("echo V,pass,1; echo E; exit 1", "the program failed"),
+        ("kill -9 $$", "the program failed"),
+        ("printf 'V,pass,1\\nE'", "no whole page"),
+        ("echo V,pass,1", "no whole page"),
+        ("printf F,2,1", "no whole page"),
+        ("true", "no whole page"),
+    ];
+    for (program, why) in programs {
+        let made = format!("#!/bin/sh\ncat >/dev/null\n{program}\n");
+        checkout.write("program", &made);
+        let kit = KIT.replace("    chmod", "    cp program target/bin/till\n    chmod");
+        checkout.write("kit/rt", &kit);
+        checkout.write("crates/a/src/lib.rt", program);
+        let output = checkout.run();
+        let said = String::from_utf8_lossy(&output.stderr).into_owned();
+        assert_eq!(output.status.code(), Some(3), "{program}: {output:?}");
+        assert!(
+            output.stdout.is_empty() && said.contains(why),
+            "{program}: {said}"
+        );
+    }
+}
