@@ -7,7 +7,8 @@ use Rattle.till_c.proofs.till_page.Tie as tie
 returns : tie.Need-returns
 returns c =
     let t = c .page-answer .ensures in
-    (rw (t .outcome-is) (c .before .before .before .before .before .before .before .before .before .before .before .page .ensures), plain-of-tells t)
+    let o = c .before .before .before .before .before .before .before .before .before .before .before .page .ensures in
+    (rw (t .outcome-is) o, plain-of-tells t)
 
 pub till-page-spec : {M : Type 1} → statement M
 till-page-spec =

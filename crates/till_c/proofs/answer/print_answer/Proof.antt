@@ -1,4 +1,4 @@
--- Each answer of Print is told by the same number, place and values.
+-- Each answer of `print` is told by the same number, place and values.
 use borrow.Author.Needs.{needs}
 use Rattle.print.specs.Promises.{printOutcome}
 use Rattle.till_c.specs.AnswerLaws.{tells-at}
