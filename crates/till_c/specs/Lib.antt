@@ -1,2 +1,5 @@
+pub mod Inner
 pub mod Answer
 pub mod AnswerLaws
+pub mod Told
+pub mod ToldLaws

@@ -1,90 +1,19 @@
--- Each answer of Rank is told by the same number, place and values.
-use mathlib.Core.Path.{refl, sym, ap, _∙_}
-use borrow.Author.Tests.{eqb-false}
-use Rattle.judge.specs.RankPromise.{rankOutcome, RankPromise}
-use Rattle.till_c.specs.AnswerLaws.{promise-told, plain-of-tells}
+-- What Rank promises of its outcome, of what the answer tells.
 use borrow.Author.Needs.{needs}
+use Rattle.till_c.specs.AnswerLaws.{plain-of-tells}
 use Rattle.till_c.proofs.till_rank.Statement.{statement}
 use Rattle.till_c.proofs.till_rank.Tie as tie
 
-rank-requires : tie.Need-rank-requires
-rank-requires c κs = search needs
-
-enum-known-answer : tie.Need-enum-known-answer
-enum-known-answer c = search needs
-
-cast-value : tie.Need-cast-value
-cast-value c = search needs
-
-value-requires : tie.Need-value-requires
-value-requires c κs = search needs
-
-enum-known-answer-2 : tie.Need-enum-known-answer-2
-enum-known-answer-2 c = search needs
-
-refusal-requires : tie.Need-refusal-requires
-refusal-requires c κs = λ e. eqb-false 21 0 refl e
-
-enum-told : tie.Need-enum-told
-enum-told c = search needs
-
-refusal-requires-2 : tie.Need-refusal-requires-2
-refusal-requires-2 c κs = λ e. eqb-false 22 0 refl e
-
-same-length : tie.Need-same-length
-same-length c = search needs
-
 returns : tie.Need-returns
-unfolding rankOutcome
 returns c =
-    let o = c .before .before .before .before .before .before .rank in (
-      promise-told RankPromise
-          (ap rankOutcome (c .before .before .answer .given .1) ∙ sym (c .value .ensures .outcome-is))
-          (o .ensures),
-      plain-of-tells (c .value .ensures),
-    )
-
-same-length-2 : tie.Need-same-length-2
-same-length-2 c = search needs
-
-returns-2 : tie.Need-returns-2
-unfolding rankOutcome
-returns-2 c =
-    let o = c .before .before .before .before .before .before .rank in (
-      promise-told RankPromise
-          (ap rankOutcome (c .before .before .answer2 .given .1) ∙ sym (c .refusal .ensures .outcome-is))
-          (o .ensures),
-      plain-of-tells (c .refusal .ensures),
-    )
-
-same-length-3 : tie.Need-same-length-3
-same-length-3 c = search needs
-
-returns-3 : tie.Need-returns-3
-unfolding rankOutcome
-returns-3 c =
-    let o = c .before .before .before .before .before .rank in (
-      promise-told RankPromise
-          (ap rankOutcome (c .before .enum-told .given .1) ∙ sym (c .refusal2 .ensures .outcome-is))
-          (o .ensures),
-      plain-of-tells (c .refusal2 .ensures),
-    )
+    let t = c .rank-answer .ensures in
+    (rw (t .outcome-is) (c .before .before .before .rank .ensures), plain-of-tells t)
 
 pub till-rank-spec : {M : Type 1} → statement M
 till-rank-spec =
     tie.close
     (tie.spec
-    rank-requires
-    enum-known-answer
-    cast-value
-    value-requires
-    enum-known-answer-2
-    refusal-requires
-    enum-told
-    refusal-requires-2
-    same-length
-    returns
-    same-length-2
-    returns-2
-    same-length-3
-    returns-3)
+    (λ c κs. search needs)
+    (λ c κs. search needs)
+    (λ c. search needs)
+    returns)

@@ -1,0 +1,21 @@
+-- Each answer of Judge is told by the same number, place and values.
+use borrow.Author.Needs.{needs}
+use Rattle.judge.specs.JudgePromise.{judgeOutcome}
+use Rattle.till_c.specs.AnswerLaws.{tells-at}
+use Rattle.till_c.proofs.answer.judge_answer.Statement.{statement}
+use Rattle.till_c.proofs.answer.judge_answer.Tie as tie
+
+pub judge-answer-spec : {M : Type 1} → statement M
+unfolding judgeOutcome
+judge-answer-spec =
+    tie.close
+    (tie.spec
+    (λ c. search needs)
+    (λ c κs. search needs)
+    (λ c. search needs)
+    (λ c κs. search needs)
+    (λ c. search needs)
+    (λ c κs. search needs)
+    (λ c. tells-at judgeOutcome (c .before .before .answer .given .1) (c .verdict-answer .ensures))
+    (λ c. tells-at judgeOutcome (c .before .before .answer2 .given .1) (c .refusal .ensures))
+    (λ c. tells-at judgeOutcome (c .before .enum-told .given .1) (c .refusal2 .ensures)))

@@ -1,0 +1,22 @@
+-- Each answer of Rank is told by the same number, place and values.
+use borrow.Author.Needs.{needs}
+use Rattle.judge.specs.RankPromise.{rankOutcome}
+use Rattle.till_c.specs.AnswerLaws.{tells-at}
+use Rattle.till_c.proofs.answer.rank_answer.Statement.{statement}
+use Rattle.till_c.proofs.answer.rank_answer.Tie as tie
+
+pub rank-answer-spec : {M : Type 1} → statement M
+unfolding rankOutcome
+rank-answer-spec =
+    tie.close
+    (tie.spec
+    (λ c. search needs)
+    (λ c. search needs)
+    (λ c κs. search needs)
+    (λ c. search needs)
+    (λ c κs. search needs)
+    (λ c. search needs)
+    (λ c κs. search needs)
+    (λ c. tells-at rankOutcome (c .before .before .answer .given .1) (c .value .ensures))
+    (λ c. tells-at rankOutcome (c .before .before .answer2 .given .1) (c .refusal .ensures))
+    (λ c. tells-at rankOutcome (c .before .enum-told .given .1) (c .refusal2 .ensures)))

@@ -1,0 +1,21 @@
+-- Each answer of Write is told by the same number, place and values.
+use borrow.Author.Needs.{needs}
+use Rattle.read_write.specs.WritePromise.{writeOutcome}
+use Rattle.till_c.specs.AnswerLaws.{tells-at}
+use Rattle.till_c.proofs.answer.write_answer.Statement.{statement}
+use Rattle.till_c.proofs.answer.write_answer.Tie as tie
+
+pub write-answer-spec : {M : Type 1} → statement M
+unfolding writeOutcome
+write-answer-spec =
+    tie.close
+    (tie.spec
+    (λ c. search needs)
+    (λ c κs. search needs)
+    (λ c. search needs)
+    (λ c κs. search needs)
+    (λ c. search needs)
+    (λ c κs. search needs)
+    (λ c. tells-at writeOutcome (c .before .before .answer .given .1) (c .value .ensures))
+    (λ c. tells-at writeOutcome (c .before .before .answer2 .given .1) (c .refusal .ensures))
+    (λ c. tells-at writeOutcome (c .before .enum-told .given .1) (c .refusal2 .ensures)))
