@@ -2,9 +2,12 @@
 
 mod common;
 
+use std::collections::BTreeMap;
+
 use common::{store_of, till, Lists, CLOSE, EXAMPLE, PRINT, SCAN};
 use second::gen;
 use second::store::{DISTANCES, PAGE, RUN, STORE, TABLE, WORD, WRITTEN};
+use second::text::{parse_or_cause, Cause};
 use second::{judge, page, program, rank, reach, read, run, word, write, Refusal, Verdict};
 
 /// Reads a text that must be refused, and checks that the store is kept.
@@ -20,7 +23,7 @@ fn refusal(text: &[u8]) -> (u16, u64) {
 }
 
 #[test]
-fn corner_cases() {
+fn lines_that_are_missing_or_not_ended() {
     assert_eq!(refusal(b""), (2, 1));
     assert_eq!(refusal(b"\n"), (2, 1));
     assert_eq!(refusal(&[b'\n'; 16_384]), (2, 1));
@@ -29,14 +32,17 @@ fn corner_cases() {
     assert_eq!(refusal(b"M"), (2, 1));
     assert_eq!(refusal(b"M,1,1,0,0"), (2, 1));
     assert_eq!(refusal(b"M,1,1,0,0\n"), (2, 2));
-    assert_eq!(refusal(b"M,1,1,0,0\nA,L,a"), (2, 2));
-    assert_eq!(refusal(b"M,1,1,0,0\nA,L,a\n"), (2, 3));
-    assert_eq!(refusal(b"M,1,1,0,0\nA,L,a\nE"), (2, 3));
-    assert_eq!(refusal(b"M,1,1,0,0\nA,L,a\nE\n\n"), (2, 4));
-    assert_eq!(refusal(b"M,1,1,0,0\nA,L,a\nE\nx"), (2, 4));
-    assert_eq!(refusal(b"M,1,1,0,0\nA,L,a\nEx\n"), (2, 3));
-    assert_eq!(refusal(b"M,1,1,0,0\r\nA,L,a\r\nE\r\n"), (2, 1));
+    assert_eq!(refusal(b"M,1,1,0,0\nA,H,a"), (2, 2));
+    assert_eq!(refusal(b"M,1,1,0,0\nA,H,a\n"), (2, 3));
+    assert_eq!(refusal(b"M,1,1,0,0\nA,H,a\nE"), (2, 3));
+    assert_eq!(refusal(b"M,1,1,0,0\nA,H,a\nE\n\n"), (2, 4));
+    assert_eq!(refusal(b"M,1,1,0,0\nA,H,a\nE\nx"), (2, 4));
+    assert_eq!(refusal(b"M,1,1,0,0\nA,H,a\nEx\n"), (2, 3));
+    assert_eq!(refusal(b"M,1,1,0,0\r\nA,H,a\r\nE\r\n"), (2, 1));
+}
 
+#[test]
+fn first_lines() {
     for (first, number) in [
         ("M,99999,3,4,0", 3),
         ("M,100000,3,4,0", 2),
@@ -66,7 +72,10 @@ fn corner_cases() {
         let text = first.to_string() + rest;
         assert_eq!(refusal(text.as_bytes()), (number, 1), "{first}");
     }
+}
 
+#[test]
+fn steps_and_names() {
     let twice = till(2, &[(0, SCAN, 1), (0, SCAN, 1)]);
     assert_eq!(refusal(&twice), (5, 6));
     let falling = till(2, &[(0, PRINT, 1), (0, SCAN, 1)]);
@@ -78,23 +87,43 @@ fn corner_cases() {
     assert_eq!(refusal(&till(2, &[(1, SCAN, 1), (0, SCAN, 2)])), (3, 6));
 
     assert_eq!(refusal(b"M,1,2,0,0\nA,L,a\nA,H,a\nE\n"), (4, 3));
-    assert_eq!(refusal(b"M,1,2,0,0\nA,L,a\nA,X,a\nE\n"), (2, 3));
+    assert_eq!(refusal(b"M,1,2,0,0\nA,H,a\nA,X,a\nE\n"), (2, 3));
     assert_eq!(refusal(b"M,1,2,0,0\nA,L,a\nA,H,a"), (2, 3));
-    assert_eq!(refusal(b"M,1,1,0,0\nA,L,\nE\n"), (2, 2));
-    assert_eq!(refusal(b"M,1,1,0,0\nA,L,abcdefghijklm\nE\n"), (2, 2));
-    assert_eq!(refusal(b"M,1,1,0,0\nA,L,A\nE\n"), (2, 2));
+    assert_eq!(refusal(b"M,1,1,0,0\nA,H,\nE\n"), (2, 2));
+    assert_eq!(refusal(b"M,1,1,0,0\nA,H,abcdefghijklm\nE\n"), (2, 2));
+    assert_eq!(refusal(b"M,1,1,0,0\nA,H,A\nE\n"), (2, 2));
 
-    let twelve = b"M,1,1,0,0\nA,L,abcdefghijkl\nE\n";
+    let twelve = b"M,1,1,0,0\nA,H,abcdefghijkl\nE\n";
     assert_eq!(program(twelve), b"V,pass,0\nC,0,0,0\nE\n");
     // Bytes next to the ends of the allowed ranges.
     for byte in [b'/', b':', b'`', b'{', b'@', b'['] {
-        let text = [b"M,1,1,0,0\nA,L,", &[byte][..], b"\nE\n"].concat();
+        let text = [b"M,1,1,0,0\nA,H,", &[byte][..], b"\nE\n"].concat();
         assert_eq!(refusal(&text), (2, 2));
     }
     for byte in [b'0', b'9', b'a', b'z'] {
-        let text = [b"M,1,1,0,0\nA,L,", &[byte][..], b"\nE\n"].concat();
+        let text = [b"M,1,1,0,0\nA,H,", &[byte][..], b"\nE\n"].concat();
         assert_eq!(program(&text), b"V,pass,0\nC,0,0,0\nE\n");
     }
+}
+
+/// Models in which some level has no action.
+#[test]
+fn levels_that_are_missing() {
+    for levels in ["L", "D", "H", "LD", "LH", "DH", "LDH"] {
+        let mut text = format!("M,1,{},0,0\n", levels.len());
+        for (index, level) in levels.chars().enumerate() {
+            text += &format!("A,{level},a{index}\n");
+        }
+        let page = program((text + "E\n").as_bytes());
+        assert_eq!(page, b"V,pass,0\nC,0,0,0\nE\n", "{levels}");
+    }
+}
+
+/// The number of each cause of a refusal.
+#[test]
+fn causes_have_these_numbers() {
+    let numbers = Cause::ALL.map(Cause::number);
+    assert_eq!(numbers, [1, 2, 2, 2, 2, 2, 2, 2, 3, 4, 5]);
 }
 
 #[test]
@@ -121,7 +150,7 @@ fn faults_in_many_texts() {
         models.push(gen::small_model(&mut rng, false));
     }
     models.push(gen::limit_models(&mut rng).swap_remove(0).1);
-    let mut numbers = [0; 6];
+    let mut causes = BTreeMap::new();
     for model in &models {
         for fault in gen::faults(model) {
             let _case = gen::text_case(&fault.text);
@@ -129,10 +158,14 @@ fn faults_in_many_texts() {
             let answer = read(&fault.text, &mut store);
             assert_eq!(answer, Err(fault.refusal), "{}", fault.what);
             assert!(store.iter().all(|&number| number == 4_321));
-            numbers[usize::from(fault.refusal.number)] += 1;
+            let cause = parse_or_cause(&fault.text).err();
+            let expected = Some((fault.cause, fault.refusal.place));
+            assert_eq!(cause, expected, "{}", fault.what);
+            *causes.entry(fault.cause).or_insert(0) += 1;
         }
     }
-    assert!(numbers[1..].iter().all(|&count| count > 40), "{numbers:?}");
+    let often = |cause| causes.get(cause).is_some_and(|&count| count > 40);
+    assert!(Cause::ALL.iter().all(often), "{causes:?}");
 }
 
 #[test]
