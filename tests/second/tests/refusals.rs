@@ -168,70 +168,68 @@ fn faults_in_many_texts() {
     assert!(Cause::ALL.iter().all(often), "{causes:?}");
 }
 
+/// The least lengths of all lists, in the order of each operation.
+const LEAST: [(&str, &[usize]); 7] = [
+    ("reach", &[STORE, DISTANCES]),
+    ("rank", &[STORE, TABLE]),
+    ("judge", &[STORE, DISTANCES, TABLE]),
+    ("run", &[STORE, DISTANCES, RUN]),
+    ("word", &[STORE, DISTANCES, TABLE, WORD]),
+    ("page", &[STORE, DISTANCES, TABLE, RUN, WORD, PAGE]),
+    ("write", &[STORE, WRITTEN]),
+];
+
 #[test]
 fn short_lists() {
-    let store = store_of(EXAMPLE);
-    let bad_store = vec![0; STORE];
-    // The least lengths of all lists, in the order of each operation.
-    let names: &[(&str, &[usize])] = &[
-        ("reach", &[STORE, DISTANCES]),
-        ("rank", &[STORE, TABLE]),
-        ("judge", &[STORE, DISTANCES, TABLE]),
-        ("run", &[STORE, DISTANCES, RUN]),
-        ("word", &[STORE, DISTANCES, TABLE, WORD]),
-        ("page", &[STORE, DISTANCES, TABLE, RUN, WORD, PAGE]),
-        ("write", &[STORE, WRITTEN]),
-    ];
-    for &(name, least) in names {
+    let (good, bad) = (store_of(EXAMPLE), vec![0; STORE]);
+    for (name, least) in LEAST {
         for short in 0..1_usize << least.len() {
             for take in [1, usize::MAX] {
-                let length = |list: usize| {
-                    if short >> list & 1 == 1 {
-                        least[list].saturating_sub(take)
-                    } else {
-                        least[list]
-                    }
+                let length = |list: usize| match short >> list & 1 {
+                    1 => least[list].saturating_sub(take),
+                    _ => least[list],
                 };
-                let mut words: Vec<Vec<u16>> = (0..least.len())
-                    .map(|list| vec![4_444; length(list)])
-                    .collect();
-                let mut bytes: Vec<Vec<u8>> = (0..least.len())
-                    .map(|list| vec![44; length(list)])
-                    .collect();
-                let before = (words.clone(), bytes.clone());
-                // 21 comes before 22: try with a bad store as well.
-                for store in [&store[..length(0)], &bad_store[..length(0)]] {
-                    let [_, w1, w2, w3, w4, ..] = &mut padded(&mut words)[..] else {
-                        unreachable!()
-                    };
-                    let [_, b1, b2, _, _, b5] = &mut padded(&mut bytes)[..] else {
-                        unreachable!()
-                    };
-                    let answer = match name {
-                        "reach" => reach(store, w1).err(),
-                        "rank" => rank(store, b1).err(),
-                        "judge" => judge(store, w1, b2).err(),
-                        "run" => run(store, w1, w2, 9_999).err(),
-                        "word" => word(store, w1, b2, w3).err(),
-                        "page" => page(store, w1, b2, w3, w4, b5).err(),
-                        _ => write(store, b1).err(),
-                    };
-                    if short > 0 {
-                        let first = u64::from(short.trailing_zeros()) + 1;
-                        assert_eq!(answer, Some(Refusal::new(21, first)), "{name} {short:b}");
-                        assert_eq!((&words, &bytes), (&before.0, &before.1));
-                    } else if store == bad_store {
-                        assert_eq!(answer, Some(Refusal::new(22, 0)), "{name}");
-                    } else if name == "run" {
-                        assert_eq!(answer, Some(Refusal::new(25, 9_999)));
-                    } else {
-                        assert_eq!(answer, None, "{name}");
-                        break;
-                    }
-                }
+                let lengths: Vec<usize> = (0..least.len()).map(length).collect();
+                // 21 comes before 22, and 22 before 25.
+                let expected = |else_refusal| match short {
+                    0 => else_refusal,
+                    _ => Some(Refusal::new(21, u64::from(short.trailing_zeros()) + 1)),
+                };
+                let no_state = (name == "run").then_some(Refusal::new(25, 9_999));
+                let answer = with_lists(name, &good, &lengths);
+                assert_eq!(answer, expected(no_state), "{name} {short:b}");
+                let answer = with_lists(name, &bad, &lengths);
+                let not_good = Some(Refusal::new(22, 0));
+                assert_eq!(answer, expected(not_good), "{name} {short:b}");
             }
         }
     }
+}
+
+/// The refusal of an operation on lists of these lengths, of which the first
+/// is the store's; it changes none of them.
+fn with_lists(name: &str, store: &[u16], lengths: &[usize]) -> Option<Refusal> {
+    let mut words: Vec<Vec<u16>> = lengths.iter().map(|&n| vec![4_444; n]).collect();
+    let mut bytes: Vec<Vec<u8>> = lengths.iter().map(|&n| vec![44; n]).collect();
+    let before = (words.clone(), bytes.clone());
+    let store = &store[..lengths[0]];
+    let [_, w1, w2, w3, w4, ..] = &mut padded(&mut words)[..] else {
+        unreachable!()
+    };
+    let [_, b1, b2, _, _, b5] = &mut padded(&mut bytes)[..] else {
+        unreachable!()
+    };
+    let refusal = match name {
+        "reach" => reach(store, w1).err(),
+        "rank" => rank(store, b1).err(),
+        "judge" => judge(store, w1, b2).err(),
+        "run" => run(store, w1, w2, 9_999).err(),
+        "word" => word(store, w1, b2, w3).err(),
+        "page" => page(store, w1, b2, w3, w4, b5).err(),
+        _ => write(store, b1).err(),
+    };
+    assert!(refusal.is_none() || (words, bytes) == before, "{name}");
+    refusal
 }
 
 /// Six lists to borrow from, empty ones at the end if there are fewer.
@@ -357,8 +355,8 @@ fn page_fills_only_what_it_prints() {
 }
 
 #[test]
-fn nothing_panics() {
-    let mut rng = gen::seeded("second::refusals::nothing_panics", 33);
+fn no_text_panics() {
+    let mut rng = gen::seeded("second::refusals::no_text_panics", 33);
     let mut good = 0;
     for round in 0..4_000 {
         let model = gen::any_model(&mut rng);
@@ -376,7 +374,11 @@ fn nothing_panics() {
         }
     }
     assert!(good > 100, "{good}");
+}
 
+#[test]
+fn no_store_panics() {
+    let mut rng = gen::seeded("second::refusals::no_store_panics", 34);
     for round in 0..1_500 {
         let store = if round % 3 == 0 {
             gen::scrap_store(&mut rng)
@@ -385,31 +387,35 @@ fn nothing_panics() {
             gen::mutated_store(&mut rng, &model)
         };
         let _case = gen::case(|| gen::shown_numbers(&store));
-        let mut lists = Lists::new();
-        let answer = judge(&store, &mut lists.distances, &mut lists.table);
-        let state = rng.below(140) as u16;
-        let went = run(&store, &mut lists.distances, &mut lists.run, state);
-        let told = word(
-            &store,
-            &mut lists.distances,
-            &mut lists.table,
-            &mut lists.word,
-        );
-        let shown = lists.page(&store);
-        match answer {
-            Err(refusal) => {
-                assert_eq!(refusal, Refusal::new(22, 0));
-                assert_eq!(went, Err(refusal));
-                assert_eq!(told, Err(refusal));
-                assert_eq!(shown, Err(refusal));
-            }
-            Ok(Verdict::Passed { .. }) => assert!(told.is_err() && shown.is_ok()),
-            Ok(Verdict::Refused { depth, .. }) => {
-                assert!(shown.is_ok());
-                match told {
-                    Ok((length, _)) => assert_eq!(length, usize::from(depth)),
-                    Err(refusal) => assert_eq!(refusal.number, 23),
-                }
+        answers_agree(&store, rng.below(140) as u16);
+    }
+}
+
+/// Judge, Run, Word and Page on a store that may be damaged.
+fn answers_agree(store: &[u16], state: u16) {
+    let mut lists = Lists::new();
+    let answer = judge(store, &mut lists.distances, &mut lists.table);
+    let went = run(store, &mut lists.distances, &mut lists.run, state);
+    let told = word(
+        store,
+        &mut lists.distances,
+        &mut lists.table,
+        &mut lists.word,
+    );
+    let shown = lists.page(store);
+    match answer {
+        Err(refusal) => {
+            assert_eq!(refusal, Refusal::new(22, 0));
+            assert_eq!(went, Err(refusal));
+            assert_eq!(told, Err(refusal));
+            assert_eq!(shown, Err(refusal));
+        }
+        Ok(Verdict::Passed { .. }) => assert!(told.is_err() && shown.is_ok()),
+        Ok(Verdict::Refused { depth, .. }) => {
+            assert!(shown.is_ok());
+            match told {
+                Ok((length, _)) => assert_eq!(length, usize::from(depth)),
+                Err(refusal) => assert_eq!(refusal.number, 23),
             }
         }
     }
