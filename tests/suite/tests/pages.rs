@@ -3,7 +3,7 @@ use std::collections::BTreeSet;
 
 use second::gen::{self, Rng};
 use second::store::{DISTANCES, TABLE};
-use second::{Model, Verdict};
+use second::{Level, Model, Verdict};
 use suite::bench::{examples, store_of, worked_distances, worked_table, WORKED, WORKED_PAGE};
 use suite::lists::{Lists, LEAST};
 use suite::operations::{JUDGE, PAGE, PRINT, READ};
@@ -156,6 +156,37 @@ fn random_models() {
     assert!(words.len() > 60 && runs.len() > 4, "{words:?} {runs:?}");
 }
 
+/// Models whose actions have some of the levels only.
+#[test]
+fn levels_that_are_missing() {
+    use Level::{High, Low, Release};
+    let mut rng = gen::seeded("pages::levels_that_are_missing", SEED + 10);
+    let choices: [&[Level]; 7] = [
+        &[Low],
+        &[Release],
+        &[High],
+        &[Low, Release],
+        &[Low, High],
+        &[Release, High],
+        &[Low, Release, High],
+    ];
+    for levels in choices {
+        let mut passed = 0;
+        for _ in 0..100 {
+            let mut model = gen::any_model(&mut rng);
+            for action in &mut model.actions {
+                action.level = *rng.pick(levels);
+            }
+            let page = told(&mut rng, &model);
+            assert_eq!(printed(&model.to_text(), &Lists::enough(&mut rng)), page);
+            passed += usize::from(page.starts_with("V,pass,"));
+        }
+        // Nothing is to be seen, or nothing to be kept out of sight.
+        let all_pass = !(levels.contains(&Low) && levels.contains(&High));
+        assert_eq!(passed == 100, all_pass, "{levels:?}");
+    }
+}
+
 /// The line that tells a verdict.
 fn verdict_line(verdict: Verdict) -> String {
     match verdict {
@@ -174,7 +205,11 @@ fn the_verdict_is_judges() {
             .into_iter()
             .map(|(_, model)| model),
     );
-    models.extend((1..=127).map(|depth| gen::deep_model(&mut rng, depth)));
+    models.extend(
+        (1..=127)
+            .step_by(6)
+            .map(|depth| gen::deep_model(&mut rng, depth)),
+    );
     let mut passed = 0;
     for model in &models {
         let _case = gen::model_case(model);
