@@ -1,7 +1,9 @@
 //! Every operation of the archive. One entry of the table declares it for the tests and the benchmark: its name, the
 //! archive's function, what it reads and the lists that it is lent, what it answers, and the second checker's function.
 use second::{gen, End, Refusal, Verdict};
+use std::any::type_name;
 use std::hint::black_box;
+use std::mem::size_of;
 
 use crate::archive::Answer;
 use crate::input::{types, Input};
@@ -32,6 +34,14 @@ macro_rules! operations {
                 )
             },
             second: |input, lists| $second($(&input.$read,)+ $(&mut lists.$list,)* $(input.$number,)?),
+            declared: || {
+                let parameters = [
+                    $(list::<types::$read>("const ", stringify!($read)),)+
+                    $(list::<types::$list>("", stringify!($list)),)*
+                    $(number::<types::$number>(stringify!($number)),)?
+                ];
+                format!("{}({});", stringify!($function), parameters.join(", "))
+            },
             shown: |input| {
                 let parts = [$(input.$read.to_string(),)+ $(format!("{} {}", stringify!($number), input.$number),)?];
                 parts.join("\n")
@@ -55,6 +65,17 @@ operations! {
     PRINT: "print" till_print(text; store, distances, table, run, word, page) -> usize, expected_print;
 }
 
+/// A list as C declares it.
+fn list<T>(constant: &str, name: &str) -> String {
+    let bits = 8 * size_of::<T>();
+    format!("{constant}uint{bits}_t *{name}, size_t {name}_len")
+}
+
+/// A number as C declares it.
+fn number<T>(name: &str) -> String {
+    format!("uint{}_t {name}", 8 * size_of::<T>())
+}
+
 /// An operation with its answer's type.
 pub struct Operation<A: Answer> {
     pub name: &'static str,
@@ -64,6 +85,8 @@ pub struct Operation<A: Answer> {
     /// The archive's function with nothing around it.
     proved: fn(&Input, &mut Lists) -> A::Raw,
     second: fn(&Input, &mut Lists) -> Result<A, Refusal>,
+    /// The archive's function as C declares it, but for what it answers.
+    declared: fn() -> String,
     shown: fn(&Input) -> String,
 }
 
@@ -112,6 +135,9 @@ pub trait AnyOperation: Sync {
     /// The lists that it is lent after that.
     fn lent(&self) -> &'static [List];
 
+    /// The archive's function as C declares it.
+    fn declared(&self) -> String;
+
     /// The archive's function alone.
     fn call_proved(&self, input: &Input, lists: &mut Lists);
 
@@ -133,6 +159,12 @@ impl<A: Answer> AnyOperation for Operation<A> {
 
     fn lent(&self) -> &'static [List] {
         self.lent
+    }
+
+    fn declared(&self) -> String {
+        let path = type_name::<A::Raw>();
+        let answer = path.rsplit("::").next().unwrap_or(path);
+        format!("{answer} {}", (self.declared)())
     }
 
     fn call_proved(&self, input: &Input, lists: &mut Lists) {
