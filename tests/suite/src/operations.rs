@@ -1,5 +1,6 @@
 //! Every operation of the archive. One entry of the table declares it for the tests and the benchmark: its name, the
 //! archive's function, what it reads and the lists that it is lent, what it answers, and the second checker's function.
+//! A list that no other operation is lent is a line in `lists.rs`, something else to read is a field in `input.rs`.
 use second::{gen, End, Refusal, Verdict};
 use std::any::type_name;
 use std::hint::black_box;
