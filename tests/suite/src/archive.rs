@@ -10,14 +10,15 @@ pub struct TillAnswer {
     pub count: u64,
     pub first: u64,
     pub second: u64,
+    pub third: u64,
 }
 
 impl TillAnswer {
     /// The values, or the refusal; what is not told is 0. An answer of another form is a fault of the archive.
     fn values(&self) -> Result<Vec<u64>, Refusal> {
-        let all = [self.first, self.second];
+        let all = [self.first, self.second, self.third];
         if self.number != 0 {
-            assert_eq!((self.count, all), (0, [0, 0]), "a refusal has no values");
+            assert_eq!((self.count, all), (0, [0; 3]), "a refusal has no values");
             let number = u16::try_from(self.number).expect("a refusal's number has 16 bits");
             return Err(Refusal::new(number, self.place));
         }
@@ -29,6 +30,14 @@ impl TillAnswer {
         );
         Ok(values.to_vec())
     }
+}
+
+/// What Read, Judge and Word answer of one text.
+#[repr(C)]
+pub struct TillTold {
+    pub read: TillAnswer,
+    pub judge: TillAnswer,
+    pub word: TillAnswer,
 }
 
 /// An answer of the second checker's form.
@@ -101,6 +110,33 @@ impl Values for (usize, End) {
             _ => panic!("{values:?} is no length and end"),
         };
         (Values::of(&values[..1]), end)
+    }
+}
+
+/// What is told of a text: Read's answer and, if the text is read, Judge's and Word's.
+#[derive(Debug, PartialEq)]
+pub struct Told {
+    pub read: Result<(), Refusal>,
+    pub judged: Option<Judged>,
+}
+
+/// What Judge and Word tell.
+pub type Judged = (Result<Verdict, Refusal>, Result<(usize, End), Refusal>);
+
+impl Answer for Told {
+    type Raw = TillTold;
+
+    fn of(raw: TillTold) -> Result<Told, Refusal> {
+        let read = Answer::of(raw.read);
+        let judged = match read {
+            Ok(()) => Some((Answer::of(raw.judge), Answer::of(raw.word))),
+            Err(_) => {
+                // All 0 reads as a success with no values.
+                assert_eq!([raw.judge, raw.word].map(Answer::of), [Ok(()), Ok(())]);
+                None
+            }
+        };
+        Ok(Told { read, judged })
     }
 }
 

@@ -6,7 +6,7 @@ use std::any::type_name;
 use std::hint::black_box;
 use std::mem::size_of;
 
-use crate::archive::Answer;
+use crate::archive::{Answer, Told};
 use crate::input::{types, Input};
 use crate::lists::{List, Lists, LEAST};
 
@@ -64,6 +64,7 @@ operations! {
     PAGE: "Page" till_page(store; distances, table, run, word, page) -> usize, second::page;
     WRITE: "Write" till_write(store; written) -> usize, second::write;
     PRINT: "print" till_print(text; store, distances, table, run, word, page) -> usize, expected_print;
+    TELL: "tell" till_tell(text; store, distances, table, word) -> Told, expected_tell;
 }
 
 /// A list as C declares it.
@@ -218,4 +219,20 @@ fn expected_print(
             Ok(line.len())
         }
     }
+}
+
+/// Read, and then Judge and Word on the store that it filled.
+fn expected_tell(
+    text: &[u8],
+    store: &mut [u16],
+    distances: &mut [u16],
+    table: &mut [u8],
+    word: &mut [u16],
+) -> Result<Told, Refusal> {
+    let read = second::read(text, store);
+    let judged = read.is_ok().then(|| {
+        let verdict = second::judge(store, distances, table);
+        (verdict, second::word(store, distances, table, word))
+    });
+    Ok(Told { read, judged })
 }
