@@ -2,7 +2,9 @@
 use mathlib.Core.Bool.{true, false}
 use mathlib.Core.List.{[], _∷_}
 use mathlib.Core.Path.{_≡_, refl}
+use Prim.Native.Nat.{_-_}
 use lib.ListN.{set}
+use Rattle.text.specs.Limits.{storeLength, targetPlace}
 use Rattle.text.specs.Bytes.{kindOf}
 use Rattle.text.specs.Split.{same?}
 use Rattle.text.specs.Model.{Model, above?, aboveLast?}
@@ -30,14 +32,14 @@ unfolding good? holds? wellFormed? eachAfter? actionFits? stepRises? modelAt lis
 good = refl
 
 -- "Unused places are 0."
-unused-not-zero : good? (set (storeOf one-state) 3971 1) ≡ false
+unused-not-zero : good? (set (storeOf one-state) (storeLength - 1) 1) ≡ false
 unfolding good? holds? wellFormed? eachAfter? actionFits? stepRises? modelAt listed storeOf padded actionNumbers
     actionsNumbers stepsNumbers headPlaces stepFits? used? name? nameByte? allOf headFits? above? aboveLast? same?
     kindOf one-state
 unused-not-zero = refl
 
 -- a target that is no state
-target-out-of-range : good? (set (storeOf one-state) 902 1) ≡ false
+target-out-of-range : good? (set (storeOf one-state) (targetPlace 0) 1) ≡ false
 unfolding good? holds? wellFormed? eachAfter? actionFits? stepRises? modelAt listed storeOf padded actionNumbers
     actionsNumbers stepsNumbers headPlaces stepFits? used? name? nameByte? allOf headFits? above? aboveLast? same?
     kindOf one-state

@@ -15,10 +15,12 @@ use text::bytes::SMALL_LETTER;
 use text::bytes::kind;
 use text::bytes::kinds;
 use text::limits::ACTION_LIMIT;
+use text::limits::ACTIONS_END;
+use text::limits::NAME_LENGTH_COLUMN;
 use text::limits::NAME_LIMIT;
 use text::limits::STATE_LIMIT;
 use text::limits::STEP_LIMIT;
-use text::limits::STORE_LENGTH;
+use text::limits::STEPS_END;
 use text::line::is_above;
 ghost use Prim.Native.Nat.{_+_, _≤_, _<_};
 ghost use lib.Dec.{T};
@@ -102,8 +104,8 @@ fn same_name(store: &[u16], a: Action, b: Action) -> bool
 {
     same(
         store,
-        action_place(a) + 1,
-        action_place(b) + 1,
+        action_place(a) + NAME_LENGTH_COLUMN,
+        action_place(b) + NAME_LENGTH_COLUMN,
         NAME_LIMIT as usize + 1,
     )
 }
@@ -256,10 +258,10 @@ fn places_good(store: &[u16]) -> bool
     if !steps_good(store, h) {
         return false;
     }
-    if !zeros(store, action_place(Action(h.actions)), step_place(Step(0))) {
+    if !zeros(store, action_place(Action(h.actions)), ACTIONS_END) {
         return false;
     }
-    zeros(store, step_place(Step(h.steps)), STORE_LENGTH)
+    zeros(store, step_place(Step(h.steps)), STEPS_END)
 }
 
 // Whether a store is good: some text reads to it.

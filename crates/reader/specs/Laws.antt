@@ -1,4 +1,3 @@
-pub mod FillLaws
 pub mod ReadLaws
 pub mod ReadStepsLaws
 pub mod ReadAnswerLaws

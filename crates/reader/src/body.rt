@@ -4,6 +4,8 @@ use crate::actions::actions;
 use crate::answers::LinesRead;
 use crate::answers::TextRead;
 use crate::steps::steps;
+use model::put::copy;
+use model::put::put_head;
 use text::Fault;
 use text::Head;
 use text::bytes::LINE_END;
@@ -14,14 +16,11 @@ use text::line::find;
 use text::line::head_line;
 use text::line::is_letter;
 ghost use mathlib.Core.Path.{_≡_};
-ghost use mathlib.Core.List.{_++_};
 ghost use Prim.Native.Nat.{_≤_};
 ghost use lib.ListN.{length, drop};
-ghost use lib.Seq.{sets};
 ghost use Rattle.text.specs.Bytes.{lineEnd};
 ghost use Rattle.text.specs.Split.{split};
 ghost use Rattle.text.specs.Limits.{storeLength};
-ghost use Rattle.model.specs.Store.{headPlaces};
 ghost use Rattle.text.specs.Inner.Table.{KindTable};
 ghost use Rattle.text.specs.Inner.LineAnswers.{headRead};
 ghost use Rattle.reader.specs.Inner.ReadSoFar.{AfterHead, AfterActions, AfterSteps, AfterEnd, Further, ReadOut};
@@ -106,29 +105,6 @@ fn lines(kinds: &[u8; 256], text: &[u8], at: usize, head: Head, out: &mut [u16])
                 LinesRead::Next(b) => end(kinds, text, b, head, out),
             }
         }
-    }
-}
-
-// Stores what the first line states.
-fn put_head(out: &mut [u16], head: Head)
-    requires { ⌜ 4 ≤ length (now out) ⌝ }
-    ensures { λ _. ⌜ now (out .exit) ≡ sets (now (out .entry)) 0 (headPlaces head) ⌝ }
-{
-    out[0] = head.states;
-    out[1] = head.actions;
-    out[2] = head.steps;
-    out[3] = head.start.0;
-}
-
-// Copies all of a list to the front of another.
-fn copy(from: &[u16], to: &mut [u16])
-    requires { ⌜ length (now from) ≤ length (now to) ⌝ }
-    ensures { λ _. ⌜ now (to .exit) ≡ now (from .entry) ++ drop (length (now (from .entry))) (now (to .entry)) ⌝ }
-{
-    let mut i = 0;
-    while i < from.len() {
-        to[i] = from[i];
-        i += 1;
     }
 }
 

@@ -1,30 +1,15 @@
 // The lines of the steps.
 use crate::answers::LinesRead;
+use model::put::put_step;
 use text::Action;
 use text::Head;
 use text::State;
+use text::Step;
 use text::StepLine;
-use text::limits::STEP_SIZE;
-use text::limits::STEPS_AT;
 use text::scan::StepAt;
 use text::scan::step_at;
-ghost use mathlib.Core.List.{[], _∷_};
-ghost use mathlib.Core.Path.{_≡_};
-ghost use Prim.Native.Nat.{_+_, _*_, _≤_, _<_};
-ghost use lib.ListN.{length};
-ghost use lib.Seq.{sets};
 ghost use Rattle.text.specs.Inner.Table.{KindTable};
 ghost use Rattle.reader.specs.Inner.ReadSoFar.{AfterActions, AfterSteps, Further};
-
-// Stores a step.
-fn put_step(out: &mut [u16], at: usize, s: StepLine)
-    requires { ⌜ at + 3 ≤ length (now out) ⌝ }
-    ensures { λ _. ⌜ now (out .exit) ≡ sets (now (out .entry)) at (s .source .0 ∷ s .action .0 ∷ s .target .0 ∷ []) ⌝ }
-{
-    out[at] = s.source.0;
-    out[at + 1] = s.action.0;
-    out[at + 2] = s.target.0;
-}
 
 // The lines of the steps, into a store that holds the first line and the actions.
 pub fn steps(kinds: &[u8; 256], text: &[u8], at: usize, head: Head, out: &mut [u16]) -> LinesRead
@@ -51,7 +36,7 @@ pub fn steps(kinds: &[u8; 256], text: &[u8], at: usize, head: Head, out: &mut [u
                 };
             }
             StepAt::Good { step, next } => {
-                put_step(out, STEPS_AT + STEP_SIZE * j, step);
+                put_step(out, Step(j as u16), step);
                 last = step;
                 from = next;
             }

@@ -11,7 +11,7 @@ use Rattle.text.specs.Numbers.{digits}
 use Rattle.text.specs.Join.{join}
 use Rattle.text.specs.Model.{ActionLine, Model}
 use Rattle.model.specs.Text.{levelByte}
-use Rattle.model.specs.Store.{headPlaces}
+use Rattle.model.specs.Store.{headPlaces, stepPlaces}
 
 -- a letter and fields
 abbrev pub lineOf : ℕ → List (List ℕ) → List ℕ
@@ -22,9 +22,6 @@ lineOfHead h = lineOf 77 (map digits (headPlaces h))
 
 abbrev pub lineOfAction : ActionLine → List ℕ
 lineOfAction a = lineOf 65 ((levelByte (a .level) ∷ []) ∷ a .name ∷ [])
-
-abbrev pub stepPlaces : StepLine → List ℕ
-stepPlaces s = s .source .0 ∷ s .action .0 ∷ s .target .0 ∷ []
 
 abbrev pub lineOfStep : StepLine → List ℕ
 lineOfStep s = lineOf 83 (map digits (stepPlaces s))

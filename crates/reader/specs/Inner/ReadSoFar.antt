@@ -3,7 +3,7 @@
 -- Only the contracts of inner functions cite it. Document 01, "The text" and "The model store".
 use mathlib.Core.List.{List, [], _∷_, _++_}
 use mathlib.Core.Path.{_≡_}
-use Prim.Native.Nat.{ℕ, _+_, _-_, _*_, _≤_}
+use Prim.Native.Nat.{ℕ, _+_, _-_, _≤_}
 use lib.ListN.{length, drop}
 use Rattle.text.specs.declared.Fault.the-variants.{Absent}
 use Rattle.text.specs.declared.Head.{Head}
@@ -13,34 +13,16 @@ use Rattle.text.specs.declared.line.HeadRead.the-variants as head-read
 use Rattle.reader.specs.declared.answers.LinesRead.{LinesRead}
 use Rattle.reader.specs.declared.answers.LinesRead.the-variants as lines-read
 use Rattle.reader.specs.declared.answers.TextRead.{TextRead}
-use Rattle.text.specs.Limits.{stateLimit, actionLimit, stepLimit, nameLimit}
+use Rattle.text.specs.Limits.{stateLimit, actionLimit, stepLimit, actionsLength}
 use Rattle.text.specs.Bytes.{lineEnd}
 use Rattle.text.specs.Split.{split}
 use Rattle.text.specs.Model.{ActionLine, Model}
 use Rattle.text.specs.Lines.{Line, bad, headOf}
 use Rattle.text.specs.Inner.LineAnswers.{Last}
 use Rattle.model.specs.Reading.{Reading, faulty, done, headModel, readModel, readActions, readSteps}
-use Rattle.model.specs.Store.{actionNumbers, actionsNumbers, storeOf}
+use Rattle.model.specs.Store.{actionsNumbers, storeOf}
+use Rattle.model.specs.Inner.StoredActions.{Short}
 use Rattle.reader.specs.Answers.{readingStore, ReadAs}
-
--- ---- an action in the store
-
--- an action stands from place `at` on, and its name has at most twelve bytes
-pub record ActionStored (store : List ℕ) (at : ℕ) (a : ActionLine) : Type 0 where
-  pub after : List ℕ
-  pub stored : drop at store ≡ actionNumbers a ++ after
-  pub short : length (a .name) ≤ nameLimit
-
--- each name has at most twelve bytes
-unfoldable pub Short : List ActionLine → Type 0
-Short [] = Unit {0}
-Short (a ∷ rest) = (length (a .name) ≤ nameLimit) × Short rest
-
--- actions stand one after the other from place `at` on
-pub record ActionsStored (store : List ℕ) (at : ℕ) (actions : List ActionLine) : Type 0 where
-  pub after : List ℕ
-  pub stored : drop at store ≡ actionsNumbers actions ++ after
-  pub short : Short actions
 
 -- ---- after some lines
 
@@ -77,7 +59,7 @@ pub record AfterStep (h : Head) (text : List ℕ) (at j : ℕ) (last : StepLine)
   pub limits : InLimits h
   pub place : at ≤ length text
   pub actions : List ActionLine
-  pub action-places : length (actionsNumbers actions) ≤ 14 * actionLimit
+  pub action-places : length (actionsNumbers actions) ≤ actionsLength
   pub steps : List StepLine
   pub count : length steps ≡ j
   pub last-step : Last steps j last

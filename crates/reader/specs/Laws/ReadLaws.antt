@@ -26,9 +26,10 @@ use Rattle.model.specs.Laws.Text.JoinedFieldsLaws.{good-checked}
 use Rattle.model.specs.Laws.Text.ActionLineLaws.{good-nameFrom, name-length}
 use Rattle.model.specs.Reading.{Reading, faulty, onLine, orFault, readActions, headModel}
 use Rattle.model.specs.Store.{storeOf}
-use Rattle.reader.specs.Inner.ReadSoFar.{Short, whole, InLimits, AfterHead, AfterActions, Further}
+use Rattle.reader.specs.Inner.ReadSoFar.{whole, InLimits, AfterHead, AfterActions, Further}
+use Rattle.model.specs.Inner.StoredActions.{Short}
 use Rattle.model.specs.Laws.Store.StoreLaws.{storeOf-length-of-places}
-use Rattle.reader.specs.Laws.FillLaws.{actionsNumbers-length-of-Short, Short-snoc, storeOf-withAction}
+use Rattle.model.specs.Laws.Store.PutLaws.{actionsNumbers-length-of-short, short-snoc, storeOf-withAction}
 
 -- ---- a line, found by its end
 
@@ -127,7 +128,7 @@ pub afterActions-length : (h : Head) (text : List ℕ) (at i : ℕ) (store : Lis
 afterActions-length h text at i store b l =
     let n = b .limits .actions in
     let c = b .count in
-    let m = actionsNumbers-length-of-Short (b .actions) (b .short) in
+    let m = actionsNumbers-length-of-short (b .actions) (b .short) in
     let model : Model = record { head = h; actions = b .actions; steps = [] } in
     rw (b .stored) (storeOf-length-of-places model (omega arith) (omega arith))
 
@@ -163,8 +164,8 @@ module _ (h : Head) (text : List ℕ) (at i : ℕ) (store : List ℕ) (b : After
           place = omega arith;
           actions = b .actions ++ (a ∷ []);
           count = length-append (b .actions) (a ∷ []) ∙ omega arith;
-          short = Short-snoc (b .actions) a (b .short) n;
-          stored = rw (b .stored) (storeOf-withAction h (b .actions) a i (b .count) (omega arith) (b .short) n);
+          short = short-snoc (b .actions) a (b .short) n;
+          stored = rw (b .stored) (storeOf-withAction h (b .actions) [] a i (b .count) (omega arith) (b .short) n);
           rest = b .rest ∙ rw (actions-suc)
               (onLine-line text at e (b .place) found (2 + i) _ l ∙ orFault-good (2 + i) _ _ a r ∙ rw c);
         }

@@ -25,8 +25,9 @@ use Rattle.model.specs.Reading.{done, faulty, readNothing, readEnd, readSteps, 
 use Rattle.text.specs.declared.line.StepRead.the-variants as step-read
 use Rattle.text.specs.Inner.Scan.{NoLineAt, StepLineAt}
 use Rattle.reader.specs.Inner.ReadSoFar.{whole, AfterActions, AfterStep, AfterSteps, AfterEnd}
+use Rattle.model.specs.Store.{stepPlaces}
 use Rattle.model.specs.Laws.Store.StoreLaws.{storeOf-length-of-places}
-use Rattle.reader.specs.Laws.FillLaws.{actionsNumbers-length-of-Short, storeOf-withStep}
+use Rattle.model.specs.Laws.Store.PutLaws.{actionsNumbers-length-of-short, storeOf-withStep}
 use Rattle.reader.specs.Laws.ReadLaws.{onLine-absent, onLine-line, orFault-bad, orFault-good}
 
 -- ---- the steps
@@ -51,7 +52,7 @@ after-actions h text at store last b =
     let z : h .actions - h .actions ≡ 0 = omega arith in
     let y : h .steps - 0 ≡ h .steps = omega arith in
     let x : 2 + h .actions + 0 ≡ 2 + h .actions = omega arith in
-    let n = actionsNumbers-length-of-Short (b .actions) (b .short) in
+    let n = actionsNumbers-length-of-short (b .actions) (b .short) in
     let m = b .limits .actions in
     record {
       limits = b .limits;
@@ -84,7 +85,7 @@ module _ (h : Head) (text : List ℕ) (at j : ℕ) (last : StepLine) (store : Li
 
     step-next : (s : StepLine) → stepOf h (b .steps) (take (e - at) (drop at text)) ≡ good s
         → AfterStep h text (e + 1) (j + 1) s
-        (sets store (stepPlace j) (s .source .0 ∷ s .action .0 ∷ s .target .0 ∷ []))
+        (sets store (stepPlace j) (stepPlaces s))
     unfolding readSteps
     step-next s r =
         let c : suc (2 + h .actions + j) ≡ 2 + h .actions + (j + 1) = omega arith in
@@ -119,7 +120,7 @@ module _ (h : Head) (text : List ℕ) (at j : ℕ) (last : StepLine) (store : Li
 
   pub step-taken : (s : StepLine) (next : ℕ)
       → (e : ℕ) × (next ≡ e + 1) × StepLineAt h text at j last (step-read.Good s) e
-      → AfterStep h text next (j + 1) s (sets store (stepPlace j) (s .source .0 ∷ s .action .0 ∷ s .target .0 ∷ []))
+      → AfterStep h text next (j + 1) s (sets store (stepPlace j) (stepPlaces s))
   unfolding stepRead
   step-taken s next (e, n, l) =
       rw n (step-next h text at j last store b lt e (l .found) (l .inside) s (l .reads (b .steps) (b .last-step)))

@@ -48,25 +48,21 @@ returns-3 c =
 action-place-requires : tie.Need-action-place-requires
 action-place-requires c κs = search needs
 
-step-place-requires : tie.Need-step-place-requires
-step-place-requires c κs = search needs
-
 zeros-requires : tie.Need-zeros-requires
 zeros-requires c κs = search needs
 
 returns-4 : tie.Need-returns-4
 returns-4 c =
     let f = c .before .zeros in
-    let e = c .before .before .before .before .before .before .before .before .before .before .head .ensures in
+    let e = c .before .before .before .before .before .before .before .before .before .head .ensures in
     let n = ap (λ (x : Head). x .actions) e in
-    let a = c .before .before .before .action-place .ensures in
-    let s = c .before .before .step-place .ensures in
+    let a = c .before .before .action-place .ensures in
     λ p.
     decides-refused (f .result) _ (f .ensures) (c .if4 .taken)
     (record { at = λ k h l. p .unused-actions .at k (omega arith) (omega arith) })
 
-step-place-requires-2 : tie.Need-step-place-requires-2
-step-place-requires-2 c κs = search needs
+step-place-requires : tie.Need-step-place-requires
+step-place-requires c κs = search needs
 
 zeros-requires-2 : tie.Need-zeros-requires-2
 zeros-requires-2 c κs = search needs
@@ -74,15 +70,14 @@ zeros-requires-2 c κs = search needs
 returns-5 : tie.Need-returns-5
 returns-5 c =
     let unused-passed = c .before .before in
-    let steps-passed = unused-passed .before .before .before .before in
+    let steps-passed = unused-passed .before .before .before in
     let actions-passed = steps-passed .before .before in
     let head-passed = actions-passed .before .before in
     let e = head-passed .before .before .head .ensures in
     let n = ap (λ (x : Head). x .actions) e in
     let m = ap (λ (x : Head). x .steps) e in
-    let a = unused-passed .before .before .before .action-place .ensures in
-    let s = unused-passed .before .before .step-place .ensures in
-    let t = c .before .step-place2 .ensures in
+    let a = unused-passed .before .before .action-place .ensures in
+    let t = c .before .step-place .ensures in
     let hd = head-passed .before .head-fits in
     let ac = actions-passed .before .actions-good in
     let st = steps-passed .before .steps-good in
@@ -113,9 +108,8 @@ places-good-spec =
     steps-good-requires
     returns-3
     action-place-requires
-    step-place-requires
     zeros-requires
     returns-4
-    step-place-requires-2
+    step-place-requires
     zeros-requires-2
     returns-5)

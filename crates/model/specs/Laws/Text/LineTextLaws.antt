@@ -15,11 +15,11 @@ use Rattle.text.specs.Numbers.{digits}
 use Rattle.text.specs.Model.{aboveLast?}
 use Rattle.text.specs.Lines.{Line, good, bad, checked, numbersLine, headFits?, headNumbers, headFrom, headOf}
 use Rattle.text.specs.Lines.{stepFits?, stepNumbers, rising, stepFrom, stepOf}
-use Rattle.model.specs.Store.{headPlaces}
+use Rattle.model.specs.Store.{headPlaces, stepPlaces}
 use Rattle.text.specs.Inner.Ranges.{HeadRanges, Small}
 use Rattle.text.specs.Laws.RangesLaws.{headFits?→HeadRanges, stepFits?→StepRanges}
 use Rattle.model.specs.WellFormed.{StepFits}
-use Rattle.model.specs.Inner.LineText.{lineOf, lineOfHead, stepPlaces, lineOfStep}
+use Rattle.model.specs.Inner.LineText.{lineOf, lineOfHead, lineOfStep}
 use Rattle.model.specs.Laws.Text.JoinedFieldsLaws.{checked-good, good-checked, numbersLine-line}
 use Rattle.model.specs.Laws.Text.JoinedFieldsLaws.{line-of-numbersLine}
 

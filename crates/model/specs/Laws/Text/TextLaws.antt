@@ -21,10 +21,10 @@ use Rattle.text.specs.Laws.JoinLaws.{join-cons, all-join}
 use Rattle.text.specs.Model.{ActionLine, Model}
 use Rattle.text.specs.Lines.{good, headFits?, headOf, name?, actionOf, stepOf}
 use Rattle.model.specs.Text.{headText, levelByte, actionText, stepText, actionsText, stepsText, textOf}
-use Rattle.model.specs.Store.{headPlaces}
+use Rattle.model.specs.Store.{headPlaces, stepPlaces}
 use Rattle.model.specs.WellFormed.{ActionFits, StepFits, WellFormed}
 use Rattle.model.specs.Laws.Store.EachLaws.{all-of-each}
-use Rattle.model.specs.Inner.LineText.{NameByte, LineByte, lineOf, lineOfHead, lineOfAction, stepPlaces}
+use Rattle.model.specs.Inner.LineText.{NameByte, LineByte, lineOf, lineOfHead, lineOfAction}
 use Rattle.model.specs.Inner.LineText.{lineOfStep, partsOf}
 use Rattle.model.specs.Laws.Text.ActionLineLaws.{name-bytes, levelByte-capital, line-of-actionOf}
 use Rattle.model.specs.Laws.Text.LineTextLaws.{line-of-headOf, line-of-stepOf}

@@ -13,7 +13,7 @@ use Rattle.text.specs.Inner.LineAnswers.{actionRead}
 use Rattle.reader.specs.Inner.ReadSoFar.{Further}
 use Rattle.reader.specs.Laws.ReadLaws.{action-absent, action-bad, action-next, afterActions-length}
 use Rattle.reader.specs.Laws.ReadLaws.{actionOf-bad, actionOf-used, actionOf-good}
-use Rattle.reader.specs.Laws.NameLaws.{name-part, ActionsStored-so-far}
+use Rattle.reader.specs.Laws.NameLaws.{name-part, actionsStored-so-far}
 use Rattle.reader.proofs.actions.action.Statement.{statement}
 use Rattle.reader.proofs.actions.action.Tie as tie
 
@@ -108,15 +108,9 @@ returns-2 c =
     let e = k .before .before .before .before .before in
     let s = e .before .before .before .before in
     let b = s .pre .0 in
-    let t = sym (u .used .ensures (b .actions) (ActionsStored-so-far _ _ _ _ _ b) (b .count)) ∙ c .if2 .taken in
+    let t = sym (u .used .ensures (b .actions) (actionsStored-so-far _ _ _ _ _ b) (b .count)) ∙ c .if2 .taken in
     action-bad _ _ _ (s .args .i) _ b (s .pre .1) _ (e .before .find .ensures) (inside e .0) _
     (actionOf-used (b .actions) _ _ (named k .2) t)
-
-mul-put-action : tie.Need-mul-put-action
-mul-put-action c = omega arith
-
-add-put-action : tie.Need-add-put-action
-add-put-action c = omega arith
 
 sub-put-action : tie.Need-sub-put-action
 sub-put-action c = let n = named (c .before .before .before .before .before) in omega arith
@@ -137,7 +131,7 @@ put-action-requires c κs =
     let s = k .before .before .before .before .before .before .before .before .before in
     let m = s .pre .0 .limits .actions in
     let l = afterActions-length _ _ _ (s .args .i) _ (s .pre .0) (omega arith) in
-    (omega arith, named k .1)
+    (omega arith, omega arith, named k .1)
 
 add-t24 : tie.Need-add-t24
 add-t24 c =
@@ -167,7 +161,7 @@ returns-4 c =
     let e = k .before .before .before .before .before in
     let s = e .before .before .before .before in
     let b = s .pre .0 in
-    let t = sym (u .used .ensures (b .actions) (ActionsStored-so-far _ _ _ _ _ b) (b .count))
+    let t = sym (u .used .ensures (b .actions) (actionsStored-so-far _ _ _ _ _ b) (b .count))
     ∙ p .before .before .before .if2 .left in
     rw (p .put-action .ensures)
     (action-next _ _ _ (s .args .i) _ b (s .pre .1) _ (e .before .find .ensures) (inside e .0) _
@@ -193,8 +187,6 @@ action-spec =
     used-requires
     same-length
     returns-2
-    mul-put-action
-    add-put-action
     sub-put-action
     part-put-action-start
     part-put-action-end

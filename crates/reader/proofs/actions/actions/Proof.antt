@@ -16,11 +16,8 @@ Inv-loop kinds text at head out₀ count from₀ i₀ out from i =
 abbrev μ-loop : tie.MeasureT-loop
 μ-loop kinds text at head out₀ count from₀ i₀ out from i = head .actions - i
 
-cast-count : tie.Need-cast-count Inv-loop μ-loop
-cast-count c = search needs
-
 loop-holds : tie.Need-loop-holds Inv-loop μ-loop
-loop-holds c = (search needs, refl, c .before .before .before .pre .0)
+loop-holds c = (search needs, refl, c .before .before .pre .0)
 
 action-requires : tie.Need-action-requires Inv-loop μ-loop
 action-requires c κs = let l = c .before .before in (l .loop .inv .2, omega arith, search needs)
@@ -65,7 +62,6 @@ actions-spec =
     (tie.spec
     Inv-loop
     μ-loop
-    cast-count
     loop-holds
     action-requires
     enum-told

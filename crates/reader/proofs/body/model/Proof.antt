@@ -2,7 +2,7 @@
 -- stored.
 use borrow.Author.Needs.{needs}
 use mathlib.Core.Path.{_∙_}
-use Rattle.reader.specs.Laws.FillLaws.{storeOf-head}
+use Rattle.model.specs.Laws.Store.PutLaws.{storeOf-head}
 use Rattle.reader.specs.Laws.ReadLaws.{after-head, further-next, further-refused}
 use Rattle.reader.specs.Laws.ReadAnswerLaws.{readOut-done, readOut-faulty}
 use Rattle.reader.proofs.body.model.Statement.{statement}

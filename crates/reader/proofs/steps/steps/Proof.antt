@@ -54,11 +54,8 @@ returns c =
 enum-known-read-2 : tie.Need-enum-known-read-2 Inv-loop μ-loop
 enum-known-read-2 c = search needs
 
-mul-put-step : tie.Need-mul-put-step Inv-loop μ-loop
-mul-put-step c = omega arith
-
-add-put-step : tie.Need-add-put-step Inv-loop μ-loop
-add-put-step c = omega arith
+cast-t24 : tie.Need-cast-t24 Inv-loop μ-loop
+cast-t24 c = omega arith
 
 put-step-requires : tie.Need-put-step-requires Inv-loop μ-loop
 put-step-requires c κs =
@@ -110,8 +107,7 @@ steps-spec =
     same-length
     returns
     enum-known-read-2
-    mul-put-step
-    add-put-step
+    cast-t24
     put-step-requires
     add-j
     loop-less
