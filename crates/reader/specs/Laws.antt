@@ -1,4 +1,4 @@
 pub mod ReadLaws
 pub mod ReadStepsLaws
-pub mod ReadAnswerLaws
+pub mod TextReadLaws
 pub mod NameLaws

@@ -1,4 +1,5 @@
 // The lines of the actions.
+use crate::answers::LineStart;
 use crate::answers::LinesRead;
 use model::names::used;
 use model::put::put_action;
@@ -17,16 +18,17 @@ ghost use Rattle.reader.specs.Inner.ReadSoFar.{AfterActions, Further};
 fn action(
     kinds: &[u8; 256],
     text: &[u8],
-    at: usize,
+    start: LineStart,
     head: Head,
     i: u16,
     out: &mut [u16],
 ) -> LinesRead
-    requires { ⌜ AfterActions head (now text) at i (now out) × (i < head .actions) × KindTable (now kinds) ⌝ }
+    requires { ⌜ AfterActions head (now text) start i (now out) × (i < head .actions) × KindTable (now kinds) ⌝ }
     ensures { λ r. ⌜ Further (λ next. AfterActions head (now (text .entry)) next (i + 1) (now (out .exit)))
         (now (text .entry)) r ⌝ }
 {
-    let line = 2 + i as usize;
+    let at = start.at;
+    let line = start.line;
     let e = find(kinds, text, at, LINE_END);
     if e == text.len() {
         return LinesRead::Faulty {
@@ -38,27 +40,36 @@ fn action(
     match read {
         ActionRead::Bad(fault) => LinesRead::Faulty { fault, line },
         ActionRead::Good(level) => {
-            let from = at + 4;
-            if used(out, i, &text[from..e]) {
+            let name = at + 4;
+            if used(out, i, &text[name..e]) {
                 return LinesRead::Faulty {
                     fault: Fault::Repeated,
                     line,
                 };
             }
-            put_action(out, Action(i), level, &text[from..e]);
-            LinesRead::Next(e + 1)
+            put_action(out, Action(i), level, &text[name..e]);
+            LinesRead::Next(LineStart {
+                at: e + 1,
+                line: line + 1,
+            })
         }
     }
 }
 
 // The lines of the actions, into a store that holds what the first line states.
-pub fn actions(kinds: &[u8; 256], text: &[u8], at: usize, head: Head, out: &mut [u16]) -> LinesRead
-    requires { ⌜ AfterActions head (now text) at 0 (now out) × KindTable (now kinds) ⌝ }
+pub fn actions(
+    kinds: &[u8; 256],
+    text: &[u8],
+    start: LineStart,
+    head: Head,
+    out: &mut [u16],
+) -> LinesRead
+    requires { ⌜ AfterActions head (now text) start 0 (now out) × KindTable (now kinds) ⌝ }
     ensures { λ r. ⌜ Further (λ next. AfterActions head (now (text .entry)) next (head .actions) (now (out .exit)))
         (now (text .entry)) r ⌝ }
 {
     let count = head.actions;
-    let mut from = at;
+    let mut from = start;
     let mut i = 0;
     while i < count {
         let read = action(kinds, text, from, head, i, out);

@@ -1,6 +1,7 @@
 // The text behind its first line: actions, steps and the end, read into a store of zeros that is copied out where
 // all is well.
 use crate::actions::actions;
+use crate::answers::LineStart;
 use crate::answers::LinesRead;
 use crate::answers::TextRead;
 use crate::steps::steps;
@@ -23,7 +24,7 @@ ghost use Rattle.text.specs.Split.{split};
 ghost use Rattle.text.specs.Limits.{storeLength};
 ghost use Rattle.text.specs.Inner.Table.{KindTable};
 ghost use Rattle.text.specs.Inner.LineAnswers.{headRead};
-ghost use Rattle.reader.specs.Inner.ReadSoFar.{AfterHead, AfterActions, AfterSteps, AfterEnd, Further, ReadOut};
+ghost use Rattle.reader.specs.Inner.ReadSoFar.{AfterHead, AfterActions, AfterSteps, Through, ReadOut};
 ghost use Rattle.reader.specs.Inner.ReadSoFar.{AfterLine, firstLine, AfterFirst};
 
 // The line at a place, taken as the first one.
@@ -57,72 +58,73 @@ pub fn after_line(text: &[u8], at: usize) -> usize
 }
 
 // The last line, and nothing after it.
-fn end(kinds: &[u8; 256], text: &[u8], at: usize, head: Head, out: &[u16]) -> LinesRead
-    requires { ⌜ AfterSteps head (now text) at (now out) × KindTable (now kinds) ⌝ }
-    ensures { λ r. ⌜ Further (λ _. AfterEnd (now (text .entry)) (now (out .entry))) (now (text .entry)) r ⌝ }
+fn end(kinds: &[u8; 256], text: &[u8], start: LineStart, out: &[u16]) -> TextRead
+    requires { ⌜ AfterSteps (now text) start (now out) × KindTable (now kinds) ⌝ }
+    ensures { λ r. ⌜ Through (now (text .entry)) (now (out .entry)) r ⌝ }
 {
-    let line = 2 + head.actions as usize + head.steps as usize;
+    let at = start.at;
+    let line = start.line;
     let e = find(kinds, text, at, LINE_END);
     if e == text.len() {
-        return LinesRead::Faulty {
+        return TextRead::Faulty {
             fault: Fault::Absent,
             line,
         };
     }
     if e != at + 1 {
-        return LinesRead::Faulty {
+        return TextRead::Faulty {
             fault: Fault::Shape,
             line,
         };
     }
     if !is_letter(kinds, text[at], b'E') {
-        return LinesRead::Faulty {
+        return TextRead::Faulty {
             fault: Fault::Shape,
             line,
         };
     }
     if e + 1 != text.len() {
-        return LinesRead::Faulty {
+        return TextRead::Faulty {
             fault: Fault::Absent,
             line: line + 1,
         };
     }
-    LinesRead::Next(e + 1)
+    TextRead::Done
 }
 
 // The lines behind the first, into a store that holds what the first states.
-fn lines(kinds: &[u8; 256], text: &[u8], at: usize, head: Head, out: &mut [u16]) -> LinesRead
-    requires { ⌜ AfterActions head (now text) at 0 (now out) × KindTable (now kinds) ⌝ }
-    ensures { λ r. ⌜ Further (λ _. AfterEnd (now (text .entry)) (now (out .exit))) (now (text .entry)) r ⌝ }
+fn lines(kinds: &[u8; 256], text: &[u8], start: LineStart, head: Head, out: &mut [u16]) -> TextRead
+    requires { ⌜ AfterActions head (now text) start 0 (now out) × KindTable (now kinds) ⌝ }
+    ensures { λ r. ⌜ Through (now (text .entry)) (now (out .exit)) r ⌝ }
 {
-    let acted = actions(kinds, text, at, head, out);
+    let acted = actions(kinds, text, start, head, out);
     match acted {
-        LinesRead::Faulty { .. } => acted,
+        LinesRead::Faulty { fault, line } => TextRead::Faulty { fault, line },
         LinesRead::Next(a) => {
             let stepped = steps(kinds, text, a, head, out);
             match stepped {
-                LinesRead::Faulty { .. } => stepped,
-                LinesRead::Next(b) => end(kinds, text, b, head, out),
+                LinesRead::Faulty { fault, line } => TextRead::Faulty { fault, line },
+                LinesRead::Next(b) => end(kinds, text, b, out),
             }
         }
     }
 }
 
 // The lines behind a good first line.
-fn model(text: &[u8], at: usize, head: Head, store: &mut [u16]) -> TextRead
-    requires { ⌜ AfterHead head (now text) at × (storeLength ≤ length (now store)) ⌝ }
+fn model(text: &[u8], start: LineStart, head: Head, store: &mut [u16]) -> TextRead
+    requires { ⌜ AfterHead head (now text) start × (storeLength ≤ length (now store)) ⌝ }
     ensures { λ r. ⌜ ReadOut (now (text .entry)) (now (store .entry)) r (now (store .exit)) ⌝ }
 {
     let kinds = kinds();
     let mut local = [0u16; STORE_LENGTH];
     put_head(&mut local, head);
-    let read = lines(&kinds, text, at, head, &mut local);
+    let read = lines(&kinds, text, start, head, &mut local);
     match read {
-        LinesRead::Next(_) => {
+        TextRead::Done => {
             copy(&local, store);
             TextRead::Done
         }
-        LinesRead::Faulty { fault, line } => TextRead::Faulty { fault, line },
+        TextRead::Faulty { .. } => read,
     }
 }
 
@@ -133,6 +135,6 @@ pub fn body(text: &[u8], at: usize, first: HeadRead, store: &mut [u16]) -> TextR
 {
     match first {
         HeadRead::Bad(fault) => TextRead::Faulty { fault, line: 1 },
-        HeadRead::Good(head) => model(text, at, head, store),
+        HeadRead::Good(head) => model(text, LineStart { at, line: 2 }, head, store),
     }
 }

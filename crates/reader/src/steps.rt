@@ -1,4 +1,5 @@
 // The lines of the steps.
+use crate::answers::LineStart;
 use crate::answers::LinesRead;
 use model::put::put_step;
 use text::Action;
@@ -12,33 +13,41 @@ ghost use Rattle.text.specs.Inner.Table.{KindTable};
 ghost use Rattle.reader.specs.Inner.ReadSoFar.{AfterActions, AfterSteps, Further};
 
 // The lines of the steps, into a store that holds the first line and the actions.
-pub fn steps(kinds: &[u8; 256], text: &[u8], at: usize, head: Head, out: &mut [u16]) -> LinesRead
-    requires { ⌜ AfterActions head (now text) at (head .actions) (now out) × KindTable (now kinds) ⌝ }
-    ensures { λ r. ⌜ Further (λ next. AfterSteps head (now (text .entry)) next (now (out .exit)))
+pub fn steps(
+    kinds: &[u8; 256],
+    text: &[u8],
+    start: LineStart,
+    head: Head,
+    out: &mut [u16],
+) -> LinesRead
+    requires { ⌜ AfterActions head (now text) start (head .actions) (now out) × KindTable (now kinds) ⌝ }
+    ensures { λ r. ⌜ Further (λ next. AfterSteps (now (text .entry)) next (now (out .exit)))
         (now (text .entry)) r ⌝ }
 {
     let count = head.steps as usize;
-    let first = 2 + head.actions as usize;
     let mut last = StepLine {
         source: State(0),
         action: Action(0),
         target: State(0),
     };
-    let mut from = at;
+    let mut from = start;
     let mut j = 0;
     while j < count {
-        let read = step_at(kinds, text, from, head, j, last);
+        let read = step_at(kinds, text, from.at, head, j, last);
         match read {
             StepAt::Bad(fault) => {
                 return LinesRead::Faulty {
                     fault,
-                    line: first + j,
+                    line: from.line,
                 };
             }
             StepAt::Good { step, next } => {
                 put_step(out, Step(j as u16), step);
                 last = step;
-                from = next;
+                from = LineStart {
+                    at: next,
+                    line: from.line + 1,
+                };
             }
         }
         j += 1;

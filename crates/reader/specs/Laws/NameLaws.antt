@@ -8,9 +8,11 @@ use lib.ListN.{length, take, drop, length-drop}
 use lib.Seq.{drop-drop, drop-nil, take-nil, length-take-le}
 use Rattle.text.specs.declared.Head.{Head}
 use Rattle.text.specs.Limits.{nameLimit, actionsBegin}
+use Rattle.text.specs.Bytes.{byteA}
 use Rattle.text.specs.Lines.{good, fieldsOf, actionFields}
 use Rattle.model.specs.Inner.StoredActions.{ActionsStored}
 use Rattle.model.specs.Laws.Store.NamesLaws.{actionsStored-storeOf}
+use Rattle.reader.specs.declared.answers.LineStart.{LineStart}
 use Rattle.reader.specs.Inner.ReadSoFar.{AfterActions}
 use Rattle.reader.specs.Laws.ReadLaws.{actionFields-length}
 
@@ -23,13 +25,13 @@ drop-take (suc n) (suc m) (x ∷ l) = let z : suc m - suc n ≡ m - n = omega ar
 
 -- the name of an action's line as a part of the text, from four places behind the line's start up to its end
 pub name-part : (text : List ℕ) (at e level : ℕ) → at ≤ e → e < length text
-    → actionFields (fieldsOf 65 2 (take (e - at) (drop at text)))
+    → actionFields (fieldsOf byteA 2 (take (e - at) (drop at text)))
     ≡ good (record { level = level; name = drop 4 (take (e - at) (drop at text)) })
     → (at + 4 ≤ e) × (length (take (e - (at + 4)) (drop (at + 4) text)) ≤ nameLimit)
-    × (actionFields (fieldsOf 65 2 (take (e - at) (drop at text)))
+    × (actionFields (fieldsOf byteA 2 (take (e - at) (drop at text)))
     ≡ good (record { level = level; name = take (e - (at + 4)) (drop (at + 4) text) }))
 name-part text at e level h l r =
-    let n = actionFields-length (fieldsOf 65 2 (take (e - at) (drop at text))) _ r in
+    let n = actionFields-length (fieldsOf byteA 2 (take (e - at) (drop at text))) _ r in
     let d = length-drop at text in
     let m = length-take-le (e - at) (drop at text) (omega arith) in
     let k = length-drop 4 (take (e - at) (drop at text)) in
@@ -39,6 +41,6 @@ name-part text at e level h l r =
     (omega arith, rw (← p) (n .1), r ∙ ap (λ (x : List ℕ). good (record { level = level; name = x })) p)
 
 -- the actions so far stand in the store
-pub actionsStored-so-far : (h : Head) (text : List ℕ) (at i : ℕ) (store : List ℕ) (b : AfterActions h text at i store)
-    → ActionsStored store actionsBegin (b .actions)
-actionsStored-so-far h text at i store b = rw (b .stored) (actionsStored-storeOf h (b .actions) [] (b .short))
+pub actionsStored-so-far : (h : Head) (text : List ℕ) (start : LineStart) (i : ℕ) (store : List ℕ)
+    (b : AfterActions h text start i store) → ActionsStored store actionsBegin (b .actions)
+actionsStored-so-far h text start i store b = rw (b .stored) (actionsStored-storeOf h (b .actions) [] (b .short))

@@ -3,7 +3,7 @@ use borrow.Author.Needs.{needs}
 use native.Mathlib.Omega.{arith}
 use Rattle.text.specs.Bytes.{lineEnd}
 use Rattle.text.specs.Laws.SplitLaws.{found-le}
-use Rattle.reader.specs.Laws.ReadAnswerLaws.{afterLine-past, afterLine-absent, afterLine-line}
+use Rattle.reader.specs.Laws.TextReadLaws.{afterLine-past, afterLine-absent, afterLine-line}
 use Rattle.reader.proofs.body.after_line.Statement.{statement}
 use Rattle.reader.proofs.body.after_line.Tie as tie
 

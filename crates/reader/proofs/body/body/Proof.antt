@@ -1,6 +1,6 @@
 -- By cases on the first line.
 use borrow.Author.Needs.{needs}
-use Rattle.reader.specs.Laws.ReadAnswerLaws.{afterFirst-bad, afterFirst-good, readOut-faulty}
+use Rattle.reader.specs.Laws.TextReadLaws.{afterFirst-bad, afterFirst-good, readOut-faulty}
 use Rattle.reader.proofs.body.body.Statement.{statement}
 use Rattle.reader.proofs.body.body.Tie as tie
 

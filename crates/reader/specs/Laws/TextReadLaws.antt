@@ -1,5 +1,5 @@
--- What Read answers and leaves, by what its first line and the lines behind it came to.
--- Document 01, "The operations, in the order of the work", 1, and both sections on refusals. Assumes nothing.
+-- What the lines of a text answer and leave, by what the first line and the lines behind it came to.
+-- Document 01, operation 1, and "Refused because of the input". Assumes nothing.
 use mathlib.Core.List.{List, [], _∷_, _++_}
 use mathlib.Core.Path.{_≡_, refl, sym, ap, _∙_}
 use Prim.Native.Nat.{ℕ, _+_, _-_, _≤_, _<_}
@@ -10,6 +10,7 @@ use Rattle.text.specs.declared.Fault.the-variants.{Absent}
 use Rattle.text.specs.declared.Head.{Head}
 use Rattle.text.specs.declared.line.HeadRead.{HeadRead}
 use Rattle.text.specs.declared.line.HeadRead.the-variants as head-read
+use Rattle.reader.specs.declared.answers.TextRead.{TextRead}
 use Rattle.reader.specs.declared.answers.TextRead.the-variants.{Done, Faulty}
 use Rattle.text.specs.Limits.{storeLength}
 use Rattle.text.specs.Bytes.{lineEnd}
@@ -19,7 +20,8 @@ use Rattle.text.specs.Lines.{bad, headOf}
 use Rattle.text.specs.Inner.LineAnswers.{headRead}
 use Rattle.model.specs.Reading.{faulty, onLine, orFault, readModel}
 use Rattle.reader.specs.Answers.{readingStore, ReadAs}
-use Rattle.reader.specs.Inner.ReadSoFar.{whole, AfterHead, AfterEnd, AfterLine, AfterFirst, firstLine, ReadOut}
+use Rattle.reader.specs.Inner.ReadSoFar.{whole, AfterHead, AfterEnd, Through}
+use Rattle.reader.specs.Inner.ReadSoFar.{AfterLine, AfterFirst, firstLine, ReadOut}
 use Rattle.reader.specs.Laws.ReadLaws.{headOf-limits}
 
 -- ---- the first line
@@ -88,7 +90,7 @@ after-first r text at e b = go (split lineEnd text) refl r e
     go (line ∷ part ∷ parts) s (head-read.Good h) d =
         record {
           limits = headOf-limits line h (sym d);
-          place = b .place;
+          inside = record { place = b .place; line-le = omega arith };
           rest = rw (s, ← d, b .rest line part parts s);
         }
     go (line ∷ part ∷ parts) s (head-read.Bad f) d = rw (s, ← d)
@@ -99,7 +101,7 @@ unfolding AfterFirst
 afterFirst-bad r text at fault e b = rw e at b
 
 pub afterFirst-good : (r : HeadRead) (text : List ℕ) (at : ℕ) (h : Head) → r ≡ head-read.Good h → AfterFirst r text at
-    → AfterHead h text at
+    → AfterHead h text (record { at = at; line = 2 })
 unfolding AfterFirst
 afterFirst-good r text at h e b = rw e at b
 
@@ -115,3 +117,14 @@ pub readOut-done : (text store local exit : List ℕ) → AfterEnd text local �
 unfolding ReadAs readingStore
 readOut-done text store local exit b n c =
     record { answer = (b .model, b .reads); filled = c ∙ rw (b .reads, n, b .stored) }
+
+-- by what the lines behind the first came to
+pub through-done : (text local : List ℕ) (r : TextRead) → r ≡ Done → Through text local r → AfterEnd text local
+unfolding Through
+through-done text local r e h = rw e at h
+
+pub through-faulty : (text store local : List ℕ) (r : TextRead) (fault : Fault) (line : ℕ) → r ≡ Faulty fault line
+    → Through text local r → ReadOut text store r store
+unfolding Through
+through-faulty text store local Done fault line e h = let z : _≡_ {A = ℕ} 0 1 = cc in absurd (omega arith)
+through-faulty text store local (Faulty f k) fault line e h = readOut-faulty text store f k h
