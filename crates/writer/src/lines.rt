@@ -119,7 +119,7 @@ impl Position {
     }
 
     // The text of the model that a store holds.
-    fn model(self, out: &mut [u8], store: &[u16]) -> Position
+    pub fn model(self, out: &mut [u8], store: &[u16]) -> Position
         requires { ⌜ Writable (now store) ⌝ }
         requires { ⌜ self .at + length (textOf (modelAt (now store))) ≤ length (now out) ⌝ }
         ensures { λ r. ⌜ Wrote (now (out .entry)) (self .at) (textOf (modelAt (now (store .entry))))
