@@ -7,10 +7,8 @@ pub enum LinesRead {
     Faulty { fault: Fault, line: usize },
 }
 
-// What Read answers.
-pub enum ReadAnswer {
+// What reading all of them comes to.
+pub enum TextRead {
     Done,
-    ShortList(usize),
-    TooLong,
     Faulty { fault: Fault, line: usize },
 }

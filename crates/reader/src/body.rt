@@ -2,7 +2,7 @@
 // all is well.
 use crate::actions::actions;
 use crate::answers::LinesRead;
-use crate::answers::ReadAnswer;
+use crate::answers::TextRead;
 use crate::steps::steps;
 use model::put::copy;
 use model::put::put_head;
@@ -109,7 +109,7 @@ fn lines(kinds: &[u8; 256], text: &[u8], at: usize, head: Head, out: &mut [u16])
 }
 
 // The lines behind a good first line.
-fn model(text: &[u8], at: usize, head: Head, store: &mut [u16]) -> ReadAnswer
+fn model(text: &[u8], at: usize, head: Head, store: &mut [u16]) -> TextRead
     requires { ⌜ AfterHead head (now text) at × (storeLength ≤ length (now store)) ⌝ }
     ensures { λ r. ⌜ ReadOut (now (text .entry)) (now (store .entry)) r (now (store .exit)) ⌝ }
 {
@@ -120,19 +120,19 @@ fn model(text: &[u8], at: usize, head: Head, store: &mut [u16]) -> ReadAnswer
     match read {
         LinesRead::Next(_) => {
             copy(&local, store);
-            ReadAnswer::Done
+            TextRead::Done
         }
-        LinesRead::Faulty { fault, line } => ReadAnswer::Faulty { fault, line },
+        LinesRead::Faulty { fault, line } => TextRead::Faulty { fault, line },
     }
 }
 
 // What the text comes to, by its first line and the place after that.
-pub fn body(text: &[u8], at: usize, first: HeadRead, store: &mut [u16]) -> ReadAnswer
+pub fn body(text: &[u8], at: usize, first: HeadRead, store: &mut [u16]) -> TextRead
     requires { ⌜ AfterFirst first (now text) at × (storeLength ≤ length (now store)) ⌝ }
     ensures { λ r. ⌜ ReadOut (now (text .entry)) (now (store .entry)) r (now (store .exit)) ⌝ }
 {
     match first {
-        HeadRead::Bad(fault) => ReadAnswer::Faulty { fault, line: 1 },
+        HeadRead::Bad(fault) => TextRead::Faulty { fault, line: 1 },
         HeadRead::Good(head) => model(text, at, head, store),
     }
 }

@@ -12,7 +12,7 @@ use Rattle.text.specs.declared.line.HeadRead.{HeadRead}
 use Rattle.text.specs.declared.line.HeadRead.the-variants as head-read
 use Rattle.reader.specs.declared.answers.LinesRead.{LinesRead}
 use Rattle.reader.specs.declared.answers.LinesRead.the-variants as lines-read
-use Rattle.reader.specs.declared.answers.ReadAnswer.{ReadAnswer}
+use Rattle.reader.specs.declared.answers.TextRead.{TextRead}
 use Rattle.text.specs.Limits.{stateLimit, actionLimit, stepLimit, actionsLength}
 use Rattle.text.specs.Bytes.{lineEnd}
 use Rattle.text.specs.Split.{split}
@@ -22,7 +22,7 @@ use Rattle.text.specs.Inner.LineAnswers.{Last}
 use Rattle.model.specs.Reading.{Reading, faulty, done, headModel, readModel, readActions, readSteps}
 use Rattle.model.specs.Store.{actionsNumbers, storeOf}
 use Rattle.model.specs.Inner.StoredActions.{Short}
-use Rattle.reader.specs.Answers.{readAnswer, readingStore}
+use Rattle.reader.specs.Answers.{readingStore, ReadAs}
 
 -- ---- after some lines
 
@@ -108,6 +108,6 @@ AfterFirst (head-read.Bad fault) text at = whole text ≡ faulty fault 1
 
 -- ---- what the lines of a text come to
 
-pub record ReadOut (text store : List ℕ) (r : ReadAnswer) (exit : List ℕ) : Type 0 where
-  pub answer : r ≡ readAnswer (whole text)
+pub record ReadOut (text store : List ℕ) (r : TextRead) (exit : List ℕ) : Type 0 where
+  pub answer : ReadAs r (whole text)
   pub filled : exit ≡ readingStore (whole text) store

@@ -58,22 +58,22 @@ orFault-good k l read a e = rw e
 
 -- ---- what some lines came to
 
-pub Further-faulty : (P Q : ℕ → Type 0) (text : List ℕ) (r : LinesRead) (fault : Fault) (line : ℕ)
+pub further-faulty : (P Q : ℕ → Type 0) (text : List ℕ) (r : LinesRead) (fault : Fault) (line : ℕ)
     → r ≡ Faulty fault line
     → Further P text r → Further Q text r
 unfolding Further
-Further-faulty P Q text (Next at) fault line e h = let z : _≡_ {A = ℕ} 0 1 = cc in absurd (omega arith)
-Further-faulty P Q text (Faulty f k) fault line e h = h
+further-faulty P Q text (Next at) fault line e h = let z : _≡_ {A = ℕ} 0 1 = cc in absurd (omega arith)
+further-faulty P Q text (Faulty f k) fault line e h = h
 
-pub Further-refused : (P : ℕ → Type 0) (text : List ℕ) (r : LinesRead) (fault : Fault) (line : ℕ)
+pub further-refused : (P : ℕ → Type 0) (text : List ℕ) (r : LinesRead) (fault : Fault) (line : ℕ)
     → r ≡ Faulty fault line
     → Further P text r → whole text ≡ faulty fault line
 unfolding Further
-Further-refused P text r fault line e h = rw e at h
+further-refused P text r fault line e h = rw e at h
 
-pub Further-next : (P : ℕ → Type 0) (text : List ℕ) (r : LinesRead) (at : ℕ) → r ≡ Next at → Further P text r → P at
+pub further-next : (P : ℕ → Type 0) (text : List ℕ) (r : LinesRead) (at : ℕ) → r ≡ Next at → Further P text r → P at
 unfolding Further
-Further-next P text r at e h = rw e at h
+further-next P text r at e h = rw e at h
 
 -- ---- what a good line keeps
 
@@ -117,15 +117,15 @@ after-head h text at b =
       rest = b .rest ∙ rw z;
     }
 
-pub AfterActions-count : (h : Head) (text : List ℕ) (at i k : ℕ) (store : List ℕ) → i ≡ k
+pub afterActions-count : (h : Head) (text : List ℕ) (at i k : ℕ) (store : List ℕ) → i ≡ k
     → AfterActions h text at i store
     → AfterActions h text at k store
-AfterActions-count h text at i k store e b = rw e at b
+afterActions-count h text at i k store e b = rw e at b
 
-pub AfterActions-length : (h : Head) (text : List ℕ) (at i : ℕ) (store : List ℕ) → AfterActions h text at i store
+pub afterActions-length : (h : Head) (text : List ℕ) (at i : ℕ) (store : List ℕ) → AfterActions h text at i store
     → i ≤ h .actions
     → length store ≡ storeLength
-AfterActions-length h text at i store b l =
+afterActions-length h text at i store b l =
     let n = b .limits .actions in
     let c = b .count in
     let m = actionsNumbers-length-of-short (b .actions) (b .short) in

@@ -32,8 +32,8 @@ use Rattle.reader.specs.Laws.ReadLaws.{onLine-absent, onLine-line, orFau
 
 -- ---- the steps
 
-Last-nil : (s : StepLine) → Last [] 0 s
-Last-nil s = record { nil = λ e. refl; cons = λ p t. absurd (omega arith) }
+last-nil : (s : StepLine) → Last [] 0 s
+last-nil s = record { nil = λ e. refl; cons = λ p t. absurd (omega arith) }
 
 aboveLast?-snoc : (steps : List StepLine) (s t : StepLine) → aboveLast? (steps ++ (s ∷ [])) t ≡ above? s t
 unfolding aboveLast?
@@ -41,8 +41,8 @@ aboveLast?-snoc [] s t = refl
 aboveLast?-snoc (r ∷ []) s t = refl
 aboveLast?-snoc (r ∷ q ∷ rest) s t = aboveLast?-snoc (q ∷ rest) s t
 
-Last-snoc : (steps : List StepLine) (j : ℕ) (s : StepLine) → Last (steps ++ (s ∷ [])) (j + 1) s
-Last-snoc steps j s = record { nil = λ e. absurd (omega arith); cons = λ p t. aboveLast?-snoc steps s t }
+last-snoc : (steps : List StepLine) (j : ℕ) (s : StepLine) → Last (steps ++ (s ∷ [])) (j + 1) s
+last-snoc steps j s = record { nil = λ e. absurd (omega arith); cons = λ p t. aboveLast?-snoc steps s t }
 
 -- after the last action come the steps
 pub after-actions : (h : Head) (text : List ℕ) (at : ℕ) (store : List ℕ) (last : StepLine)
@@ -61,7 +61,7 @@ after-actions h text at store last b =
       action-places = omega arith;
       steps = [];
       count = refl;
-      last-step = Last-nil last;
+      last-step = last-nil last;
       stored = b .stored;
       rest = b .rest ∙ rw (z, y, x);
     }
@@ -97,7 +97,7 @@ module _ (h : Head) (text : List ℕ) (at j : ℕ) (last : StepLine) (store : Li
           action-places = b .action-places;
           steps = b .steps ++ (s ∷ []);
           count = length-append (b .steps) (s ∷ []) ∙ omega arith;
-          last-step = Last-snoc (b .steps) j s;
+          last-step = last-snoc (b .steps) j s;
           stored = rw (b .stored)
               (storeOf-withStep h (b .actions) (b .steps) s j (b .action-places) (b .count) (omega arith));
           rest = b .rest ∙ rw steps-suc
@@ -125,10 +125,10 @@ module _ (h : Head) (text : List ℕ) (at j : ℕ) (last : StepLine) (store : Li
   step-taken s next (e, n, l) =
       rw n (step-next h text at j last store b lt e (l .found) (l .inside) s (l .reads (b .steps) (b .last-step)))
 
-pub AfterStep-length : (h : Head) (text : List ℕ) (at j : ℕ) (last : StepLine) (store : List ℕ)
+pub afterStep-length : (h : Head) (text : List ℕ) (at j : ℕ) (last : StepLine) (store : List ℕ)
     → AfterStep h text at j last store
     → j ≤ h .steps → length store ≡ storeLength
-AfterStep-length h text at j last store b l =
+afterStep-length h text at j last store b l =
     let n = b .limits .steps in
     let c = b .count in
     let model : Model = record { head = h; actions = b .actions; steps = b .steps } in

@@ -11,7 +11,7 @@ use Rattle.text.specs.Laws.SplitLaws.{found-le}
 use Rattle.text.specs.Lines.{good, fieldsOf, actionFields}
 use Rattle.text.specs.Inner.LineAnswers.{actionRead}
 use Rattle.reader.specs.Inner.ReadSoFar.{Further}
-use Rattle.reader.specs.Laws.ReadLaws.{action-absent, action-bad, action-next, AfterActions-length}
+use Rattle.reader.specs.Laws.ReadLaws.{action-absent, action-bad, action-next, afterActions-length}
 use Rattle.reader.specs.Laws.ReadLaws.{actionOf-bad, actionOf-used, actionOf-good}
 use Rattle.reader.specs.Laws.NameLaws.{name-part, actionsStored-so-far}
 use Rattle.reader.proofs.actions.action.Statement.{statement}
@@ -94,7 +94,7 @@ used-requires c κs =
     let k = c .before .before in
     let s = k .before .before .before .before .before .before .before .before .before in
     let m = s .pre .0 .limits .actions in
-    let l = AfterActions-length _ _ _ (s .args .i) _ (s .pre .0) (omega arith) in
+    let l = afterActions-length _ _ _ (s .args .i) _ (s .pre .0) (omega arith) in
     (omega arith, omega arith, named k .1)
 
 same-length : tie.Need-same-length
@@ -130,7 +130,7 @@ put-action-requires c κs =
     let k = c .before .before .before .before .before .before in
     let s = k .before .before .before .before .before .before .before .before .before in
     let m = s .pre .0 .limits .actions in
-    let l = AfterActions-length _ _ _ (s .args .i) _ (s .pre .0) (omega arith) in
+    let l = afterActions-length _ _ _ (s .args .i) _ (s .pre .0) (omega arith) in
     (omega arith, omega arith, named k .1)
 
 add-t24 : tie.Need-add-t24

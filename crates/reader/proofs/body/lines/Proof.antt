@@ -1,6 +1,6 @@
 -- Each phase begins where the one before it ended, or its refusal is the answer.
 use borrow.Author.Needs.{needs}
-use Rattle.reader.specs.Laws.ReadLaws.{Further-faulty, Further-next}
+use Rattle.reader.specs.Laws.ReadLaws.{further-faulty, further-next}
 use Rattle.reader.proofs.body.lines.Statement.{statement}
 use Rattle.reader.proofs.body.lines.Tie as tie
 
@@ -16,7 +16,7 @@ enum-known-acted c = search needs
 steps-requires : tie.Need-steps-requires
 steps-requires c κs =
     let k = c .before .before in
-    (Further-next _ _ _ _ (k .acted .given .1) (k .before .before .before .before .actions .ensures), search needs)
+    (further-next _ _ _ _ (k .acted .given .1) (k .before .before .before .before .actions .ensures), search needs)
 
 enum-told-2 : tie.Need-enum-told-2
 enum-told-2 c = search needs
@@ -30,19 +30,19 @@ end-requires c κs =
     let s = k .before .before .before .before in
     let a = s .before .before .before .before .before .before .before in
     let start = a .before .before .before .before in
-    (Further-next _ _ _ _ (k .stepped .given .1) (s .steps .ensures), start .pre .1)
+    (further-next _ _ _ _ (k .stepped .given .1) (s .steps .ensures), start .pre .1)
 
 same-length : tie.Need-same-length
 same-length c = search needs
 
 returns : tie.Need-returns
-returns c = Further-faulty _ _ _ _ _ _ (c .enum-told .given .1) (c .before .before .before .before .actions .ensures)
+returns c = further-faulty _ _ _ _ _ _ (c .enum-told .given .1) (c .before .before .before .before .actions .ensures)
 
 same-length-2 : tie.Need-same-length-2
 same-length-2 c = search needs
 
 returns-2 : tie.Need-returns-2
-returns-2 c = Further-faulty _ _ _ _ _ _ (c .enum-told2 .given .1) (c .before .before .before .before .steps .ensures)
+returns-2 c = further-faulty _ _ _ _ _ _ (c .enum-told2 .given .1) (c .before .before .before .before .steps .ensures)
 
 same-length-3 : tie.Need-same-length-3
 same-length-3 c = search needs

@@ -3,8 +3,8 @@
 use borrow.Author.Needs.{needs}
 use mathlib.Core.Path.{_∙_}
 use Rattle.model.specs.Laws.Store.PutLaws.{storeOf-head}
-use Rattle.reader.specs.Laws.ReadLaws.{after-head, Further-next, Further-refused}
-use Rattle.reader.specs.Laws.ReadAnswerLaws.{ReadOut-done, ReadOut-faulty}
+use Rattle.reader.specs.Laws.ReadLaws.{after-head, further-next, further-refused}
+use Rattle.reader.specs.Laws.ReadAnswerLaws.{readOut-done, readOut-faulty}
 use Rattle.reader.proofs.body.model.Statement.{statement}
 use Rattle.reader.proofs.body.model.Tie as tie
 
@@ -48,12 +48,12 @@ returns c =
     let t = p .before .before .before in
     let r = t .before .before .before in
     let kept = r .lines .kept .1 .1 .1 .1 .0 ∙ r .before .before .before .before .put-head .kept .0 in
-    ReadOut-done _ _ _ _ (Further-next _ _ _ _ (t .enum-told .given .1) (r .lines .ensures)) kept (p .copy .ensures)
+    readOut-done _ _ _ _ (further-next _ _ _ _ (t .enum-told .given .1) (r .lines .ensures)) kept (p .copy .ensures)
 
 returns-2 : tie.Need-returns-2
 returns-2 c =
     let r = c .before .before .before .before in
-    ReadOut-faulty _ _ _ _ (Further-refused _ _ _ _ _ (c .before .read .given .1) (r .lines .ensures))
+    readOut-faulty _ _ _ _ (further-refused _ _ _ _ _ (c .before .read .given .1) (r .lines .ensures))
 
 pub model-spec : {M : Type 1} → statement M
 model-spec =

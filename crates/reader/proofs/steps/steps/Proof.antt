@@ -8,7 +8,7 @@ use lib.ListN.{length}
 use Rattle.text.specs.Laws.ScanLaws.{step-at-good, step-at-bad}
 use Rattle.reader.specs.Inner.ReadSoFar.{AfterStep, Further}
 use Rattle.reader.specs.Laws.ReadStepsLaws.{after-actions, step-refused, step-taken}
-use Rattle.reader.specs.Laws.ReadStepsLaws.{AfterStep-length, after-steps}
+use Rattle.reader.specs.Laws.ReadStepsLaws.{afterStep-length, after-steps}
 use Rattle.reader.proofs.steps.steps.Statement.{statement}
 use Rattle.reader.proofs.steps.steps.Tie as tie
 
@@ -61,7 +61,7 @@ put-step-requires : tie.Need-put-step-requires Inv-loop μ-loop
 put-step-requires c κs =
     let l = c .before .before .before .before .before .before in
     let b = l .loop .inv .2 in
-    let n = AfterStep-length _ _ _ (l .loop .j) _ _ b (l .loop .inv .0) in
+    let n = afterStep-length _ _ _ (l .loop .j) _ _ b (l .loop .inv .0) in
     let m = b .limits .steps in
     omega arith
 
