@@ -174,7 +174,7 @@ fn between(least: u32, most: u32, x: u32) -> bool
 }
 
 // Whether line 1 may have these numbers.
-fn head_fits(states: u32, actions: u32, steps: u32, start: u32) -> bool
+pub fn head_fits(states: u32, actions: u32, steps: u32, start: u32) -> bool
     ensures { λ r. ⌜ r ≡ headFits? (headOfNumbers states actions steps start) ⌝ }
 {
     if !between(1, STATE_LIMIT as u32, states) {
@@ -278,7 +278,7 @@ pub fn action_line(kinds: &[u8; 256], line: &[u8]) -> ActionRead
 }
 
 // Whether the states and the action of a step are there.
-fn step_fits(head: Head, source: u32, action: u32, target: u32) -> bool
+pub fn step_fits(head: Head, source: u32, action: u32, target: u32) -> bool
     ensures { λ r. ⌜ r ≡ stepFits? head (stepOfNumbers source action target) ⌝ }
 {
     let states = head.states as u32;

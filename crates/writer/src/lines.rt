@@ -7,10 +7,10 @@ use text::Step;
 use text::StepLine;
 ghost use mathlib.Core.Path.{_≡_};
 ghost use Prim.Native.Nat.{ℕ, _+_, _≤_, _<_};
-ghost use lib.ListN.{length, getD};
+ghost use lib.ListN.{length};
 ghost use Rattle.text.specs.All.{All};
-ghost use Rattle.model.specs.StoredModel.{actionAt, modelAt};
-ghost use Rattle.model.specs.Text.{levelByte, headText, actionText, actionsText, stepText, stepsText, textOf};
+ghost use Rattle.model.specs.StoredModel.{headAt, actionAt, modelAt};
+ghost use Rattle.model.specs.Text.{levelByte, headText, actionText, actionsText, stepText, stepsText, modelText};
 ghost use Rattle.writer.specs.Inner.Writable.{Writable};
 ghost use Rattle.writer.specs.Wrote.{Wrote};
 
@@ -73,7 +73,7 @@ impl Position {
     // The line of an action that a store holds.
     fn action_at(self, out: &mut [u8], store: &[u16], a: Action) -> Position
         requires { ⌜ Writable (now store) ⌝ }
-        requires { ⌜ a .0 < getD (now store) 1 0 ⌝ }
+        requires { ⌜ a .0 < headAt (now store) .actions ⌝ }
         requires { ⌜ self .at + length (actionText (actionAt (now store) (a .0))) ≤ length (now out) ⌝ }
         ensures { λ r. ⌜ Wrote (now (out .entry)) (self .at) (actionText (actionAt (now (store .entry)) (a .0)))
             (now (out .exit)) (r .at) ⌝ }
@@ -121,8 +121,8 @@ impl Position {
     // The text of the model that a store holds.
     pub fn model(self, out: &mut [u8], store: &[u16]) -> Position
         requires { ⌜ Writable (now store) ⌝ }
-        requires { ⌜ self .at + length (textOf (modelAt (now store))) ≤ length (now out) ⌝ }
-        ensures { λ r. ⌜ Wrote (now (out .entry)) (self .at) (textOf (modelAt (now (store .entry))))
+        requires { ⌜ self .at + length (modelText (modelAt (now store))) ≤ length (now out) ⌝ }
+        ensures { λ r. ⌜ Wrote (now (out .entry)) (self .at) (modelText (modelAt (now (store .entry))))
             (now (out .exit)) (r .at) ⌝ }
     {
         let p = self.head_line(out, store::head(store));

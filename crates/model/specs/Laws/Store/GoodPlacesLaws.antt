@@ -15,7 +15,8 @@ use Rattle.text.specs.Limits.{actionPlace, nameLengthPlace, namePlace, stepPlac
 use Rattle.text.specs.Bytes.{between?}
 use Rattle.text.specs.Model.{aboveLast?}
 use Rattle.text.specs.Lines.{allOf, nameByte?, name?, used?}
-use Rattle.model.specs.Store.{padded, actionNumbers, actionsNumbers, stepPlaces, stepsNumbers, headPlaces, storeOf}
+use Rattle.model.specs.Store.{padded, actionNumbers, actionsNumbers, stepPlaces, stepsNumbers, headPlaces}
+use Rattle.model.specs.Store.{storeOf}
 use Rattle.model.specs.WellFormed.{ActionFits, StepFits, WellFormed}
 use Rattle.model.specs.StoredModel.{headAt, actionAt, stepAt, listed, modelAt, Holds}
 use Rattle.text.specs.Inner.Ranges.{HeadRanges}
@@ -97,7 +98,8 @@ module _ (s : List ℕ) (fits : storeLength ≤ length s) where
     step-numbers j h =
         let r = ranges .steps in
         let c = part-cons s (stepPlace j) (actionOfStepPlace j) (stepSize - actionColumn) (omega arith) refl in
-        let d = part-cons s (actionOfStepPlace j) (targetPlace j) (stepSize - targetColumn) (omega arith) (omega arith) in
+        let after : ℕ = stepSize - targetColumn in
+        let d = part-cons s (actionOfStepPlace j) (targetPlace j) after (omega arith) (omega arith) in
         let e = part-cons s (targetPlace j) (stepPlace (suc j)) 0 (omega arith) (omega arith) in
         rw (c, d, e)
 

@@ -9,8 +9,8 @@ use lib.Dec.{T, T-not}
 use lib.ListN.{length, getD, drop, length-drop, length-append}
 use lib.Seq.{length-take-le, take-all, getD-drop}
 use Rattle.lts.specs.TestsLaws.{lt-or-le, and-right}
-use Rattle.text.specs.Limits.{actionLimit, nameLimit, actionsBegin, actionsLength, actionsEnd, nameColumn, stepsBegin, stepsLength}
-use Rattle.text.specs.Limits.{stepsEnd, storeLength, actionPlace, namePlace, stepPlace}
+use Rattle.text.specs.Limits.{actionLimit, nameLimit, actionsBegin, actionsLength, actionsEnd, nameColumn}
+use Rattle.text.specs.Limits.{stepsBegin, stepsLength, stepsEnd, storeLength, actionPlace, namePlace, stepPlace}
 use Rattle.text.specs.Bytes.{between?}
 use Rattle.text.specs.Model.{ActionLine, above?, aboveLast?}
 use Rattle.text.specs.Lines.{allOf, nameByte?, name?, used?}

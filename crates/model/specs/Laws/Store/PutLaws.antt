@@ -13,7 +13,8 @@ use Rattle.text.specs.Limits.{actionLimit, stepLimit, nameLimit, headEnd, actio
 use Rattle.text.specs.Limits.{storeLength, actionPlace, stepPlace}
 use Rattle.text.specs.Model.{ActionLine}
 use Rattle.model.specs.Reading.{headModel}
-use Rattle.model.specs.Store.{padded, actionNumbers, actionsNumbers, stepPlaces, stepsNumbers, headPlaces, storeOf}
+use Rattle.model.specs.Store.{padded, actionNumbers, actionsNumbers, stepPlaces, stepsNumbers, headPlaces}
+use Rattle.model.specs.Store.{storeOf}
 use Rattle.model.specs.Inner.StoredActions.{Short}
 use Rattle.model.specs.Laws.Store.BlocksLaws.{padded-length, blocks-snoc}
 use Rattle.model.specs.Laws.Store.StoreLaws.{actionNumbers-length, stepsNumbers-length}

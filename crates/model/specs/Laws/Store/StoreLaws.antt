@@ -13,7 +13,8 @@ use Rattle.text.specs.Limits.{storeLength, actionPlace, stepPlace}
 use Rattle.text.specs.All.{All}
 use Rattle.text.specs.Laws.AllLaws.{all-intro, all-of-all, all-append}
 use Rattle.text.specs.Model.{ActionLine, Model}
-use Rattle.model.specs.Store.{padded, actionNumbers, actionsNumbers, stepPlaces, stepsNumbers, headPlaces, storeOf}
+use Rattle.model.specs.Store.{padded, actionNumbers, actionsNumbers, stepPlaces, stepsNumbers, headPlaces}
+use Rattle.model.specs.Store.{storeOf}
 use Rattle.model.specs.WellFormed.{EachAfter, ActionFits, StepFits, WellFormed}
 use Rattle.model.specs.Laws.Store.EachLaws.{all-of-each}
 use Rattle.model.specs.Laws.Store.BlocksLaws.{padded-append, padded-length, padded-all, blocks-length, blocks-all}

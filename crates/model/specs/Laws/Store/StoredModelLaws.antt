@@ -13,13 +13,15 @@ use Rattle.text.specs.declared.StepLine.{StepLine}
 use Rattle.text.specs.Limits.{nameLimit, nameLengthColumn, nameColumn, actionColumn, targetColumn, storeLength}
 use Rattle.text.specs.Limits.{actionPlace, nameLengthPlace, namePlace, stepPlace, actionOfStepPlace, targetPlace}
 use Rattle.text.specs.Model.{ActionLine, Model, noAction, noStep}
-use Rattle.model.specs.Laws.Text.ReadingLaws.{readText-textOf, textOf-of-readText}
-use Rattle.model.specs.Text.{textOf}
+use Rattle.model.specs.Laws.Text.ReadingLaws.{readText-modelText, readText-well-formed, states-of-readText}
+use Rattle.model.specs.Laws.Text.ReadingLaws.{states-m-text, m-text-unique}
+use Rattle.model.specs.Text.{modelText}
 use Rattle.model.specs.Store.{actionNumbers, stepPlaces, headPlaces, storeOf, Good}
 use Rattle.model.specs.Laws.Store.StoreLaws.{storeOf-length, storeOf-action, storeOf-step}
 use Rattle.model.specs.StoredModel.{headAt, actionAt, stepAt, listed, modelAt, Holds}
 use Rattle.model.specs.System.{source, action, target, level}
 use Rattle.model.specs.WellFormed.{WellFormed}
+use Rattle.model.specs.StatedText.{MText}
 use Rattle.model.specs.Laws.Store.BlocksLaws.{padded-append}
 
 -- ---- lists by their elements
@@ -57,7 +59,8 @@ action-at s i a more e =
     let all : List ℕ = actionNumbers a ++ more in
     let level : getD s (actionPlace i) 0 ≡ a .level = first-of-drop s all (actionPlace i) e in
     let n : getD s (nameLengthPlace i) 0 ≡ length (a .name) = getD-of-drop s all (actionPlace i) nameLengthColumn e in
-    let d : drop (namePlace i) s ≡ drop nameColumn all = sym (drop-drop nameColumn (actionPlace i) s) ∙ ap (drop nameColumn) e in
+    let d : drop (namePlace i) s ≡ drop nameColumn all =
+    sym (drop-drop nameColumn (actionPlace i) s) ∙ ap (drop nameColumn) e in
     rw (level, n, d, padded-append nameLimit (a .name) more, take-at (a .name) _ (length (a .name)) refl)
 
 step-at : (s : List ℕ) (j : ℕ) (t : StepLine) (more : List ℕ) → drop (stepPlace j) s ≡ stepPlaces t ++ more
@@ -96,7 +99,8 @@ module _ (s : List ℕ) (m : Model) (h : Holds s m) where
   unfolding modelAt
   modelAt-holds =
       let e = headAt-holds in
-      let a : headAt s .actions ≡ length (m .actions) = ap (λ (x : Head). x .actions) e ∙ sym (h .well-formed .action-count) in
+      let a : headAt s .actions ≡ length (m .actions) =
+      ap (λ (x : Head). x .actions) e ∙ sym (h .well-formed .action-count) in
       let t : headAt s .steps ≡ length (m .steps) = ap (λ (x : Head). x .steps) e ∙ sym (h .well-formed .step-count) in
       model-of-parts (headAt s) (listed (headAt s .actions) (actionAt s)) (listed (headAt s .steps) (stepAt s)) m e
       (listed-all (m .actions) noAction (actionAt s) (headAt s .actions) a (λ i. actionAt-holds i noAction))
@@ -144,13 +148,13 @@ holds-unique s m n h k = sym (modelAt-holds s m h) ∙ modelAt-holds s n k
 
 pub good-of-holds : (s : List ℕ) (m : Model) → Holds s m → Good s
 good-of-holds s m h =
-    record { text = textOf m; model = m; reads = readText-textOf m (h .well-formed); stored = h .stored }
+    record { text = modelText m; model = m; reads = readText-modelText m (h .well-formed); stored = h .stored }
 
 pub storeOf-good : (m : Model) (rest : List ℕ) → WellFormed m → Good (storeOf m ++ rest)
 storeOf-good m rest w = good-of-holds (storeOf m ++ rest) m (holds-storeOf m rest w)
 
 pub holds-of-good : (s : List ℕ) (g : Good s) → Holds s (g .model)
-holds-of-good s g = record { well-formed = textOf-of-readText (g .text) (g .model) (g .reads) .0; stored = g .stored }
+holds-of-good s g = record { well-formed = readText-well-formed (g .text) (g .model) (g .reads); stored = g .stored }
 
 pub Good→Holds : (s : List ℕ) → Good s → Holds s (modelAt s)
 Good→Holds s g =
@@ -163,19 +167,23 @@ Holds→Good s h = good-of-holds s (modelAt s) h
 pub good-iff : (s : List ℕ) → Good s ↔ Holds s (modelAt s)
 good-iff s = (Good→Holds s, Holds→Good s)
 
--- the model and the text of a good store are those of the model that it shows
+-- the model of a good store is the one that it shows
 pub good-model : (s : List ℕ) (g : Good s) → g .model ≡ modelAt s
 good-model s g = sym (modelAt-holds s (g .model) (holds-of-good s g))
 
-pub good-text : (s : List ℕ) (g : Good s) → g .text ≡ textOf (modelAt s)
-good-text s g = textOf-of-readText (g .text) (g .model) (g .reads) .1 ∙ ap textOf (good-model s g)
+-- the `M` text of a good store's model is that of the model that it shows
+pub good-modelText : (s : List ℕ) (g : Good s) → modelText (g .model) ≡ modelText (modelAt s)
+good-modelText s g = ap modelText (good-model s g)
 
--- whatever text reads to a store that holds m is the text of m
-pub holds-text : (s : List ℕ) (m : Model) → Holds s m → (g : Good s) → g .text ≡ textOf m
-holds-text s m h g = good-text s g ∙ ap textOf (modelAt-holds s m h)
+-- two `M` texts that read to one store are the same text
+pub good-m-text-unique : (s : List ℕ) (g k : Good s) → MText (g .text) (g .model) → MText (k .text) (k .model)
+    → g .text ≡ k .text
+good-m-text-unique s g k p q =
+    m-text-unique (g .text) (k .text) (modelAt s) (p ∙ good-modelText s g) (q ∙ good-modelText s k)
 
-pub good-text-unique : (s : List ℕ) (g k : Good s) → g .text ≡ k .text
-good-text-unique s g k = good-text s g ∙ sym (good-text s k)
+-- while `M` texts are the only kind, whatever text reads to a store is one
+pub good-m-text : (s : List ℕ) (g : Good s) → MText (g .text) (g .model)
+good-m-text s g = states-m-text (g .text) (g .model) (states-of-readText (g .text) (g .model) (g .reads))
 
 pub good-well-formed : (s : List ℕ) → Good s → WellFormed (modelAt s)
 good-well-formed s g = Good→Holds s g .well-formed
