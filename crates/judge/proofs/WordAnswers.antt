@@ -1,128 +1,20 @@
--- Each answer of Word keeps its promise: the lists' lengths decide first, then goodness, then whether a step branches,
--- then the verdict. Assumes nothing.
+-- Each answer of Word keeps its promise: the lists' lengths decide first, then goodness. Assumes nothing.
 use mathlib.Core.List.{List}
 use mathlib.Core.Option.{none}
-use mathlib.Core.Path.{_≡_, refl, sym, ap, subst}
+use mathlib.Core.Path.{_≡_, refl}
 use Prim.Native.Nat.{ℕ, _≤_, _<_}
-use native.Mathlib.Omega.{arith}
 use lib.ListN.{length}
-use Rattle.lts.specs.AlikeLaws.{separated-of-rank}
-use Rattle.lts.specs.Run.{onward}
-use Rattle.text.specs.declared.Step.{Step}
-use Rattle.text.specs.Faults.{refuses}
 use Rattle.text.specs.Limits.{storeLength}
 use Rattle.text.specs.Limits.{distancesLength, tableLength, wordLength}
-use Rattle.text.specs.Model.{Model}
 use Rattle.model.specs.Store.{Good}
 use Rattle.model.specs.StoredModel.{modelAt}
-use Rattle.model.specs.System.{source, target, DeterministicModel, view}
 use Rattle.text.specs.Laws.FirstShortLaws.{first-short, second-short, third-short, fourth-short, none-short-four}
-use Rattle.model.specs.Laws.Store.SystemLaws.{own-step}
 use Rattle.model.specs.Laws.OnStoreLaws.{onStore-short, onStore-not-good, onStore-model}
-use Rattle.verdicts.specs.declared.judging.Verdict.{Verdict}
-use Rattle.verdicts.specs.declared.judging.Verdict.the-variants.{Passed, Refused}
 use Rattle.verdicts.specs.JudgeFilled.{JudgeFilled}
-use Rattle.verdicts.specs.Verdicts.{Leak, PassedWith, RefusedAt, Judged}
-use Rattle.verdicts.specs.Laws.VerdictsLaws.{no-leak-of-bnid, passed-not-refused, refusedAt-unique}
-use Rattle.letters.specs.declared.word.End.{End}
-use Rattle.letters.specs.declared.word.End.the-variants.{Source, Target}
 use Rattle.letters.specs.declared.word.WordAnswer.{WordAnswer}
-use Rattle.letters.specs.declared.word.WordAnswer.the-variants.{Shown, ShortList, NotGood, NotDeterministic, NoLeak}
-use Rattle.letters.specs.Words.{Branches, WordOf, WordShown}
+use Rattle.letters.specs.declared.word.WordAnswer.the-variants.{ShortList, NotGood}
 use Rattle.letters.specs.WordDone.{wordOutcome, WordDone}
 use Rattle.judge.specs.WordPromise.{wordLists, WordPromise}
-use Rattle.letters.specs.Inner.Letters.{First, Showable, WordLists, SeparatedPair}
-use Rattle.letters.specs.Inner.WordHead.{WordFrom, WordWritten}
-use Rattle.letters.specs.Laws.WordsLaws.{not-branches}
-use Rattle.lts.specs.Noninterference.{LowMove}
-
--- ---- what is lent to the word's functions
-
-pub showable→WordLists : {m : Model} {v : Verdict} {store begins roles distances table word : List ℕ}
-    → Showable m v store begins roles distances table word → WordLists m store begins roles table
-showable→WordLists x = record {
-  step-lists = record {
-    stored = x .lists .stored;
-    index-length = x .index-length;
-    index = x .index;
-    roles-length = x .lists .roles-length;
-    roles-are = x .lists .roles-are;
-  };
-  table-length = x .lists .table-length;
-  ranks = x .lists .ranks;
-}
-
-pub leak-pair : {m : Model} {j d p q : ℕ} → DeterministicModel m → Leak m j d → p ≡ source m j → q ≡ target m j
-    → SeparatedPair m p q d
-leak-pair {m} {j} {d} {p} {q} det x e f =
-    subst (λ (u : ℕ). SeparatedPair m u q d) (sym e)
-    (subst (λ (u : ℕ). SeparatedPair m (source m j) u d) (sym f) (record {
-      deterministic = det;
-      first-reachable = x .high-step .reachable;
-      second-reachable = onward (x .high-step .reachable) (own-step m j (x .high-step .number-lt));
-      separated = separated-of-rank (LowMove (view m)) (source m j) (target m j) d (x .above-zero) (x .rank);
-    }))
-
--- ---- on a good store
-
-pub judged-passed : {m : Model} {v : Verdict} {top : ℕ} → v ≡ Passed top → Judged m v → PassedWith m top
-judged-passed {m} e x = subst (Judged m) e x
-
-pub judged-refused : {m : Model} {v : Verdict} {j : Step} {d : ℕ} → v ≡ Refused j d → Judged m v → RefusedAt m (j .0) d
-judged-refused {m} e x = subst (Judged m) e x
-
-module _ {m : Model} where
-  pub branching-done : (j : Step) (word : List ℕ) → First (Branches m) (j .0)
-      → WordDone m (wordOutcome (NotDeterministic j)) word word
-  unfolding wordOutcome
-  branching-done j word x = record {
-    branching = λ i y.
-        let e : j .0 ≡ i = omega (arith, x .first i (y .branches), y .first (j .0) (x .holds)) in
-        (ap (refuses 23) e, refl);
-    passed = λ d _. absurd (not-branches d (j .0) (x .holds));
-    refused = λ d. absurd (not-branches d (j .0) (x .holds));
-  }
-
-  module _ (none : (j : ℕ) → ¬ (Branches m j)) where
-    pub passed-done : {top : ℕ} (word : List ℕ) → PassedWith m top → WordDone m (wordOutcome NoLeak) word word
-    unfolding wordOutcome
-    passed-done {top} word x = record {
-      branching = λ i y. absurd (none i (y .branches));
-      passed = λ _ _. (refl, refl);
-      refused = λ _ j d y. absurd (passed-not-refused m top j d x y);
-    }
-
-    wordFrom→WordOf : {j : ℕ} {w : List ℕ} (end : End) → WordFrom m (source m j) (target m j) w end → WordOf m j w end
-    wordFrom→WordOf Source x = record { first-word = x .first-word; only-from-end = x .only-from }
-    wordFrom→WordOf Target x = record { first-word = x .first-word; only-from-end = x .only-from }
-
-    pub shown-done : {j d p q : ℕ} (end : End) {entry exit : List ℕ} → RefusedAt m j d → p ≡ source m j → q ≡ target m j
-        → WordWritten m p q d end entry exit → WordDone m (wordOutcome (Shown d end)) entry exit
-    unfolding wordOutcome
-    shown-done {j} {d} {p} {q} end {entry} {exit} r e f x = record {
-      branching = λ i y. absurd (none i (y .branches));
-      passed = λ _ b. absurd (no-leak-of-bnid m b j d (r .leak));
-      refused = λ _ i k y.
-          let u = refusedAt-unique m j i d k r y in
-          subst (λ (n : ℕ). WordShown m n k (wordOutcome (Shown d end)) entry exit) (u .0)
-          (subst (λ (n : ℕ). WordShown m j n (wordOutcome (Shown d end)) entry exit) (u .1) shown);
-    }
-      where
-        from : WordFrom m (source m j) (target m j) (x .word) end
-        from = subst (λ (n : ℕ). WordFrom m n (target m j) (x .word) end) e
-            (subst (λ (n : ℕ). WordFrom m p n (x .word) end) f (x .word-from))
-
-        shown : WordShown m j d (wordOutcome (Shown d end)) entry exit
-        shown = record {
-          word = x .word;
-          end = end;
-          word-of = wordFrom→WordOf end from;
-          length-is = x .length-is;
-          outcome-is = refl;
-          list = x .list;
-        }
-
--- ---- on any lists
 
 module _ (store distances table word : List ℕ) where
   pub short-store-promised : length store < storeLength

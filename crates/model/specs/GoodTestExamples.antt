@@ -7,7 +7,7 @@ use lib.ListN.{set}
 use Rattle.text.specs.Limits.{storeLength, targetPlace}
 use Rattle.text.specs.Bytes.{kindOf}
 use Rattle.text.specs.Split.{same?}
-use Rattle.text.specs.Model.{Model, above?, aboveLast?}
+use Rattle.text.specs.Model.{low, release, high, Model, above?, aboveLast?}
 use Rattle.text.specs.Lines.{headFits?, allOf, nameByte?, name?, used?, stepFits?}
 use Rattle.model.specs.Store.{padded, actionNumbers, actionsNumbers, stepsNumbers, headPlaces, storeOf}
 use Rattle.model.specs.StoredModel.{listed, modelAt}
@@ -18,9 +18,9 @@ one-state : Model
 one-state = record {
   head = record { states = 1; actions = 3; steps = 1; start = record { 0 = 0 } };
   actions =
-      record { level = 0; name = 115 ∷ 99 ∷ 97 ∷ 110 ∷ [] }
-      ∷ record { level = 2; name = 112 ∷ 114 ∷ 105 ∷ 110 ∷ 116 ∷ [] }
-      ∷ record { level = 1; name = 99 ∷ 108 ∷ 111 ∷ 115 ∷ 101 ∷ [] }
+      record { level = low; name = 115 ∷ 99 ∷ 97 ∷ 110 ∷ [] }
+      ∷ record { level = high; name = 112 ∷ 114 ∷ 105 ∷ 110 ∷ 116 ∷ [] }
+      ∷ record { level = release; name = 99 ∷ 108 ∷ 111 ∷ 115 ∷ 101 ∷ [] }
       ∷ [];
   steps = record { source = record { 0 = 0 }; action = record { 0 = 1 }; target = record { 0 = 0 } } ∷ [];
 }

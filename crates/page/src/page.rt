@@ -2,6 +2,7 @@
 use lines::lines::PageEnd;
 use text::limits::DISTANCES_LENGTH;
 use text::limits::INDEX_LENGTH;
+use text::limits::PAGE_LENGTH;
 use text::limits::ROLES_LENGTH;
 use text::limits::RUN_LENGTH;
 use text::limits::STORE_LENGTH;

@@ -12,6 +12,9 @@ pub const NAME_LIMIT: u16 = 12;
 // A text has at most so many bytes.
 pub const TEXT_LIMIT: usize = 16384;
 
+// One byte more is read of a text, so that a longer text is told from the longest.
+pub const INPUT_LENGTH: usize = TEXT_LIMIT + 1;
+
 // The store is one section behind the other, each of rows of one length. A section added at the end moves none of the
 // others. Line 1 comes first: the numbers of states, actions and steps, and the start.
 pub const STATE_COUNT_PLACE: usize = 0;

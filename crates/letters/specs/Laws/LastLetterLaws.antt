@@ -110,7 +110,7 @@ module _ {m : Model} {p q : ℕ} where
 pub alone-some : {s : List ℕ} {m : Model} {p q : ℕ} → Stored s m → SeparatedPair m p q 1
     → ((i : ℕ) → ¬ (Alone m p q i)) → ((i : ℕ) → ¬ (Alone m q p i)) → ⊥
 alone-some {m = m} {p} {q} st x f g =
-    let (a, lo, o) = letter-of-separated-one (view m) (m .head .states) _ (low-step-game st)
+    let (a, lo, o) = letter-of-separated-one (view m) _ (low-step-game st)
     (deterministicModel→Deterministic m (x .deterministic)) p q (x .separated) in
     go a lo o
   where

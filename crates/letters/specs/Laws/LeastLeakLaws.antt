@@ -21,7 +21,7 @@ use Rattle.model.specs.System.{source, target, level, HighStep, DeterministicMo
 use Rattle.model.specs.Laws.Store.SystemLaws.{deterministicModel→Deterministic}
 use Rattle.verdicts.specs.Verdicts.{RefusedAt}
 use Rattle.model.specs.Inner.Stored.{Stored}
-use Rattle.model.specs.Laws.System.StepTestLaws.{decided-steps, decided-start}
+use Rattle.model.specs.Laws.System.StepTestLaws.{decided-view, bounded-view}
 use Rattle.verdicts.specs.Laws.VerdictsLaws.{rank-of-states}
 use Rattle.letters.specs.Laws.LettersLaws.{low-step-game}
 use Rattle.lts.specs.Noninterference.{LowMove}
@@ -36,13 +36,10 @@ levelled m a (suc (suc (suc k))) e l = absurd (omega arith)
 module _ {s : List ℕ} {m : Model} (st : Stored s m) where
   levelled-steps : LevelledSteps (view m)
   levelled-steps p a q r x =
-      levelled m a (level m a) refl (st .level-le a (decided-steps st .label-lt p a q x))
-
-  bounded : Bounded (view m) (m .head .states)
-  bounded = record { start-lt = decided-start st .start-lt; target-lt = decided-steps st .target-lt }
+      levelled m a (level m a) refl (st .level-le a (decided-view st .steps .label-lt p a q x))
 
   pub bnid↔INI : DeterministicModel m → BNID (view m) ↔ INI (view m)
-  bnid↔INI d = theorem.bnid↔INI (view m) (m .head .states) bounded levelled-steps
+  bnid↔INI d = theorem.bnid↔INI (view m) (bounded-view st) levelled-steps
       (deterministicModel→Deterministic m d) _ (low-step-game st)
 
   -- Ends of rank 0 allow the same low sequences; ends of a rank above 0 are a leak, and allow the same shorter than

@@ -10,7 +10,7 @@ use lib.Dec.{T}
 use lib.ListN.{length, getD}
 use Rattle.lts.specs.Alike.{Separated, Rank}
 use Rattle.lts.specs.AlikeLaws.{rank-unique, rank-of-separated, separated-of-rank}
-use Rattle.lts.specs.Checked.{lowMove?}
+use Rattle.lts.specs.Checked.{lowRound}
 use Rattle.lts.specs.CheckedLaws.{low-game}
 use Rattle.lts.specs.Decided.{answers?}
 use Rattle.lts.specs.FirstWordLaws.{letter-of-separated}
@@ -26,7 +26,8 @@ use Rattle.model.specs.Inner.Index.{Index}
 use Rattle.model.specs.Inner.Stored.{Stored}
 use Rattle.model.specs.Inner.StepTest.{step?}
 use Rattle.model.specs.Laws.System.RolesLaws.{low-of-role, role-of-low}
-use Rattle.model.specs.Laws.System.StepTestLaws.{decided-steps}
+use Rattle.model.specs.Inner.StepTest.{tests}
+use Rattle.model.specs.Laws.System.StepTestLaws.{decided-view}
 use Rattle.distances.specs.Laws.WavesLaws.{begins-source}
 use Rattle.letters.specs.declared.branch.Found.{Found}
 use Rattle.letters.specs.declared.branch.Found.the-variants.{At, Nothing}
@@ -158,10 +159,8 @@ module _ {m : Model} {p q k b x y : ℕ} where
   }
 
 module _ {s : List ℕ} {m : Model} (st : Stored s m) where
-  pub low-step-game : Game (LowMove (view m)) (m .head .states)
-      (answers? (m .head .states) (m .head .actions) (lowMove? (view m .levels) (step? m)))
-  low-step-game =
-      low-game (view m) (m .head .states) (m .head .actions) (step? m) (decided-steps st)
+  pub low-step-game : Game (LowMove (view m)) (m .head .states) (lowRound (view m) (tests m))
+  low-step-game = low-game (view m) (tests m) (decided-view st)
 
   pub stored-rank-lt : {p q k : ℕ} → p < m .head .states → q < m .head .states → Rank (LowMove (view m)) p q k
       → k < m .head .states
@@ -171,7 +170,7 @@ module _ {s : List ℕ} {m : Model} (st : Stored s m) where
   pub has-answer-some : (p q k : ℕ) → 0 < k → SeparatedPair m p q (k + 1) → (j : ℕ) × HasAnswer m p q k j
   has-answer-some p q zero pos x = absurd (omega arith)
   has-answer-some p q (suc k) pos x =
-      let (a, y, z, u, v, w) = letter-of-separated (view m) (m .head .states) _ low-step-game
+      let (a, y, z, u, v, w) = letter-of-separated (view m) _ low-step-game
       (deterministicModel→Deterministic m (x .deterministic)) k p q (x .second-reachable)
       (subst (Separated (LowMove (view m)) p q) (add-one (suc k)) (x .separated)) in
       (u .1 .number, has-answer-of u v w)

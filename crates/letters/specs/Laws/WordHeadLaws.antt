@@ -77,8 +77,8 @@ module _ {s : List ℕ} {m : Model} (st : Stored s m) where
       → FirstWord (view m) (target m j) (target m i) w
       → FirstWord (view m) p q (action m j ∷ w)
   first-word-next zero pos pair x w y = absurd (omega arith)
-  first-word-next {p} {q} {j} {i} (suc k) pos pair x w y = first-word-cons (view m)
-      (m .head .states) _ (low-step-game st) (deterministicModel→Deterministic m (pair .deterministic)) k p q
+  first-word-next {p} {q} {j} {i} (suc k) pos pair x w y = first-word-cons (view m) _
+      (low-step-game st) (deterministicModel→Deterministic m (pair .deterministic)) k p q
       (action m j) (target m j) (target m i) w (pair .first-reachable) (pair .second-reachable)
       (subst (Separated (LowMove (view m)) p q) (add-one (suc k)) (pair .separated)) (from-step x) (to-step x)
       (x .answer .targets) (x .first) y

@@ -13,7 +13,7 @@ use Rattle.lts.specs.Decided.{answered?, answers?, within?}
 use Rattle.text.specs.Faults.{answers}
 use Rattle.text.specs.Model.{Model}
 use Rattle.model.specs.Laws.Text.ReadingLaws.{readText-well-formed}
-use Rattle.model.specs.System.{Start, DeterministicModel, source}
+use Rattle.model.specs.System.{DeterministicModel, source, view}
 use Rattle.model.specs.Inner.StepTest.{step?}
 use Rattle.model.specs.Laws.System.GoodStoredLaws.{well-formed-stored}
 use Rattle.distances.specs.Runs.{at-start}
@@ -115,7 +115,7 @@ module _ {text : List ℕ} {m : Model} where
       prints-lines x [] e (λ word. word) (λ run word. record { run-kept = refl; word-kept = refl; lines-are = refl })
 
   -- the step leaves the start, so that the run to its source is empty
-  module _ {j depth : ℕ} (x : ReadsAndJudged text m (refusedAt j depth)) (s : Start m (source m j)) where
+  module _ {j depth : ℕ} (x : ReadsAndJudged text m (refusedAt j depth)) (s : view m .Start (source m j)) where
     prints-word : {w : List ℕ} {end : End} {lines : List PageLine} → DeterministicModel m → WordOf m j w end
         → length w ≡ depth → pageWith m (refusedAt j depth) (wordLines m w end) ≡ lines
         → PrintsPage text (pageBytes lines)

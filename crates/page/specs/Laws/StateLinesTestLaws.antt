@@ -16,8 +16,8 @@ use Rattle.lts.specs.Tests.{Each, Least}
 use Rattle.lts.specs.TestsLaws.{T-cases, T-eqb, T→true, not-T→false, lt-suc-cases}
 use Rattle.text.specs.Model.{Model}
 use Rattle.model.specs.Inner.Stored.{Stored}
-use Rattle.model.specs.Inner.StepTest.{step?, start?}
-use Rattle.model.specs.Laws.System.StepTestLaws.{decided-steps, decided-start}
+use Rattle.model.specs.Inner.StepTest.{tests}
+use Rattle.model.specs.Laws.System.StepTestLaws.{decided-view}
 use Rattle.verdicts.specs.Inner.VerdictTest.{rankIn}
 use Rattle.verdicts.specs.Laws.VerdictTestLaws.{rankIn→Rank, Reachable→reachable?}
 use Rattle.lines.specs.Page.{DistanceField, unreached, reached, ClassOf, StateLines, no-state, next-state}
@@ -53,8 +53,7 @@ module _ {s : List ℕ} {m : Model} (st : Stored s m) where
   distanceField-of-least : (p d : ℕ) → LeastUpTo (m .head .states) (near? m p) d
       → DistanceField m p (cond (ltb d (m .head .states)) (some d) none)
   distanceField-of-least p d (found l x) = rw (lt-ltb d (m .head .states) l)
-      (reached (distance-of-least (view m) (m .head .states) (m .head .actions) (step? m) (start? m)
-      (decided-steps st) (decided-start st) p d x))
+      (reached (distance-of-least (view m) (tests m) (decided-view st) p d x))
   distanceField-of-least p _ (nowhere x) = rw (le-ltb (m .head .states) (m .head .states) (omega arith))
       (unreached (λ r. T-not (near? m p (m .head .states - 1)) (x (m .head .states - 1) (omega (arith, st .states-pos)))
       (Reachable→reachable? st p r)))

@@ -36,8 +36,8 @@ use Rattle.verdicts.specs.declared.judging.Verdict.{Verdict}
 use Rattle.verdicts.specs.declared.judging.Verdict.the-variants.{Passed}
 use Rattle.model.specs.Inner.Stored.{Stored}
 use Rattle.model.specs.Laws.System.GoodStoredLaws.{holds→Stored}
-use Rattle.model.specs.Inner.StepTest.{step?}
-use Rattle.model.specs.Laws.System.StepTestLaws.{decided-steps}
+use Rattle.model.specs.Inner.StepTest.{tests, step?}
+use Rattle.model.specs.Laws.System.StepTestLaws.{decided-view}
 use Rattle.verdicts.specs.Verdicts.{Judged}
 use Rattle.verdicts.specs.Inner.VerdictTest.{greatestBelow, leastBelow, verdictOf}
 use Rattle.verdicts.specs.Laws.VerdictTestLaws.{verdictOf-judged, Reachable→reachable?}
@@ -156,11 +156,11 @@ branching-same-words w l = (
 )
   where
     moved? : ℕ → ℕ → ℕ → Bool
-    moved? = lowMove? (view branching .levels) (step? branching)
+    moved? = lowMove? (view branching) (tests branching)
 
     decides : Decided (LowMove (view branching)) 4 3 moved?
-    decides = decided-low (view branching) 4 3 (step? branching)
-        (decided-steps (stored-of-read branchingText branching (read .branching)))
+    decides = decided-low (view branching) (tests branching)
+        (decided-view (stored-of-read branchingText branching (read .branching)))
 
     there : ℕ → ℕ → Bool
     there x y = (eqb x 0 && eqb y 1) || ((eqb x 2 && eqb y 2) || eqb x 3)

@@ -20,7 +20,7 @@ use Rattle.text.specs.Model.{Model}
 use Rattle.model.specs.System.{source, action, target, DeterministicModel, view}
 use Rattle.model.specs.Inner.Stored.{Stored}
 use Rattle.model.specs.Inner.StepTest.{step?}
-use Rattle.model.specs.Laws.System.StepTestLaws.{decided-steps}
+use Rattle.model.specs.Laws.System.StepTestLaws.{decided-view}
 use Rattle.letters.specs.declared.word.End.{End}
 use Rattle.letters.specs.declared.word.End.the-variants.{Source, Target}
 use Rattle.letters.specs.Words.{endState, otherState, WordOf}
@@ -65,7 +65,7 @@ notAfter?→NotAfter (a ∷ u) (b ∷ v) t = go (notAfter?→NotAfter u v) (or-c
 
 module _ {s : List ℕ} {m : Model} (st : Stored s m) where
   decided : Decided (view m .Step) (m .head .states) (m .head .actions) (step? m)
-  decided = decided-steps st
+  decided = decided-view st .steps
 
   -- ---- possible sequences
 

@@ -20,7 +20,8 @@ use Rattle.model.specs.System.{source, action, target, level, ReachableIn, view
 use Rattle.model.specs.Inner.Stored.{Stored}
 use Rattle.model.specs.Inner.StepTest.{step?, start?}
 use Rattle.lts.specs.TestsLaws.{T-eqb}
-use Rattle.model.specs.Laws.System.StepTestLaws.{decided-steps, decided-start}
+use Rattle.model.specs.Inner.StepTest.{tests}
+use Rattle.model.specs.Laws.System.StepTestLaws.{decided-view}
 use Rattle.ranking.specs.Table.{Greatest}
 use Rattle.verdicts.specs.Verdicts.{Leak, Judged}
 use Rattle.verdicts.specs.Laws.VerdictsLaws.{passed-of-no-leak}
@@ -75,7 +76,7 @@ attained (suc n) f l = greatestBelow-attained n f
 
 module _ {s : List ℕ} {m : Model} (st : Stored s m) where
   pub rankIn→Rank : (p q : ℕ) → p < m .head .states → q < m .head .states → Rank (LowMove (view m)) p q (rankIn m p q)
-  rankIn→Rank = lowRank→Rank (view m) (m .head .states) (m .head .actions) (step? m) (decided-steps st)
+  rankIn→Rank = lowRank→Rank (view m) (tests m) (decided-view st)
 
   pub greatestRank-greatest : Greatest (LowMove (view m)) (m .head .states) (greatestRank m)
   greatestRank-greatest =
@@ -103,12 +104,10 @@ module _ {s : List ℕ} {m : Model} (st : Stored s m) where
   -- ---- the depth of a step
 
   pub reachable?→Reachable : (p : ℕ) → T (reachable? m p) → ReachableIn m p
-  reachable?→Reachable p t = within?→Reachable (view m) (m .head .states) (m .head .actions) (step? m)
-      (start? m) (decided-steps st) (decided-start st) (m .head .states - 1) p t
+  reachable?→Reachable p t = within?→Reachable (view m) (tests m) (decided-view st) (m .head .states - 1) p t
 
   pub Reachable→reachable? : (p : ℕ) → ReachableIn m p → T (reachable? m p)
-  Reachable→reachable? p r = Reachable→within? (view m) (m .head .states) (m .head .actions) (step? m)
-      (start? m) (decided-steps st) (decided-start st) p r
+  Reachable→reachable? p r = Reachable→within? (view m) (tests m) (decided-view st) p r
 
   leak-high : (j d : ℕ) → Leak m j d → T (highStep? m j)
   leak-high j d x = and-intro (eqb (level m (action m j)) high) (reachable? m (source m j))

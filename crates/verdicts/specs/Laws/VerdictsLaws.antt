@@ -20,7 +20,7 @@ use Rattle.verdicts.specs.declared.judging.Verdict.the-variants.{Passed,
 use Rattle.model.specs.Inner.Stored.{Stored}
 use Rattle.model.specs.Inner.StepTest.{step?}
 use Rattle.lts.specs.TestsLaws.{T-eqb}
-use Rattle.model.specs.Laws.System.StepTestLaws.{decided-steps}
+use Rattle.model.specs.Laws.System.StepTestLaws.{decided-view}
 use Rattle.ranking.specs.Table.{Greatest}
 use Rattle.ranking.specs.Laws.RankedLaws.{greatest-unique}
 use Rattle.verdicts.specs.Verdicts.{Leak, PassedWith, RefusedAt, Judged}
@@ -51,7 +51,7 @@ module _ (m : Model) where
     pub rank-of-states : (p q : ℕ) → p < m .head .states → q < m .head .states → (r : ℕ) × Rank (LowMove (view m)) p q r
     rank-of-states p q lp lq = (
       lowRank (view m) (tests m) p q,
-      lowRank→Rank (view m) (m .head .states) (m .head .actions) (step? m) (decided-steps st) p q lp lq,
+      lowRank→Rank (view m) (tests m) (decided-view st) p q lp lq,
     )
 
     pub bnid-of-no-leak : ((j d : ℕ) → ¬ (Leak m j d)) → BNID (view m)

@@ -6,8 +6,8 @@ use Rattle.text.specs.declared.State.{State}
 use Rattle.model.specs.Laws.System.StoredLaws.{stored-source, stored-target}
 use Rattle.letters.specs.Laws.LettersLaws.{found-at, found-nothing}
 use Rattle.letters.specs.Laws.WordsLaws.{deterministic-of-no-branch}
-use Rattle.judge.proofs.WordAnswers.{showable→WordLists, leak-pair, judged-passed, judged-refused}
-use Rattle.judge.proofs.WordAnswers.{branching-done, passed-done, shown-done}
+use Rattle.letters.proofs.ShowAnswers.{showable→WordLists, leak-pair, judged-passed, judged-refused}
+use Rattle.letters.proofs.ShowAnswers.{branching-done, passed-done, shown-done}
 use Rattle.letters.proofs.word.show.Statement.{statement}
 use Rattle.letters.proofs.word.show.Tie as tie
 
