@@ -16,12 +16,15 @@ use Rattle.text.specs.Lines.{used?, actionFrom, actionOf, stepFits?, rising, st
 use Rattle.model.specs.Reading.{tooLong, faulty, onLine, orFault, readNothing, readEnd, readSteps}
 use Rattle.model.specs.Reading.{readActions, readModel, readText}
 
--- M,2,1,2,0 / A,L,a / S,0,0,0 / S,0,0,1 / E
+-- M,2,2,2,0 / A,L,a / A,H,b / S,0,0,0 / S,0,0,1 / E
 head : List ℕ
-head = 77 ∷ 44 ∷ 50 ∷ 44 ∷ 49 ∷ 44 ∷ 50 ∷ 44 ∷ 48 ∷ 10 ∷ []
+head = 77 ∷ 44 ∷ 50 ∷ 44 ∷ 50 ∷ 44 ∷ 50 ∷ 44 ∷ 48 ∷ 10 ∷ []
 
-action : List ℕ
-action = 65 ∷ 44 ∷ 76 ∷ 44 ∷ 97 ∷ 10 ∷ []
+low : List ℕ
+low = 65 ∷ 44 ∷ 76 ∷ 44 ∷ 97 ∷ 10 ∷ []
+
+high : List ℕ
+high = 65 ∷ 44 ∷ 72 ∷ 44 ∷ 98 ∷ 10 ∷ []
 
 first : List ℕ
 first = 83 ∷ 44 ∷ 48 ∷ 44 ∷ 48 ∷ 44 ∷ 48 ∷ 10 ∷ []
@@ -36,47 +39,49 @@ end = 69 ∷ 10 ∷ []
 record Refused : Type 0 where
   -- the empty text
   empty : readText [] ≡ faulty Absent 1
-  -- cut after line 4
-  cut : readText (head ++ action ++ first ++ second) ≡ faulty Absent 5
+  -- cut after line 5
+  cut : readText (head ++ low ++ high ++ first ++ second) ≡ faulty Absent 6
   -- no line end after `E`
-  no-line-end : readText (head ++ action ++ first ++ second ++ (69 ∷ [])) ≡ faulty Absent 5
+  no-line-end : readText (head ++ low ++ high ++ first ++ second ++ (69 ∷ [])) ≡ faulty Absent 6
   -- a lone line end, or any byte, after `E`
-  line-end-after : readText (head ++ action ++ first ++ second ++ end ++ (10 ∷ [])) ≡ faulty Absent 6
-  byte-after : readText (head ++ action ++ first ++ second ++ end ++ (0 ∷ [])) ≡ faulty Absent 6
+  line-end-after : readText (head ++ low ++ high ++ first ++ second ++ end ++ (10 ∷ [])) ≡ faulty Absent 7
+  byte-after : readText (head ++ low ++ high ++ first ++ second ++ end ++ (0 ∷ [])) ≡ faulty Absent 7
   -- a step where `E` is due, and `E` where a step is due
-  surplus-step : readText (head ++ action ++ first ++ second ++ second ++ end) ≡ faulty Shape 5
-  missing-step : readText (head ++ action ++ first ++ end) ≡ faulty Shape 4
-  -- M,99999,1,2,0 / M,100000,1,2,0 / M,02,1,2,0 / M,200,1,2,x
-  five-digits : readText ((77 ∷ 44 ∷ 57 ∷ 57 ∷ 57 ∷ 57 ∷ 57 ∷ 44 ∷ 49 ∷ 44 ∷ 50 ∷ 44 ∷ 48 ∷ 10 ∷ []) ++ action)
+  surplus-step : readText (head ++ low ++ high ++ first ++ second ++ second ++ end) ≡ faulty Shape 6
+  missing-step : readText (head ++ low ++ high ++ first ++ end) ≡ faulty Shape 5
+  -- M,99999,2,2,0 / M,100000,2,2,0 / M,02,2,2,0 / M,200,2,2,x
+  five-digits : readText ((77 ∷ 44 ∷ 57 ∷ 57 ∷ 57 ∷ 57 ∷ 57 ∷ 44 ∷ 50 ∷ 44 ∷ 50 ∷ 44 ∷ 48 ∷ 10 ∷ []) ++ low ++ high)
       ≡ faulty Range 1
-  six-digits : readText ((77 ∷ 44 ∷ 49 ∷ 48 ∷ 48 ∷ 48 ∷ 48 ∷ 48 ∷ 44 ∷ 49 ∷ 44 ∷ 50 ∷ 44 ∷ 48 ∷ 10 ∷ []) ++ action)
+  six-digits : readText ((77 ∷ 44 ∷ 49 ∷ 48 ∷ 48 ∷ 48 ∷ 48 ∷ 48 ∷ 44 ∷ 50 ∷ 44 ∷ 50 ∷ 44 ∷ 48 ∷ 10 ∷ []) ++ low ++ high)
       ≡ faulty Digits 1
-  leading-zero : readText ((77 ∷ 44 ∷ 48 ∷ 50 ∷ 44 ∷ 49 ∷ 44 ∷ 50 ∷ 44 ∷ 48 ∷ 10 ∷ []) ++ action) ≡ faulty Digits 1
-  digits-before-range : readText ((77 ∷ 44 ∷ 50 ∷ 48 ∷ 48 ∷ 44 ∷ 49 ∷ 44 ∷ 50 ∷ 44 ∷ 120 ∷ 10 ∷ []) ++ action)
+  leading-zero : readText ((77 ∷ 44 ∷ 48 ∷ 50 ∷ 44 ∷ 50 ∷ 44 ∷ 50 ∷ 44 ∷ 48 ∷ 10 ∷ []) ++ low ++ high)
       ≡ faulty Digits 1
-  -- M,129,1,2,0 / M,2,1,2,2
-  states-above-limit : readText ((77 ∷ 44 ∷ 49 ∷ 50 ∷ 57 ∷ 44 ∷ 49 ∷ 44 ∷ 50 ∷ 44 ∷ 48 ∷ 10 ∷ []) ++ action)
+  digits-before-range : readText ((77 ∷ 44 ∷ 50 ∷ 48 ∷ 48 ∷ 44 ∷ 50 ∷ 44 ∷ 50 ∷ 44 ∷ 120 ∷ 10 ∷ []) ++ low ++ high)
+      ≡ faulty Digits 1
+  -- M,129,2,2,0 / M,2,2,2,2
+  states-above-limit : readText ((77 ∷ 44 ∷ 49 ∷ 50 ∷ 57 ∷ 44 ∷ 50 ∷ 44 ∷ 50 ∷ 44 ∷ 48 ∷ 10 ∷ []) ++ low ++ high)
       ≡ faulty Range 1
-  start-not-below-states : readText ((77 ∷ 44 ∷ 50 ∷ 44 ∷ 49 ∷ 44 ∷ 50 ∷ 44 ∷ 50 ∷ 10 ∷ []) ++ action) ≡ faulty Range 1
-  -- M,2,1,2,0 and a carriage return / a blank before M / M,2,1,2
-  carriage-return : readText ((77 ∷ 44 ∷ 50 ∷ 44 ∷ 49 ∷ 44 ∷ 50 ∷ 44 ∷ 48 ∷ 13 ∷ 10 ∷ []) ++ action) ≡ faulty Digits 1
-  blank : readText ((32 ∷ []) ++ head ++ action) ≡ faulty Shape 1
-  four-fields : readText ((77 ∷ 44 ∷ 50 ∷ 44 ∷ 49 ∷ 44 ∷ 50 ∷ 10 ∷ []) ++ action) ≡ faulty Shape 1
+  start-not-below-states : readText ((77 ∷ 44 ∷ 50 ∷ 44 ∷ 50 ∷ 44 ∷ 50 ∷ 44 ∷ 50 ∷ 10 ∷ []) ++ low ++ high)
+      ≡ faulty Range 1
+  -- M,2,2,2,0 and a carriage return / a blank before M / M,2,2,2
+  carriage-return : readText ((77 ∷ 44 ∷ 50 ∷ 44 ∷ 50 ∷ 44 ∷ 50 ∷ 44 ∷ 48 ∷ 13 ∷ 10 ∷ []) ++ low ++ high)
+      ≡ faulty Digits 1
+  blank : readText ((32 ∷ []) ++ head ++ low ++ high) ≡ faulty Shape 1
+  four-fields : readText ((77 ∷ 44 ∷ 50 ∷ 44 ∷ 50 ∷ 44 ∷ 50 ∷ 10 ∷ []) ++ low ++ high) ≡ faulty Shape 1
   -- A,M,a / A,L,A / A,L, / A,L, and thirteen letters
-  level-unknown : readText (head ++ (65 ∷ 44 ∷ 77 ∷ 44 ∷ 97 ∷ 10 ∷ []) ++ first) ≡ faulty Shape 2
-  name-capital : readText (head ++ (65 ∷ 44 ∷ 76 ∷ 44 ∷ 65 ∷ 10 ∷ []) ++ first) ≡ faulty Shape 2
-  name-empty : readText (head ++ (65 ∷ 44 ∷ 76 ∷ 44 ∷ 10 ∷ []) ++ first) ≡ faulty Shape 2
-  name-of-thirteen : readText (head ++ (65 ∷ 44 ∷ 76 ∷ 44 ∷ []) ++ replicate 13 97 ++ (10 ∷ []) ++ first)
+  level-unknown : readText (head ++ (65 ∷ 44 ∷ 77 ∷ 44 ∷ 97 ∷ 10 ∷ []) ++ high ++ first) ≡ faulty Shape 2
+  name-capital : readText (head ++ (65 ∷ 44 ∷ 76 ∷ 44 ∷ 65 ∷ 10 ∷ []) ++ high ++ first) ≡ faulty Shape 2
+  name-empty : readText (head ++ (65 ∷ 44 ∷ 76 ∷ 44 ∷ 10 ∷ []) ++ high ++ first) ≡ faulty Shape 2
+  name-of-thirteen : readText (head ++ (65 ∷ 44 ∷ 76 ∷ 44 ∷ []) ++ replicate 13 97 ++ (10 ∷ []) ++ high ++ first)
       ≡ faulty Shape 2
-  -- M,2,2,2,0 with A,L,a twice
-  name-repeated : readText ((77 ∷ 44 ∷ 50 ∷ 44 ∷ 50 ∷ 44 ∷ 50 ∷ 44 ∷ 48 ∷ 10 ∷ []) ++ action ++ action ++ first)
-      ≡ faulty Repeated 3
+  -- A,L,a and A,H,a
+  name-repeated : readText (head ++ low ++ (65 ∷ 44 ∷ 72 ∷ 44 ∷ 97 ∷ 10 ∷ []) ++ first) ≡ faulty Repeated 3
   -- S,0,0,2
-  target-equal-to-states : readText (head ++ action ++ (83 ∷ 44 ∷ 48 ∷ 44 ∷ 48 ∷ 44 ∷ 50 ∷ 10 ∷ []) ++ second)
-      ≡ faulty Range 3
+  target-equal-to-states : readText (head ++ low ++ high ++ (83 ∷ 44 ∷ 48 ∷ 44 ∷ 48 ∷ 44 ∷ 50 ∷ 10 ∷ []) ++ second)
+      ≡ faulty Range 4
   -- a step given twice, and steps that fall
-  step-given-twice : readText (head ++ action ++ first ++ first ++ end) ≡ faulty Order 4
-  steps-falling : readText (head ++ action ++ second ++ first ++ end) ≡ faulty Order 4
+  step-given-twice : readText (head ++ low ++ high ++ first ++ first ++ end) ≡ faulty Order 5
+  steps-falling : readText (head ++ low ++ high ++ second ++ first ++ end) ≡ faulty Order 5
   -- "A text of 16,384 bytes is judged by its lines, one of 16,385 gets 1."
   most-bytes : readText (replicate 16384 10) ≡ faulty Shape 1
   too-many-bytes : readText (replicate 16385 10) ≡ tooLong
@@ -85,7 +90,7 @@ refused : Refused
 unfolding readText readModel readActions readSteps readEnd readNothing orFault onLine stepOf stepFrom rising stepFits?
     actionOf actionFrom used? actionFields nameFrom name? nameByte? allOf levelOf headOf headFrom headFits? numbersLine
     numbersFrom numbersOf consNumber fieldsOf fieldsFrom checked above? aboveLast? same? split consFirst digitsValue
-    numberShape? numberOf kindOf head action first second end
+    numberShape? numberOf kindOf head low high first second end
 refused = record {
   empty = refl;
   cut = refl;

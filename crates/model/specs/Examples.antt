@@ -13,7 +13,7 @@ use Rattle.text.specs.Lines.{headFits?, headFrom, headOf, levelOf, allOf, nameB
 use Rattle.text.specs.Lines.{actionFields, used?, actionFrom, actionOf, stepFits?, rising, stepFrom, stepOf}
 use Rattle.model.specs.Reading.{done, faulty, onLine, orFault, readNothing, readEnd, readSteps, readActions}
 use Rattle.model.specs.Reading.{readModel, readText}
-use Rattle.model.specs.Text.{headText, levelByte, actionText, stepText, actionsText, stepsText, textOf}
+use Rattle.model.specs.Text.{headText, levelByte, actionText, stepText, actionsText, stepsText, modelText}
 
 abbrev step : ℕ → ℕ → ℕ → StepLine
 step p a q = record { source = record { 0 = p }; action = record { 0 = a }; target = record { 0 = q } }
@@ -51,8 +51,8 @@ unfolding readText readModel readActions readSteps readEnd readNothing orFault o
     digitsValue numberShape? numberOf kindOf
 reads = refl
 
-writes : textOf worked ≡ workedText
-unfolding textOf headText actionsText actionText levelByte stepsText stepText digits digitsUpTo
+writes : modelText worked ≡ workedText
+unfolding modelText headText actionsText actionText levelByte stepsText stepText digits digitsUpTo
 writes = refl
 
 empty-absent : readText [] ≡ faulty Absent 1

@@ -2,10 +2,12 @@
 use mathlib.Core.Bool.{true, false}
 use mathlib.Core.List.{[], _∷_}
 use mathlib.Core.Path.{_≡_, refl}
+use Prim.Native.Nat.{_-_}
 use lib.ListN.{set}
+use Rattle.text.specs.Limits.{storeLength, targetPlace}
 use Rattle.text.specs.Bytes.{kindOf}
 use Rattle.text.specs.Split.{same?}
-use Rattle.text.specs.Model.{Model, above?, aboveLast?}
+use Rattle.text.specs.Model.{low, release, high, Model, above?, aboveLast?}
 use Rattle.text.specs.Lines.{headFits?, allOf, nameByte?, name?, used?, stepFits?}
 use Rattle.model.specs.Store.{padded, actionNumbers, actionsNumbers, stepsNumbers, headPlaces, storeOf}
 use Rattle.model.specs.StoredModel.{listed, modelAt}
@@ -16,9 +18,9 @@ one-state : Model
 one-state = record {
   head = record { states = 1; actions = 3; steps = 1; start = record { 0 = 0 } };
   actions =
-      record { level = 0; name = 115 ∷ 99 ∷ 97 ∷ 110 ∷ [] }
-      ∷ record { level = 2; name = 112 ∷ 114 ∷ 105 ∷ 110 ∷ 116 ∷ [] }
-      ∷ record { level = 1; name = 99 ∷ 108 ∷ 111 ∷ 115 ∷ 101 ∷ [] }
+      record { level = low; name = 115 ∷ 99 ∷ 97 ∷ 110 ∷ [] }
+      ∷ record { level = high; name = 112 ∷ 114 ∷ 105 ∷ 110 ∷ 116 ∷ [] }
+      ∷ record { level = release; name = 99 ∷ 108 ∷ 111 ∷ 115 ∷ 101 ∷ [] }
       ∷ [];
   steps = record { source = record { 0 = 0 }; action = record { 0 = 1 }; target = record { 0 = 0 } } ∷ [];
 }
@@ -30,14 +32,14 @@ unfolding good? holds? wellFormed? eachAfter? actionFits? stepRises? modelAt lis
 good = refl
 
 -- "Unused places are 0."
-unused-not-zero : good? (set (storeOf one-state) 3971 1) ≡ false
+unused-not-zero : good? (set (storeOf one-state) (storeLength - 1) 1) ≡ false
 unfolding good? holds? wellFormed? eachAfter? actionFits? stepRises? modelAt listed storeOf padded actionNumbers
     actionsNumbers stepsNumbers headPlaces stepFits? used? name? nameByte? allOf headFits? above? aboveLast? same?
     kindOf one-state
 unused-not-zero = refl
 
 -- a target that is no state
-target-out-of-range : good? (set (storeOf one-state) 902 1) ≡ false
+target-out-of-range : good? (set (storeOf one-state) (targetPlace 0) 1) ≡ false
 unfolding good? holds? wellFormed? eachAfter? actionFits? stepRises? modelAt listed storeOf padded actionNumbers
     actionsNumbers stepsNumbers headPlaces stepFits? used? name? nameByte? allOf headFits? above? aboveLast? same?
     kindOf one-state

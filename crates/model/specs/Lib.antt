@@ -4,6 +4,7 @@ pub mod Reading
 pub mod Store
 pub mod Text
 pub mod WellFormed
+pub mod StatedText
 pub mod GoodTest
 pub mod Above
 pub mod System

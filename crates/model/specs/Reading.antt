@@ -8,7 +8,7 @@ use lib.ListN.{length}
 use Rattle.text.specs.declared.Fault.{Fault}
 use Rattle.text.specs.declared.Fault.the-variants.{Absent, Shape}
 use Rattle.text.specs.declared.Head.{Head}
-use Rattle.text.specs.Bytes.{lineEnd}
+use Rattle.text.specs.Bytes.{lineEnd, byteE}
 use Rattle.text.specs.Split.{split, same?}
 use Rattle.text.specs.Limits.{textLimit}
 use Rattle.text.specs.Model.{Model, withAction, withStep}
@@ -40,10 +40,10 @@ readNothing k m ([] ∷ []) = done m
 readNothing k m ([] ∷ part ∷ parts) = faulty Absent k
 readNothing k m ((b ∷ bs) ∷ parts) = faulty Absent k
 
--- "Then `E`, and the text ends." (69 is `E`)
+-- "Then `E`, and the text ends."
 unfoldable pub readEnd : ℕ → Model → List (List ℕ) → Reading
 readEnd k m parts =
-    onLine k parts (λ line rest. cond (same? line (69 ∷ [])) (readNothing (suc k) m rest) (faulty Shape k))
+    onLine k parts (λ line rest. cond (same? line (byteE ∷ [])) (readNothing (suc k) m rest) (faulty Shape k))
 
 -- "Then one `S,source,action,target` per step": n more, of which the first is line k
 unfoldable pub readSteps : ℕ → ℕ → Model → List (List ℕ) → Reading

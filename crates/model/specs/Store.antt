@@ -2,11 +2,11 @@
 -- Document 01, "The model store": "3,972 numbers of 16 bits. [..] Unused places are 0."
 use mathlib.Core.List.{List, [], _∷_, _++_}
 use mathlib.Core.Path.{_≡_}
-use Prim.Native.Nat.{ℕ, _-_, _*_}
+use Prim.Native.Nat.{ℕ, _-_}
 use lib.ListN.{length, take, replicate}
 use Rattle.text.specs.declared.Head.{Head}
 use Rattle.text.specs.declared.StepLine.{StepLine}
-use Rattle.text.specs.Limits.{actionLimit, stepLimit, nameLimit, storeLength}
+use Rattle.text.specs.Limits.{nameLimit, actionsLength, stepsLength, storeLength}
 use Rattle.text.specs.Model.{ActionLine, Model}
 use Rattle.model.specs.Reading.{done, readText}
 
@@ -23,6 +23,9 @@ actionsNumbers [] = []
 actionsNumbers (a ∷ rest) = actionNumbers a ++ actionsNumbers rest
 
 -- "source, action, target"
+abbrev pub stepPlaces : StepLine → List ℕ
+stepPlaces s = s .source .0 ∷ s .action .0 ∷ s .target .0 ∷ []
+
 unfoldable pub stepsNumbers : List StepLine → List ℕ
 stepsNumbers [] = []
 stepsNumbers (s ∷ ss) = s .source .0 ∷ s .action .0 ∷ s .target .0 ∷ stepsNumbers ss
@@ -31,12 +34,12 @@ stepsNumbers (s ∷ ss) = s .source .0 ∷ s .action .0 ∷ s .target .0 ∷ ste
 unfoldable pub headPlaces : Head → List ℕ
 headPlaces h = h .states ∷ h .actions ∷ h .steps ∷ h .start .0 ∷ []
 
--- the store of a model: 4 places, 64 times 14 from place 4, 1,024 times 3 from place 900
+-- the store of a model: its sections, one behind the other
 unfoldable pub storeOf : Model → List ℕ
 storeOf m =
     headPlaces (m .head)
-    ++ padded (14 * actionLimit) (actionsNumbers (m .actions))
-    ++ padded (3 * stepLimit) (stepsNumbers (m .steps))
+    ++ padded actionsLength (actionsNumbers (m .actions))
+    ++ padded stepsLength (stepsNumbers (m .steps))
 
 -- "A store is good if some text reads to it." A list longer than a store counts by its first 3,972 numbers.
 pub record Good (store : List ℕ) : Type 0 where

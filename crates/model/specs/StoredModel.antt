@@ -6,28 +6,34 @@ use Prim.Native.Nat.{ℕ, zero, suc, _+_}
 use lib.ListN.{getD, take, drop}
 use Rattle.text.specs.declared.Head.{Head}
 use Rattle.text.specs.declared.StepLine.{StepLine}
-use Rattle.text.specs.Limits.{storeLength, actionPlace, namePlace, stepPlace}
+use Rattle.text.specs.Limits.{stateCountPlace, actionCountPlace, stepCountPlace, startPlace, storeLength}
+use Rattle.text.specs.Limits.{actionPlace, nameLengthPlace, namePlace, stepPlace, actionOfStepPlace, targetPlace}
 use Rattle.text.specs.Model.{ActionLine, Model}
 use Rattle.model.specs.Store.{storeOf}
 use Rattle.model.specs.WellFormed.{WellFormed}
 
 -- "Places 0 to 3: states, actions, steps, start."
 abbrev pub headAt : List ℕ → Head
-headAt s = record { states = getD s 0 0; actions = getD s 1 0; steps = getD s 2 0; start = record { 0 = getD s 3 0 } }
+headAt s = record {
+  states = getD s stateCountPlace 0;
+  actions = getD s actionCountPlace 0;
+  steps = getD s stepCountPlace 0;
+  start = record { 0 = getD s startPlace 0 };
+}
 
 -- "Action i from 4 + 14i: level (0 L, 1 D, 2 H), name length, twelve name bytes."
 abbrev pub actionAt : List ℕ → ℕ → ActionLine
 actionAt s i = record {
   level = getD s (actionPlace i) 0;
-  name = take (getD s (actionPlace i + 1) 0) (drop (namePlace i) s);
+  name = take (getD s (nameLengthPlace i) 0) (drop (namePlace i) s);
 }
 
 -- "Step j from 900 + 3j: source, action, target."
 abbrev pub stepAt : List ℕ → ℕ → StepLine
 stepAt s j = record {
   source = record { 0 = getD s (stepPlace j) 0 };
-  action = record { 0 = getD s (stepPlace j + 1) 0 };
-  target = record { 0 = getD s (stepPlace j + 2) 0 };
+  action = record { 0 = getD s (actionOfStepPlace j) 0 };
+  target = record { 0 = getD s (targetPlace j) 0 };
 }
 
 -- f 0, f 1, up to f (n - 1)
@@ -38,8 +44,8 @@ listed (suc n) f = listed n f ++ (f n ∷ [])
 unfoldable pub modelAt : List ℕ → Model
 modelAt s = record {
   head = headAt s;
-  actions = listed (getD s 1 0) (actionAt s);
-  steps = listed (getD s 2 0) (stepAt s);
+  actions = listed (headAt s .actions) (actionAt s);
+  steps = listed (headAt s .steps) (stepAt s);
 }
 
 -- a store holds a well-formed model; what follows its 3,972 numbers does not count

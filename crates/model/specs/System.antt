@@ -31,7 +31,7 @@ pub record Steps (m : Model) (p a q : ℕ) : Type 0 where
   pub action-is : action m number ≡ a
   pub target-is : target m number ≡ q
 
--- The level of action a; 3, which is none, past the last action.
+-- The level of action a; `noLevel` past the last action.
 abbrev pub level : Model → ℕ → ℕ
 level m a = getD (m .actions) a noAction .level
 

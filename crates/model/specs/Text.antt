@@ -1,44 +1,45 @@
--- The text of a model.
+-- The `M` text of a model.
 -- Document 01, "The text".
 use mathlib.Core.Bool.{cond}
 use mathlib.Core.List.{List, [], _∷_, _++_}
 use Prim.Native.Nat.{ℕ}
 use lib.Dec.{eqb}
+use Rattle.text.specs.Bytes.{byteA, byteComma, byteD, byteE, byteH, byteL, byteLineEnd, byteM, byteS}
 use Rattle.text.specs.declared.Head.{Head}
 use Rattle.text.specs.declared.StepLine.{StepLine}
 use Rattle.text.specs.Numbers.{digits}
 use Rattle.text.specs.Model.{low, release, ActionLine, Model}
 
--- a field after a comma (44)
+-- a field after a comma
 abbrev pub field : List ℕ → List ℕ
-field f = 44 ∷ f
+field f = byteComma ∷ f
 
--- `M,states,actions,steps,start` and the line end (10)
+-- `M,states,actions,steps,start` and the line end
 unfoldable pub headText : Head → List ℕ
 headText h =
-    (77 ∷ [])
+    (byteM ∷ [])
     ++ field (digits (h .states))
     ++ field (digits (h .actions))
     ++ field (digits (h .steps))
     ++ field (digits (h .start .0))
-    ++ (10 ∷ [])
+    ++ (byteLineEnd ∷ [])
 
 -- `L`, `D` or `H`
 unfoldable pub levelByte : ℕ → ℕ
-levelByte level = cond (eqb level low) 76 (cond (eqb level release) 68 72)
+levelByte level = cond (eqb level low) byteL (cond (eqb level release) byteD byteH)
 
 -- `A,level,name` and the line end
 unfoldable pub actionText : ActionLine → List ℕ
-actionText a = (65 ∷ []) ++ field (levelByte (a .level) ∷ []) ++ field (a .name) ++ (10 ∷ [])
+actionText a = (byteA ∷ []) ++ field (levelByte (a .level) ∷ []) ++ field (a .name) ++ (byteLineEnd ∷ [])
 
 -- `S,source,action,target` and the line end
 unfoldable pub stepText : StepLine → List ℕ
 stepText s =
-    (83 ∷ [])
+    (byteS ∷ [])
     ++ field (digits (s .source .0))
     ++ field (digits (s .action .0))
     ++ field (digits (s .target .0))
-    ++ (10 ∷ [])
+    ++ (byteLineEnd ∷ [])
 
 unfoldable pub actionsText : List ActionLine → List ℕ
 actionsText [] = []
@@ -48,6 +49,6 @@ unfoldable pub stepsText : List StepLine → List ℕ
 stepsText [] = []
 stepsText (s ∷ ss) = stepText s ++ stepsText ss
 
--- the lines in their order, and `E` with its line end
-unfoldable pub textOf : Model → List ℕ
-textOf m = headText (m .head) ++ actionsText (m .actions) ++ stepsText (m .steps) ++ (69 ∷ 10 ∷ [])
+-- the `M` text of a model: the lines in their order, and `E` with its line end
+unfoldable pub modelText : Model → List ℕ
+modelText m = headText (m .head) ++ actionsText (m .actions) ++ stepsText (m .steps) ++ (byteE ∷ byteLineEnd ∷ [])

@@ -9,23 +9,24 @@ use crate::store::step_place;
 use text::Action;
 use text::Head;
 use text::Step;
-use text::StepLine;
 use text::bytes::DIGIT;
 use text::bytes::SMALL_LETTER;
 use text::bytes::kind;
 use text::bytes::kinds;
-use text::limits::ACTION_LIMIT;
+use text::limits::ACTIONS_END;
+use text::limits::HIGH;
+use text::limits::NAME_LENGTH_COLUMN;
 use text::limits::NAME_LIMIT;
-use text::limits::STATE_LIMIT;
-use text::limits::STEP_LIMIT;
-use text::limits::STORE_LENGTH;
+use text::limits::STEPS_END;
+use text::line::head_fits;
 use text::line::is_above;
+use text::line::step_fits;
 ghost use Prim.Native.Nat.{_+_, _≤_, _<_};
 ghost use lib.Dec.{T};
 ghost use lib.ListN.{length};
 ghost use Rattle.text.specs.Limits.{actionLimit, stepLimit, storeLength};
 ghost use Rattle.text.specs.Decides.{Decides};
-ghost use Rattle.text.specs.Lines.{headFits?, nameByte?, stepFits?};
+ghost use Rattle.text.specs.Lines.{nameByte?};
 ghost use Rattle.text.specs.Inner.Table.{KindTable};
 ghost use Rattle.model.specs.Store.{Good};
 ghost use Rattle.model.specs.Inner.EachFrom.{EachFrom};
@@ -102,8 +103,8 @@ fn same_name(store: &[u16], a: Action, b: Action) -> bool
 {
     same(
         store,
-        action_place(a) + 1,
-        action_place(b) + 1,
+        action_place(a) + NAME_LENGTH_COLUMN,
+        action_place(b) + NAME_LENGTH_COLUMN,
         NAME_LIMIT as usize + 1,
     )
 }
@@ -129,7 +130,7 @@ fn action_good(kinds: &[u8; 256], store: &[u16], a: Action) -> bool
     requires { ⌜ (storeLength ≤ length (now store)) × (a .0 < actionLimit) × KindTable (now kinds) ⌝ }
     ensures { λ r. ⌜ Decides r (GoodAction (now (store .entry)) (a .0)) ⌝ }
 {
-    if 2 < level(store, a) {
+    if HIGH < level(store, a) {
         return false;
     }
     let n = name_length(store, a);
@@ -166,29 +167,13 @@ fn actions_good(store: &[u16], n: u16) -> bool
     true
 }
 
-// Whether the states and the action of a step are there.
-fn step_fits(h: Head, s: StepLine) -> bool
-    ensures { λ r. ⌜ Decides r (T (stepFits? h s)) ⌝ }
-{
-    if h.states <= s.source.0 {
-        return false;
-    }
-    if h.actions <= s.action.0 {
-        return false;
-    }
-    if h.states <= s.target.0 {
-        return false;
-    }
-    true
-}
-
 // Whether a step's places are good.
 fn step_good(store: &[u16], h: Head, j: Step) -> bool
     requires { ⌜ (storeLength ≤ length (now store)) × (j .0 < stepLimit) ⌝ }
     ensures { λ r. ⌜ Decides r (GoodStep h (now (store .entry)) (j .0)) ⌝ }
 {
     let s = step_line(store, j);
-    if !step_fits(h, s) {
+    if !step_fits(h, s.source.0 as u32, s.action.0 as u32, s.target.0 as u32) {
         return false;
     }
     if j.0 == 0 {
@@ -216,38 +201,18 @@ fn steps_good(store: &[u16], h: Head) -> bool
     true
 }
 
-// Whether line 1 of a text may have these numbers.
-fn head_fits(h: Head) -> bool
-    ensures { λ r. ⌜ Decides r (T (headFits? h)) ⌝ }
-{
-    if h.states < 1 {
-        return false;
-    }
-    if STATE_LIMIT < h.states {
-        return false;
-    }
-    if h.actions < 1 {
-        return false;
-    }
-    if ACTION_LIMIT < h.actions {
-        return false;
-    }
-    if STEP_LIMIT < h.steps {
-        return false;
-    }
-    if h.states <= h.start.0 {
-        return false;
-    }
-    true
-}
-
 // Whether all places of a store are good.
 fn places_good(store: &[u16]) -> bool
     requires { ⌜ storeLength ≤ length (now store) ⌝ }
     ensures { λ r. ⌜ Decides r (GoodPlaces (now (store .entry))) ⌝ }
 {
     let h = head(store);
-    if !head_fits(h) {
+    if !head_fits(
+        h.states as u32,
+        h.actions as u32,
+        h.steps as u32,
+        h.start.0 as u32,
+    ) {
         return false;
     }
     if !actions_good(store, h.actions) {
@@ -256,10 +221,10 @@ fn places_good(store: &[u16]) -> bool
     if !steps_good(store, h) {
         return false;
     }
-    if !zeros(store, action_place(Action(h.actions)), step_place(Step(0))) {
+    if !zeros(store, action_place(Action(h.actions)), ACTIONS_END) {
         return false;
     }
-    zeros(store, step_place(Step(h.steps)), STORE_LENGTH)
+    zeros(store, step_place(Step(h.steps)), STEPS_END)
 }
 
 // Whether a store is good: some text reads to it.

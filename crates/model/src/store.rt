@@ -1,45 +1,54 @@
-// The layout of the model store, named once, and what stands at its places.
+// The places of the model store, and what stands at them.
 use text::Action;
 use text::Head;
 use text::State;
 use text::Step;
 use text::StepLine;
+use text::limits::ACTION_COLUMN;
+use text::limits::ACTION_COUNT_PLACE;
 use text::limits::ACTION_SIZE;
-use text::limits::ACTIONS_AT;
+use text::limits::ACTIONS_BEGIN;
+use text::limits::NAME_COLUMN;
+use text::limits::NAME_LENGTH_COLUMN;
+use text::limits::START_PLACE;
+use text::limits::STATE_COUNT_PLACE;
+use text::limits::STEP_COUNT_PLACE;
 use text::limits::STEP_SIZE;
-use text::limits::STEPS_AT;
+use text::limits::STEPS_BEGIN;
+use text::limits::TARGET_COLUMN;
 ghost use mathlib.Core.Path.{_≡_};
-ghost use Prim.Native.Nat.{_+_, _≤_, _<_};
+ghost use Prim.Native.Nat.{_≤_, _<_};
 ghost use lib.ListN.{length, getD};
-ghost use Rattle.text.specs.Limits.{actionLimit, stepLimit, storeLength, actionPlace, namePlace, stepPlace};
+ghost use Rattle.text.specs.Limits.{actionLimit, stepLimit, storeLength, actionPlace, nameLengthPlace, namePlace};
+ghost use Rattle.text.specs.Limits.{stepPlace};
 ghost use Rattle.model.specs.StoredModel.{headAt, actionAt, stepAt};
 
 pub fn states(store: &[u16]) -> u16
     requires { ⌜ storeLength ≤ length (now store) ⌝ }
     ensures { λ r. ⌜ r ≡ headAt (now (store .entry)) .states ⌝ }
 {
-    store[0]
+    store[STATE_COUNT_PLACE]
 }
 
 pub fn actions(store: &[u16]) -> u16
     requires { ⌜ storeLength ≤ length (now store) ⌝ }
     ensures { λ r. ⌜ r ≡ headAt (now (store .entry)) .actions ⌝ }
 {
-    store[1]
+    store[ACTION_COUNT_PLACE]
 }
 
 pub fn steps(store: &[u16]) -> u16
     requires { ⌜ storeLength ≤ length (now store) ⌝ }
     ensures { λ r. ⌜ r ≡ headAt (now (store .entry)) .steps ⌝ }
 {
-    store[2]
+    store[STEP_COUNT_PLACE]
 }
 
 pub fn start(store: &[u16]) -> State
     requires { ⌜ storeLength ≤ length (now store) ⌝ }
     ensures { λ r. ⌜ r ≡ headAt (now (store .entry)) .start ⌝ }
 {
-    State(store[3])
+    State(store[START_PLACE])
 }
 
 pub fn head(store: &[u16]) -> Head
@@ -47,10 +56,10 @@ pub fn head(store: &[u16]) -> Head
     ensures { λ r. ⌜ r ≡ headAt (now (store .entry)) ⌝ }
 {
     Head {
-        states: store[0],
-        actions: store[1],
-        steps: store[2],
-        start: State(store[3]),
+        states: store[STATE_COUNT_PLACE],
+        actions: store[ACTION_COUNT_PLACE],
+        steps: store[STEP_COUNT_PLACE],
+        start: State(store[START_PLACE]),
     }
 }
 
@@ -58,56 +67,56 @@ pub fn head(store: &[u16]) -> Head
 pub fn action_place(a: Action) -> usize
     ensures { λ r. ⌜ r ≡ actionPlace (a .0) ⌝ }
 {
-    ACTIONS_AT + ACTION_SIZE * a.0 as usize
+    ACTIONS_BEGIN + ACTION_SIZE * a.0 as usize
 }
 
 // Where the bytes of an action's name begin.
 pub fn name_place(a: Action) -> usize
     ensures { λ r. ⌜ r ≡ namePlace (a .0) ⌝ }
 {
-    ACTIONS_AT + ACTION_SIZE * a.0 as usize + 2
+    ACTIONS_BEGIN + ACTION_SIZE * a.0 as usize + NAME_COLUMN
 }
 
 pub fn level(store: &[u16], a: Action) -> u16
     requires { ⌜ (storeLength ≤ length (now store)) × (a .0 < actionLimit) ⌝ }
     ensures { λ r. ⌜ r ≡ actionAt (now (store .entry)) (a .0) .level ⌝ }
 {
-    store[ACTIONS_AT + ACTION_SIZE * a.0 as usize]
+    store[ACTIONS_BEGIN + ACTION_SIZE * a.0 as usize]
 }
 
 pub fn name_length(store: &[u16], a: Action) -> u16
     requires { ⌜ (storeLength ≤ length (now store)) × (a .0 < actionLimit) ⌝ }
-    ensures { λ r. ⌜ r ≡ getD (now (store .entry)) (actionPlace (a .0) + 1) 0 ⌝ }
+    ensures { λ r. ⌜ r ≡ getD (now (store .entry)) (nameLengthPlace (a .0)) 0 ⌝ }
 {
-    store[ACTIONS_AT + ACTION_SIZE * a.0 as usize + 1]
+    store[ACTIONS_BEGIN + ACTION_SIZE * a.0 as usize + NAME_LENGTH_COLUMN]
 }
 
 // Where a step begins: its source, then its action, then its target.
 pub fn step_place(j: Step) -> usize
     ensures { λ r. ⌜ r ≡ stepPlace (j .0) ⌝ }
 {
-    STEPS_AT + STEP_SIZE * j.0 as usize
+    STEPS_BEGIN + STEP_SIZE * j.0 as usize
 }
 
 pub fn source(store: &[u16], j: Step) -> State
     requires { ⌜ (storeLength ≤ length (now store)) × (j .0 < stepLimit) ⌝ }
     ensures { λ r. ⌜ r ≡ stepAt (now (store .entry)) (j .0) .source ⌝ }
 {
-    State(store[STEPS_AT + STEP_SIZE * j.0 as usize])
+    State(store[STEPS_BEGIN + STEP_SIZE * j.0 as usize])
 }
 
 pub fn action(store: &[u16], j: Step) -> Action
     requires { ⌜ (storeLength ≤ length (now store)) × (j .0 < stepLimit) ⌝ }
     ensures { λ r. ⌜ r ≡ stepAt (now (store .entry)) (j .0) .action ⌝ }
 {
-    Action(store[STEPS_AT + STEP_SIZE * j.0 as usize + 1])
+    Action(store[STEPS_BEGIN + STEP_SIZE * j.0 as usize + ACTION_COLUMN])
 }
 
 pub fn target(store: &[u16], j: Step) -> State
     requires { ⌜ (storeLength ≤ length (now store)) × (j .0 < stepLimit) ⌝ }
     ensures { λ r. ⌜ r ≡ stepAt (now (store .entry)) (j .0) .target ⌝ }
 {
-    State(store[STEPS_AT + STEP_SIZE * j.0 as usize + 2])
+    State(store[STEPS_BEGIN + STEP_SIZE * j.0 as usize + TARGET_COLUMN])
 }
 
 // The whole of a step.
@@ -115,10 +124,10 @@ pub fn step_line(store: &[u16], j: Step) -> StepLine
     requires { ⌜ (storeLength ≤ length (now store)) × (j .0 < stepLimit) ⌝ }
     ensures { λ r. ⌜ r ≡ stepAt (now (store .entry)) (j .0) ⌝ }
 {
-    let at = STEPS_AT + STEP_SIZE * j.0 as usize;
+    let at = STEPS_BEGIN + STEP_SIZE * j.0 as usize;
     StepLine {
         source: State(store[at]),
-        action: Action(store[at + 1]),
-        target: State(store[at + 2]),
+        action: Action(store[at + ACTION_COLUMN]),
+        target: State(store[at + TARGET_COLUMN]),
     }
 }

@@ -7,8 +7,8 @@ use Prim.Native.Nat.{ℕ, _+_, _≤_, _<_}
 use native.Mathlib.Numerals.{add-one}
 use native.Mathlib.Omega.{arith}
 use lib.ListN.{length, drop}
-use Rattle.reader.specs.declared.answers.ReadAnswer.{ReadAnswer}
-use Rattle.reader.specs.declared.answers.ReadAnswer.the-variants.{Done}
+use Rattle.read_write.specs.declared.read.ReadAnswer.{ReadAnswer}
+use Rattle.read_write.specs.declared.read.ReadAnswer.the-variants.{Done}
 use Rattle.text.specs.Faults.{Outcome, answers, refuses}
 use Rattle.text.specs.Laws.OutcomeLaws.{answers-not-refuses}
 use Rattle.text.specs.Limits.{storeLength}
@@ -21,7 +21,7 @@ use Rattle.model.specs.Store.{storeOf}
 use Rattle.model.specs.StoredModel.{modelAt}
 use Rattle.read_write.specs.Laws.ReadPromiseLaws.{readLists-none}
 use Rattle.model.specs.Laws.Store.StoredModelLaws.{modelAt-storeOf}
-use Rattle.model.specs.Laws.Text.ReadingLaws.{readText-iff}
+use Rattle.model.specs.Laws.Text.ReadingLaws.{readText-well-formed}
 use Rattle.writer.specs.Laws.WroteLaws.{wrote-start}
 use Rattle.page.specs.declared.print.PrintAnswer.{PrintAnswer}
 use Rattle.page.specs.declared.print.PrintAnswer.the-variants.{Printed, ShortList}
@@ -138,7 +138,7 @@ module _ (text store distances table run word out : List ℕ) where
             reads .filled (readLists-none text store (long .store-length))
             ∙ ap (λ (z : Reading). readingStore z store) f in
             let model : modelAt store′ ≡ m =
-            ap modelAt filled ∙ modelAt-storeOf m (drop storeLength store) (readText-iff text m .0 f .0) in
+            ap modelAt filled ∙ modelAt-storeOf m (drop storeLength store) (readText-well-formed text m f) in
             let made =
             subst (λ (z : Model). PageMade z n distances table run word out distances′ table′ run′ word′ out′) model x
             in

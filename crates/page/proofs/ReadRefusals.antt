@@ -3,8 +3,8 @@ use mathlib.Core.List.{List}
 use mathlib.Core.Path.{_≡_, refl, sym, _∙_}
 use Prim.Native.Nat.{ℕ, _≤_}
 use lib.ListN.{length}
-use Rattle.reader.specs.declared.answers.ReadAnswer.{ReadAnswer}
-use Rattle.reader.specs.declared.answers.ReadAnswer.the-variants.{Done}
+use Rattle.read_write.specs.declared.read.ReadAnswer.{ReadAnswer}
+use Rattle.read_write.specs.declared.read.ReadAnswer.the-variants.{Done}
 use Rattle.text.specs.Faults.{refuses}
 use Rattle.text.specs.Laws.OutcomeLaws.{answers-not-refuses}
 use Rattle.text.specs.Limits.{storeLength}

@@ -2,7 +2,7 @@
 use crate::page::first_short;
 use crate::page::page_good;
 use lines::lines::PageEnd;
-use reader::answers::ReadAnswer;
+use read_write::read::ReadAnswer;
 ghost use mathlib.Core.List.{[], _∷_};
 ghost use mathlib.Core.Path.{_≡_};
 ghost use Prim.Native.Nat.{_≤_};

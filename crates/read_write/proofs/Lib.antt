@@ -1,1 +1,2 @@
 pub mod WriteAnswers
+pub mod ReadAnswers

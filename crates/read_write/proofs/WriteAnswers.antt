@@ -8,13 +8,12 @@ use Rattle.read_write.specs.declared.write.WriteAnswer.the-variants.{Wri
 use Rattle.text.specs.Faults.{answers}
 use Rattle.text.specs.Limits.{storeLength, outLength}
 use Rattle.text.specs.Laws.FirstShortLaws.{first-short, second-short}
-use Rattle.model.specs.Laws.OnStoreLaws.{onStore-short, onStore-not-good, onStore-good}
-use Rattle.read_write.specs.WritePromise.{writeOutcome, WritePromise}
+use Rattle.model.specs.Laws.OnStoreLaws.{onStore-short, onStore-not-good, onStore-model}
+use Rattle.read_write.specs.WritePromise.{writeOutcome, PutsText, WritePromise}
 use Rattle.read_write.specs.Laws.WritePromiseLaws.{writeLists-none}
 use Rattle.model.specs.Store.{Good}
 use Rattle.model.specs.StoredModel.{modelAt}
-use Rattle.model.specs.Laws.Store.StoredModelLaws.{good-text}
-use Rattle.model.specs.Text.{textOf}
+use Rattle.model.specs.Text.{modelText}
 use Rattle.writer.specs.Inner.Writable.{Writable}
 use Rattle.writer.specs.Laws.WritableLaws.{text-le}
 use Rattle.writer.specs.Wrote.{Wrote}
@@ -35,12 +34,12 @@ module _ (store out : List ℕ) where
   unfolding writeOutcome
   not-good-promised h l n = onStore-not-good (writeLists-none store out h l) n refl refl
 
-  -- whatever text reads to a good store, it is the one that was written
+  -- the text that was written is that of the model that the store holds
   pub written-promised : (exit : List ℕ) (next : ℕ) → Writable store → outLength ≤ length out
-      → Wrote out 0 (textOf (modelAt store)) exit next → WritePromise store out (writeOutcome (Written next)) exit
+      → Wrote out 0 (modelText (modelAt store)) exit next → WritePromise store out (writeOutcome (Written next)) exit
   unfolding writeOutcome
   written-promised exit next w l wrote =
       let fits = text-le store w in
       let done = wrote-start wrote (omega arith) in
-      onStore-good (writeLists-none store out (w .long) l) (w .good)
-      (λ g. rw (good-text store g) (ap (λ (n : ℕ). answers (n ∷ [])) (done .0), done .1))
+      onStore-model (λ m. PutsText (modelText m) out (answers (next ∷ [])) exit)
+      (writeLists-none store out (w .long) l) (w .good) (ap (λ (n : ℕ). answers (n ∷ [])) (done .0), done .1)

@@ -8,9 +8,9 @@ use lib.ListN.{length}
 use Rattle.text.specs.Limits.{storeLength}
 use Rattle.text.specs.Faults.{Outcome, answers, refuses, faultNumber, firstShort}
 use Rattle.model.specs.Reading.{Reading, done, tooLong, faulty, readText}
-use Rattle.reader.specs.declared.answers.ReadAnswer.{ReadAnswer}
-use Rattle.reader.specs.declared.answers.ReadAnswer.the-variants.{Done, ShortList, TooLong, Faulty}
-use Rattle.reader.specs.Answers.{readingStore, readAnswer}
+use Rattle.reader.specs.Answers.{readingStore}
+use Rattle.read_write.specs.declared.read.ReadAnswer.{ReadAnswer}
+use Rattle.read_write.specs.declared.read.ReadAnswer.the-variants.{Done, ShortList, TooLong, Faulty}
 
 -- "Read [..] answer[s] only that [it] succeeded"; else the document's number and place
 unfoldable pub readOutcome : ReadAnswer → Outcome
@@ -24,6 +24,12 @@ unfoldable pub readingOutcome : Reading → Outcome
 readingOutcome (done m) = answers []
 readingOutcome tooLong = refuses 1 0
 readingOutcome (faulty fault line) = refuses (faultNumber fault) line
+
+-- the answer that a reading is, with the cause of the fault, which the numbers do not always tell apart
+unfoldable pub readAnswer : Reading → ReadAnswer
+readAnswer (done m) = Done
+readAnswer tooLong = TooLong
+readAnswer (faulty fault line) = Faulty fault line
 
 abbrev pub readLists : List ℕ → List ℕ → Option ℕ
 readLists text store = firstShort 1 (length text ∷ length store ∷ []) (0 ∷ storeLength ∷ [])

@@ -8,6 +8,7 @@ use lib.ListN.{length, drop}
 use Rattle.text.specs.Limits.{storeLength, outLength}
 use Rattle.text.specs.Faults.{Outcome, answers, refuses, firstShort}
 use Rattle.model.specs.OnStore.{OnStore}
+use Rattle.model.specs.Text.{modelText}
 use Rattle.read_write.specs.declared.write.WriteAnswer.{WriteAnswer}
 use Rattle.read_write.specs.declared.write.WriteAnswer.the-variants.{Written, ShortList, NotGood}
 
@@ -20,8 +21,11 @@ writeOutcome NotGood = refuses 22 0
 abbrev pub writeLists : List ℕ → List ℕ → Option ℕ
 writeLists store out = firstShort 1 (length store ∷ length out ∷ []) (storeLength ∷ outLength ∷ [])
 
--- "The text that reads to the store": whichever text reads to it
+-- a text at the front of `out`: "Answers its length", and what follows it is unchanged
+abbrev pub PutsText : List ℕ → List ℕ → Outcome → List ℕ → Type 0
+PutsText text out outcome exit = (outcome ≡ answers (length text ∷ [])) × (exit ≡ text ++ drop (length text) out)
+
+-- "The text that reads to the store": the `M` text of the model that the store holds
 abbrev pub WritePromise : List ℕ → List ℕ → Outcome → List ℕ → Type 0
 WritePromise store out outcome exit =
-    OnStore (writeLists store out) store outcome (exit ≡ out)
-    (λ g. (outcome ≡ answers (length (g .text) ∷ [])) × (exit ≡ g .text ++ drop (length (g .text)) out))
+    OnStore (writeLists store out) store outcome (exit ≡ out) (λ g. PutsText (modelText (g .model)) out outcome exit)

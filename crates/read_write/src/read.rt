@@ -1,9 +1,18 @@
 // The operation Read.
-use reader::answers::ReadAnswer;
+use reader::answers::TextRead;
 use reader::reader::read_lines;
+use text::Fault;
 use text::limits::STORE_LENGTH;
 use text::limits::TEXT_LIMIT;
 ghost use Rattle.read_write.specs.ReadPromise.{readOutcome, ReadPromise, ReadCause};
+
+// What Read answers.
+pub enum ReadAnswer {
+    Done,
+    ShortList(usize),
+    TooLong,
+    Faulty { fault: Fault, line: usize },
+}
 
 // Reads a text into a store. A refusal leaves the store as it was.
 pub fn read(text: &[u8], store: &mut [u16]) -> ReadAnswer
@@ -16,5 +25,9 @@ pub fn read(text: &[u8], store: &mut [u16]) -> ReadAnswer
     if TEXT_LIMIT < text.len() {
         return ReadAnswer::TooLong;
     }
-    read_lines(text, store)
+    let read = read_lines(text, store);
+    match read {
+        TextRead::Done => ReadAnswer::Done,
+        TextRead::Faulty { fault, line } => ReadAnswer::Faulty { fault, line },
+    }
 }

@@ -27,7 +27,7 @@ pub fn write(store: &[u16], out: &mut [u8]) -> WriteAnswer
     if !good(store) {
         return WriteAnswer::NotGood;
     }
-    let p = Position::start();
-    let end = p.model(out, store);
+    let at = Position::start();
+    let end = at.model(out, store);
     WriteAnswer::Written(end.at)
 }

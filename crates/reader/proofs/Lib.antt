@@ -1,2 +1,1 @@
 pub mod ReaderParts
-pub mod ReadAnswers

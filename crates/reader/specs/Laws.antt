@@ -1,5 +1,4 @@
-pub mod FillLaws
 pub mod ReadLaws
 pub mod ReadStepsLaws
-pub mod ReadAnswerLaws
+pub mod TextReadLaws
 pub mod NameLaws

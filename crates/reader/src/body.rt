@@ -1,9 +1,12 @@
 // The text behind its first line: actions, steps and the end, read into a store of zeros that is copied out where
 // all is well.
 use crate::actions::actions;
+use crate::answers::LineStart;
 use crate::answers::LinesRead;
-use crate::answers::ReadAnswer;
+use crate::answers::TextRead;
 use crate::steps::steps;
+use model::put::copy;
+use model::put::put_head;
 use text::Fault;
 use text::Head;
 use text::bytes::LINE_END;
@@ -14,17 +17,14 @@ use text::line::find;
 use text::line::head_line;
 use text::line::is_letter;
 ghost use mathlib.Core.Path.{_≡_};
-ghost use mathlib.Core.List.{_++_};
 ghost use Prim.Native.Nat.{_≤_};
 ghost use lib.ListN.{length, drop};
-ghost use lib.Seq.{sets};
 ghost use Rattle.text.specs.Bytes.{lineEnd};
 ghost use Rattle.text.specs.Split.{split};
 ghost use Rattle.text.specs.Limits.{storeLength};
-ghost use Rattle.model.specs.Store.{headPlaces};
 ghost use Rattle.text.specs.Inner.Table.{KindTable};
 ghost use Rattle.text.specs.Inner.LineAnswers.{headRead};
-ghost use Rattle.reader.specs.Inner.ReadSoFar.{AfterHead, AfterActions, AfterSteps, AfterEnd, Further, ReadOut};
+ghost use Rattle.reader.specs.Inner.ReadSoFar.{AfterHead, AfterActions, AfterSteps, Through, ReadOut};
 ghost use Rattle.reader.specs.Inner.ReadSoFar.{AfterLine, firstLine, AfterFirst};
 
 // The line at a place, taken as the first one.
@@ -58,105 +58,83 @@ pub fn after_line(text: &[u8], at: usize) -> usize
 }
 
 // The last line, and nothing after it.
-fn end(kinds: &[u8; 256], text: &[u8], at: usize, head: Head, out: &[u16]) -> LinesRead
-    requires { ⌜ AfterSteps head (now text) at (now out) × KindTable (now kinds) ⌝ }
-    ensures { λ r. ⌜ Further (λ _. AfterEnd (now (text .entry)) (now (out .entry))) (now (text .entry)) r ⌝ }
+fn end(kinds: &[u8; 256], text: &[u8], start: LineStart, out: &[u16]) -> TextRead
+    requires { ⌜ AfterSteps (now text) start (now out) × KindTable (now kinds) ⌝ }
+    ensures { λ r. ⌜ Through (now (text .entry)) (now (out .entry)) r ⌝ }
 {
-    let line = 2 + head.actions as usize + head.steps as usize;
+    let at = start.at;
+    let line = start.line;
     let e = find(kinds, text, at, LINE_END);
     if e == text.len() {
-        return LinesRead::Faulty {
+        return TextRead::Faulty {
             fault: Fault::Absent,
             line,
         };
     }
     if e != at + 1 {
-        return LinesRead::Faulty {
+        return TextRead::Faulty {
             fault: Fault::Shape,
             line,
         };
     }
     if !is_letter(kinds, text[at], b'E') {
-        return LinesRead::Faulty {
+        return TextRead::Faulty {
             fault: Fault::Shape,
             line,
         };
     }
     if e + 1 != text.len() {
-        return LinesRead::Faulty {
+        return TextRead::Faulty {
             fault: Fault::Absent,
             line: line + 1,
         };
     }
-    LinesRead::Next(e + 1)
+    TextRead::Done
 }
 
 // The lines behind the first, into a store that holds what the first states.
-fn lines(kinds: &[u8; 256], text: &[u8], at: usize, head: Head, out: &mut [u16]) -> LinesRead
-    requires { ⌜ AfterActions head (now text) at 0 (now out) × KindTable (now kinds) ⌝ }
-    ensures { λ r. ⌜ Further (λ _. AfterEnd (now (text .entry)) (now (out .exit))) (now (text .entry)) r ⌝ }
+fn lines(kinds: &[u8; 256], text: &[u8], start: LineStart, head: Head, out: &mut [u16]) -> TextRead
+    requires { ⌜ AfterActions head (now text) start 0 (now out) × KindTable (now kinds) ⌝ }
+    ensures { λ r. ⌜ Through (now (text .entry)) (now (out .exit)) r ⌝ }
 {
-    let acted = actions(kinds, text, at, head, out);
+    let acted = actions(kinds, text, start, head, out);
     match acted {
-        LinesRead::Faulty { .. } => acted,
+        LinesRead::Faulty { fault, line } => TextRead::Faulty { fault, line },
         LinesRead::Next(a) => {
             let stepped = steps(kinds, text, a, head, out);
             match stepped {
-                LinesRead::Faulty { .. } => stepped,
-                LinesRead::Next(b) => end(kinds, text, b, head, out),
+                LinesRead::Faulty { fault, line } => TextRead::Faulty { fault, line },
+                LinesRead::Next(b) => end(kinds, text, b, out),
             }
         }
     }
 }
 
-// Stores what the first line states.
-fn put_head(out: &mut [u16], head: Head)
-    requires { ⌜ 4 ≤ length (now out) ⌝ }
-    ensures { λ _. ⌜ now (out .exit) ≡ sets (now (out .entry)) 0 (headPlaces head) ⌝ }
-{
-    out[0] = head.states;
-    out[1] = head.actions;
-    out[2] = head.steps;
-    out[3] = head.start.0;
-}
-
-// Copies all of a list to the front of another.
-fn copy(from: &[u16], to: &mut [u16])
-    requires { ⌜ length (now from) ≤ length (now to) ⌝ }
-    ensures { λ _. ⌜ now (to .exit) ≡ now (from .entry) ++ drop (length (now (from .entry))) (now (to .entry)) ⌝ }
-{
-    let mut i = 0;
-    while i < from.len() {
-        to[i] = from[i];
-        i += 1;
-    }
-}
-
 // The lines behind a good first line.
-fn model(text: &[u8], at: usize, head: Head, store: &mut [u16]) -> ReadAnswer
-    requires { ⌜ AfterHead head (now text) at × (storeLength ≤ length (now store)) ⌝ }
+fn model(text: &[u8], start: LineStart, head: Head, store: &mut [u16]) -> TextRead
+    requires { ⌜ AfterHead head (now text) start × (storeLength ≤ length (now store)) ⌝ }
     ensures { λ r. ⌜ ReadOut (now (text .entry)) (now (store .entry)) r (now (store .exit)) ⌝ }
 {
     let kinds = kinds();
     let mut local = [0u16; STORE_LENGTH];
     put_head(&mut local, head);
-    let read = lines(&kinds, text, at, head, &mut local);
+    let read = lines(&kinds, text, start, head, &mut local);
     match read {
-        LinesRead::Next(_) => {
+        TextRead::Done => {
             copy(&local, store);
-            ReadAnswer::Done
+            TextRead::Done
         }
-        LinesRead::Faulty { fault, line } => ReadAnswer::Faulty { fault, line },
+        TextRead::Faulty { .. } => read,
     }
 }
 
 // What the text comes to, by its first line and the place after that.
-pub fn body(text: &[u8], at: usize, first: HeadRead, store: &mut [u16]) -> ReadAnswer
+pub fn body(text: &[u8], at: usize, first: HeadRead, store: &mut [u16]) -> TextRead
     requires { ⌜ AfterFirst first (now text) at × (storeLength ≤ length (now store)) ⌝ }
     ensures { λ r. ⌜ ReadOut (now (text .entry)) (now (store .entry)) r (now (store .exit)) ⌝ }
 {
     match first {
-        HeadRead::Bad(fault) => ReadAnswer::Faulty { fault, line: 1 },
-        HeadRead::Good(head) => model(text, at, head, store),
+        HeadRead::Bad(fault) => TextRead::Faulty { fault, line: 1 },
+        HeadRead::Good(head) => model(text, LineStart { at, line: 2 }, head, store),
     }
 }

@@ -1,6 +1,6 @@
 // The reader: a text, and how far it has been read. Each function takes it apart, and leaves the work to a function
 // on a slice and a number.
-use crate::answers::ReadAnswer;
+use crate::answers::TextRead;
 use crate::body::after_line;
 use crate::body::body;
 use crate::body::first_line;
@@ -42,7 +42,7 @@ pub fn past<'a>(r: Reader<'a>) -> Reader<'a>
 }
 
 // The lines ahead, behind a first line, into a store.
-pub fn rest<'a>(r: Reader<'a>, head: HeadRead, store: &mut [u16]) -> ReadAnswer
+pub fn rest<'a>(r: Reader<'a>, head: HeadRead, store: &mut [u16]) -> TextRead
     requires { ⌜ AfterFirst head (now (r .text)) (r .at) × (storeLength ≤ length (now store)) ⌝ }
     ensures { λ a. ⌜ ReadOut (now (r .entry .text)) (now (store .entry)) a (now (store .exit)) ⌝ }
 {
@@ -50,7 +50,7 @@ pub fn rest<'a>(r: Reader<'a>, head: HeadRead, store: &mut [u16]) -> ReadAnswer
 }
 
 // The lines of a text.
-pub fn read_lines(text: &[u8], store: &mut [u16]) -> ReadAnswer
+pub fn read_lines(text: &[u8], store: &mut [u16]) -> TextRead
     requires { ⌜ storeLength ≤ length (now store) ⌝ }
     ensures { λ r. ⌜ ReadOut (now (text .entry)) (now (store .entry)) r (now (store .exit)) ⌝ }
 {

@@ -19,16 +19,9 @@ use Rattle.lts.specs.Word.{JustOne, FirstWord}
 use Rattle.text.specs.Faults.{Outcome, answers, refuses}
 use Rattle.text.specs.Model.{Model}
 use Rattle.model.specs.System.{source, target, HighStep, DeterministicModel, view}
-use Rattle.model.specs.Text.{textOf}
-use Rattle.model.specs.WellFormed.{WellFormed}
+pub use Rattle.model.specs.StatedText.{States}
 use Rattle.letters.specs.declared.word.End.{End}
 use Rattle.letters.specs.Words.{endNumber, endState, otherState}
-
--- The text has no fault that is listed for Read: it states the model m, line by line. `states↔readText` shows that the
--- reading, which tests fault by fault, then finds none; such a text has at most 14,420 bytes (`textOf-length-le`).
-pub record States (text : List ℕ) (m : Model) : Type 0 where
-  pub well-formed : WellFormed m
-  pub text-is : text ≡ textOf m
 
 -- The call did not give 21: "A call that gives 21 tells none of these."
 abbrev pub NotShort : Outcome → Type 0

@@ -5,7 +5,7 @@ use mathlib.Core.List.{List, []}
 use mathlib.Core.Path.{_≡_}
 use Prim.Native.Nat.{ℕ}
 use Rattle.text.specs.Faults.{Outcome, answers}
-use Rattle.reader.specs.declared.answers.ReadAnswer.{ReadAnswer}
+use Rattle.read_write.specs.declared.read.ReadAnswer.{ReadAnswer}
 use Rattle.read_write.specs.ReadPromise.{readOutcome, ReadPromise, ReadCause}
 use Rattle.judge.specs.JudgePromise.{judgeOutcome, JudgePromise}
 use Rattle.tell.specs.declared.tell.TextAnswer.{TextAnswer}

@@ -1,7 +1,7 @@
 // From a text to what is told of it.
 use judge::judge::JudgeAnswer;
 use letters::word::WordAnswer;
-use reader::answers::ReadAnswer;
+use read_write::read::ReadAnswer;
 use text::limits::DISTANCES_LENGTH;
 use text::limits::INDEX_LENGTH;
 use text::limits::ROLES_LENGTH;

@@ -20,24 +20,91 @@ nameLimit = 12
 abbrev pub textLimit : ℕ
 textLimit = 16384
 
+-- ---- the model store
+--
+-- It is one section behind the other, each of rows of one length. A section added at the end moves none of the others.
+
+-- "Places 0 to 3: states, actions, steps, start."
+abbrev pub stateCountPlace : ℕ
+stateCountPlace = 0
+
+abbrev pub actionCountPlace : ℕ
+actionCountPlace = 1
+
+abbrev pub stepCountPlace : ℕ
+stepCountPlace = 2
+
+abbrev pub startPlace : ℕ
+startPlace = 3
+
+abbrev pub headEnd : ℕ
+headEnd = 4
+
+-- "Action i from 4 + 14i: level (0 L, 1 D, 2 H), name length, twelve name bytes"
+abbrev pub actionsBegin : ℕ
+actionsBegin = headEnd
+
+abbrev pub nameLengthColumn : ℕ
+nameLengthColumn = 1
+
+abbrev pub nameColumn : ℕ
+nameColumn = 2
+
+abbrev pub actionSize : ℕ
+actionSize = nameColumn + nameLimit
+
+abbrev pub actionsLength : ℕ
+actionsLength = actionSize * actionLimit
+
+abbrev pub actionsEnd : ℕ
+actionsEnd = actionsBegin + actionsLength
+
+abbrev pub actionPlace : ℕ → ℕ
+actionPlace i = actionsBegin + actionSize * i
+
+abbrev pub nameLengthPlace : ℕ → ℕ
+nameLengthPlace i = actionPlace i + nameLengthColumn
+
+abbrev pub namePlace : ℕ → ℕ
+namePlace i = actionPlace i + nameColumn
+
+-- "Step j from 900 + 3j: source, action, target"
+abbrev pub stepsBegin : ℕ
+stepsBegin = actionsEnd
+
+abbrev pub actionColumn : ℕ
+actionColumn = 1
+
+abbrev pub targetColumn : ℕ
+targetColumn = 2
+
+abbrev pub stepSize : ℕ
+stepSize = 3
+
+abbrev pub stepsLength : ℕ
+stepsLength = stepSize * stepLimit
+
+abbrev pub stepsEnd : ℕ
+stepsEnd = stepsBegin + stepsLength
+
+abbrev pub stepPlace : ℕ → ℕ
+stepPlace j = stepsBegin + stepSize * j
+
+abbrev pub actionOfStepPlace : ℕ → ℕ
+actionOfStepPlace j = stepPlace j + actionColumn
+
+abbrev pub targetPlace : ℕ → ℕ
+targetPlace j = stepPlace j + targetColumn
+
 -- "3,972 numbers of 16 bits"
 abbrev pub storeLength : ℕ
-storeLength = 3972
+storeLength = stepsEnd
+
+-- ---- least lengths of lent lists
 
 -- Write's "out 14,420 bytes"
 abbrev pub outLength : ℕ
 outLength = 14420
-
--- "Action i from 4 + 14i: level (0 L, 1 D, 2 H), name length, twelve name bytes"
-abbrev pub actionPlace : ℕ → ℕ
-actionPlace i = 4 + 14 * i
-
-abbrev pub namePlace : ℕ → ℕ
-namePlace i = actionPlace i + 2
-
--- "Step j from 900 + 3j: source, action, target"
-abbrev pub stepPlace : ℕ → ℕ
-stepPlace j = 900 + 3 * j
 
 -- "distances 128"
 abbrev pub distancesLength : ℕ

@@ -13,6 +13,7 @@ use Rattle.text.specs.declared.Head.{Head}
 use Rattle.text.specs.declared.StepLine.{StepLine}
 use Rattle.text.specs.declared.number.Number.{Number}
 use Rattle.text.specs.declared.number.Number.the-variants.{Value, Bad}
+use Rattle.text.specs.Bytes.{byteM, byteA, byteS, byteL, byteD, byteH}
 use Rattle.text.specs.Bytes.{digit, smallLetter, comma, between?, kindOf}
 use Rattle.text.specs.Numbers.{numberOf}
 use Rattle.text.specs.Split.{split, same?}
@@ -79,18 +80,17 @@ unfoldable pub headFrom : Line (List ℕ) → Line Head
 headFrom (good ns) = checked Range (headFits? (headNumbers ns)) (headNumbers ns)
 headFrom (bad fault) = bad fault
 
--- 77 is `M`
 unfoldable pub headOf : List ℕ → Line Head
-headOf line = headFrom (numbersLine 77 4 line)
+headOf line = headFrom (numbersLine byteM 4 line)
 
 -- ---- `A,level,name`
 
--- "Level is L, D or H": bytes 76, 68 and 72
+-- "Level is L, D or H"
 unfoldable pub levelOf : List ℕ → Line ℕ
 levelOf f =
-    cond (same? f (76 ∷ [])) (good low)
-    (cond (same? f (68 ∷ [])) (good release)
-    (cond (same? f (72 ∷ [])) (good high) (bad Shape)))
+    cond (same? f (byteL ∷ [])) (good low)
+    (cond (same? f (byteD ∷ [])) (good release)
+    (cond (same? f (byteH ∷ [])) (good high) (bad Shape)))
 
 unfoldable pub allOf : (ℕ → Bool) → List ℕ → Bool
 allOf test [] = true
@@ -122,9 +122,8 @@ unfoldable pub actionFrom : List ActionLine → Line ActionLine → Line ActionL
 actionFrom before (good a) = cond (used? (a .name) before) (bad Repeated) (good a)
 actionFrom before (bad fault) = bad fault
 
--- 65 is `A`
 unfoldable pub actionOf : List ActionLine → List ℕ → Line ActionLine
-actionOf before line = actionFrom before (actionFields (fieldsOf 65 2 line))
+actionOf before line = actionFrom before (actionFields (fieldsOf byteA 2 line))
 
 -- ---- `S,source,action,target`
 
@@ -147,6 +146,5 @@ unfoldable pub stepFrom : Head → List StepLine → Line (List ℕ) → Line St
 stepFrom h before (good ns) = rising before (checked Range (stepFits? h (stepNumbers ns)) (stepNumbers ns))
 stepFrom h before (bad fault) = bad fault
 
--- 83 is `S`
 unfoldable pub stepOf : Head → List StepLine → List ℕ → Line StepLine
-stepOf h before line = stepFrom h before (numbersLine 83 3 line)
+stepOf h before line = stepFrom h before (numbersLine byteS 3 line)

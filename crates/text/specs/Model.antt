@@ -27,9 +27,12 @@ pub record Model : Type 0 where
   pub actions : List ActionLine
   pub steps : List StepLine
 
--- what stands past the end of a list; 3 is no level
+-- what stands past the end of a list: no action's level is 65,535
+abbrev pub noLevel : ℕ
+noLevel = 65535
+
 abbrev pub noAction : ActionLine
-noAction = record { level = 3; name = [] }
+noAction = record { level = noLevel; name = [] }
 
 abbrev pub noStep : StepLine
 noStep = record { source = record { 0 = 0 }; action = record { 0 = 0 }; target = record { 0 = 0 } }

@@ -15,18 +15,41 @@ pub const TEXT_LIMIT: usize = 16384;
 // One byte more is read of a text, so that a longer text is told from the longest.
 pub const INPUT_LENGTH: usize = TEXT_LIMIT + 1;
 
-// Places 0 to 3 of the store: states, actions, steps, start. Then a section of rows for the actions: the level, the
-// length of the name, and the places of the name.
-pub const ACTIONS_AT: usize = 4;
+// The store is one section behind the other, each of rows of one length. A section added at the end moves none of the
+// others. Line 1 comes first: the numbers of states, actions and steps, and the start.
+pub const STATE_COUNT_PLACE: usize = 0;
 
-pub const ACTION_SIZE: usize = 2 + NAME_LIMIT as usize;
+pub const ACTION_COUNT_PLACE: usize = 1;
 
-// Then one for the steps: source, action, target.
-pub const STEPS_AT: usize = ACTIONS_AT + ACTION_SIZE * ACTION_LIMIT as usize;
+pub const STEP_COUNT_PLACE: usize = 2;
+
+pub const START_PLACE: usize = 3;
+
+pub const HEAD_END: usize = 4;
+
+// Then the rows of the actions: the level, the length of the name, and the places of the name.
+pub const ACTIONS_BEGIN: usize = HEAD_END;
+
+pub const NAME_LENGTH_COLUMN: usize = 1;
+
+pub const NAME_COLUMN: usize = 2;
+
+pub const ACTION_SIZE: usize = NAME_COLUMN + NAME_LIMIT as usize;
+
+pub const ACTIONS_END: usize = ACTIONS_BEGIN + ACTION_SIZE * ACTION_LIMIT as usize;
+
+// Then the rows of the steps: source, action, target.
+pub const STEPS_BEGIN: usize = ACTIONS_END;
+
+pub const ACTION_COLUMN: usize = 1;
+
+pub const TARGET_COLUMN: usize = 2;
 
 pub const STEP_SIZE: usize = 3;
 
-pub const STORE_LENGTH: usize = STEPS_AT + STEP_SIZE * STEP_LIMIT as usize;
+pub const STEPS_END: usize = STEPS_BEGIN + STEP_SIZE * STEP_LIMIT as usize;
+
+pub const STORE_LENGTH: usize = STEPS_END;
 
 // Levels of actions in the store.
 pub const LOW: u16 = 0;

@@ -9,27 +9,40 @@ use crate::bytes::COMMA;
 use crate::bytes::DIGIT;
 use crate::bytes::SMALL_LETTER;
 use crate::bytes::kind;
+use crate::limits::ACTION_LIMIT;
+use crate::limits::HIGH;
+use crate::limits::LOW;
+use crate::limits::NAME_LIMIT;
+use crate::limits::RELEASE;
+use crate::limits::STATE_LIMIT;
+use crate::limits::STEP_LIMIT;
 use crate::number::Number;
 use crate::number::parse_number;
-ghost use mathlib.Core.List.{List};
+ghost use mathlib.Core.List.{List, [], _∷_};
 ghost use mathlib.Core.Path.{_≡_};
 ghost use Prim.Native.Nat.{ℕ, _+_, _≤_, _<_};
 ghost use lib.ListN.{length, drop};
 ghost use Rattle.text.specs.declared.StepLine.{StepLine};
 ghost use Rattle.text.specs.Decides.{Decides};
-ghost use Rattle.text.specs.Bytes.{capital, comma, kindOf, between?};
+ghost use Rattle.text.specs.Bytes.{byteA, byteS, capital, comma, kindOf, between?};
 ghost use Rattle.text.specs.Split.{split, indexOf};
 ghost use Rattle.text.specs.Model.{above?};
-ghost use Rattle.text.specs.Lines.{fieldsOf, numbersOf, numbersLine, headFits?, headOf, name?, actionFields};
-ghost use Rattle.text.specs.Lines.{good, stepFits?, stepNumbers, stepOf};
+ghost use Rattle.text.specs.Lines.{fieldsOf, numbersOf, numbersLine, headFits?, headOf, levelOf, name?};
+ghost use Rattle.text.specs.Lines.{good, actionFields, stepFits?, stepNumbers, stepOf};
 ghost use Rattle.text.specs.Inner.Table.{KindTable};
 ghost use Rattle.text.specs.Inner.LineAnswers.{headRead, actionRead, stepRead, Last};
-ghost use Rattle.text.specs.Inner.PartAnswers.{rowRead, Fields, levelNumber, headOfNumbers, stepOfNumbers};
+ghost use Rattle.text.specs.Inner.PartAnswers.{rowRead, Fields, levelRead, headOfNumbers, stepOfNumbers};
 
 // Line 1: its numbers, or its fault.
 pub enum HeadRead {
     Good(Head),
     Bad(Fault),
+}
+
+// The level that a byte stands for, or none.
+pub enum LevelRead {
+    Level(u16),
+    NoLevel,
 }
 
 // An action's line: its level, with the name from place 4 of the line on; or its fault.
@@ -161,16 +174,16 @@ fn between(least: u32, most: u32, x: u32) -> bool
 }
 
 // Whether line 1 may have these numbers.
-fn head_fits(states: u32, actions: u32, steps: u32, start: u32) -> bool
+pub fn head_fits(states: u32, actions: u32, steps: u32, start: u32) -> bool
     ensures { λ r. ⌜ r ≡ headFits? (headOfNumbers states actions steps start) ⌝ }
 {
-    if !between(1, 128, states) {
+    if !between(1, STATE_LIMIT as u32, states) {
         return false;
     }
-    if !between(1, 64, actions) {
+    if !between(1, ACTION_LIMIT as u32, actions) {
         return false;
     }
-    if 1024 < steps {
+    if (STEP_LIMIT as u32) < steps {
         return false;
     }
     start < states
@@ -200,24 +213,24 @@ pub fn head_line(kinds: &[u8; 256], line: &[u8]) -> HeadRead
     })
 }
 
-// The level that a byte stands for: 0 for L, 1 for D, 2 for H; 3 for any other byte.
-fn level_of(kinds: &[u8; 256], b: u8) -> u16
+// The level that a byte stands for.
+fn level_of(kinds: &[u8; 256], b: u8) -> LevelRead
     requires { ⌜ KindTable (now kinds) ⌝ }
-    ensures { λ r. ⌜ r ≡ levelNumber b ⌝ }
+    ensures { λ r. ⌜ levelOf (b ∷ []) ≡ levelRead r ⌝ }
 {
     if kind(kinds, b) != CAPITAL {
-        return 3;
+        return LevelRead::NoLevel;
     }
     if b == b'L' {
-        return 0;
+        return LevelRead::Level(LOW);
     }
     if b == b'D' {
-        return 1;
+        return LevelRead::Level(RELEASE);
     }
     if b == b'H' {
-        return 2;
+        return LevelRead::Level(HIGH);
     }
-    3
+    LevelRead::NoLevel
 }
 
 // Whether a field is 1 to 12 small letters and digits.
@@ -228,7 +241,7 @@ fn is_name(kinds: &[u8; 256], f: &[u8]) -> bool
     if f.len() < 1 {
         return false;
     }
-    if 12 < f.len() {
+    if (NAME_LIMIT as usize) < f.len() {
         return false;
     }
     let mut i = 0;
@@ -247,7 +260,7 @@ fn is_name(kinds: &[u8; 256], f: &[u8]) -> bool
 // `A,level,name`.
 pub fn action_line(kinds: &[u8; 256], line: &[u8]) -> ActionRead
     requires { ⌜ KindTable (now kinds) ⌝ }
-    ensures { λ r. ⌜ actionFields (fieldsOf 65 2 (now (line .entry))) ≡ actionRead (now (line .entry)) r ⌝ }
+    ensures { λ r. ⌜ actionFields (fieldsOf byteA 2 (now (line .entry))) ≡ actionRead (now (line .entry)) r ⌝ }
 {
     if !fields(kinds, line, b'A', 2) {
         return ActionRead::Bad(Fault::Shape);
@@ -255,10 +268,9 @@ pub fn action_line(kinds: &[u8; 256], line: &[u8]) -> ActionRead
     if find(kinds, line, 2, COMMA) != 3 {
         return ActionRead::Bad(Fault::Shape);
     }
-    let level = level_of(kinds, line[2]);
-    if level == 3 {
+    let LevelRead::Level(level) = level_of(kinds, line[2]) else {
         return ActionRead::Bad(Fault::Shape);
-    }
+    };
     if !is_name(kinds, &line[4..]) {
         return ActionRead::Bad(Fault::Shape);
     }
@@ -266,7 +278,7 @@ pub fn action_line(kinds: &[u8; 256], line: &[u8]) -> ActionRead
 }
 
 // Whether the states and the action of a step are there.
-fn step_fits(head: Head, source: u32, action: u32, target: u32) -> bool
+pub fn step_fits(head: Head, source: u32, action: u32, target: u32) -> bool
     ensures { λ r. ⌜ r ≡ stepFits? head (stepOfNumbers source action target) ⌝ }
 {
     let states = head.states as u32;
@@ -308,7 +320,7 @@ pub fn step_of(
     action: u32,
     target: u32,
 ) -> StepRead
-    ensures { λ r. ⌜ ((line ns : List ℕ) → numbersLine 83 3 line ≡ good ns
+    ensures { λ r. ⌜ ((line ns : List ℕ) → numbersLine byteS 3 line ≡ good ns
         → stepNumbers ns ≡ stepOfNumbers source action target
         → (before : List StepLine) → Last before j last → stepOf head before line ≡ stepRead r) ⌝ }
 {

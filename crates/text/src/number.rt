@@ -25,7 +25,7 @@ fn digits_value(kinds: &[u8; 256], f: &[u8]) -> Number
         if kind(kinds, b) != DIGIT {
             return Number::Bad;
         }
-        v = v * 10 + (b as u32 - 48);
+        v = v * 10 + (b as u32 - b'0' as u32);
         i += 1;
     }
     Number::Value(v)

@@ -65,7 +65,7 @@ fn digits_at(kinds: &[u8; 256], s: &[u8], at: usize, k: u8) -> Scan
         if 4 < i - at {
             return Scan::Other;
         }
-        v = v * 10 + (b as u32 - 48);
+        v = v * 10 + (b as u32 - b'0' as u32);
         i += 1;
     }
     Scan::Other

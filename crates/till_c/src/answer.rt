@@ -6,7 +6,7 @@ use page::page::PageAnswer;
 use page::print::PrintAnswer;
 use judge::reach::ReachAnswer;
 use judge::run::RunAnswer;
-use reader::answers::ReadAnswer;
+use read_write::read::ReadAnswer;
 use tell::tell::TextAnswer;
 use text::Fault;
 use letters::word::End;

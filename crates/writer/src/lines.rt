@@ -5,12 +5,14 @@ use text::Action;
 use text::Head;
 use text::Step;
 use text::StepLine;
+use text::limits::LOW;
+use text::limits::RELEASE;
 ghost use mathlib.Core.Path.{_≡_};
 ghost use Prim.Native.Nat.{ℕ, _+_, _≤_, _<_};
-ghost use lib.ListN.{length, getD};
+ghost use lib.ListN.{length};
 ghost use Rattle.text.specs.All.{All};
-ghost use Rattle.model.specs.StoredModel.{actionAt, modelAt};
-ghost use Rattle.model.specs.Text.{levelByte, headText, actionText, actionsText, stepText, stepsText, textOf};
+ghost use Rattle.model.specs.StoredModel.{headAt, actionAt, modelAt};
+ghost use Rattle.model.specs.Text.{levelByte, headText, actionText, actionsText, stepText, stepsText, modelText};
 ghost use Rattle.writer.specs.Inner.Writable.{Writable};
 ghost use Rattle.writer.specs.Wrote.{Wrote};
 
@@ -18,10 +20,10 @@ ghost use Rattle.writer.specs.Wrote.{Wrote};
 fn level_letter(level: u16) -> u8
     ensures { λ r. ⌜ r ≡ levelByte level ⌝ }
 {
-    if level == 0 {
+    if level == LOW {
         return b'L';
     }
-    if level == 1 {
+    if level == RELEASE {
         return b'D';
     }
     b'H'
@@ -34,12 +36,12 @@ impl Position {
         requires { ⌜ self .at + length (headText h) ≤ length (now out) ⌝ }
         ensures { λ r. ⌜ Wrote (now (out .entry)) (self .at) (headText h) (now (out .exit)) (r .at) ⌝ }
     {
-        let p = self.byte(out, b'M');
-        let q = p.field(out, h.states);
-        let u = q.field(out, h.actions);
-        let v = u.field(out, h.steps);
-        let w = v.field(out, h.start.0);
-        w.byte(out, b'\n')
+        let at = self.byte(out, b'M');
+        let at = at.field(out, h.states);
+        let at = at.field(out, h.actions);
+        let at = at.field(out, h.steps);
+        let at = at.field(out, h.start.0);
+        at.byte(out, b'\n')
     }
 
     // `S,source,action,target` and the line end.
@@ -47,11 +49,11 @@ impl Position {
         requires { ⌜ self .at + length (stepText s) ≤ length (now out) ⌝ }
         ensures { λ r. ⌜ Wrote (now (out .entry)) (self .at) (stepText s) (now (out .exit)) (r .at) ⌝ }
     {
-        let p = self.byte(out, b'S');
-        let q = p.field(out, s.source.0);
-        let u = q.field(out, s.action.0);
-        let v = u.field(out, s.target.0);
-        v.byte(out, b'\n')
+        let at = self.byte(out, b'S');
+        let at = at.field(out, s.source.0);
+        let at = at.field(out, s.action.0);
+        let at = at.field(out, s.target.0);
+        at.byte(out, b'\n')
     }
 
     // `A,level,name` and the line end.
@@ -62,18 +64,18 @@ impl Position {
             (actionText (record { level = level; name = now (name .entry) })) (now (out .exit)) (r .at) ⌝ }
     {
         let letter = level_letter(level);
-        let p = self.byte(out, b'A');
-        let q = p.byte(out, b',');
-        let u = q.byte(out, letter);
-        let v = u.byte(out, b',');
-        let w = v.name(out, name);
-        w.byte(out, b'\n')
+        let at = self.byte(out, b'A');
+        let at = at.byte(out, b',');
+        let at = at.byte(out, letter);
+        let at = at.byte(out, b',');
+        let at = at.name(out, name);
+        at.byte(out, b'\n')
     }
 
     // The line of an action that a store holds.
     fn action_at(self, out: &mut [u8], store: &[u16], a: Action) -> Position
         requires { ⌜ Writable (now store) ⌝ }
-        requires { ⌜ a .0 < getD (now store) 1 0 ⌝ }
+        requires { ⌜ a .0 < headAt (now store) .actions ⌝ }
         requires { ⌜ self .at + length (actionText (actionAt (now store) (a .0))) ≤ length (now out) ⌝ }
         ensures { λ r. ⌜ Wrote (now (out .entry)) (self .at) (actionText (actionAt (now (store .entry)) (a .0)))
             (now (out .exit)) (r .at) ⌝ }
@@ -92,13 +94,13 @@ impl Position {
             (now (out .exit)) (r .at) ⌝ }
     {
         let n = store::actions(store);
-        let mut p = self;
+        let mut at = self;
         let mut i: u16 = 0;
         while i < n {
-            p = p.action_at(out, store, Action(i));
+            at = at.action_at(out, store, Action(i));
             i += 1;
         }
-        p
+        at
     }
 
     // The lines of all steps that a store holds.
@@ -109,25 +111,25 @@ impl Position {
             (now (out .exit)) (r .at) ⌝ }
     {
         let n = store::steps(store);
-        let mut p = self;
+        let mut at = self;
         let mut i: u16 = 0;
         while i < n {
-            p = p.step_line(out, store::step_line(store, Step(i)));
+            at = at.step_line(out, store::step_line(store, Step(i)));
             i += 1;
         }
-        p
+        at
     }
 
     // The text of the model that a store holds.
     pub fn model(self, out: &mut [u8], store: &[u16]) -> Position
         requires { ⌜ Writable (now store) ⌝ }
-        requires { ⌜ self .at + length (textOf (modelAt (now store))) ≤ length (now out) ⌝ }
-        ensures { λ r. ⌜ Wrote (now (out .entry)) (self .at) (textOf (modelAt (now (store .entry))))
+        requires { ⌜ self .at + length (modelText (modelAt (now store))) ≤ length (now out) ⌝ }
+        ensures { λ r. ⌜ Wrote (now (out .entry)) (self .at) (modelText (modelAt (now (store .entry))))
             (now (out .exit)) (r .at) ⌝ }
     {
-        let p = self.head_line(out, store::head(store));
-        let q = p.action_lines(out, store);
-        let u = q.step_lines(out, store);
-        u.text(out, b"E\n")
+        let at = self.head_line(out, store::head(store));
+        let at = at.action_lines(out, store);
+        let at = at.step_lines(out, store);
+        at.text(out, b"E\n")
     }
 }

@@ -34,10 +34,10 @@ impl Position {
         ensures { λ r. ⌜ Wrote (now (out .entry)) (self .at) (digits n) (now (out .exit)) (r .at) ⌝ }
     {
         if n < 10 {
-            return self.byte(out, 48 + (n as u8));
+            return self.byte(out, b'0' + (n as u8));
         }
-        let p = self.number(out, n / 10);
-        p.byte(out, 48 + ((n % 10) as u8))
+        let at = self.number(out, n / 10);
+        at.byte(out, b'0' + ((n % 10) as u8))
     }
 
     // A comma and the digits of n.
@@ -45,8 +45,8 @@ impl Position {
         requires { ⌜ self .at + length (field (digits n)) ≤ length (now out) ⌝ }
         ensures { λ r. ⌜ Wrote (now (out .entry)) (self .at) (field (digits n)) (now (out .exit)) (r .at) ⌝ }
     {
-        let p = self.byte(out, b',');
-        p.number(out, n)
+        let at = self.byte(out, b',');
+        at.number(out, n)
     }
 
     // The bytes of a text.
@@ -54,13 +54,13 @@ impl Position {
         requires { ⌜ self .at + length (now text) ≤ length (now out) ⌝ }
         ensures { λ r. ⌜ Wrote (now (out .entry)) (self .at) (now (text .entry)) (now (out .exit)) (r .at) ⌝ }
     {
-        let mut p = self;
+        let mut at = self;
         let mut i: usize = 0;
         while i < text.len() {
-            p = p.byte(out, text[i]);
+            at = at.byte(out, text[i]);
             i += 1;
         }
-        p
+        at
     }
 
     // The bytes of a name, which the store holds as numbers of 16 bits.
@@ -69,12 +69,12 @@ impl Position {
         requires { ⌜ All (λ (b : ℕ). b < 256) (now name) ⌝ }
         ensures { λ r. ⌜ Wrote (now (out .entry)) (self .at) (now (name .entry)) (now (out .exit)) (r .at) ⌝ }
     {
-        let mut p = self;
+        let mut at = self;
         let mut i: usize = 0;
         while i < name.len() {
-            p = p.byte(out, name[i] as u8);
+            at = at.byte(out, name[i] as u8);
             i += 1;
         }
-        p
+        at
     }
 }

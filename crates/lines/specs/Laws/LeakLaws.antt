@@ -10,10 +10,10 @@ use lib.ListN.{length, getD, take, drop, length-take}
 use Rattle.text.specs.Model.{ActionLine}
 use Rattle.text.specs.Numbers.{digits}
 use Rattle.text.specs.Laws.DigitsLaws.{digitsUpTo-length-le}
-use Rattle.model.specs.StoredModel.{actionAt, modelAt}
+use Rattle.model.specs.StoredModel.{headAt, actionAt, modelAt}
 use Rattle.model.specs.Laws.Store.StoredModelLaws.{actionAt-holds, Good→Holds, listed-length}
 use Rattle.text.specs.All.{All}
-use Rattle.text.specs.Limits.{actionPlace, namePlace}
+use Rattle.text.specs.Limits.{nameLengthPlace, namePlace}
 use Rattle.writer.specs.Inner.Writable.{Writable}
 use Rattle.writer.specs.Laws.WritableLaws.{name-bytes-at, actionAt-part}
 use Rattle.writer.specs.Wrote.{Wrote}
@@ -51,12 +51,12 @@ module _ {s : List ℕ} (w : Writable s) (a : ℕ) (l : a < length (modelAt s .a
   nameOf-stored : actionAt s a .name ≡ nameOf (modelAt s) a
   nameOf-stored = ap (λ (x : ActionLine). x .name) (actionAt-holds s (modelAt s) (Good→Holds s (w .good)) a _ l)
 
-  pub name-action-lt : a < getD s 1 0
+  pub name-action-lt : a < headAt s .actions
   unfolding modelAt
-  name-action-lt = omega (arith, l, listed-length (getD s 1 0) (actionAt s))
+  name-action-lt = omega (arith, l, listed-length (headAt s .actions) (actionAt s))
 
   -- the part of the store where it stands
-  pub name-part : (place len : ℕ) → place ≡ namePlace a → len ≡ getD s (actionPlace a + 1) 0
+  pub name-part : (place len : ℕ) → place ≡ namePlace a → len ≡ getD s (nameLengthPlace a) 0
       → take (place + len - place) (drop place s) ≡ nameOf (modelAt s) a
   name-part place len p n =
       ap (λ (x : ActionLine). x .name) (actionAt-part s a (actionAt s a .level) place len refl p n) ∙ nameOf-stored
@@ -64,7 +64,7 @@ module _ {s : List ℕ} (w : Writable s) (a : ℕ) (l : a < length (modelAt s .a
   pub name-length-le : length (nameOf (modelAt s) a) ≤ 12
   name-length-le =
       let b = name-bytes-at s w a name-action-lt .short in
-      let t = length-take (getD s (actionPlace a + 1) 0) (drop (namePlace a) s) in
+      let t = length-take (getD s (nameLengthPlace a) 0) (drop (namePlace a) s) in
       omega (arith, b, t, ap length nameOf-stored)
 
   pub name-line-length-le : length (lineBytes (nameLine (modelAt s) a)) ≤ nameRoom

@@ -6,7 +6,7 @@ use Prim.Native.Nat.{ℕ, _+_, _-_, _≤_, _<_}
 use lib.Dec.{T}
 use lib.ListN.{getD}
 use Rattle.text.specs.declared.Head.{Head}
-use Rattle.text.specs.Limits.{nameLimit, storeLength, actionPlace, namePlace, stepPlace}
+use Rattle.text.specs.Limits.{nameLimit, actionsEnd, stepsEnd, actionPlace, nameLengthPlace, namePlace, stepPlace}
 use Rattle.text.specs.Model.{high, above?}
 use Rattle.text.specs.Lines.{headFits?, nameByte?, stepFits?}
 use Rattle.model.specs.Inner.EachFrom.{EachFrom}
@@ -29,11 +29,11 @@ SameAt s p q k = getD s (p + k) 0 ≡ getD s (q + k) 0
 -- ---- actions
 
 abbrev pub nameLengthAt : List ℕ → ℕ → ℕ
-nameLengthAt s i = getD s (actionPlace i + 1) 0
+nameLengthAt s i = getD s (nameLengthPlace i) 0
 
 -- name length and the twelve places of the name are the same in actions h and i
 abbrev pub SameName : List ℕ → ℕ → ℕ → Type 0
-SameName s h i = EachFrom (SameAt s (actionPlace h + 1) (actionPlace i + 1)) 0 (nameLimit + 1)
+SameName s h i = EachFrom (SameAt s (nameLengthPlace h) (nameLengthPlace i)) 0 (nameLimit + 1)
 
 abbrev pub OtherName : List ℕ → ℕ → ℕ → Type 0
 OtherName s i h = ¬ (SameName s h i)
@@ -64,5 +64,5 @@ pub record GoodPlaces (s : List ℕ) : Type 0 where
   pub actions : EachFrom (GoodAction s) 0 (headAt s .actions)
   pub steps : EachFrom (GoodStep (headAt s) s) 0 (headAt s .steps)
   -- "Unused places are 0."
-  pub unused-actions : EachFrom (ZeroAt s) (actionPlace (headAt s .actions)) (stepPlace 0)
-  pub unused-steps : EachFrom (ZeroAt s) (stepPlace (headAt s .steps)) storeLength
+  pub unused-actions : EachFrom (ZeroAt s) (actionPlace (headAt s .actions)) actionsEnd
+  pub unused-steps : EachFrom (ZeroAt s) (stepPlace (headAt s .steps)) stepsEnd

@@ -6,34 +6,31 @@ use mathlib.Core.Path.{_≡_}
 use Prim.Native.Nat.{ℕ, _<_}
 use Rattle.text.specs.declared.Head.{Head}
 use Rattle.text.specs.declared.StepLine.{StepLine}
-use Rattle.text.specs.Bytes.{kindOf, digit, smallLetter, lineEnd}
+use Rattle.text.specs.Bytes.{kindOf, digit, smallLetter, lineEnd, byteA, byteComma, byteE, byteM, byteS}
 use Rattle.text.specs.Numbers.{digits}
 use Rattle.text.specs.Join.{join}
 use Rattle.text.specs.Model.{ActionLine, Model}
 use Rattle.model.specs.Text.{levelByte}
-use Rattle.model.specs.Store.{headPlaces}
+use Rattle.model.specs.Store.{headPlaces, stepPlaces}
 
 -- a letter and fields
 abbrev pub lineOf : ℕ → List (List ℕ) → List ℕ
-lineOf letter fields = join 44 ((letter ∷ []) ∷ fields)
+lineOf letter fields = join byteComma ((letter ∷ []) ∷ fields)
 
 abbrev pub lineOfHead : Head → List ℕ
-lineOfHead h = lineOf 77 (map digits (headPlaces h))
+lineOfHead h = lineOf byteM (map digits (headPlaces h))
 
 abbrev pub lineOfAction : ActionLine → List ℕ
-lineOfAction a = lineOf 65 ((levelByte (a .level) ∷ []) ∷ a .name ∷ [])
-
-abbrev pub stepPlaces : StepLine → List ℕ
-stepPlaces s = s .source .0 ∷ s .action .0 ∷ s .target .0 ∷ []
+lineOfAction a = lineOf byteA ((levelByte (a .level) ∷ []) ∷ a .name ∷ [])
 
 abbrev pub lineOfStep : StepLine → List ℕ
-lineOfStep s = lineOf 83 (map digits (stepPlaces s))
+lineOfStep s = lineOf byteS (map digits (stepPlaces s))
 
 -- the parts of a model's text between its line ends: its lines, and nothing after the last line end
 abbrev pub partsOf : Model → List (List ℕ)
 partsOf m =
     lineOfHead (m .head)
-    ∷ (map lineOfAction (m .actions) ++ (map lineOfStep (m .steps) ++ ((69 ∷ []) ∷ [] ∷ [])))
+    ∷ (map lineOfAction (m .actions) ++ (map lineOfStep (m .steps) ++ ((byteE ∷ []) ∷ [] ∷ [])))
 
 -- a byte of a name is a digit or a small letter
 abbrev pub NameByte : ℕ → Type 0

@@ -3,6 +3,8 @@ pub mod EachLaws
 pub mod BlocksLaws
 pub mod StoreLaws
 pub mod StoredModelLaws
+pub mod PutLaws
+pub mod NamesLaws
 pub mod GoodTestLaws
 pub mod AboveLaws
 pub mod WellFormedLaws

@@ -2,8 +2,8 @@
 use mathlib.Core.List.{List}
 use mathlib.Core.Path.{_≡_}
 use Prim.Native.Nat.{ℕ, _<_}
-use Rattle.reader.specs.declared.answers.ReadAnswer.{ReadAnswer}
-use Rattle.reader.specs.declared.answers.ReadAnswer.the-variants.{Done}
+use Rattle.read_write.specs.declared.read.ReadAnswer.{ReadAnswer}
+use Rattle.read_write.specs.declared.read.ReadAnswer.the-variants.{Done}
 use Rattle.text.specs.Faults.{Outcome, refuses}
 use Rattle.read_write.specs.ReadPromise.{readOutcome}
 use Rattle.writer.specs.Wrote.{Wrote}

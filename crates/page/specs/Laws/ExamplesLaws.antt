@@ -12,7 +12,7 @@ use Rattle.lts.specs.Game.{alike?, rankBelow}
 use Rattle.lts.specs.Decided.{answered?, answers?, within?}
 use Rattle.text.specs.Faults.{answers}
 use Rattle.text.specs.Model.{Model}
-use Rattle.model.specs.Laws.Text.ReadingLaws.{readText-iff}
+use Rattle.model.specs.Laws.Text.ReadingLaws.{readText-well-formed}
 use Rattle.model.specs.System.{DeterministicModel, source, view}
 use Rattle.model.specs.Inner.StepTest.{step?}
 use Rattle.model.specs.Laws.System.GoodStoredLaws.{well-formed-stored}
@@ -87,7 +87,7 @@ module _ {text : List ℕ} {m : Model} {v : Verdict} (x : ReadsAndJudged text m 
       verdict = v;
       judged = x .judged;
       states = stateLinesOf m (m .head .states);
-      state-lines = stateLinesOf-lines (well-formed-stored (readText-iff text m .0 (x .reads) .0)) (m .head .states)
+      state-lines = stateLinesOf-lines (well-formed-stored (readText-well-formed text m (x .reads))) (m .head .states)
           (omega arith);
       after = after;
       after-states = after-states run word;

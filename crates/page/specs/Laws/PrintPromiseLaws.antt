@@ -11,7 +11,7 @@ use Rattle.text.specs.Laws.OutcomeLaws.{injective-of-inverse}
 use Rattle.read_write.specs.ReadPromise.{readingOutcome}
 use Rattle.model.specs.Reading.{Reading, done, tooLong, faulty, readText}
 use Rattle.model.specs.Laws.OnStoreLaws.{option-cases}
-use Rattle.model.specs.Laws.Text.ReadingLaws.{readText-iff}
+use Rattle.model.specs.Laws.Text.ReadingLaws.{readText-well-formed}
 use Rattle.model.specs.Laws.System.GoodStoredLaws.{well-formed-stored}
 use Rattle.verdicts.specs.Laws.JudgeFilledLaws.{filled-unique}
 use Rattle.page.specs.declared.print.PrintAnswer.{PrintAnswer}
@@ -56,7 +56,7 @@ module _ {text store distances table run word out : List ℕ} {t u : Outcome}
   read-same long (done m) e =
       let a = x .read long m e in
       let b = y .read long m e in
-      let f = filled-unique (well-formed-stored (readText-iff text m .0 e .0)) distances table d′ t′ d″ t″ (a .filled)
+      let f = filled-unique (well-formed-stored (readText-well-formed text m e)) distances table d′ t′ d″ t″ (a .filled)
       (b .filled) in
       let g = pagePrinted-unique (a .printed) (b .printed) in
       (g .0, a .store-filled ∙ sym (b .store-filled), f .0, f .1, g .1, g .2, g .3)

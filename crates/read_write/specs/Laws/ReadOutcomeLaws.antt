@@ -9,8 +9,8 @@ use native.Mathlib.Omega.{arith}
 use Rattle.text.specs.declared.Fault.{Fault}
 use Rattle.text.specs.declared.Fault.the-variants.{Absent, Shape, Digits, Range, Repeated, Order}
 use Rattle.text.specs.Faults.{refuses, faultNumber}
-use Rattle.reader.specs.declared.answers.ReadAnswer.{ReadAnswer}
-use Rattle.reader.specs.declared.answers.ReadAnswer.the-variants as read
+use Rattle.read_write.specs.declared.read.ReadAnswer.{ReadAnswer}
+use Rattle.read_write.specs.declared.read.ReadAnswer.the-variants as read
 use Rattle.read_write.specs.ReadPromise.{readOutcome, readLists, ReadPromise, ReadCause}
 use Rattle.model.specs.Laws.OnStoreLaws.{option-cases}
 

@@ -12,7 +12,7 @@ use Rattle.text.specs.Faults.{Outcome, answers}
 use Rattle.text.specs.Model.{Model}
 use Rattle.text.specs.Laws.FirstShortLaws.{none-short-two}
 use Rattle.model.specs.Reading.{Reading, done, tooLong, faulty, readText}
-use Rattle.model.specs.Laws.Text.ReadingLaws.{textOf-of-readText}
+use Rattle.model.specs.Laws.Text.ReadingLaws.{readText-well-formed}
 use Rattle.model.specs.Store.{storeOf, Good}
 use Rattle.model.specs.Laws.Store.StoreLaws.{storeOf-length}
 use Rattle.model.specs.Laws.Store.StoredModelLaws.{holds-storeOf}
@@ -57,7 +57,7 @@ module _ (text store exit : List ℕ) (long : storeLength ≤ length store)
   pub read-length : length exit ≡ length store
   read-length =
       let d = read-done in
-      let n = storeOf-length (d .0) (textOf-of-readText text (d .0) (d .1) .0) in
+      let n = storeOf-length (d .0) (readText-well-formed text (d .0) (d .1)) in
       let k = length-drop storeLength store in
       ap length (d .2) ∙ simp length-append (omega arith)
 
@@ -65,6 +65,6 @@ module _ (text store exit : List ℕ) (long : storeLength ≤ length store)
   pub read-good : (g : Good exit) × (g .text ≡ text)
   read-good =
       let d = read-done in
-      let h = holds-storeOf (d .0) (drop storeLength store) (textOf-of-readText text (d .0) (d .1) .0) in
+      let h = holds-storeOf (d .0) (drop storeLength store) (readText-well-formed text (d .0) (d .1)) in
       let s = h .stored ∙ ap (take storeLength) (sym (d .2)) in
       (record { text = text; model = d .0; reads = d .1; stored = s }, refl)

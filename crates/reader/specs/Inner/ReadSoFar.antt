@@ -1,46 +1,30 @@
 -- How far a text has been read: what the store holds after some of its lines, and that what remains reads as the
 -- whole does.
 -- Only the contracts of inner functions cite it. Document 01, "The text" and "The model store".
-use mathlib.Core.List.{List, [], _∷_, _++_}
+use mathlib.Core.List.{List, [], _∷_}
 use mathlib.Core.Path.{_≡_}
-use Prim.Native.Nat.{ℕ, _+_, _-_, _*_, _≤_}
+use Prim.Native.Nat.{ℕ, _+_, _-_, _≤_}
 use lib.ListN.{length, drop}
 use Rattle.text.specs.declared.Fault.the-variants.{Absent}
 use Rattle.text.specs.declared.Head.{Head}
 use Rattle.text.specs.declared.StepLine.{StepLine}
 use Rattle.text.specs.declared.line.HeadRead.{HeadRead}
 use Rattle.text.specs.declared.line.HeadRead.the-variants as head-read
+use Rattle.reader.specs.declared.answers.LineStart.{LineStart}
 use Rattle.reader.specs.declared.answers.LinesRead.{LinesRead}
 use Rattle.reader.specs.declared.answers.LinesRead.the-variants as lines-read
-use Rattle.reader.specs.declared.answers.ReadAnswer.{ReadAnswer}
-use Rattle.text.specs.Limits.{stateLimit, actionLimit, stepLimit, nameLimit}
+use Rattle.reader.specs.declared.answers.TextRead.{TextRead}
+use Rattle.reader.specs.declared.answers.TextRead.the-variants as text-read
+use Rattle.text.specs.Limits.{stateLimit, actionLimit, stepLimit, actionsLength}
 use Rattle.text.specs.Bytes.{lineEnd}
 use Rattle.text.specs.Split.{split}
 use Rattle.text.specs.Model.{ActionLine, Model}
 use Rattle.text.specs.Lines.{Line, bad, headOf}
 use Rattle.text.specs.Inner.LineAnswers.{Last}
-use Rattle.model.specs.Reading.{Reading, faulty, done, headModel, readModel, readActions, readSteps}
-use Rattle.model.specs.Store.{actionNumbers, actionsNumbers, storeOf}
-use Rattle.reader.specs.Answers.{readAnswer, readingStore}
-
--- ---- an action in the store
-
--- an action stands from place `at` on, and its name has at most twelve bytes
-pub record ActionStored (store : List ℕ) (at : ℕ) (a : ActionLine) : Type 0 where
-  pub after : List ℕ
-  pub stored : drop at store ≡ actionNumbers a ++ after
-  pub short : length (a .name) ≤ nameLimit
-
--- each name has at most twelve bytes
-unfoldable pub Short : List ActionLine → Type 0
-Short [] = Unit {0}
-Short (a ∷ rest) = (length (a .name) ≤ nameLimit) × Short rest
-
--- actions stand one after the other from place `at` on
-pub record ActionsStored (store : List ℕ) (at : ℕ) (actions : List ActionLine) : Type 0 where
-  pub after : List ℕ
-  pub stored : drop at store ≡ actionsNumbers actions ++ after
-  pub short : Short actions
+use Rattle.model.specs.Reading.{Reading, faulty, done, headModel, readModel, readActions, readSteps, readEnd}
+use Rattle.model.specs.Store.{actionsNumbers, storeOf}
+use Rattle.model.specs.Inner.StoredActions.{Short}
+use Rattle.reader.specs.Answers.{readingStore, ReadAs}
 
 -- ---- after some lines
 
@@ -54,45 +38,55 @@ pub record InLimits (h : Head) : Type 0 where
   pub actions : h .actions ≤ actionLimit
   pub steps : h .steps ≤ stepLimit
 
--- after a first line that states h, at a place of the text
-pub record AfterHead (h : Head) (text : List ℕ) (at : ℕ) : Type 0 where
+-- A line begins inside the text, and each line before it but the first has at least its line end, so that the lines
+-- are no more than the bytes and two.
+pub record InText (text : List ℕ) (start : LineStart) : Type 0 where
+  pub place : start .at ≤ length text
+  pub line-le : start .line ≤ start .at + 2
+
+-- the parts of the text from a line on
+abbrev pub partsFrom : List ℕ → LineStart → List (List ℕ)
+partsFrom text start = split lineEnd (drop (start .at) text)
+
+-- after a first line that states h, where the next line begins
+pub record AfterHead (h : Head) (text : List ℕ) (start : LineStart) : Type 0 where
   pub limits : InLimits h
-  pub place : at ≤ length text
-  pub rest : whole text ≡ readActions (h .actions) 2 (headModel h) (split lineEnd (drop at text))
+  pub inside : InText text start
+  pub rest : whole text ≡ readActions (h .actions) (start .line) (headModel h) (partsFrom text start)
 
 -- after i actions
-pub record AfterActions (h : Head) (text : List ℕ) (at i : ℕ) (store : List ℕ) : Type 0 where
+pub record AfterActions (h : Head) (text : List ℕ) (start : LineStart) (i : ℕ) (store : List ℕ) : Type 0 where
   pub limits : InLimits h
-  pub place : at ≤ length text
+  pub inside : InText text start
   pub actions : List ActionLine
   pub count : length actions ≡ i
   pub short : Short actions
   pub stored : store ≡ storeOf (record { head = h; actions = actions; steps = [] })
   pub rest : whole text
-      ≡ readActions (h .actions - i) (2 + i) (record { head = h; actions = actions; steps = [] })
-      (split lineEnd (drop at text))
+      ≡ readActions (h .actions - i) (start .line) (record { head = h; actions = actions; steps = [] })
+      (partsFrom text start)
 
 -- after all actions and j steps, of which `last` is the last
-pub record AfterStep (h : Head) (text : List ℕ) (at j : ℕ) (last : StepLine) (store : List ℕ) : Type 0 where
+pub record AfterStep (h : Head) (text : List ℕ) (start : LineStart) (j : ℕ) (last : StepLine) (store : List ℕ)
+    : Type 0 where
   pub limits : InLimits h
-  pub place : at ≤ length text
+  pub inside : InText text start
   pub actions : List ActionLine
-  pub action-places : length (actionsNumbers actions) ≤ 14 * actionLimit
+  pub action-places : length (actionsNumbers actions) ≤ actionsLength
   pub steps : List StepLine
   pub count : length steps ≡ j
   pub last-step : Last steps j last
   pub stored : store ≡ storeOf (record { head = h; actions = actions; steps = steps })
   pub rest : whole text
-      ≡ readSteps (h .steps - j) (2 + h .actions + j) (record { head = h; actions = actions; steps = steps })
-      (split lineEnd (drop at text))
+      ≡ readSteps (h .steps - j) (start .line) (record { head = h; actions = actions; steps = steps })
+      (partsFrom text start)
 
 -- after all actions and steps
-pub record AfterSteps (h : Head) (text : List ℕ) (at : ℕ) (store : List ℕ) : Type 0 where
-  pub limits : InLimits h
-  pub place : at ≤ length text
+pub record AfterSteps (text : List ℕ) (start : LineStart) (store : List ℕ) : Type 0 where
+  pub inside : InText text start
   pub model : Model
   pub stored : store ≡ storeOf model
-  pub rest : whole text ≡ readSteps 0 (2 + h .actions + h .steps) model (split lineEnd (drop at text))
+  pub rest : whole text ≡ readEnd (start .line) model (partsFrom text start)
 
 -- after the end of the text
 pub record AfterEnd (text store : List ℕ) : Type 0 where
@@ -100,10 +94,15 @@ pub record AfterEnd (text store : List ℕ) : Type 0 where
   pub stored : store ≡ storeOf model
   pub reads : whole text ≡ done model
 
--- what reading some lines comes to: P of the place after them, or the text is refused
-unfoldable pub Further : (ℕ → Type 0) → List ℕ → LinesRead → Type 0
-Further P text (lines-read.Next at) = P at
+-- what reading some lines comes to: P of the start of the line after them, or the text is refused
+unfoldable pub Further : (LineStart → Type 0) → List ℕ → LinesRead → Type 0
+Further P text (lines-read.Next start) = P start
 Further P text (lines-read.Faulty fault line) = whole text ≡ faulty fault line
+
+-- what reading all lines comes to: the store holds the model, or the text is refused
+unfoldable pub Through : List ℕ → List ℕ → TextRead → Type 0
+Through text store text-read.Done = AfterEnd text store
+Through text store (text-read.Faulty fault line) = whole text ≡ faulty fault line
 
 -- ---- the first line
 
@@ -119,13 +118,13 @@ pub record AfterLine (text : List ℕ) (at next : ℕ) : Type 0 where
   pub rest : (line part : List ℕ) (parts : List (List ℕ)) → split lineEnd (drop at text) ≡ line ∷ part ∷ parts
       → split lineEnd (drop next text) ≡ part ∷ parts
 
--- after the first line, good or bad
+-- after the first line, good or bad; the next is line 2
 unfoldable pub AfterFirst : HeadRead → List ℕ → ℕ → Type 0
-AfterFirst (head-read.Good h) text at = AfterHead h text at
+AfterFirst (head-read.Good h) text at = AfterHead h text (record { at = at; line = 2 })
 AfterFirst (head-read.Bad fault) text at = whole text ≡ faulty fault 1
 
 -- ---- what the lines of a text come to
 
-pub record ReadOut (text store : List ℕ) (r : ReadAnswer) (exit : List ℕ) : Type 0 where
-  pub answer : r ≡ readAnswer (whole text)
+pub record ReadOut (text store : List ℕ) (r : TextRead) (exit : List ℕ) : Type 0 where
+  pub answer : ReadAs r (whole text)
   pub filled : exit ≡ readingStore (whole text) store

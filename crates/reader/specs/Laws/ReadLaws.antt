@@ -12,10 +12,11 @@ use lib.Seq.{sets}
 use Rattle.text.specs.declared.Fault.{Fault}
 use Rattle.text.specs.declared.Fault.the-variants.{Absent, Repeated, Range}
 use Rattle.text.specs.declared.Head.{Head}
+use Rattle.reader.specs.declared.answers.LineStart.{LineStart}
 use Rattle.reader.specs.declared.answers.LinesRead.{LinesRead}
 use Rattle.reader.specs.declared.answers.LinesRead.the-variants.{Next, Faulty}
 use Rattle.text.specs.Limits.{nameLimit, storeLength, actionPlace}
-use Rattle.text.specs.Bytes.{lineEnd}
+use Rattle.text.specs.Bytes.{byteM, byteA, lineEnd}
 use Rattle.text.specs.Split.{split, indexOf}
 use Rattle.text.specs.Laws.SplitLaws.{split-first, split-part, split-last}
 use Rattle.text.specs.Model.{ActionLine, Model}
@@ -26,9 +27,10 @@ use Rattle.model.specs.Laws.Text.JoinedFieldsLaws.{good-checked}
 use Rattle.model.specs.Laws.Text.ActionLineLaws.{good-nameFrom, name-length}
 use Rattle.model.specs.Reading.{Reading, faulty, onLine, orFault, readActions, headModel}
 use Rattle.model.specs.Store.{storeOf}
-use Rattle.reader.specs.Inner.ReadSoFar.{Short, whole, InLimits, AfterHead, AfterActions, Further}
+use Rattle.reader.specs.Inner.ReadSoFar.{whole, InLimits, InText, AfterHead, AfterActions, Further}
+use Rattle.model.specs.Inner.StoredActions.{Short}
 use Rattle.model.specs.Laws.Store.StoreLaws.{storeOf-length-of-places}
-use Rattle.reader.specs.Laws.FillLaws.{actionsNumbers-length-of-Short, Short-snoc, storeOf-withAction}
+use Rattle.model.specs.Laws.Store.PutLaws.{actionsNumbers-length-of-short, short-snoc, storeOf-withAction}
 
 -- ---- a line, found by its end
 
@@ -57,22 +59,21 @@ orFault-good k l read a e = rw e
 
 -- ---- what some lines came to
 
-pub Further-faulty : (P Q : ℕ → Type 0) (text : List ℕ) (r : LinesRead) (fault : Fault) (line : ℕ)
-    → r ≡ Faulty fault line
-    → Further P text r → Further Q text r
+pub further-faulty : (P Q : LineStart → Type 0) (text : List ℕ) (r : LinesRead) (fault : Fault) (line : ℕ)
+    → r ≡ Faulty fault line → Further P text r → Further Q text r
 unfolding Further
-Further-faulty P Q text (Next at) fault line e h = let z : _≡_ {A = ℕ} 0 1 = cc in absurd (omega arith)
-Further-faulty P Q text (Faulty f k) fault line e h = h
+further-faulty P Q text (Next start) fault line e h = let z : _≡_ {A = ℕ} 0 1 = cc in absurd (omega arith)
+further-faulty P Q text (Faulty f k) fault line e h = h
 
-pub Further-refused : (P : ℕ → Type 0) (text : List ℕ) (r : LinesRead) (fault : Fault) (line : ℕ)
-    → r ≡ Faulty fault line
-    → Further P text r → whole text ≡ faulty fault line
+pub further-refused : (P : LineStart → Type 0) (text : List ℕ) (r : LinesRead) (fault : Fault) (line : ℕ)
+    → r ≡ Faulty fault line → Further P text r → whole text ≡ faulty fault line
 unfolding Further
-Further-refused P text r fault line e h = rw e at h
+further-refused P text r fault line e h = rw e at h
 
-pub Further-next : (P : ℕ → Type 0) (text : List ℕ) (r : LinesRead) (at : ℕ) → r ≡ Next at → Further P text r → P at
+pub further-next : (P : LineStart → Type 0) (text : List ℕ) (r : LinesRead) (start : LineStart) → r ≡ Next start
+    → Further P text r → P start
 unfolding Further
-Further-next P text r at e h = rw e at h
+further-next P text r start e h = rw e at h
 
 -- ---- what a good line keeps
 
@@ -89,7 +90,7 @@ headFrom-limits (bad fault) h e = let z : _≡_ {A = ℕ} 0 1 = cc in absurd (om
 
 pub headOf-limits : (line : List ℕ) (h : Head) → headOf line ≡ good h → InLimits h
 unfolding headOf
-headOf-limits line h e = headFrom-limits (numbersLine 77 4 line) h e
+headOf-limits line h e = headFrom-limits (numbersLine byteM 4 line) h e
 
 -- a name that was read has 1 to 12 bytes
 pub actionFields-length : (l : Line (List (List ℕ))) (a : ActionLine) → actionFields l ≡ good a
@@ -101,14 +102,14 @@ actionFields-length (bad fault) a e = let z : _≡_ {A = ℕ} 0 1 = cc in absurd
 
 -- ---- the actions
 
-pub after-head : (h : Head) (text : List ℕ) (at : ℕ) → AfterHead h text at
-    → AfterActions h text at 0 (storeOf (headModel h))
+pub after-head : (h : Head) (text : List ℕ) (start : LineStart) → AfterHead h text start
+    → AfterActions h text start 0 (storeOf (headModel h))
 unfolding Short
-after-head h text at b =
+after-head h text start b =
     let z : h .actions - 0 ≡ h .actions = omega arith in
     record {
       limits = b .limits;
-      place = b .place;
+      inside = b .inside;
       actions = [];
       count = refl;
       short = tt;
@@ -116,74 +117,81 @@ after-head h text at b =
       rest = b .rest ∙ rw z;
     }
 
-pub AfterActions-count : (h : Head) (text : List ℕ) (at i k : ℕ) (store : List ℕ) → i ≡ k
-    → AfterActions h text at i store
-    → AfterActions h text at k store
-AfterActions-count h text at i k store e b = rw e at b
+pub afterActions-count : (h : Head) (text : List ℕ) (start : LineStart) (i k : ℕ) (store : List ℕ) → i ≡ k
+    → AfterActions h text start i store → AfterActions h text start k store
+afterActions-count h text start i k store e b = rw e at b
 
-pub AfterActions-length : (h : Head) (text : List ℕ) (at i : ℕ) (store : List ℕ) → AfterActions h text at i store
-    → i ≤ h .actions
-    → length store ≡ storeLength
-AfterActions-length h text at i store b l =
+pub afterActions-length : (h : Head) (text : List ℕ) (start : LineStart) (i : ℕ) (store : List ℕ)
+    → AfterActions h text start i store → i ≤ h .actions → length store ≡ storeLength
+afterActions-length h text start i store b l =
     let n = b .limits .actions in
     let c = b .count in
-    let m = actionsNumbers-length-of-Short (b .actions) (b .short) in
+    let m = actionsNumbers-length-of-short (b .actions) (b .short) in
     let model : Model = record { head = h; actions = b .actions; steps = [] } in
     rw (b .stored) (storeOf-length-of-places model (omega arith) (omega arith))
 
-module _ (h : Head) (text : List ℕ) (at i : ℕ) (store : List ℕ) (b : AfterActions h text at i store)
-    (lt : i < h .actions) (e : ℕ) (found : e ≡ at + indexOf lineEnd (drop at text)) where
+-- past a line that ends at place e
+pub inText-next : (text : List ℕ) (start : LineStart) (e : ℕ) → InText text start
+    → e ≡ start .at + indexOf lineEnd (drop (start .at) text) → e < length text
+    → InText text (record { at = e + 1; line = start .line + 1 })
+inText-next text start e b found l = let n = b .line-le in record { place = omega arith; line-le = omega arith }
+
+module _ (h : Head) (text : List ℕ) (start : LineStart) (i : ℕ) (store : List ℕ) (b : AfterActions h text start i store)
+    (lt : i < h .actions) (e : ℕ) (found : e ≡ start .at + indexOf lineEnd (drop (start .at) text)) where
   actions-suc : h .actions - i ≡ suc (h .actions - (i + 1))
   actions-suc = omega arith
 
-  pub action-absent : length text ≤ e → whole text ≡ faulty Absent (2 + i)
+  pub action-absent : length text ≤ e → whole text ≡ faulty Absent (start .line)
   unfolding readActions
-  action-absent l = b .rest ∙ rw (actions-suc) (onLine-absent text at e (b .place) found (2 + i) _ l)
+  action-absent l =
+      b .rest ∙ rw actions-suc (onLine-absent text (start .at) e (b .inside .place) found (start .line) _ l)
 
   module _ (l : e < length text) where
-    line : List ℕ
-    line = take (e - at) (drop at text)
-
-    pub action-bad : (fault : Fault) → actionOf (b .actions) (take (e - at) (drop at text)) ≡ bad fault
-        → whole text ≡ faulty fault (2 + i)
+    pub action-bad : (fault : Fault)
+        → actionOf (b .actions) (take (e - start .at) (drop (start .at) text)) ≡ bad fault
+        → whole text ≡ faulty fault (start .line)
     unfolding readActions
     action-bad fault a =
-        b .rest ∙ rw (actions-suc)
-        (onLine-line text at e (b .place) found (2 + i) _ l ∙ orFault-bad (2 + i) _ _ fault a)
+        b .rest ∙ rw actions-suc
+        (onLine-line text (start .at) e (b .inside .place) found (start .line) _ l
+        ∙ orFault-bad (start .line) _ _ fault a)
 
-    pub action-next : (a : ActionLine) → actionOf (b .actions) (take (e - at) (drop at text)) ≡ good a
+    pub action-next : (a : ActionLine)
+        → actionOf (b .actions) (take (e - start .at) (drop (start .at) text)) ≡ good a
         → length (a .name) ≤ nameLimit
-        → AfterActions h text (e + 1) (i + 1) (sets store (actionPlace i) (a .level ∷ length (a .name) ∷ a .name))
+        → AfterActions h text (record { at = e + 1; line = start .line + 1 }) (i + 1)
+        (sets store (actionPlace i) (a .level ∷ length (a .name) ∷ a .name))
     unfolding readActions
     action-next a r n =
-        let c : suc (2 + i) ≡ 2 + (i + 1) = omega arith in
+        let c : suc (start .line) ≡ start .line + 1 = omega arith in
         let m = b .limits .actions in
         record {
           limits = b .limits;
-          place = omega arith;
+          inside = inText-next text start e (b .inside) found l;
           actions = b .actions ++ (a ∷ []);
           count = length-append (b .actions) (a ∷ []) ∙ omega arith;
-          short = Short-snoc (b .actions) a (b .short) n;
-          stored = rw (b .stored) (storeOf-withAction h (b .actions) a i (b .count) (omega arith) (b .short) n);
-          rest = b .rest ∙ rw (actions-suc)
-              (onLine-line text at e (b .place) found (2 + i) _ l ∙ orFault-good (2 + i) _ _ a r ∙ rw c);
+          short = short-snoc (b .actions) a (b .short) n;
+          stored = rw (b .stored) (storeOf-withAction h (b .actions) [] a i (b .count) (omega arith) (b .short) n);
+          rest = b .rest ∙ rw actions-suc
+              (onLine-line text (start .at) e (b .inside .place) found (start .line) _ l
+              ∙ orFault-good (start .line) _ _ a r ∙ rw c);
         }
 
 -- an action's line by its fields and the names used before
 pub actionOf-bad : (before : List ActionLine) (line : List ℕ) (fault : Fault)
-    → actionFields (fieldsOf 65 2 line) ≡ bad fault
+    → actionFields (fieldsOf byteA 2 line) ≡ bad fault
     → actionOf before line ≡ bad fault
 unfolding actionOf actionFrom
 actionOf-bad before line fault e = rw (e, actionFrom)
 
 pub actionOf-used : (before : List ActionLine) (line : List ℕ) (a : ActionLine)
-    → actionFields (fieldsOf 65 2 line) ≡ good a
+    → actionFields (fieldsOf byteA 2 line) ≡ good a
     → used? (a .name) before ≡ true → actionOf before line ≡ bad Repeated
 unfolding actionOf actionFrom
 actionOf-used before line a e u = rw (e, actionFrom, u)
 
 pub actionOf-good : (before : List ActionLine) (line : List ℕ) (a : ActionLine)
-    → actionFields (fieldsOf 65 2 line) ≡ good a
+    → actionFields (fieldsOf byteA 2 line) ≡ good a
     → used? (a .name) before ≡ false → actionOf before line ≡ good a
 unfolding actionOf actionFrom
 actionOf-good before line a e u = rw (e, actionFrom, u)

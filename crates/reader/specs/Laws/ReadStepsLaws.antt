@@ -13,7 +13,7 @@ use Rattle.text.specs.declared.Fault.the-variants.{Absent, Shape}
 use Rattle.text.specs.declared.Head.{Head}
 use Rattle.text.specs.declared.StepLine.{StepLine}
 use Rattle.text.specs.Limits.{storeLength, stepPlace}
-use Rattle.text.specs.Bytes.{lineEnd, kindOf}
+use Rattle.text.specs.Bytes.{byteE, lineEnd, kindOf}
 use Rattle.text.specs.Split.{consFirst, split, indexOf, same?}
 use Rattle.text.specs.Laws.SplitLaws.{Is, same, other, is, split-nil, split-end, split-cons, split-first, found-le}
 use Rattle.text.specs.Laws.SameLaws.{same?-length}
@@ -24,15 +24,17 @@ use Rattle.text.specs.Inner.LineAnswers.{stepRead, Last}
 use Rattle.model.specs.Reading.{done, faulty, readNothing, readEnd, readSteps, readActions}
 use Rattle.text.specs.declared.line.StepRead.the-variants as step-read
 use Rattle.text.specs.Inner.Scan.{NoLineAt, StepLineAt}
+use Rattle.reader.specs.declared.answers.LineStart.{LineStart}
 use Rattle.reader.specs.Inner.ReadSoFar.{whole, AfterActions, AfterStep, AfterSteps, AfterEnd}
+use Rattle.model.specs.Store.{stepPlaces}
 use Rattle.model.specs.Laws.Store.StoreLaws.{storeOf-length-of-places}
-use Rattle.reader.specs.Laws.FillLaws.{actionsNumbers-length-of-Short, storeOf-withStep}
-use Rattle.reader.specs.Laws.ReadLaws.{onLine-absent, onLine-line, orFault-bad, orFault-good}
+use Rattle.model.specs.Laws.Store.PutLaws.{actionsNumbers-length-of-short, storeOf-withStep}
+use Rattle.reader.specs.Laws.ReadLaws.{onLine-absent, onLine-line, orFault-bad, orFault-good, inText-next}
 
 -- ---- the steps
 
-Last-nil : (s : StepLine) → Last [] 0 s
-Last-nil s = record { nil = λ e. refl; cons = λ p t. absurd (omega arith) }
+last-nil : (s : StepLine) → Last [] 0 s
+last-nil s = record { nil = λ e. refl; cons = λ p t. absurd (omega arith) }
 
 aboveLast?-snoc : (steps : List StepLine) (s t : StepLine) → aboveLast? (steps ++ (s ∷ [])) t ≡ above? s t
 unfolding aboveLast?
@@ -40,109 +42,108 @@ aboveLast?-snoc [] s t = refl
 aboveLast?-snoc (r ∷ []) s t = refl
 aboveLast?-snoc (r ∷ q ∷ rest) s t = aboveLast?-snoc (q ∷ rest) s t
 
-Last-snoc : (steps : List StepLine) (j : ℕ) (s : StepLine) → Last (steps ++ (s ∷ [])) (j + 1) s
-Last-snoc steps j s = record { nil = λ e. absurd (omega arith); cons = λ p t. aboveLast?-snoc steps s t }
+last-snoc : (steps : List StepLine) (j : ℕ) (s : StepLine) → Last (steps ++ (s ∷ [])) (j + 1) s
+last-snoc steps j s = record { nil = λ e. absurd (omega arith); cons = λ p t. aboveLast?-snoc steps s t }
 
 -- after the last action come the steps
-pub after-actions : (h : Head) (text : List ℕ) (at : ℕ) (store : List ℕ) (last : StepLine)
-    → AfterActions h text at (h .actions) store → AfterStep h text at 0 last store
+pub after-actions : (h : Head) (text : List ℕ) (start : LineStart) (store : List ℕ) (last : StepLine)
+    → AfterActions h text start (h .actions) store → AfterStep h text start 0 last store
 unfolding readActions
-after-actions h text at store last b =
+after-actions h text start store last b =
     let z : h .actions - h .actions ≡ 0 = omega arith in
     let y : h .steps - 0 ≡ h .steps = omega arith in
-    let x : 2 + h .actions + 0 ≡ 2 + h .actions = omega arith in
-    let n = actionsNumbers-length-of-Short (b .actions) (b .short) in
+    let n = actionsNumbers-length-of-short (b .actions) (b .short) in
     let m = b .limits .actions in
     record {
       limits = b .limits;
-      place = b .place;
+      inside = b .inside;
       actions = b .actions;
       action-places = omega arith;
       steps = [];
       count = refl;
-      last-step = Last-nil last;
+      last-step = last-nil last;
       stored = b .stored;
-      rest = b .rest ∙ rw (z, y, x);
+      rest = b .rest ∙ rw (z, y);
     }
 
-module _ (h : Head) (text : List ℕ) (at j : ℕ) (last : StepLine) (store : List ℕ) (b : AfterStep h text at j last store)
-    (lt : j < h .steps) (e : ℕ) (found : e ≡ at + indexOf lineEnd (drop at text)) where
-  steps-suc : h .steps - j ≡ suc (h .steps - (j + 1))
-  steps-suc = omega arith
+module _ (h : Head) (text : List ℕ) (start : LineStart) (j : ℕ) (last : StepLine) (store : List ℕ)
+    (b : AfterStep h text start j last store) (lt : j < h .steps) where
+  module _ (e : ℕ) (found : e ≡ start .at + indexOf lineEnd (drop (start .at) text)) where
+    steps-suc : h .steps - j ≡ suc (h .steps - (j + 1))
+    steps-suc = omega arith
 
-  step-absent : length text ≤ e → whole text ≡ faulty Absent (2 + h .actions + j)
-  unfolding readSteps
-  step-absent l = b .rest ∙ rw steps-suc (onLine-absent text at e (b .place) found (2 + h .actions + j) _ l)
-
-  module _ (l : e < length text) where
-    step-bad : (fault : Fault) → stepOf h (b .steps) (take (e - at) (drop at text)) ≡ bad fault
-        → whole text ≡ faulty fault (2 + h .actions + j)
+    step-absent : length text ≤ e → whole text ≡ faulty Absent (start .line)
     unfolding readSteps
-    step-bad fault a =
-        b .rest ∙ rw steps-suc
-        (onLine-line text at e (b .place) found (2 + h .actions + j) _ l ∙ orFault-bad (2 + h .actions + j) _ _ fault a)
+    step-absent l =
+        b .rest ∙ rw steps-suc (onLine-absent text (start .at) e (b .inside .place) found (start .line) _ l)
 
-    step-next : (s : StepLine) → stepOf h (b .steps) (take (e - at) (drop at text)) ≡ good s
-        → AfterStep h text (e + 1) (j + 1) s
-        (sets store (stepPlace j) (s .source .0 ∷ s .action .0 ∷ s .target .0 ∷ []))
-    unfolding readSteps
-    step-next s r =
-        let c : suc (2 + h .actions + j) ≡ 2 + h .actions + (j + 1) = omega arith in
-        let m = b .limits .steps in
-        record {
-          limits = b .limits;
-          place = omega arith;
-          actions = b .actions;
-          action-places = b .action-places;
-          steps = b .steps ++ (s ∷ []);
-          count = length-append (b .steps) (s ∷ []) ∙ omega arith;
-          last-step = Last-snoc (b .steps) j s;
-          stored = rw (b .stored)
-              (storeOf-withStep h (b .actions) (b .steps) s j (b .action-places) (b .count) (omega arith));
-          rest = b .rest ∙ rw steps-suc
-              (onLine-line text at e (b .place) found (2 + h .actions + j) _ l
-              ∙ orFault-good (2 + h .actions + j) _ _ s r ∙ rw c);
-        }
+    module _ (l : e < length text) where
+      step-bad : (fault : Fault) → stepOf h (b .steps) (take (e - start .at) (drop (start .at) text)) ≡ bad fault
+          → whole text ≡ faulty fault (start .line)
+      unfolding readSteps
+      step-bad fault a =
+          b .rest ∙ rw steps-suc
+          (onLine-line text (start .at) e (b .inside .place) found (start .line) _ l
+          ∙ orFault-bad (start .line) _ _ fault a)
 
--- by what the line at the place was read as
-module _ (h : Head) (text : List ℕ) (at j : ℕ) (last : StepLine) (store : List ℕ) (b : AfterStep h text at j last store)
-    (lt : j < h .steps) where
+      step-next : (s : StepLine) → stepOf h (b .steps) (take (e - start .at) (drop (start .at) text)) ≡ good s
+          → AfterStep h text (record { at = e + 1; line = start .line + 1 }) (j + 1) s
+          (sets store (stepPlace j) (stepPlaces s))
+      unfolding readSteps
+      step-next s r =
+          let c : suc (start .line) ≡ start .line + 1 = omega arith in
+          let m = b .limits .steps in
+          record {
+            limits = b .limits;
+            inside = inText-next text start e (b .inside) found l;
+            actions = b .actions;
+            action-places = b .action-places;
+            steps = b .steps ++ (s ∷ []);
+            count = length-append (b .steps) (s ∷ []) ∙ omega arith;
+            last-step = last-snoc (b .steps) j s;
+            stored = rw (b .stored)
+                (storeOf-withStep h (b .actions) (b .steps) s j (b .action-places) (b .count) (omega arith));
+            rest = b .rest ∙ rw steps-suc
+                (onLine-line text (start .at) e (b .inside .place) found (start .line) _ l
+                ∙ orFault-good (start .line) _ _ s r ∙ rw c);
+          }
+
+  -- by what the line at the place was read as
   pub step-refused : (fault : Fault)
-      → (e : ℕ) × (NoLineAt text at fault e ⊎ StepLineAt h text at j last (step-read.Bad fault) e)
-      → whole text ≡ faulty fault (2 + h .actions + j)
+      → (e : ℕ) × (NoLineAt text (start .at) fault e ⊎ StepLineAt h text (start .at) j last (step-read.Bad fault) e)
+      → whole text ≡ faulty fault (start .line)
   unfolding stepRead
   step-refused fault (e, inl n) =
-      step-absent h text at j last store b lt e (n .found) (n .outside)
-      ∙ ap (λ (f : Fault). faulty f (2 + h .actions + j)) (sym (n .absent))
+      step-absent e (n .found) (n .outside) ∙ ap (λ (f : Fault). faulty f (start .line)) (sym (n .absent))
   step-refused fault (e, inr l) =
-      step-bad h text at j last store b lt e (l .found) (l .inside) fault (l .reads (b .steps) (b .last-step))
+      step-bad e (l .found) (l .inside) fault (l .reads (b .steps) (b .last-step))
 
   pub step-taken : (s : StepLine) (next : ℕ)
-      → (e : ℕ) × (next ≡ e + 1) × StepLineAt h text at j last (step-read.Good s) e
-      → AfterStep h text next (j + 1) s (sets store (stepPlace j) (s .source .0 ∷ s .action .0 ∷ s .target .0 ∷ []))
+      → (e : ℕ) × (next ≡ e + 1) × StepLineAt h text (start .at) j last (step-read.Good s) e
+      → AfterStep h text (record { at = next; line = start .line + 1 }) (j + 1) s
+      (sets store (stepPlace j) (stepPlaces s))
   unfolding stepRead
   step-taken s next (e, n, l) =
-      rw n (step-next h text at j last store b lt e (l .found) (l .inside) s (l .reads (b .steps) (b .last-step)))
+      rw n (step-next e (l .found) (l .inside) s (l .reads (b .steps) (b .last-step)))
 
-pub AfterStep-length : (h : Head) (text : List ℕ) (at j : ℕ) (last : StepLine) (store : List ℕ)
-    → AfterStep h text at j last store
-    → j ≤ h .steps → length store ≡ storeLength
-AfterStep-length h text at j last store b l =
+pub afterStep-length : (h : Head) (text : List ℕ) (start : LineStart) (j : ℕ) (last : StepLine) (store : List ℕ)
+    → AfterStep h text start j last store → j ≤ h .steps → length store ≡ storeLength
+afterStep-length h text start j last store b l =
     let n = b .limits .steps in
     let c = b .count in
     let model : Model = record { head = h; actions = b .actions; steps = b .steps } in
     rw (b .stored) (storeOf-length-of-places model (b .action-places) (omega arith))
 
-pub after-steps : (h : Head) (text : List ℕ) (at j : ℕ) (last : StepLine) (store : List ℕ)
-    → AfterStep h text at j last store → j ≡ h .steps → AfterSteps h text at store
-after-steps h text at j last store b c =
+pub after-steps : (h : Head) (text : List ℕ) (start : LineStart) (j : ℕ) (last : StepLine) (store : List ℕ)
+    → AfterStep h text start j last store → j ≡ h .steps → AfterSteps text start store
+unfolding readSteps
+after-steps h text start j last store b c =
     let z : h .steps - j ≡ 0 = omega arith in
     record {
-      limits = b .limits;
-      place = b .place;
+      inside = b .inside;
       model = record { head = h; actions = b .actions; steps = b .steps };
       stored = b .stored;
-      rest = b .rest ∙ rw (z, c);
+      rest = b .rest ∙ rw z;
     }
 
 -- ---- the end
@@ -163,53 +164,51 @@ unfolding readNothing
 readNothing-nil k m [] h = rw (split-nil lineEnd)
 readNothing-nil k m (b ∷ bs) h = absurd (omega arith)
 
-module _ (h : Head) (text : List ℕ) (at : ℕ) (store : List ℕ) (b : AfterSteps h text at store) (e : ℕ)
-    (found : e ≡ at + indexOf lineEnd (drop at text)) where
-  pub end-absent : length text ≤ e → whole text ≡ faulty Absent (2 + h .actions + h .steps)
-  unfolding readSteps readEnd
-  end-absent l = b .rest ∙ onLine-absent text at e (b .place) found (2 + h .actions + h .steps) _ l
+module _ (text : List ℕ) (start : LineStart) (store : List ℕ) (b : AfterSteps text start store) (e : ℕ)
+    (found : e ≡ start .at + indexOf lineEnd (drop (start .at) text)) where
+  pub end-absent : length text ≤ e → whole text ≡ faulty Absent (start .line)
+  unfolding readEnd
+  end-absent l = b .rest ∙ onLine-absent text (start .at) e (b .inside .place) found (start .line) _ l
 
   module _ (l : e < length text) where
-    end-line : (t : Bool) → same? (take (e - at) (drop at text)) (69 ∷ []) ≡ t
+    end-line : (t : Bool) → same? (take (e - start .at) (drop (start .at) text)) (byteE ∷ []) ≡ t
         → whole text ≡ cond t
-        (readNothing (suc (2 + h .actions + h .steps)) (b .model) (split lineEnd (drop (e + 1) text)))
-        (faulty Shape (2 + h .actions + h .steps))
-    unfolding readSteps readEnd
-    end-line t s = b .rest ∙ onLine-line text at e (b .place) found (2 + h .actions + h .steps) _ l ∙ rw s
+        (readNothing (suc (start .line)) (b .model) (split lineEnd (drop (e + 1) text)))
+        (faulty Shape (start .line))
+    unfolding readEnd
+    end-line t s = b .rest ∙ onLine-line text (start .at) e (b .inside .place) found (start .line) _ l ∙ rw s
 
-    line-length : length (take (e - at) (drop at text)) ≡ e - at
-    line-length = let d = length-drop at text in length-take-le (e - at) (drop at text) (omega arith)
+    line-length : length (take (e - start .at) (drop (start .at) text)) ≡ e - start .at
+    line-length =
+        let d = length-drop (start .at) text in length-take-le (e - start .at) (drop (start .at) text) (omega arith)
 
-    pub end-long : (e ≡ at + 1 → ⊥) → whole text ≡ faulty Shape (2 + h .actions + h .steps)
+    pub end-long : (e ≡ start .at + 1 → ⊥) → whole text ≡ faulty Shape (start .line)
     end-long n =
-        let f = found-le lineEnd text at e (b .place) found in
+        let f = found-le lineEnd text (start .at) e (b .inside .place) found in
         let m = line-length in
-        let long : length (take (e - at) (drop at text)) ≡ 1 → ⊥ = λ y. n (omega (arith, y)) in
-        end-line false (same?-length (take (e - at) (drop at text)) (69 ∷ []) long)
+        let long : length (take (e - start .at) (drop (start .at) text)) ≡ 1 → ⊥ = λ y. n (omega (arith, y)) in
+        end-line false (same?-length (take (e - start .at) (drop (start .at) text)) (byteE ∷ []) long)
 
-    module _ (one : e ≡ at + 1) where
-      line-byte : take (e - at) (drop at text) ≡ getD text at 0 ∷ []
+    module _ (one : e ≡ start .at + 1) where
+      line-byte : take (e - start .at) (drop (start .at) text) ≡ getD text (start .at) 0 ∷ []
       line-byte =
-          let d = length-drop at text in
-          let k : e - at ≡ 1 = omega arith in
-          let n : 0 < length (drop at text) = omega arith in
-          let z : at + 0 ≡ at = omega arith in
-          rw (k, take-one (drop at text) n, getD-drop, z)
+          let d = length-drop (start .at) text in
+          let k : e - start .at ≡ 1 = omega arith in
+          let n : 0 < length (drop (start .at) text) = omega arith in
+          let z : start .at + 0 ≡ start .at = omega arith in
+          rw (k, take-one (drop (start .at) text) n, getD-drop, z)
 
-      pub end-other : (getD text at 0 ≡ 69 → ⊥) → whole text ≡ faulty Shape (2 + h .actions + h .steps)
-      end-other n = end-line false (rw line-byte (same?-other (getD text at 0) 69 n))
+      pub end-other : (getD text (start .at) 0 ≡ byteE → ⊥) → whole text ≡ faulty Shape (start .line)
+      end-other n = end-line false (rw line-byte (same?-other (getD text (start .at) 0) byteE n))
 
-      module _ (letter : getD text at 0 ≡ 69) where
-        end-letter : whole text
-            ≡ readNothing (suc (2 + h .actions + h .steps)) (b .model) (split lineEnd (drop (e + 1) text))
-        end-letter = end-line true (rw line-byte (same?-byte (getD text at 0) 69 letter))
+      module _ (letter : getD text (start .at) 0 ≡ byteE) where
+        end-letter : whole text ≡ readNothing (suc (start .line)) (b .model) (split lineEnd (drop (e + 1) text))
+        end-letter = end-line true (rw line-byte (same?-byte (getD text (start .at) 0) byteE letter))
 
-        pub end-more : (e + 1 ≡ length text → ⊥) → whole text ≡ faulty Absent (2 + h .actions + h .steps + 1)
+        pub end-more : (e + 1 ≡ length text → ⊥) → whole text ≡ faulty Absent (start .line + 1)
         end-more n =
-            let d = length-drop (e + 1) text in
-            let c : suc (2 + h .actions + h .steps) ≡ 2 + h .actions + h .steps + 1 = omega arith in
-            let p : 0 < length (drop (e + 1) text) = lt-more n in
-            end-letter ∙ rw c (readNothing-more (2 + h .actions + h .steps + 1) (b .model) (drop (e + 1) text) p)
+            let c : suc (start .line) ≡ start .line + 1 = omega arith in
+            end-letter ∙ rw c (readNothing-more (start .line + 1) (b .model) (drop (e + 1) text) (lt-more n))
           where
             lt-more : (e + 1 ≡ length text → ⊥) → 0 < length (drop (e + 1) text)
             lt-more n = rw length-drop (omega arith)
@@ -220,6 +219,5 @@ module _ (h : Head) (text : List ℕ) (at : ℕ) (store : List ℕ) (b : AfterSt
             record {
               model = b .model;
               stored = b .stored;
-              reads = end-letter
-                  ∙ readNothing-nil (suc (2 + h .actions + h .steps)) (b .model) (drop (e + 1) text) (omega arith);
+              reads = end-letter ∙ readNothing-nil (suc (start .line)) (b .model) (drop (e + 1) text) (omega arith);
             }

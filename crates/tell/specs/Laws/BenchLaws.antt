@@ -26,7 +26,7 @@ use Rattle.text.specs.Lines.{headFits?, headFrom, headOf, levelOf, allOf, nameB
 use Rattle.text.specs.Lines.{used?, actionFrom, actionOf, stepFits?, rising, stepFrom, stepOf}
 use Rattle.model.specs.Reading.{done, onLine, orFault, readNothing, readEnd, readSteps, readActions}
 use Rattle.model.specs.Reading.{readModel, readText}
-use Rattle.model.specs.Laws.Text.ReadingLaws.{textOf-of-readText}
+use Rattle.model.specs.Laws.Text.ReadingLaws.{readText-well-formed}
 use Rattle.model.specs.Store.{storeOf}
 use Rattle.model.specs.Laws.Store.StoreLaws.{storeOf-length}
 use Rattle.model.specs.Laws.Store.StoredModelLaws.{holds-storeOf}
@@ -137,7 +137,7 @@ unbranched = record {
 module _ (text : List ℕ) (m : Model) (e : readText text ≡ done m) where
   stored-of-read : Stored (storeOf m ++ []) m
   stored-of-read =
-      let w = textOf-of-readText text m e .0 in
+      let w = readText-well-formed text m e in
       let l : storeLength ≤ length (storeOf m ++ []) =
       omega (arith, storeOf-length m w, length-append (storeOf m) []) in
       holds→Stored (storeOf m ++ []) m l (holds-storeOf m [] w)

@@ -32,12 +32,10 @@ lists-of-notShort (some k) short told = absurd (told k (short k refl))
 -- ---- a text and the model that it states
 
 pub states→readText : {text : List ℕ} {m : Model} → States text m → readText text ≡ done m
-states→readText {text} {m} s = readText-iff text m .1 (s .well-formed, s .text-is)
+states→readText {text} {m} = readText-iff text m .1
 
 pub readText→states : {text : List ℕ} {m : Model} → readText text ≡ done m → States text m
-readText→states {text} {m} e =
-    let h = readText-iff text m .0 e in
-    record { well-formed = h .0; text-is = h .1 }
+readText→states {text} {m} = readText-iff text m .0
 
 pub states↔readText : {text : List ℕ} {m : Model} → States text m ↔ (readText text ≡ done m)
 states↔readText = (states→readText, readText→states)

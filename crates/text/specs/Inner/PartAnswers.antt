@@ -1,14 +1,15 @@
 -- What the functions that read parts of a line answer, in the terms of `Lines`. Only the contracts of inner functions
 -- cite it.
-use mathlib.Core.Bool.{Bool, true, false, cond}
+use mathlib.Core.Bool.{Bool, true, false}
 use mathlib.Core.List.{List}
 use mathlib.Core.Path.{_≡_}
 use Prim.Native.Nat.{ℕ, _≤_}
-use lib.Dec.{eqb}
 use lib.ListN.{length, drop}
 use Rattle.text.specs.declared.Fault.the-variants.{Shape}
 use Rattle.text.specs.declared.Head.{Head}
 use Rattle.text.specs.declared.StepLine.{StepLine}
+use Rattle.text.specs.declared.line.LevelRead.{LevelRead}
+use Rattle.text.specs.declared.line.LevelRead.the-variants.{Level, NoLevel}
 use Rattle.text.specs.declared.line.RowRead.{RowRead}
 use Rattle.text.specs.declared.line.RowRead.the-variants.{Good, Bad}
 use Rattle.text.specs.Bytes.{comma}
@@ -27,9 +28,9 @@ pub record Fields (letter n : ℕ) (line : List ℕ) (r : Bool) : Type 0 where
   pub yes-count : r ≡ true → length (split comma (drop 2 line)) ≡ n
   pub no-fields : r ≡ false → fieldsOf letter n line ≡ bad Shape
 
--- 0 for L, 1 for D, 2 for H, 3 for any other byte
-unfoldable pub levelNumber : ℕ → ℕ
-levelNumber b = cond (eqb b 76) 0 (cond (eqb b 68) 1 (cond (eqb b 72) 2 3))
+unfoldable pub levelRead : LevelRead → Line ℕ
+levelRead (Level n) = good n
+levelRead NoLevel = bad Shape
 
 -- line 1, or a step, of these numbers
 abbrev pub headOfNumbers : ℕ → ℕ → ℕ → ℕ → Head

@@ -20,7 +20,7 @@ use Rattle.text.specs.declared.scan.StepScan.the-variants as step-scan
 use Rattle.text.specs.declared.scan.StepAt.{StepAt}
 use Rattle.text.specs.declared.scan.StepAt.the-variants as step-at
 use Rattle.text.specs.All.{All}
-use Rattle.text.specs.Bytes.{digit, comma, lineEnd, kindOf}
+use Rattle.text.specs.Bytes.{byteS, digit, comma, lineEnd, kindOf}
 use Rattle.text.specs.Numbers.{digitsValue, numberOf}
 use Rattle.text.specs.Split.{indexOf}
 use Rattle.text.specs.Lines.{good, numbersLine, stepOf}
@@ -57,17 +57,17 @@ unfoldable pub Scanned : (ℕ → ℕ → Type 0) → Scan → Type 0
 Scanned P (scan.Number value end) = P value end
 Scanned P scan.Other = Unit {0}
 
--- the line at a place of a text begins with `S`, byte 83, and a comma
+-- the line at a place of a text begins with `S` and a comma
 pub record StepBegins (text : List ℕ) (at : ℕ) : Type 0 where
   pub room : at + 2 ≤ length text
-  pub letter : getD text at 0 ≡ 83
+  pub letter : getD text at 0 ≡ byteS
   pub separated : kindOf (getD text (at + 1) 0) ≡ comma
 
 -- the line at a place of a text has a line end, at place e, and states a step's numbers
 pub record NumbersAt (text : List ℕ) (at source action target e : ℕ) : Type 0 where
   pub found : e ≡ at + indexOf lineEnd (drop at text)
   pub inside : e < length text
-  pub numbers : numbersLine 83 3 (take (e - at) (drop at text)) ≡ good (source ∷ action ∷ target ∷ [])
+  pub numbers : numbersLine byteS 3 (take (e - at) (drop at text)) ≡ good (source ∷ action ∷ target ∷ [])
 
 unfoldable pub StepScanned : List ℕ → ℕ → StepScan → Type 0
 StepScanned text at (step-scan.Numbers source action target end) = NumbersAt text at source action target end

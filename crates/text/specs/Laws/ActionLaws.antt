@@ -3,60 +3,51 @@
 use mathlib.Core.Bool.{Bool, true, false, cond, _&&_}
 use mathlib.Core.List.{List, [], _∷_}
 use mathlib.Core.Logic.{_⊎_, inl, inr}
-use mathlib.Core.Path.{_≡_, refl, sym, ap, _∙_}
+use mathlib.Core.Path.{_≡_, refl, ap, _∙_}
 use Prim.Native.Nat.{ℕ, _+_, _≤_, _<_}
 use native.Mathlib.Omega.{arith}
 use lib.Dec.{leb, eqb}
 use lib.ListN.{length, drop, getD}
 use borrow.Author.Tests.{eq-eqb, ne-eqb, le-leb, lt-leb}
 use Rattle.text.specs.declared.Fault.the-variants.{Shape}
-use Rattle.text.specs.Bytes.{digit, smallLetter, capital, comma, kindOf}
+use Rattle.text.specs.Bytes.{byteA, byteL, byteD, byteH, digit, smallLetter, capital, comma, kindOf}
 use Rattle.text.specs.Split.{split, indexOf, same?}
 use Rattle.text.specs.Limits.{nameLimit}
-use Rattle.text.specs.Model.{ActionLine}
+use Rattle.text.specs.Model.{low, release, high, ActionLine}
 use Rattle.text.specs.Lines.{Line, good, bad, checked, fieldsOf, levelOf, allOf, nameByte?, name?, nameFrom}
 use Rattle.text.specs.Lines.{actionFields}
-use Rattle.text.specs.Inner.PartAnswers.{Fields, levelNumber}
+use Rattle.text.specs.Inner.PartAnswers.{Fields}
 use Rattle.text.specs.Laws.FieldsLaws.{split-one, byte-field, not-byte-field}
 
 -- ---- levels
 
+-- a level by its byte: the tests stand in the order of `levelOf`
+pub levelOf-byte : (b : ℕ) {l d h : Bool} → eqb b byteL ≡ l → eqb b byteD ≡ d → eqb b byteH ≡ h
+    → levelOf (b ∷ []) ≡ cond l (good low) (cond d (good release) (cond h (good high) (bad Shape)))
+unfolding levelOf same?
+levelOf-byte b {l} {d} {h} e f g = rw (e, f, g) (go l d h)
+  where
+    go : (l d h : Bool)
+        → cond (l && true) (good low) (cond (d && true) (good release) (cond (h && true) (good high) (bad Shape)))
+        ≡ cond l (good low) (cond d (good release) (cond h (good high) (bad Shape)))
+    go true d h = refl
+    go false true h = refl
+    go false false true = refl
+    go false false false = refl
+
 -- the letters of levels are capitals
-pub levelNumber-other : (b : ℕ) → (kindOf b ≡ capital → ⊥) → levelNumber b ≡ 3
-unfolding levelNumber kindOf
-levelNumber-other b h =
-    rw (ne-eqb b 76 (λ e. h (ap kindOf e)), ne-eqb b 68 (λ e. h (ap kindOf e)), ne-eqb b 72 (λ e. h (ap kindOf e)))
-
-pub levelOf-byte : (b : ℕ) → (levelNumber b ≡ 3 → ⊥) → levelOf (b ∷ []) ≡ good (levelNumber b)
-unfolding levelOf levelNumber same?
-levelOf-byte b h = go (eqb b 76) (eqb b 68) (eqb b 72) h
-  where
-    go : (l d e : Bool) → (_≡_ {A = ℕ} (cond l 0 (cond d 1 (cond e 2 3))) 3 → ⊥)
-        → _≡_ {A = Line ℕ}
-        (cond (l && true) (good 0) (cond (d && true) (good 1) (cond (e && true) (good 2) (bad Shape))))
-        (good (cond l 0 (cond d 1 (cond e 2 3))))
-    go true d e n = refl
-    go false true e n = refl
-    go false false true n = refl
-    go false false false n = absurd (n refl)
-
-pub levelOf-other : (b : ℕ) → levelNumber b ≡ 3 → levelOf (b ∷ []) ≡ bad Shape
-unfolding levelOf levelNumber same?
-levelOf-other b h = go (eqb b 76) (eqb b 68) (eqb b 72) h
-  where
-    go : (l d e : Bool) → _≡_ {A = ℕ} (cond l 0 (cond d 1 (cond e 2 3))) 3
-        → _≡_ {A = Line ℕ}
-        (cond (l && true) (good 0) (cond (d && true) (good 1) (cond (e && true) (good 2) (bad Shape))))
-        (bad Shape)
-    go true d e n = absurd (omega arith)
-    go false true e n = absurd (omega arith)
-    go false false true n = absurd (omega arith)
-    go false false false n = refl
+pub levelOf-other : (b : ℕ) → (kindOf b ≡ capital → ⊥) → levelOf (b ∷ []) ≡ bad Shape
+unfolding kindOf
+levelOf-other b h =
+    levelOf-byte b
+    (ne-eqb b byteL (λ e. h (ap kindOf e)))
+    (ne-eqb b byteD (λ e. h (ap kindOf e)))
+    (ne-eqb b byteH (λ e. h (ap kindOf e)))
 
 -- a field that is not one byte long is no level
 pub levelOf-long : (f : List ℕ) → ((x : ℕ) → same? f (x ∷ []) ≡ false) → levelOf f ≡ bad Shape
 unfolding levelOf
-levelOf-long f h = rw (h 76, h 68, h 72)
+levelOf-long f h = rw (h byteL, h byteD, h byteH)
 
 -- ---- names
 
@@ -95,9 +86,9 @@ name-all f l m = name-tests f (le-leb 1 (length f) l) (le-leb (length f) nameLim
 
 -- ---- the line by the place of its second comma
 
-module _ (line : List ℕ) (r : Bool) (fields : Fields 65 2 line r) (yes : r ≡ true)
+module _ (line : List ℕ) (r : Bool) (fields : Fields byteA 2 line r) (yes : r ≡ true)
     (e : ℕ) (found : e ≡ 2 + indexOf comma (drop 2 line)) where
-  pub action-other-place : (e ≡ 3 → ⊥) → actionFields (fieldsOf 65 2 line) ≡ bad Shape
+  pub action-other-place : (e ≡ 3 → ⊥) → actionFields (fieldsOf byteA 2 line) ≡ bad Shape
   unfolding actionFields nameFrom
   action-other-place other =
       let w = not-byte-field line 2 e (fields .yes-length yes) found other in
@@ -106,7 +97,7 @@ module _ (line : List ℕ) (r : Bool) (fields : Fields 65 2 line r) (yes : r ≡
 
   -- a level of one byte, and the name is the rest
   pub action-parts : e ≡ 3 → (4 ≤ length line)
-      × (actionFields (fieldsOf 65 2 line) ≡ nameFrom (levelOf (getD line 2 0 ∷ [])) (drop 4 line))
+      × (actionFields (fieldsOf byteA 2 line) ≡ nameFrom (levelOf (getD line 2 0 ∷ [])) (drop 4 line))
   unfolding actionFields
   action-parts three =
       let n = fields .yes-count yes in
@@ -117,13 +108,14 @@ module _ (line : List ℕ) (r : Bool) (fields : Fields 65 2 line r) (yes : r ≡
       let parts = level .1 ∙ ap (λ (fs : List (List ℕ)). (getD line 2 0 ∷ []) ∷ fs) name in
       (level .0, ap actionFields (fields .yes-fields yes ∙ ap good parts))
 
-pub nameFrom-bad : (b : ℕ) (name : List ℕ) → levelNumber b ≡ 3 → nameFrom (levelOf (b ∷ [])) name ≡ bad Shape
-unfolding nameFrom
-nameFrom-bad b name h = ap (λ (x : Line ℕ). nameFrom x name) (levelOf-other b h)
+module _ (b : ℕ) (name : List ℕ) where
+  pub nameFrom-bad : levelOf (b ∷ []) ≡ bad Shape → nameFrom (levelOf (b ∷ [])) name ≡ bad Shape
+  unfolding nameFrom
+  nameFrom-bad e = ap (λ (x : Line ℕ). nameFrom x name) e
 
-pub nameFrom-good : (b level : ℕ) (name : List ℕ) {t : Bool} → level ≡ levelNumber b → (level ≡ 3 → ⊥) → name? name ≡ t
-    → nameFrom (levelOf (b ∷ [])) name ≡ checked Shape t (record { level = level; name = name })
-unfolding nameFrom
-nameFrom-good b level name e h n =
-    ap (λ (x : Line ℕ). nameFrom x name) (levelOf-byte b (λ z. h (e ∙ z)) ∙ ap good (sym e))
-    ∙ ap (λ (x : Bool). checked {A = ActionLine} Shape x (record { level = level; name = name })) n
+  pub nameFrom-good : (level : ℕ) {t : Bool} → levelOf (b ∷ []) ≡ good level → name? name ≡ t
+      → nameFrom (levelOf (b ∷ [])) name ≡ checked Shape t (record { level = level; name = name })
+  unfolding nameFrom
+  nameFrom-good level e n =
+      ap (λ (x : Line ℕ). nameFrom x name) e
+      ∙ ap (λ (x : Bool). checked {A = ActionLine} Shape x (record { level = level; name = name })) n

@@ -9,6 +9,7 @@ use lib.Dec.{T, leb, eqb, leb→le, le→leb}
 use lib.ListN.{getD}
 use borrow.Author.Tests.{eqb-true, le-leb}
 use Rattle.lts.specs.TestsLaws.{and-left, and-right, and-intro}
+use Rattle.text.specs.Bytes.{byteZero, byteNine, byteSmallA, byteSmallZ, byteA, byteZ, byteComma, byteLineEnd}
 use Rattle.text.specs.Bytes.{between?, kindOf, digit, smallLetter, capital, comma, lineEnd}
 
 pub between?→le : (least most x : ℕ) → T (between? least most x) → (least ≤ x) × (x ≤ most)
@@ -34,31 +35,38 @@ tests-passed false false false false true k h = let z : k ≡ 4 = omega arith in
 tests-passed false false false false false k h = absurd (omega arith)
 
 module _ (b : ℕ) where
-  passed : (k : ℕ) → kindOf b ≡ suc k
-      → getD (between? 48 57 b ∷ between? 97 122 b ∷ between? 65 90 b ∷ eqb b 44 ∷ eqb b 10 ∷ []) k false ≡ true
+  passed : (k : ℕ) → kindOf b ≡ suc k → getD (
+      between? byteZero byteNine b
+      ∷ between? byteSmallA byteSmallZ b
+      ∷ between? byteA byteZ b
+      ∷ eqb b byteComma
+      ∷ eqb b byteLineEnd
+      ∷ []
+      ) k false ≡ true
   unfolding kindOf tests
-  passed k h = tests-passed (between? 48 57 b) (between? 97 122 b) (between? 65 90 b) (eqb b 44) (eqb b 10) k h
+  passed k h =
+      tests-passed (between? byteZero byteNine b) (between? byteSmallA byteSmallZ b) (between? byteA byteZ b)
+      (eqb b byteComma) (eqb b byteLineEnd) k h
 
   within : (least most : ℕ) → between? least most b ≡ true → (least ≤ b) × (b ≤ most)
   within least most e = between?→le least most b (subst T (sym e) tt)
 
-  -- the digits are bytes 48 to 57, the small letters 97 to 122, the capitals 65 to 90
-  pub digit-within : kindOf b ≡ digit → (48 ≤ b) × (b ≤ 57)
-  digit-within h = within 48 57 (passed 0 h)
+  pub digit-within : kindOf b ≡ digit → (byteZero ≤ b) × (b ≤ byteNine)
+  digit-within h = within byteZero byteNine (passed 0 h)
 
-  pub smallLetter-within : kindOf b ≡ smallLetter → (97 ≤ b) × (b ≤ 122)
-  smallLetter-within h = within 97 122 (passed 1 h)
+  pub smallLetter-within : kindOf b ≡ smallLetter → (byteSmallA ≤ b) × (b ≤ byteSmallZ)
+  smallLetter-within h = within byteSmallA byteSmallZ (passed 1 h)
 
-  pub capital-within : kindOf b ≡ capital → (65 ≤ b) × (b ≤ 90)
-  capital-within h = within 65 90 (passed 2 h)
+  pub capital-within : kindOf b ≡ capital → (byteA ≤ b) × (b ≤ byteZ)
+  capital-within h = within byteA byteZ (passed 2 h)
 
-  -- the comma is byte 44 alone, and the line end is byte 10 alone
-  pub comma-only : kindOf b ≡ comma → b ≡ 44
-  comma-only h = eqb-true b 44 (passed 3 h)
+  -- one byte is the comma, and one the line end
+  pub comma-only : kindOf b ≡ comma → b ≡ byteComma
+  comma-only h = eqb-true b byteComma (passed 3 h)
 
-  pub lineEnd-only : kindOf b ≡ lineEnd → b ≡ 10
-  lineEnd-only h = eqb-true b 10 (passed 4 h)
+  pub lineEnd-only : kindOf b ≡ lineEnd → b ≡ byteLineEnd
+  lineEnd-only h = eqb-true b byteLineEnd (passed 4 h)
 
-  pub digit-kind : 48 ≤ b → b ≤ 57 → kindOf b ≡ digit
+  pub digit-kind : byteZero ≤ b → b ≤ byteNine → kindOf b ≡ digit
   unfolding kindOf
-  digit-kind h l = rw (le-leb 48 b h, le-leb b 57 l)
+  digit-kind h l = rw (le-leb byteZero b h, le-leb b byteNine l)

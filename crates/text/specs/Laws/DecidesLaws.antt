@@ -24,6 +24,11 @@ pub decides-iff : {P Q : Type 0} (r : Bool) → (P → Q) → (Q → P) → Deci
 decides-iff true f g d = f d
 decides-iff false f g d = λ q. d (g q)
 
+-- a function that answers a test decides it
+pub decides-test : (r b : Bool) → r ≡ b → Decides r (T b)
+decides-test true b e = subst T e tt
+decides-test false b e = λ t. subst T (sym e) t
+
 -- a test, from its value, and the value from the test
 pub T-of-true : (b : Bool) → b ≡ true → T b
 T-of-true b e = subst T (sym e) tt

@@ -12,7 +12,7 @@ use lib.ListN.{length, getD, length-append, List·getD-append}
 use borrow.Author.Tests.{leb-true, eqb-true, eqb-false, lt-ltb, le-ltb, ne-eqb}
 use Rattle.lts.specs.TestsLaws.{lt-or-le}
 use Rattle.text.specs.declared.number.Number.the-variants.{Value, Bad}
-use Rattle.text.specs.Bytes.{digit, kindOf}
+use Rattle.text.specs.Bytes.{byteZero, digit, kindOf}
 use Rattle.text.specs.Laws.BytesLaws.{digit-within, digit-kind}
 use Rattle.text.specs.Numbers.{digitsValue, numberShape?, numberOf, digitsUpTo, digits}
 use Rattle.text.specs.Laws.NumbersLaws.{digitsValue-nil, digitsValue-cons, numberOf-one, numberOf-some}
@@ -25,11 +25,11 @@ use Rattle.text.specs.Laws.AllLaws.{all-append}
 abbrev Ten : ℕ → Type 0
 Ten n = (n < 10) ⊎ (10 ≤ n)
 
-pub digitsUpTo-lt : (k n : ℕ) → n < 10 → digitsUpTo (suc k) n ≡ (48 + n) ∷ []
+pub digitsUpTo-lt : (k n : ℕ) → n < 10 → digitsUpTo (suc k) n ≡ (byteZero + n) ∷ []
 unfolding digitsUpTo
 digitsUpTo-lt k n h = rw (lt-ltb n 10 h)
 
-pub digitsUpTo-le : (k n : ℕ) → 10 ≤ n → digitsUpTo (suc k) n ≡ digitsUpTo k (n / 10) ++ ((48 + n % 10) ∷ [])
+pub digitsUpTo-le : (k n : ℕ) → 10 ≤ n → digitsUpTo (suc k) n ≡ digitsUpTo k (n / 10) ++ ((byteZero + n % 10) ∷ [])
 unfolding digitsUpTo
 digitsUpTo-le k n h = rw (le-ltb n 10 h)
 
@@ -48,12 +48,14 @@ value-append : (xs ys : List ℕ) (v w : ℕ) → digitsValue v xs ≡ Value w �
 value-append [] ys v w h = let e : v ≡ w = cc (digitsValue-nil v) in ap (λ (z : ℕ). digitsValue z ys) e
 value-append (x ∷ xs) ys v w h =
     let k = value-digit v x xs w h in
-    digitsValue-cons v x (xs ++ ys) k ∙ value-append xs ys (v * 10 + (x - 48)) w (sym (digitsValue-cons v x xs k) ∙ h)
+    digitsValue-cons v x (xs ++ ys) k
+    ∙ value-append xs ys (v * 10 + (x - byteZero)) w (sym (digitsValue-cons v x xs k) ∙ h)
 
-value-one : (v d : ℕ) → d < 10 → digitsValue v ((48 + d) ∷ []) ≡ Value (v * 10 + d)
+value-one : (v d : ℕ) → d < 10 → digitsValue v ((byteZero + d) ∷ []) ≡ Value (v * 10 + d)
 value-one v d h =
-    let e : v * 10 + (48 + d - 48) ≡ v * 10 + d = omega arith in
-    digitsValue-cons v (48 + d) [] (digit-kind (48 + d) (omega arith) (omega arith)) ∙ digitsValue-nil _ ∙ ap Value e
+    let e : v * 10 + (byteZero + d - byteZero) ≡ v * 10 + d = omega arith in
+    digitsValue-cons v (byteZero + d) [] (digit-kind (byteZero + d) (omega arith) (omega arith))
+    ∙ digitsValue-nil _ ∙ ap Value e
 
 -- ---- the digits of a number below a power of ten
 
@@ -71,7 +73,8 @@ digitsUpTo-value (suc k) n h p = go (digitsUpTo-value k) (lt-or-le n 10)
     go ih (inl l) = rw (digitsUpTo-lt k n l, value-one 0 n l) (ap Value (omega arith))
     go ih (inr g) =
         let b = before-last k n g h in
-        let i = value-append (digitsUpTo k (n / 10)) ((48 + n % 10) ∷ []) 0 (n / 10) (ih (n / 10) (b .0) (b .1)) in
+        let front = ih (n / 10) (b .0) (b .1) in
+        let i = value-append (digitsUpTo k (n / 10)) ((byteZero + n % 10) ∷ []) 0 (n / 10) front in
         rw (digitsUpTo-le k n g, i, value-one (n / 10) (n % 10) (omega arith)) (ap Value (omega arith))
 
 pub digitsUpTo-digit : (k n : ℕ) → All (λ b. kindOf b ≡ digit) (digitsUpTo k n)
@@ -81,9 +84,9 @@ digitsUpTo-digit (suc k) n = go (digitsUpTo-digit k (n / 10)) (lt-or-le n 10)
   where
     go : All (λ b. kindOf b ≡ digit) (digitsUpTo k (n / 10)) → Ten n
         → All (λ b. kindOf b ≡ digit) (digitsUpTo (suc k) n)
-    go ih (inl l) = rw (digitsUpTo-lt k n l) (digit-kind (48 + n) (omega arith) (omega arith), tt)
+    go ih (inl l) = rw (digitsUpTo-lt k n l) (digit-kind (byteZero + n) (omega arith) (omega arith), tt)
     go ih (inr g) =
-        let last = digit-kind (48 + n % 10) (omega arith) (omega arith) in
+        let last = digit-kind (byteZero + n % 10) (omega arith) (omega arith) in
         rw (digitsUpTo-le k n g) (all-append (λ b. kindOf b ≡ digit) (digitsUpTo k (n / 10)) _ ih (last, tt))
 
 pub digitsUpTo-length-le : (k n : ℕ) → length (digitsUpTo k n) ≤ k
@@ -98,7 +101,7 @@ digitsUpTo-length-le (suc k) n = go (digitsUpTo-length-le k (n / 10)) (lt-or-le 
 -- a number above 0 has digits, and the first is not 0
 record Led (l : List ℕ) : Type 0 where
   some : 0 < length l
-  first : getD l 0 0 ≡ 48 → ⊥
+  first : getD l 0 0 ≡ byteZero → ⊥
 
 digitsUpTo-led : (k n : ℕ) → n < 10 ^ k → 0 < k → 0 < n → Led (digitsUpTo k n)
 digitsUpTo-led zero n h p q = absurd (omega arith)
@@ -109,8 +112,8 @@ digitsUpTo-led (suc k) n h p q = go (digitsUpTo-led k) (lt-or-le n 10)
     go ih (inr g) =
         let b = before-last k n g h in
         let i = ih (n / 10) (b .0) (b .1) (b .2) in
-        let e = length-append (digitsUpTo k (n / 10)) ((48 + n % 10) ∷ []) in
-        let f = List·getD-append (digitsUpTo k (n / 10)) ((48 + n % 10) ∷ []) 0 0 (i .some) in
+        let e = length-append (digitsUpTo k (n / 10)) ((byteZero + n % 10) ∷ []) in
+        let f = List·getD-append (digitsUpTo k (n / 10)) ((byteZero + n % 10) ∷ []) 0 0 (i .some) in
         rw (digitsUpTo-le k n g) (record { some = omega arith; first = λ z. i .first (sym f ∙ z) })
 
 -- room for more digits than there are changes nothing
@@ -152,14 +155,15 @@ numberOf-digits n h = go (lt-or-le n 10)
     go (inr g) =
         let b = before-last 4 n g h in
         let d = digitsUpTo-led 4 (n / 10) (b .0) (b .1) (b .2) in
-        let e = length-append (digitsUpTo 4 (n / 10)) ((48 + n % 10) ∷ []) in
+        let e = length-append (digitsUpTo 4 (n / 10)) ((byteZero + n % 10) ∷ []) in
         let s : 1 < length (digitsUpTo 5 n) = rw (digitsUpTo-le 4 n g) (omega arith) in
         let w = digitsUpTo-led 5 n h (lit< tt) (omega arith) in
         numberOf-some (digitsUpTo 5 n) s (digitsUpTo-length-le 5 n) (w .first) ∙ digitsUpTo-value 5 n h (lit< tt)
 
 -- ---- what reads was written so
 
-digitsUpTo-cons : (k v d : ℕ) → 0 < v → d < 10 → digitsUpTo (suc k) (v * 10 + d) ≡ digitsUpTo k v ++ ((48 + d) ∷ [])
+digitsUpTo-cons : (k v d : ℕ) → 0 < v → d < 10
+    → digitsUpTo (suc k) (v * 10 + d) ≡ digitsUpTo k v ++ ((byteZero + d) ∷ [])
 digitsUpTo-cons k v d p h =
     let a : (v * 10 + d) / 10 ≡ v = omega arith in
     let b : (v * 10 + d) % 10 ≡ d = omega arith in
@@ -175,30 +179,30 @@ digitsUpTo-of-value [] v k n p l h =
 digitsUpTo-of-value (d ∷ ds) v k n p l h =
     let q = value-digit v d ds n h in
     let r = digit-within d q in
-    let m : 48 + (d - 48) ≡ d = omega arith in
+    let m : byteZero + (d - byteZero) ≡ d = omega arith in
     let z : k + suc (length ds) ≡ suc k + length ds = omega arith in
     let e = pow-suc 10 k in
     let u = sym (digitsValue-cons v d ds q) ∙ h in
-    let i = digitsUpTo-of-value ds (v * 10 + (d - 48)) (suc k) n (omega arith) (omega arith) u in
-    (rw (z, i .0, digitsUpTo-cons k v (d - 48) p (omega arith), m, append-assoc), rw z (i .1))
+    let i = digitsUpTo-of-value ds (v * 10 + (d - byteZero)) (suc k) n (omega arith) (omega arith) u in
+    (rw (z, i .0, digitsUpTo-cons k v (d - byteZero) p (omega arith), m, append-assoc), rw z (i .1))
 
 -- a digit, and digits after it unless it is 0
-digits-of-value : (b : ℕ) (ds : List ℕ) (n : ℕ) → length ds ≤ 4 → (0 < length ds → b ≡ 48 → ⊥)
+digits-of-value : (b : ℕ) (ds : List ℕ) (n : ℕ) → length ds ≤ 4 → (0 < length ds → b ≡ byteZero → ⊥)
     → digitsValue 0 (b ∷ ds) ≡ Value n → (b ∷ ds ≡ digits n) × (n < 100000)
 digits-of-value b [] n l z h =
     let q = value-digit 0 b [] n h in
     let r = digit-within b q in
-    let e : 0 * 10 + (b - 48) ≡ n = cc (digitsValue-cons 0 b [] q, digitsValue-nil (0 * 10 + (b - 48))) in
-    let m : 48 + n ≡ b = omega arith in
+    let e : 0 * 10 + (b - byteZero) ≡ n = cc (digitsValue-cons 0 b [] q, digitsValue-nil (0 * 10 + (b - byteZero))) in
+    let m : byteZero + n ≡ b = omega arith in
     let u : n < 10 = omega arith in
     (sym (digits-digitsUpTo 4 1 n u (lit< tt) refl ∙ digitsUpTo-lt 0 n u ∙ ap (λ (x : ℕ). x ∷ []) m), omega arith)
 digits-of-value b (d ∷ ds) n l z h =
     let ne = z (omega arith) in
     let q = value-digit 0 b (d ∷ ds) n h in
     let r = digit-within b q in
-    let v : ℕ = 0 * 10 + (b - 48) in
+    let v : ℕ = 0 * 10 + (b - byteZero) in
     let u = sym (digitsValue-cons 0 b (d ∷ ds) q) ∙ h in
-    let m : 48 + v ≡ b = omega arith in
+    let m : byteZero + v ≡ b = omega arith in
     let k : ℕ = 1 + suc (length ds) in
     let w = digitsUpTo-of-value (d ∷ ds) v 1 n (omega arith) (omega arith) u in
     let five : k ≤ 5 = omega arith in
@@ -211,12 +215,12 @@ pub digits-of-numberOf : (f : List ℕ) (n : ℕ) → numberOf f ≡ Value n →
 unfolding numberOf numberShape?
 digits-of-numberOf [] n h = let z : _≡_ {A = ℕ} 0 1 = cc in absurd (omega arith)
 digits-of-numberOf (b ∷ []) n h = digits-of-value b [] n (omega arith) (λ z. absurd (omega arith)) h
-digits-of-numberOf (b ∷ c ∷ bs) n h = by-test (leb (length bs) 3) refl (eqb b 48) refl h
+digits-of-numberOf (b ∷ c ∷ bs) n h = by-test (leb (length bs) 3) refl (eqb b byteZero) refl h
   where
-    by-test : (s : Bool) → leb (length bs) 3 ≡ s → (t : Bool) → eqb b 48 ≡ t
+    by-test : (s : Bool) → leb (length bs) 3 ≡ s → (t : Bool) → eqb b byteZero ≡ t
         → cond (s && not t) (digitsValue 0 (b ∷ c ∷ bs)) Bad ≡ Value n → (b ∷ c ∷ bs ≡ digits n) × (n < 100000)
     by-test false d t e q = let z : _≡_ {A = ℕ} 0 1 = cc in absurd (omega arith)
     by-test true d true e q = let z : _≡_ {A = ℕ} 0 1 = cc in absurd (omega arith)
     by-test true d false e q =
         let l = leb-true (length bs) 3 d in
-        digits-of-value b (c ∷ bs) n (omega arith) (λ z. eqb-false b 48 e) q
+        digits-of-value b (c ∷ bs) n (omega arith) (λ z. eqb-false b byteZero e) q

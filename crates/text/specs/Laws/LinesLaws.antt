@@ -11,7 +11,7 @@ use Rattle.text.specs.declared.Fault.{Fault}
 use Rattle.text.specs.declared.Fault.the-variants.{Range, Order}
 use Rattle.text.specs.declared.Head.{Head}
 use Rattle.text.specs.declared.StepLine.{StepLine}
-use Rattle.text.specs.Bytes.{between?}
+use Rattle.text.specs.Bytes.{byteM, byteS, between?}
 use Rattle.text.specs.Limits.{stateLimit, actionLimit, stepLimit}
 use Rattle.text.specs.Model.{above?, aboveLast?}
 use Rattle.text.specs.Lines.{good, bad, checked, numbersLine, headFits?, headNumbers, headFrom, headOf}
@@ -27,11 +27,11 @@ unfolding headFits?
 headFits-tests h e f g k = rw (← e, ← f, ← g, ← k)
 
 module _ (line : List ℕ) where
-  pub headOf-bad : {fault : Fault} → numbersLine 77 4 line ≡ bad fault → headOf line ≡ bad fault
+  pub headOf-bad : {fault : Fault} → numbersLine byteM 4 line ≡ bad fault → headOf line ≡ bad fault
   unfolding headOf headFrom
   headOf-bad e = ap headFrom e
 
-  pub headOf-numbers : {ns : List ℕ} {t : Bool} → numbersLine 77 4 line ≡ good ns → headFits? (headNumbers ns) ≡ t
+  pub headOf-numbers : {ns : List ℕ} {t : Bool} → numbersLine byteM 4 line ≡ good ns → headFits? (headNumbers ns) ≡ t
       → headOf line ≡ checked Range t (headNumbers ns)
   unfolding headOf headFrom
   headOf-numbers {ns} e f = ap headFrom e ∙ ap (λ (u : Bool). checked Range u (headNumbers ns)) f
@@ -81,11 +81,11 @@ module _ (s t : StepLine) where
         (eq-eqb (s .action .0) (t .action .0) (omega arith))
 
 module _ (h : Head) (before : List StepLine) (line : List ℕ) where
-  pub stepOf-bad : {fault : Fault} → numbersLine 83 3 line ≡ bad fault → stepOf h before line ≡ bad fault
+  pub stepOf-bad : {fault : Fault} → numbersLine byteS 3 line ≡ bad fault → stepOf h before line ≡ bad fault
   unfolding stepOf stepFrom
   stepOf-bad e = ap (stepFrom h before) e
 
-  module _ (ns : List ℕ) (e : numbersLine 83 3 line ≡ good ns) where
+  module _ (ns : List ℕ) (e : numbersLine byteS 3 line ≡ good ns) where
     numbers : {t : Bool} → stepFits? h (stepNumbers ns) ≡ t
         → stepOf h before line ≡ rising before (checked Range t (stepNumbers ns))
     unfolding stepOf stepFrom

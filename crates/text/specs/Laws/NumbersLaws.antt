@@ -10,7 +10,7 @@ use lib.Dec.{leb}
 use lib.ListN.{length, getD}
 use borrow.Author.Tests.{le-leb, lt-leb, eq-eqb, ne-eqb}
 use Rattle.text.specs.declared.number.Number.the-variants.{Value, Bad}
-use Rattle.text.specs.Bytes.{digit, kindOf}
+use Rattle.text.specs.Bytes.{byteZero, digit, kindOf}
 use Rattle.text.specs.Numbers.{digitsValue, numberShape?, numberOf}
 use Rattle.text.specs.Laws.SameLaws.{and-false}
 
@@ -22,7 +22,7 @@ unfolding digitsValue
 digitsValue-nil v = refl
 
 pub digitsValue-cons : (v b : ℕ) (bs : List ℕ) → kindOf b ≡ digit
-    → digitsValue v (b ∷ bs) ≡ digitsValue (v * 10 + (b - 48)) bs
+    → digitsValue v (b ∷ bs) ≡ digitsValue (v * 10 + (b - byteZero)) bs
 unfolding digitsValue
 digitsValue-cons v b bs h = rw (eq-eqb (kindOf b) digit h)
 
@@ -48,14 +48,17 @@ numberOf-one (b ∷ []) h = refl
 numberOf-one (b ∷ c ∷ bs) h = absurd (omega arith)
 
 -- 0 before other digits
-pub numberOf-zero : (f : List ℕ) → 1 < length f → getD f 0 0 ≡ 48 → numberOf f ≡ Bad
+pub numberOf-zero : (f : List ℕ) → 1 < length f → getD f 0 0 ≡ byteZero → numberOf f ≡ Bad
 unfolding numberOf numberShape?
 numberOf-zero [] h z = absurd (omega arith)
 numberOf-zero (b ∷ []) h z = absurd (omega arith)
-numberOf-zero (b ∷ c ∷ bs) h z = rw (eq-eqb b 48 z, and-false (leb (length bs) 3))
+numberOf-zero (b ∷ c ∷ bs) h z = rw (eq-eqb b byteZero z, and-false (leb (length bs) 3))
 
-pub numberOf-some : (f : List ℕ) → 1 < length f → length f ≤ 5 → (getD f 0 0 ≡ 48 → ⊥) → numberOf f ≡ digitsValue 0 f
+pub numberOf-some : (f : List ℕ) → 1 < length f → length f ≤ 5 → (getD f 0 0 ≡ byteZero → ⊥)
+    → numberOf f ≡ digitsValue 0 f
 unfolding numberOf numberShape?
 numberOf-some [] h l z = absurd (omega arith)
 numberOf-some (b ∷ []) h l z = absurd (omega arith)
-numberOf-some (b ∷ c ∷ bs) h l z = let m : length bs ≤ 3 = omega arith in rw (le-leb (length bs) 3 m, ne-eqb b 48 z)
+numberOf-some (b ∷ c ∷ bs) h l z =
+    let m : length bs ≤ 3 = omega arith in
+    rw (le-leb (length bs) 3 m, ne-eqb b byteZero z)

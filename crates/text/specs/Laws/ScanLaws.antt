@@ -18,7 +18,7 @@ use Rattle.text.specs.declared.scan.StepScan.{StepScan}
 use Rattle.text.specs.declared.scan.StepScan.the-variants as step-scan
 use Rattle.text.specs.declared.scan.StepAt.{StepAt}
 use Rattle.text.specs.declared.scan.StepAt.the-variants as step-at
-use Rattle.text.specs.Bytes.{digit, comma, lineEnd, kindOf}
+use Rattle.text.specs.Bytes.{byteZero, byteS, digit, comma, lineEnd, kindOf}
 use Rattle.text.specs.Numbers.{digitsValue, numberOf}
 use Rattle.text.specs.Split.{consFirst, split, indexOf}
 use Rattle.text.specs.Lines.{good, consNumber, numbersOf}
@@ -60,13 +60,13 @@ digits-snoc [] b h k = (k, tt)
 digits-snoc (x ∷ xs) b h k = (h .0, digits-snoc xs b (h .1) k)
 
 value-snoc : (f : List ℕ) (b v w : ℕ) → AllDigits f → kindOf b ≡ digit → digitsValue v f ≡ Value w
-    → digitsValue v (f ++ (b ∷ [])) ≡ Value (w * 10 + (b - 48))
+    → digitsValue v (f ++ (b ∷ [])) ≡ Value (w * 10 + (b - byteZero))
 value-snoc [] b v w h k e =
     let s : v ≡ w = cc (digitsValue-nil v) in
-    digitsValue-cons v b [] k ∙ digitsValue-nil _ ∙ ap (λ (z : ℕ). Value (z * 10 + (b - 48))) s
+    digitsValue-cons v b [] k ∙ digitsValue-nil _ ∙ ap (λ (z : ℕ). Value (z * 10 + (b - byteZero))) s
 value-snoc (x ∷ xs) b v w h k e =
     digitsValue-cons v x (xs ++ (b ∷ [])) (h .0)
-    ∙ value-snoc xs b (v * 10 + (x - 48)) w (h .1) k (sym (digitsValue-cons v x xs (h .0)) ∙ e)
+    ∙ value-snoc xs b (v * 10 + (x - byteZero)) w (h .1) k (sym (digitsValue-cons v x xs (h .0)) ∙ e)
 
 pub digits-none : (s : List ℕ) (at : ℕ) → DigitsTo s at at 0
 digits-none s at =
@@ -74,7 +74,7 @@ digits-none s at =
 
 -- one more digit
 pub digits-next : (s : List ℕ) (at e v : ℕ) → DigitsTo s at e v → e < length s → kindOf (getD s e 0) ≡ digit
-    → DigitsTo s at (e + 1) (v * 10 + (getD s e 0 - 48))
+    → DigitsTo s at (e + 1) (v * 10 + (getD s e 0 - byteZero))
 digits-next s at e v d h k =
     let b = getD s e 0 in
     let n = length-append (d .field) (b ∷ []) in
@@ -100,7 +100,7 @@ module _ (k : ℕ) (s : List ℕ) (at v e : ℕ) (d : DigitsAt k s at v e) where
   number-one h = let p = d .run .place in numbered (numberOf-one f (omega arith))
 
   -- the first of several digits is not 0
-  pub number-some : (e ≡ at → ⊥) → (e ≡ at + 1 → ⊥) → (getD s at 0 ≡ 48 → ⊥) → NumberAt k s at v e
+  pub number-some : (e ≡ at → ⊥) → (e ≡ at + 1 → ⊥) → (getD s at 0 ≡ byteZero → ⊥) → NumberAt k s at v e
   number-some none one zero =
       let p = d .run .place in
       let l = d .short in
@@ -204,11 +204,11 @@ fields-cons s at v m e ns n g =
 
 -- ---- a step's line
 
-letter-comma : kindOf 83 ≡ comma → ⊥
+letter-comma : kindOf byteS ≡ comma → ⊥
 unfolding kindOf
 letter-comma z = omega arith
 
-letter-lineEnd : kindOf 83 ≡ lineEnd → ⊥
+letter-lineEnd : kindOf byteS ≡ lineEnd → ⊥
 unfolding kindOf
 letter-lineEnd z = omega arith
 
@@ -222,24 +222,25 @@ step-numbers s at a b e source action target begins n m o =
     let last = fields-last s (b + 1) target e o in
     let g = fields-cons s (at + 2) source a e _ n (fields-cons s (a + 1) action b e _ m last) in
     let x = getD s (at + 1) 0 in
-    let line : List ℕ = 83 ∷ x ∷ g .bytes in
+    let line : List ℕ = byteS ∷ x ∷ g .bytes in
     let two : at + 1 + 1 ≡ at + 2 = omega arith in
-    let first : drop at s ≡ 83 ∷ drop (at + 1) s =
+    let first : drop at s ≡ byteS ∷ drop (at + 1) s =
     drop-next s at (omega arith) ∙ ap (λ (y : ℕ). y ∷ drop (at + 1) s) (begins .letter) in
     let second : drop (at + 1) s ≡ x ∷ drop (at + 2) s = drop-next s (at + 1) (omega arith) ∙ rw two in
     let whole : drop at s ≡ line ++ drop e s = first ∙ rw (second, g .rest) in
     let p = g .place in
     let len : e - at ≡ length line = omega arith in
     let cut : take (e - at) (drop at s) ≡ line = rw (whole, len) (take-append-seam line (drop e s)) in
-    let parts : split comma line ≡ (83 ∷ []) ∷ split comma (g .bytes) =
-    split-cons comma 83 (x ∷ g .bytes) letter-comma ∙ ap (consFirst 83) (split-end comma x (g .bytes) sep) in
-    let fields = fields-good 83 3 line (83 ∷ []) (split comma (g .bytes)) parts (same?-byte 83 83 refl) (g .count) in
-    let i = ap (indexOf lineEnd) first ∙ indexOf-cons lineEnd 83 (drop (at + 1) s) letter-lineEnd in
+    let parts : split comma line ≡ (byteS ∷ []) ∷ split comma (g .bytes) =
+    split-cons comma byteS (x ∷ g .bytes) letter-comma ∙ ap (consFirst byteS) (split-end comma x (g .bytes) sep) in
+    let letter = same?-byte byteS byteS refl in
+    let fields = fields-good byteS 3 line (byteS ∷ []) (split comma (g .bytes)) parts letter (g .count) in
+    let i = ap (indexOf lineEnd) first ∙ indexOf-cons lineEnd byteS (drop (at + 1) s) letter-lineEnd in
     let not-sep : kindOf x ≡ lineEnd → ⊥ = λ z. let w = sym sep ∙ z in omega (arith, w) in
     let j = ap (indexOf lineEnd) second ∙ indexOf-cons lineEnd x (drop (at + 2) s) not-sep in
     let d = g .found in
     record {
       found = omega arith;
       inside = g .inside;
-      numbers = rw cut (numbersLine-good 83 3 line (split comma (g .bytes)) fields ∙ g .numbers);
+      numbers = rw cut (numbersLine-good byteS 3 line (split comma (g .bytes)) fields ∙ g .numbers);
     }

@@ -2,7 +2,7 @@
 -- Document 01, "The text". Assumes nothing.
 use mathlib.Core.Bool.{Bool, true, false}
 use mathlib.Core.List.{List, [], _∷_}
-use mathlib.Core.Path.{_≡_, refl, _∙_}
+use mathlib.Core.Path.{_≡_, refl, ap, _∙_}
 use Prim.Native.Nat.{ℕ, suc, _+_, _-_, _≤_, _<_}
 use native.Mathlib.Omega.{arith}
 use lib.Dec.{eqb}
@@ -51,6 +51,17 @@ split-first kind (b ∷ bs) = go (is (kindOf b) kind) (split-first kind bs)
         → (part : List ℕ) × (parts : List (List ℕ)) × (split kind (b ∷ bs) ≡ part ∷ parts)
     go (same e) ih = ([], split kind bs, split-end kind b bs e)
     go (other e) ih = (b ∷ ih .0, ih .1, rw (split-cons kind b bs e, ih .2))
+
+-- there is at most one part more than bytes
+pub split-length-le : (kind : ℕ) (s : List ℕ) → length (split kind s) ≤ length s + 1
+unfolding consFirst
+split-length-le kind [] = rw (split-nil kind) (omega arith)
+split-length-le kind (b ∷ bs) = go (is (kindOf b) kind) (split-first kind bs) (split-length-le kind bs)
+  where
+    go : Is (kindOf b) kind → (part : List ℕ) × (parts : List (List ℕ)) × (split kind bs ≡ part ∷ parts)
+        → length (split kind bs) ≤ length bs + 1 → length (split kind (b ∷ bs)) ≤ length (b ∷ bs) + 1
+    go (same e) w ih = rw (split-end kind b bs e) (omega arith)
+    go (other e) w ih = let k = ap length (w .2) in rw (split-cons kind b bs e, w .2) (omega arith)
 
 pub indexOf-nil : (kind : ℕ) → indexOf kind [] ≡ 0
 unfolding indexOf

@@ -1,8 +1,8 @@
 -- What the writers of the lines ask of a store. Only the contracts of inner functions cite it.
-use Prim.Native.Nat.{ℕ, _+_, _≤_, _<_}
+use Prim.Native.Nat.{ℕ, _≤_, _<_}
 use mathlib.Core.List.{List}
 use lib.ListN.{length, getD}
-use Rattle.text.specs.Limits.{nameLimit, storeLength, actionPlace}
+use Rattle.text.specs.Limits.{nameLimit, storeLength, nameLengthPlace}
 use Rattle.text.specs.All.{All}
 use Rattle.model.specs.Store.{Good}
 use Rattle.model.specs.StoredModel.{actionAt}
@@ -13,5 +13,5 @@ pub record Writable (store : List ℕ) : Type 0 where
 
 -- the name of action i: its length, and its bytes
 pub record NameBytes (s : List ℕ) (i : ℕ) : Type 0 where
-  pub short : getD s (actionPlace i + 1) 0 ≤ nameLimit
+  pub short : getD s (nameLengthPlace i) 0 ≤ nameLimit
   pub bytes : All (λ (b : ℕ). b < 256) (actionAt s i .name)

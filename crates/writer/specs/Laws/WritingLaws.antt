@@ -13,7 +13,7 @@ use Rattle.text.specs.Model.{ActionLine, Model}
 use Rattle.model.specs.Laws.Store.BlocksLaws.{blocks-snoc}
 use Rattle.text.specs.Numbers.{digits}
 use Rattle.model.specs.StoredModel.{listed}
-use Rattle.model.specs.Text.{headText, actionText, stepText, actionsText, stepsText, textOf}
+use Rattle.model.specs.Text.{headText, actionText, stepText, actionsText, stepsText, modelText}
 
 -- ---- lengths of lines
 
@@ -91,7 +91,7 @@ stepsText-room f j n h = text-room stepText stepsText stepsText-nil stepsText-co
 
 -- ---- the text
 
-pub textOf-length : (m : Model) → length (textOf m)
+pub modelText-length : (m : Model) → length (modelText m)
     ≡ length (headText (m .head)) + length (actionsText (m .actions)) + length (stepsText (m .steps)) + 2
-unfolding textOf
-textOf-length m = simp length-append
+unfolding modelText
+modelText-length m = simp length-append

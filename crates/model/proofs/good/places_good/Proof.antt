@@ -1,15 +1,33 @@
 -- Each test decides one of the conditions on a store's places; its head is the one that was read.
-use mathlib.Core.Path.{ap}
+use mathlib.Core.Bool.{Bool, false, not}
+use mathlib.Core.Path.{_≡_, ap}
 use native.Mathlib.Omega.{arith}
 use Rattle.text.specs.declared.Head.{Head}
+use Rattle.text.specs.Lines.{headFits?}
+use Rattle.text.specs.Inner.Ranges.{HeadRanges}
 use Rattle.text.specs.Laws.RangesLaws.{headFits?→HeadRanges}
-use Rattle.text.specs.Laws.DecidesLaws.{decides-passed, decides-refused, decides-iff}
+use Rattle.text.specs.Laws.DecidesLaws.{decides-passed, decides-refused, decides-iff, decides-test}
 use borrow.Author.Needs.{needs}
 use Rattle.model.proofs.good.places_good.Statement.{statement}
 use Rattle.model.proofs.good.places_good.Tie as tie
 
+head-ranges : {h : Head} (r : Bool) → r ≡ headFits? h → not r ≡ false → HeadRanges h
+head-ranges {h} r e n = headFits?→HeadRanges h (decides-passed r _ (decides-test r _ e) n)
+
 head-requires : tie.Need-head-requires
 head-requires c κs = search needs
+
+cast-head-fits : tie.Need-cast-head-fits
+cast-head-fits c = search needs
+
+cast-head-fits-2 : tie.Need-cast-head-fits-2
+cast-head-fits-2 c = search needs
+
+cast-head-fits-3 : tie.Need-cast-head-fits-3
+cast-head-fits-3 c = search needs
+
+cast-head-fits-4 : tie.Need-cast-head-fits-4
+cast-head-fits-4 c = search needs
 
 head-fits-requires : tie.Need-head-fits-requires
 head-fits-requires c κs = search needs
@@ -17,39 +35,37 @@ head-fits-requires c κs = search needs
 returns : tie.Need-returns
 returns c =
     let f = c .before .head-fits in
-    let e = c .before .before .head .ensures in
-    λ p. decides-refused (f .result) _ (f .ensures) (c .if1 .taken) (rw e (p .head))
+    let e = c .before .before .before .before .before .before .head .ensures in
+    λ p. decides-refused (f .result) _ (decides-test (f .result) _ (f .ensures)) (c .if1 .taken) (rw e (p .head))
 
 actions-good-requires : tie.Need-actions-good-requires
 actions-good-requires c κs =
     let f = c .before .head-fits in
-    let r = headFits?→HeadRanges _ (decides-passed (f .result) _ (f .ensures) (c .if1 .left)) in
+    let r = head-ranges (f .result) (f .ensures) (c .if1 .left) in
     (omega arith, omega arith)
 
 returns-2 : tie.Need-returns-2
 returns-2 c =
     let f = c .before .actions-good in
-    let n = ap (λ (x : Head). x .actions) (c .before .before .before .before .head .ensures) in
+    let passed = c .before .before in
+    let n = ap (λ (x : Head). x .actions) (passed .before .before .before .before .before .before .head .ensures) in
     λ p. decides-refused (f .result) _ (f .ensures) (c .if2 .taken) (rw n (p .actions))
 
 steps-good-requires : tie.Need-steps-good-requires
 steps-good-requires c κs =
     let passed = c .before .before in
     let f = passed .before .head-fits in
-    let r = headFits?→HeadRanges _ (decides-passed (f .result) _ (f .ensures) (passed .if1 .left)) in
+    let r = head-ranges (f .result) (f .ensures) (passed .if1 .left) in
     (omega arith, omega arith)
 
 returns-3 : tie.Need-returns-3
 returns-3 c =
     let f = c .before .steps-good in
-    let e = c .before .before .before .before .before .before .head .ensures in
+    let e = c .before .before .before .before .before .before .before .before .before .before .head .ensures in
     λ p. decides-refused (f .result) _ (f .ensures) (c .if3 .taken) (rw e (p .steps))
 
 action-place-requires : tie.Need-action-place-requires
 action-place-requires c κs = search needs
-
-step-place-requires : tie.Need-step-place-requires
-step-place-requires c κs = search needs
 
 zeros-requires : tie.Need-zeros-requires
 zeros-requires c κs = search needs
@@ -57,16 +73,16 @@ zeros-requires c κs = search needs
 returns-4 : tie.Need-returns-4
 returns-4 c =
     let f = c .before .zeros in
-    let e = c .before .before .before .before .before .before .before .before .before .before .head .ensures in
+    let passed = c .before .before .before .before .before .before .before in
+    let e = passed .before .before .before .before .before .before .head .ensures in
     let n = ap (λ (x : Head). x .actions) e in
-    let a = c .before .before .before .action-place .ensures in
-    let s = c .before .before .step-place .ensures in
+    let a = c .before .before .action-place .ensures in
     λ p.
     decides-refused (f .result) _ (f .ensures) (c .if4 .taken)
     (record { at = λ k h l. p .unused-actions .at k (omega arith) (omega arith) })
 
-step-place-requires-2 : tie.Need-step-place-requires-2
-step-place-requires-2 c κs = search needs
+step-place-requires : tie.Need-step-place-requires
+step-place-requires c κs = search needs
 
 zeros-requires-2 : tie.Need-zeros-requires-2
 zeros-requires-2 c κs = search needs
@@ -74,20 +90,19 @@ zeros-requires-2 c κs = search needs
 returns-5 : tie.Need-returns-5
 returns-5 c =
     let unused-passed = c .before .before in
-    let steps-passed = unused-passed .before .before .before .before in
+    let steps-passed = unused-passed .before .before .before in
     let actions-passed = steps-passed .before .before in
     let head-passed = actions-passed .before .before in
-    let e = head-passed .before .before .head .ensures in
+    let e = head-passed .before .before .before .before .before .before .head .ensures in
     let n = ap (λ (x : Head). x .actions) e in
     let m = ap (λ (x : Head). x .steps) e in
-    let a = unused-passed .before .before .before .action-place .ensures in
-    let s = unused-passed .before .before .step-place .ensures in
-    let t = c .before .step-place2 .ensures in
+    let a = unused-passed .before .before .action-place .ensures in
+    let t = c .before .step-place .ensures in
     let hd = head-passed .before .head-fits in
     let ac = actions-passed .before .actions-good in
     let st = steps-passed .before .steps-good in
     let un = unused-passed .before .zeros in
-    let head = decides-passed (hd .result) _ (hd .ensures) (head-passed .if1 .left) in
+    let head = decides-passed (hd .result) _ (decides-test (hd .result) _ (hd .ensures)) (head-passed .if1 .left) in
     let actions = decides-passed (ac .result) _ (ac .ensures) (actions-passed .if2 .left) in
     let steps = decides-passed (st .result) _ (st .ensures) (steps-passed .if3 .left) in
     let unused = decides-passed (un .result) _ (un .ensures) (unused-passed .if4 .left) in
@@ -106,6 +121,10 @@ places-good-spec =
     tie.close
     (tie.spec
     head-requires
+    cast-head-fits
+    cast-head-fits-2
+    cast-head-fits-3
+    cast-head-fits-4
     head-fits-requires
     returns
     actions-good-requires
@@ -113,9 +132,8 @@ places-good-spec =
     steps-good-requires
     returns-3
     action-place-requires
-    step-place-requires
     zeros-requires
     returns-4
-    step-place-requires-2
+    step-place-requires
     zeros-requires-2
     returns-5)

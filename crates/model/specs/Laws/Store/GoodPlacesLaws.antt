@@ -8,12 +8,15 @@ use lib.Dec.{not-T}
 use lib.ListN.{length, getD, take, drop}
 use lib.Seq.{take-add}
 use Rattle.lts.specs.TestsLaws.{and-intro}
-use Rattle.text.specs.Limits.{actionLimit, stepLimit, nameLimit, storeLength, actionPlace, namePlace, stepPlace}
+use Rattle.text.specs.Limits.{nameLimit, stateCountPlace, actionCountPlace, stepCountPlace, startPlace, headEnd}
+use Rattle.text.specs.Limits.{actionsBegin, actionSize, actionsLength, actionsEnd, actionColumn, targetColumn}
+use Rattle.text.specs.Limits.{stepsBegin, stepSize, stepsLength, storeLength}
+use Rattle.text.specs.Limits.{actionPlace, nameLengthPlace, namePlace, stepPlace, actionOfStepPlace, targetPlace}
 use Rattle.text.specs.Bytes.{between?}
 use Rattle.text.specs.Model.{aboveLast?}
 use Rattle.text.specs.Lines.{allOf, nameByte?, name?, used?}
-use Rattle.model.specs.Store.{padded, actionNumbers, actionsNumbers, stepsNumbers, headPlaces, storeOf}
-use Rattle.model.specs.Inner.LineText.{stepPlaces}
+use Rattle.model.specs.Store.{padded, actionNumbers, actionsNumbers, stepPlaces, stepsNumbers, headPlaces}
+use Rattle.model.specs.Store.{storeOf}
 use Rattle.model.specs.WellFormed.{ActionFits, StepFits, WellFormed}
 use Rattle.model.specs.StoredModel.{headAt, actionAt, stepAt, listed, modelAt, Holds}
 use Rattle.text.specs.Inner.Ranges.{HeadRanges}
@@ -31,10 +34,10 @@ module _ (s : List ℕ) (fits : storeLength ≤ length s) where
     ranges : HeadRanges (headAt s)
     ranges = headFits?→HeadRanges (headAt s) (g .head)
 
-    good-action : (i : ℕ) → i < getD s 1 0 → GoodAction s i
+    good-action : (i : ℕ) → i < headAt s .actions → GoodAction s i
     good-action i h = g .actions .at i (omega arith) h
 
-    action-fits : (i : ℕ) → i < getD s 1 0 → ActionFits (listed i (actionAt s)) (actionAt s i)
+    action-fits : (i : ℕ) → i < headAt s .actions → ActionFits (listed i (actionAt s)) (actionAt s i)
     unfolding name?
     action-fits i h =
         let r = ranges .actions in
@@ -55,7 +58,7 @@ module _ (s : List ℕ) (fits : storeLength ≤ length s) where
               (eq→SameName s fits (u .0) i (omega arith) (omega arith) (good-action (u .0) (omega arith)) a (u .2)));
         }
 
-    step-fits : (j : ℕ) → j < getD s 2 0 → StepFits (headAt s) (listed j (stepAt s)) (stepAt s j)
+    step-fits : (j : ℕ) → j < headAt s .steps → StepFits (headAt s) (listed j (stepAt s)) (stepAt s j)
     unfolding listed aboveLast?
     step-fits zero h = record { in-range = g .steps .at 0 (omega arith) h .in-range; rising = tt }
     step-fits (suc j) h =
@@ -72,13 +75,14 @@ module _ (s : List ℕ) (fits : storeLength ≤ length s) where
     unfolding modelAt
     GoodPlaces→WellFormed = record {
       head = g .head;
-      action-count = listed-length (getD s 1 0) (actionAt s);
-      step-count = listed-length (getD s 2 0) (stepAt s);
-      actions = listed-each ActionFits (actionAt s) (getD s 1 0) action-fits;
-      steps = listed-each (StepFits (headAt s)) (stepAt s) (getD s 2 0) step-fits;
+      action-count = listed-length (headAt s .actions) (actionAt s);
+      step-count = listed-length (headAt s .steps) (stepAt s);
+      actions = listed-each ActionFits (actionAt s) (headAt s .actions) action-fits;
+      steps = listed-each (StepFits (headAt s)) (stepAt s) (headAt s .steps) step-fits;
     }
 
-    action-numbers : (i : ℕ) → i < getD s 1 0 → actionNumbers (actionAt s i) ≡ take 14 (drop (4 + 14 * i) s)
+    action-numbers : (i : ℕ) → i < headAt s .actions
+        → actionNumbers (actionAt s i) ≡ take actionSize (drop (actionPlace i) s)
     unfolding actionNumbers
     action-numbers i h =
         let r = ranges .actions in
@@ -86,41 +90,63 @@ module _ (s : List ℕ) (fits : storeLength ≤ length s) where
         let f = a .fits in
         let l = part-length s (namePlace i) (nameLengthAt s i) (omega arith) in
         let p = padded-part s (namePlace i) (nameLengthAt s i) nameLimit f (omega arith) (a .unused) in
-        let c = part-cons s (actionPlace i) (actionPlace i + 1) 13 (omega arith) refl in
-        let d = part-cons s (actionPlace i + 1) (namePlace i) 12 (omega arith) (omega arith) in
+        let c = part-cons s (actionPlace i) (nameLengthPlace i) (suc nameLimit) (omega arith) refl in
+        let d = part-cons s (nameLengthPlace i) (namePlace i) nameLimit (omega arith) (omega arith) in
         rw (l, p, c, d)
 
-    step-numbers : (j : ℕ) → j < getD s 2 0 → stepPlaces (stepAt s j) ≡ take 3 (drop (900 + 3 * j) s)
+    step-numbers : (j : ℕ) → j < headAt s .steps → stepPlaces (stepAt s j) ≡ take stepSize (drop (stepPlace j) s)
     step-numbers j h =
         let r = ranges .steps in
-        let c = part-cons s (stepPlace j) (stepPlace j + 1) 2 (omega arith) refl in
-        let d = part-cons s (stepPlace j + 1) (stepPlace j + 2) 1 (omega arith) (omega arith) in
-        let e = part-cons s (stepPlace j + 2) (stepPlace j + 3) 0 (omega arith) (omega arith) in
+        let c = part-cons s (stepPlace j) (actionOfStepPlace j) (stepSize - actionColumn) (omega arith) refl in
+        let after : ℕ = stepSize - targetColumn in
+        let d = part-cons s (actionOfStepPlace j) (targetPlace j) after (omega arith) (omega arith) in
+        let e = part-cons s (targetPlace j) (stepPlace (suc j)) 0 (omega arith) (omega arith) in
         rw (c, d, e)
 
-    GoodPlaces→stored : storeOf (modelAt s) ≡ take storeLength s
-    unfolding storeOf modelAt headPlaces actionsNumbers stepsNumbers
-    GoodPlaces→stored =
+    -- ---- section by section
+
+    head-section : headPlaces (headAt s) ≡ take headEnd s
+    unfolding headPlaces
+    head-section =
         let r = ranges in
-        let actions =
-        ap (padded (14 * actionLimit))
-        (blocks-listed actionNumbers actionsNumbers 14 refl (λ a acts. refl) s 4 (actionAt s) (getD s 1 0)
-        action-numbers)
-        ∙ padded-part s 4 (14 * getD s 1 0) 896 (omega arith) (omega arith) (g .unused-actions) in
-        let steps =
-        ap (padded (3 * stepLimit))
-        (blocks-listed stepPlaces stepsNumbers 3 refl (λ t ts. refl) s 900 (stepAt s) (getD s 2 0) step-numbers)
-        ∙ padded-part s 900 (3 * getD s 2 0) 3072 (omega arith) (omega arith) (g .unused-steps) in
-        let head : take 4 s ≡ headPlaces (headAt s) =
-        part-cons s 0 1 3 (omega arith) refl
-        ∙ ap (λ (l : List ℕ). getD s 0 0 ∷ l) (part-cons s 1 2 2 (omega arith) refl)
-        ∙ ap (λ (l : List ℕ). getD s 0 0 ∷ getD s 1 0 ∷ l) (part-cons s 2 3 1 (omega arith) refl)
-        ∙ ap (λ (l : List ℕ). getD s 0 0 ∷ getD s 1 0 ∷ getD s 2 0 ∷ l) (part-cons s 3 4 0 (omega arith) refl) in
-        let whole : take storeLength s ≡ headPlaces (headAt s) ++ take 896 (drop 4 s) ++ take 3072 (drop 900 s) =
-        take-add 900 3072 s
-        ∙ ap (λ (l : List ℕ). l ++ take 3072 (drop 900 s))
-        (take-add 4 896 s ∙ ap (λ (l : List ℕ). l ++ take 896 (drop 4 s)) head) in
-        rw (actions, steps) (sym whole)
+        let a = part-cons s stateCountPlace actionCountPlace (headEnd - actionCountPlace) (omega arith) refl in
+        let b = part-cons s actionCountPlace stepCountPlace (headEnd - stepCountPlace) (omega arith) refl in
+        let c = part-cons s stepCountPlace startPlace (headEnd - startPlace) (omega arith) refl in
+        let d = part-cons s startPlace headEnd 0 (omega arith) refl in
+        sym
+        (a
+        ∙ ap (λ (l : List ℕ). headAt s .states ∷ l) b
+        ∙ ap (λ (l : List ℕ). headAt s .states ∷ headAt s .actions ∷ l) c
+        ∙ ap (λ (l : List ℕ). headAt s .states ∷ headAt s .actions ∷ headAt s .steps ∷ l) d)
+
+    actions-section : padded actionsLength (actionsNumbers (modelAt s .actions))
+        ≡ take actionsLength (drop actionsBegin s)
+    unfolding modelAt actionsNumbers
+    actions-section =
+        let r = ranges in
+        let n : ℕ = headAt s .actions in
+        let blocks =
+        blocks-listed actionNumbers actionsNumbers actionSize refl (λ a acts. refl) s actionsBegin (actionAt s) n
+        action-numbers in
+        ap (padded actionsLength) blocks
+        ∙ padded-part s actionsBegin (actionSize * n) actionsLength (omega arith) (omega arith) (g .unused-actions)
+
+    steps-section : padded stepsLength (stepsNumbers (modelAt s .steps)) ≡ take stepsLength (drop stepsBegin s)
+    unfolding modelAt stepsNumbers
+    steps-section =
+        let r = ranges in
+        let n : ℕ = headAt s .steps in
+        let blocks =
+        blocks-listed stepPlaces stepsNumbers stepSize refl (λ t ts. refl) s stepsBegin (stepAt s) n step-numbers in
+        ap (padded stepsLength) blocks
+        ∙ padded-part s stepsBegin (stepSize * n) stepsLength (omega arith) (omega arith) (g .unused-steps)
+
+    GoodPlaces→stored : storeOf (modelAt s) ≡ take storeLength s
+    unfolding storeOf modelAt
+    GoodPlaces→stored =
+        let front = take-add headEnd actionsLength s in
+        let whole = take-add actionsEnd stepsLength s in
+        rw (actions-section, steps-section, head-section) (sym (whole ∙ rw front))
 
   pub GoodPlaces→Holds : GoodPlaces s → Holds s (modelAt s)
   GoodPlaces→Holds g = record { well-formed = GoodPlaces→WellFormed g; stored = GoodPlaces→stored g }

@@ -9,7 +9,8 @@ use lib.Dec.{T, T-not}
 use lib.ListN.{length, getD, drop, length-drop, length-append}
 use lib.Seq.{length-take-le, take-all, getD-drop}
 use Rattle.lts.specs.TestsLaws.{lt-or-le, and-right}
-use Rattle.text.specs.Limits.{actionLimit, stepLimit, nameLimit, storeLength, actionPlace, namePlace, stepPlace}
+use Rattle.text.specs.Limits.{actionLimit, nameLimit, actionsBegin, actionsLength, actionsEnd, nameColumn}
+use Rattle.text.specs.Limits.{stepsBegin, stepsLength, stepsEnd, storeLength, actionPlace, namePlace, stepPlace}
 use Rattle.text.specs.Bytes.{between?}
 use Rattle.text.specs.Model.{ActionLine, above?, aboveLast?}
 use Rattle.text.specs.Lines.{allOf, nameByte?, name?, used?}
@@ -30,10 +31,10 @@ use Rattle.model.specs.Laws.Store.NamePlacesLaws.{name-at, SameName→eq
 
 -- the numbers of the actions and of the steps that a store shows
 abbrev storedActions : List ℕ → List ℕ
-storedActions s = actionsNumbers (listed (getD s 1 0) (actionAt s))
+storedActions s = actionsNumbers (listed (headAt s .actions) (actionAt s))
 
 abbrev storedSteps : List ℕ → List ℕ
-storedSteps s = stepsNumbers (listed (getD s 2 0) (stepAt s))
+storedSteps s = stepsNumbers (listed (headAt s .steps) (stepAt s))
 
 module _ (s : List ℕ) (fits : storeLength ≤ length s) where
   module _ (holds : Holds s (modelAt s)) where
@@ -41,9 +42,9 @@ module _ (s : List ℕ) (fits : storeLength ≤ length s) where
     unfolding modelAt
     head-fits = headFits?→HeadRanges (headAt s) (holds .well-formed .head)
 
-    listed-fits : (i : ℕ) → i < getD s 1 0 → ActionFits (listed i (actionAt s)) (actionAt s i)
+    listed-fits : (i : ℕ) → i < headAt s .actions → ActionFits (listed i (actionAt s)) (actionAt s i)
     unfolding modelAt
-    listed-fits i h = each-listed ActionFits (actionAt s) (getD s 1 0) (holds .well-formed .actions) i h
+    listed-fits i h = each-listed ActionFits (actionAt s) (headAt s .actions) (holds .well-formed .actions) i h
 
     -- a name of 12 bytes at most is not cut off by the store's end
     name-whole : (i : ℕ) → i < actionLimit → length (actionAt s i .name) ≤ nameLimit
@@ -56,12 +57,12 @@ module _ (s : List ℕ) (fits : storeLength ≤ length s) where
         (λ l. length-take-le (nameLengthAt s i) (drop (namePlace i) s) l)
         (lt-or-le (length (drop (namePlace i) s)) (nameLengthAt s i))
 
-    action-block : (i : ℕ) → i < getD s 1 0
+    action-block : (i : ℕ) → i < headAt s .actions
         → (more : List ℕ) × (drop (actionPlace i) s ≡ actionNumbers (actionAt s i) ++ more)
     unfolding modelAt
     action-block i h =
         let none : ActionLine = record { level = 0; name = [] } in
-        let l : i < length (modelAt s .actions) = omega (arith, listed-length (getD s 1 0) (actionAt s)) in
+        let l : i < length (modelAt s .actions) = omega (arith, listed-length (headAt s .actions) (actionAt s)) in
         let b = storeOf-action (modelAt s) (holds .well-formed) (drop storeLength s) i none l in (
           b .0,
           ap (drop (actionPlace i)) (holds-store s (modelAt s) holds)
@@ -69,18 +70,18 @@ module _ (s : List ℕ) (fits : storeLength ≤ length s) where
               ∙ ap (λ (a : ActionLine). actionNumbers a ++ b .0) (sym (actionAt-holds s (modelAt s) holds i none l)),
         )
 
-    name-zeros : (i : ℕ) → i < getD s 1 0 → (x : ℕ) → length (actionAt s i .name) ≤ x → x < nameLimit
+    name-zeros : (i : ℕ) → i < headAt s .actions → (x : ℕ) → length (actionAt s i .name) ≤ x → x < nameLimit
         → getD s (namePlace i + x) 0 ≡ 0
     unfolding actionNumbers
     name-zeros i h x l m =
         let b = action-block i h in
         let a : ActionLine = actionAt s i in
-        let e : namePlace i + x ≡ actionPlace i + (2 + x) = omega arith in
-        ap (λ (k : ℕ). getD s k 0) e ∙ sym (getD-drop (actionPlace i) s (2 + x) 0)
-        ∙ ap (λ (l : List ℕ). getD l (2 + x) 0) (b .1)
+        let e : namePlace i + x ≡ actionPlace i + (nameColumn + x) = omega arith in
+        ap (λ (k : ℕ). getD s k 0) e ∙ sym (getD-drop (actionPlace i) s (nameColumn + x) 0)
+        ∙ ap (λ (l : List ℕ). getD l (nameColumn + x) 0) (b .1)
         ∙ padded-zero (a .level ∷ length (a .name) ∷ []) (a .name) (b .0) nameLimit x l m
 
-    Holds→GoodAction : (i : ℕ) → i < getD s 1 0 → GoodAction s i
+    Holds→GoodAction : (i : ℕ) → i < headAt s .actions → GoodAction s i
     unfolding name?
     Holds→GoodAction i h =
         let r = head-fits .actions in
@@ -113,10 +114,10 @@ module _ (s : List ℕ) (fits : storeLength ≤ length s) where
           };
         }
 
-    Holds→GoodStep : (j : ℕ) → j < getD s 2 0 → GoodStep (headAt s) s j
+    Holds→GoodStep : (j : ℕ) → j < headAt s .steps → GoodStep (headAt s) s j
     unfolding modelAt listed aboveLast?
     Holds→GoodStep j h =
-        let f = each-listed (StepFits (headAt s)) (stepAt s) (getD s 2 0) (holds .well-formed .steps) j h in
+        let f = each-listed (StepFits (headAt s)) (stepAt s) (headAt s .steps) (holds .well-formed .steps) j h in
         record { in-range = f .in-range; rising = λ p. rising j p (f .rising) }
       where
         rising : (k : ℕ) → 0 < k → T (aboveLast? (listed k (stepAt s)) (stepAt s k))
@@ -128,35 +129,35 @@ module _ (s : List ℕ) (fits : storeLength ≤ length s) where
 
     -- the store by its parts, each with what follows it
     by-parts : s ≡ headPlaces (headAt s)
-        ++ (padded (14 * actionLimit) (storedActions s)
-        ++ (padded (3 * stepLimit) (storedSteps s) ++ drop storeLength s))
+        ++ (padded actionsLength (storedActions s)
+        ++ (padded stepsLength (storedSteps s) ++ drop storeLength s))
     unfolding modelAt storeOf
     by-parts = holds-store s (modelAt s) holds ∙ simp append-assoc
 
-    action-zeros : (k : ℕ) → actionPlace (getD s 1 0) ≤ k → k < stepPlace 0 → getD s k 0 ≡ 0
+    action-zeros : (k : ℕ) → actionPlace (headAt s .actions) ≤ k → k < actionsEnd → getD s k 0 ≡ 0
     unfolding modelAt headPlaces
     action-zeros k h l =
-        let n = actionsNumbers-length [] (listed (getD s 1 0) (actionAt s)) (holds .well-formed .actions) in
-        let c = listed-length (getD s 1 0) (actionAt s) in
-        let e : k ≡ 4 + (k - 4) = omega arith in
-        let m : length (storedActions s) ≤ k - 4 = omega arith in
+        let n = actionsNumbers-length [] (listed (headAt s .actions) (actionAt s)) (holds .well-formed .actions) in
+        let c = listed-length (headAt s .actions) (actionAt s) in
+        let e : k ≡ actionsBegin + (k - actionsBegin) = omega arith in
+        let m : length (storedActions s) ≤ k - actionsBegin = omega arith in
         ap (λ (x : ℕ). getD s x 0) e
-        ∙ ap (λ (x : List ℕ). getD x (4 + (k - 4)) 0) by-parts
-        ∙ padded-zero (headPlaces (headAt s)) (storedActions s) _ (14 * actionLimit) (k - 4) m (omega arith)
+        ∙ ap (λ (x : List ℕ). getD x (actionsBegin + (k - actionsBegin)) 0) by-parts
+        ∙ padded-zero (headPlaces (headAt s)) (storedActions s) _ actionsLength (k - actionsBegin) m (omega arith)
 
-    step-zeros : (k : ℕ) → stepPlace (getD s 2 0) ≤ k → k < storeLength → getD s k 0 ≡ 0
+    step-zeros : (k : ℕ) → stepPlace (headAt s .steps) ≤ k → k < stepsEnd → getD s k 0 ≡ 0
     unfolding modelAt headPlaces
     step-zeros k h l =
-        let before : List ℕ = headPlaces (headAt s) ++ padded (14 * actionLimit) (storedActions s) in
+        let before : List ℕ = headPlaces (headAt s) ++ padded actionsLength (storedActions s) in
         let a = actions-padded-length (modelAt s) (holds .well-formed) in
-        let b : length before ≡ 900 = simp length-append (omega arith) in
-        let n = stepsNumbers-length (listed (getD s 2 0) (stepAt s)) in
-        let c = listed-length (getD s 2 0) (stepAt s) in
-        let e : k ≡ length before + (k - 900) = omega arith in
-        let m : length (storedSteps s) ≤ k - 900 = omega arith in
+        let b : length before ≡ stepsBegin = simp length-append (omega arith) in
+        let n = stepsNumbers-length (listed (headAt s .steps) (stepAt s)) in
+        let c = listed-length (headAt s .steps) (stepAt s) in
+        let e : k ≡ length before + (k - stepsBegin) = omega arith in
+        let m : length (storedSteps s) ≤ k - stepsBegin = omega arith in
         ap (λ (x : ℕ). getD s x 0) e
-        ∙ ap (λ (x : List ℕ). getD x (length before + (k - 900)) 0) by-parts
-        ∙ padded-zero before (storedSteps s) (drop storeLength s) (3 * stepLimit) (k - 900) m (omega arith)
+        ∙ ap (λ (x : List ℕ). getD x (length before + (k - stepsBegin)) 0) by-parts
+        ∙ padded-zero before (storedSteps s) (drop storeLength s) stepsLength (k - stepsBegin) m (omega arith)
 
   pub Holds→GoodPlaces : Holds s (modelAt s) → GoodPlaces s
   unfolding modelAt

@@ -8,7 +8,7 @@ use native.Mathlib.Omega.{arith}
 use lib.ListN.{length, getD, drop}
 use lib.Seq.{getD-take, getD-drop}
 use Rattle.lts.specs.TestsLaws.{lt-or-le}
-use Rattle.text.specs.Limits.{actionLimit, nameLimit, storeLength, actionPlace, namePlace}
+use Rattle.text.specs.Limits.{actionLimit, nameLimit, storeLength, nameLengthPlace, namePlace}
 use Rattle.model.specs.StoredModel.{actionAt}
 use Rattle.model.specs.Inner.GoodPlaces.{SameAt, SameName, nameLengthAt, GoodAction}
 use Rattle.model.specs.Laws.Store.PlacesLaws.{part-length, part-same}
@@ -25,7 +25,7 @@ module _ (s : List ℕ) (fits : storeLength ≤ length s) where
       → actionAt s h .name ≡ actionAt s i .name
   SameName→eq h i k l f same =
       let n : nameLengthAt s h ≡ nameLengthAt s i =
-      getD-same (actionPlace h + 1) (actionPlace i + 1) (same .at 0 (omega arith) (omega arith)) (omega arith)
+      getD-same (nameLengthPlace h) (nameLengthPlace i) (same .at 0 (omega arith) (omega arith)) (omega arith)
       (omega arith) in
       rw n
       (part-same s (namePlace h) (nameLengthAt s i) (omega arith) (namePlace i) (omega arith)
@@ -53,8 +53,8 @@ module _ (s : List ℕ) (fits : storeLength ≤ length s) where
           ∙ sym (b .unused .at (namePlace i + j) (omega (arith, n)) (omega arith)))
           (lt-or-le j (nameLengthAt s h))
 
-      at : (j : ℕ) → j < nameLimit + 1 → SameAt s (actionPlace h + 1) (actionPlace i + 1) j
-      at zero m = getD-same (actionPlace h + 1 + 0) (actionPlace i + 1 + 0) n (omega arith) (omega arith)
+      at : (j : ℕ) → j < nameLimit + 1 → SameAt s (nameLengthPlace h) (nameLengthPlace i) j
+      at zero m = getD-same (nameLengthPlace h + 0) (nameLengthPlace i + 0) n (omega arith) (omega arith)
       at (suc j) m =
-          getD-same (actionPlace h + 1 + suc j) (actionPlace i + 1 + suc j) (in-name j (omega arith)) (omega arith)
+          getD-same (nameLengthPlace h + suc j) (nameLengthPlace i + suc j) (in-name j (omega arith)) (omega arith)
           (omega arith)

@@ -10,17 +10,19 @@ use lib.ListN.{length, getD, take, drop, take-append-drop, length-append}
 use lib.Seq.{take-suc, take-length, take-at, getD-drop, drop-drop}
 use Rattle.text.specs.declared.Head.{Head}
 use Rattle.text.specs.declared.StepLine.{StepLine}
-use Rattle.text.specs.Limits.{nameLimit, storeLength, actionPlace, namePlace, stepPlace}
+use Rattle.text.specs.Limits.{nameLimit, nameLengthColumn, nameColumn, actionColumn, targetColumn, storeLength}
+use Rattle.text.specs.Limits.{actionPlace, nameLengthPlace, namePlace, stepPlace, actionOfStepPlace, targetPlace}
 use Rattle.text.specs.Model.{ActionLine, Model, noAction, noStep}
-use Rattle.model.specs.Laws.Text.ReadingLaws.{readText-textOf, textOf-of-readText}
-use Rattle.model.specs.Text.{textOf}
-use Rattle.model.specs.Store.{actionNumbers, headPlaces, storeOf, Good}
+use Rattle.model.specs.Laws.Text.ReadingLaws.{readText-modelText, readText-well-formed, states-of-readText}
+use Rattle.model.specs.Laws.Text.ReadingLaws.{states-m-text, m-text-unique}
+use Rattle.model.specs.Text.{modelText}
+use Rattle.model.specs.Store.{actionNumbers, stepPlaces, headPlaces, storeOf, Good}
 use Rattle.model.specs.Laws.Store.StoreLaws.{storeOf-length, storeOf-action, storeOf-step}
 use Rattle.model.specs.StoredModel.{headAt, actionAt, stepAt, listed, modelAt, Holds}
 use Rattle.model.specs.System.{source, action, target, level}
 use Rattle.model.specs.WellFormed.{WellFormed}
+use Rattle.model.specs.StatedText.{MText}
 use Rattle.model.specs.Laws.Store.BlocksLaws.{padded-append}
-use Rattle.model.specs.Inner.LineText.{stepPlaces}
 
 -- ---- lists by their elements
 
@@ -56,8 +58,9 @@ unfolding actionNumbers
 action-at s i a more e =
     let all : List ℕ = actionNumbers a ++ more in
     let level : getD s (actionPlace i) 0 ≡ a .level = first-of-drop s all (actionPlace i) e in
-    let n : getD s (actionPlace i + 1) 0 ≡ length (a .name) = getD-of-drop s all (actionPlace i) 1 e in
-    let d : drop (namePlace i) s ≡ drop 2 all = sym (drop-drop 2 (actionPlace i) s) ∙ ap (drop 2) e in
+    let n : getD s (nameLengthPlace i) 0 ≡ length (a .name) = getD-of-drop s all (actionPlace i) nameLengthColumn e in
+    let d : drop (namePlace i) s ≡ drop nameColumn all =
+    sym (drop-drop nameColumn (actionPlace i) s) ∙ ap (drop nameColumn) e in
     rw (level, n, d, padded-append nameLimit (a .name) more, take-at (a .name) _ (length (a .name)) refl)
 
 step-at : (s : List ℕ) (j : ℕ) (t : StepLine) (more : List ℕ) → drop (stepPlace j) s ≡ stepPlaces t ++ more
@@ -65,8 +68,8 @@ step-at : (s : List ℕ) (j : ℕ) (t : StepLine) (more : List ℕ) → drop (st
 step-at s j t more e =
     let all : List ℕ = stepPlaces t ++ more in
     let source : getD s (stepPlace j) 0 ≡ t .source .0 = first-of-drop s all (stepPlace j) e in
-    let action : getD s (stepPlace j + 1) 0 ≡ t .action .0 = getD-of-drop s all (stepPlace j) 1 e in
-    let target : getD s (stepPlace j + 2) 0 ≡ t .target .0 = getD-of-drop s all (stepPlace j) 2 e in
+    let action : getD s (actionOfStepPlace j) 0 ≡ t .action .0 = getD-of-drop s all (stepPlace j) actionColumn e in
+    let target : getD s (targetPlace j) 0 ≡ t .target .0 = getD-of-drop s all (stepPlace j) targetColumn e in
     rw (source, action, target)
 
 model-of-parts : (h : Head) (actions : List ActionLine) (steps : List StepLine) (m : Model) → h ≡ m .head
@@ -96,24 +99,25 @@ module _ (s : List ℕ) (m : Model) (h : Holds s m) where
   unfolding modelAt
   modelAt-holds =
       let e = headAt-holds in
-      let a : getD s 1 0 ≡ length (m .actions) = ap (λ (x : Head). x .actions) e ∙ sym (h .well-formed .action-count) in
-      let t : getD s 2 0 ≡ length (m .steps) = ap (λ (x : Head). x .steps) e ∙ sym (h .well-formed .step-count) in
-      model-of-parts (headAt s) (listed (getD s 1 0) (actionAt s)) (listed (getD s 2 0) (stepAt s)) m e
-      (listed-all (m .actions) noAction (actionAt s) (getD s 1 0) a (λ i. actionAt-holds i noAction))
-      (listed-all (m .steps) noStep (stepAt s) (getD s 2 0) t (λ j. stepAt-holds j noStep))
+      let a : headAt s .actions ≡ length (m .actions) =
+      ap (λ (x : Head). x .actions) e ∙ sym (h .well-formed .action-count) in
+      let t : headAt s .steps ≡ length (m .steps) = ap (λ (x : Head). x .steps) e ∙ sym (h .well-formed .step-count) in
+      model-of-parts (headAt s) (listed (headAt s .actions) (actionAt s)) (listed (headAt s .steps) (stepAt s)) m e
+      (listed-all (m .actions) noAction (actionAt s) (headAt s .actions) a (λ i. actionAt-holds i noAction))
+      (listed-all (m .steps) noStep (stepAt s) (headAt s .steps) t (λ j. stepAt-holds j noStep))
 
   -- ---- place by place
 
-  pub states-holds : getD s 0 0 ≡ m .head .states
+  pub states-holds : headAt s .states ≡ m .head .states
   states-holds = ap (λ (x : Head). x .states) headAt-holds
 
-  pub actions-holds : getD s 1 0 ≡ m .head .actions
+  pub actions-holds : headAt s .actions ≡ m .head .actions
   actions-holds = ap (λ (x : Head). x .actions) headAt-holds
 
-  pub steps-holds : getD s 2 0 ≡ m .head .steps
+  pub steps-holds : headAt s .steps ≡ m .head .steps
   steps-holds = ap (λ (x : Head). x .steps) headAt-holds
 
-  pub start-holds : getD s 3 0 ≡ m .head .start .0
+  pub start-holds : headAt s .start .0 ≡ m .head .start .0
   start-holds = ap (λ (x : Head). x .start .0) headAt-holds
 
   pub level-holds : (a : ℕ) → a < length (m .actions) → getD s (actionPlace a) 0 ≡ level m a
@@ -122,10 +126,10 @@ module _ (s : List ℕ) (m : Model) (h : Holds s m) where
   pub source-holds : (j : ℕ) → j < length (m .steps) → getD s (stepPlace j) 0 ≡ source m j
   source-holds j l = ap (λ (x : StepLine). x .source .0) (stepAt-holds j _ l)
 
-  pub action-holds : (j : ℕ) → j < length (m .steps) → getD s (stepPlace j + 1) 0 ≡ action m j
+  pub action-holds : (j : ℕ) → j < length (m .steps) → getD s (actionOfStepPlace j) 0 ≡ action m j
   action-holds j l = ap (λ (x : StepLine). x .action .0) (stepAt-holds j _ l)
 
-  pub target-holds : (j : ℕ) → j < length (m .steps) → getD s (stepPlace j + 2) 0 ≡ target m j
+  pub target-holds : (j : ℕ) → j < length (m .steps) → getD s (targetPlace j) 0 ≡ target m j
   target-holds j l = ap (λ (x : StepLine). x .target .0) (stepAt-holds j _ l)
 
 -- ---- good stores
@@ -144,13 +148,13 @@ holds-unique s m n h k = sym (modelAt-holds s m h) ∙ modelAt-holds s n k
 
 pub good-of-holds : (s : List ℕ) (m : Model) → Holds s m → Good s
 good-of-holds s m h =
-    record { text = textOf m; model = m; reads = readText-textOf m (h .well-formed); stored = h .stored }
+    record { text = modelText m; model = m; reads = readText-modelText m (h .well-formed); stored = h .stored }
 
 pub storeOf-good : (m : Model) (rest : List ℕ) → WellFormed m → Good (storeOf m ++ rest)
 storeOf-good m rest w = good-of-holds (storeOf m ++ rest) m (holds-storeOf m rest w)
 
 pub holds-of-good : (s : List ℕ) (g : Good s) → Holds s (g .model)
-holds-of-good s g = record { well-formed = textOf-of-readText (g .text) (g .model) (g .reads) .0; stored = g .stored }
+holds-of-good s g = record { well-formed = readText-well-formed (g .text) (g .model) (g .reads); stored = g .stored }
 
 pub Good→Holds : (s : List ℕ) → Good s → Holds s (modelAt s)
 Good→Holds s g =
@@ -163,19 +167,23 @@ Holds→Good s h = good-of-holds s (modelAt s) h
 pub good-iff : (s : List ℕ) → Good s ↔ Holds s (modelAt s)
 good-iff s = (Good→Holds s, Holds→Good s)
 
--- the model and the text of a good store are those of the model that it shows
+-- the model of a good store is the one that it shows
 pub good-model : (s : List ℕ) (g : Good s) → g .model ≡ modelAt s
 good-model s g = sym (modelAt-holds s (g .model) (holds-of-good s g))
 
-pub good-text : (s : List ℕ) (g : Good s) → g .text ≡ textOf (modelAt s)
-good-text s g = textOf-of-readText (g .text) (g .model) (g .reads) .1 ∙ ap textOf (good-model s g)
+-- the `M` text of a good store's model is that of the model that it shows
+pub good-modelText : (s : List ℕ) (g : Good s) → modelText (g .model) ≡ modelText (modelAt s)
+good-modelText s g = ap modelText (good-model s g)
 
--- whatever text reads to a store that holds m is the text of m
-pub holds-text : (s : List ℕ) (m : Model) → Holds s m → (g : Good s) → g .text ≡ textOf m
-holds-text s m h g = good-text s g ∙ ap textOf (modelAt-holds s m h)
+-- two `M` texts that read to one store are the same text
+pub good-m-text-unique : (s : List ℕ) (g k : Good s) → MText (g .text) (g .model) → MText (k .text) (k .model)
+    → g .text ≡ k .text
+good-m-text-unique s g k p q =
+    m-text-unique (g .text) (k .text) (modelAt s) (p ∙ good-modelText s g) (q ∙ good-modelText s k)
 
-pub good-text-unique : (s : List ℕ) (g k : Good s) → g .text ≡ k .text
-good-text-unique s g k = good-text s g ∙ sym (good-text s k)
+-- while `M` texts are the only kind, whatever text reads to a store is one
+pub good-m-text : (s : List ℕ) (g : Good s) → MText (g .text) (g .model)
+good-m-text s g = states-m-text (g .text) (g .model) (states-of-readText (g .text) (g .model) (g .reads))
 
 pub good-well-formed : (s : List ℕ) → Good s → WellFormed (modelAt s)
 good-well-formed s g = Good→Holds s g .well-formed

@@ -35,7 +35,8 @@ module _ (m : Model) where
 
   module _ (w : WellFormed m) where
     pub Deterministic→deterministicModel : Deterministic (view m) → DeterministicModel m
-    Deterministic→deterministicModel d = record { one-step = λ i j li lj r s a. go i j li lj r s a (lt-or-le i j) (lt-or-le j i) }
+    Deterministic→deterministicModel d =
+        record { one-step = λ i j li lj r s a. go i j li lj r s a (lt-or-le i j) (lt-or-le j i) }
       where
         same-target : (i j : ℕ) → i < length (m .steps) → j < length (m .steps) → ReachableIn m (source m i)
             → source m i ≡ source m j → action m i ≡ action m j → target m i ≡ target m j

@@ -18,7 +18,8 @@ use Rattle.model.specs.StoredModel.{modelAt, Holds}
 use Rattle.model.specs.System.{source, action}
 use Rattle.model.specs.WellFormed.{WellFormed}
 use Rattle.model.specs.Laws.Store.StoreLaws.{storeOf-length}
-use Rattle.model.specs.Laws.Store.StoredModelLaws.{headAt-holds, stepAt-holds, level-holds, holds-storeOf, Good→Holds}
+use Rattle.model.specs.Laws.Store.StoredModelLaws.{headAt-holds, stepAt-holds, level-holds, holds-storeOf}
+use Rattle.model.specs.Laws.Store.StoredModelLaws.{Good→Holds}
 use Rattle.model.specs.Laws.Store.WellFormedLaws.{head-ranges, step-ranges, step-above, level-le}
 use Rattle.model.specs.Inner.Stored.{Stored}
 use lib.ListN.{length-take}

@@ -6,29 +6,30 @@ use Prim.Native.Nat.{ℕ, _+_, _<_}
 use lib.ListN.{length, getD}
 use Rattle.text.specs.declared.Head.{Head}
 use Rattle.text.specs.declared.StepLine.{StepLine}
-use Rattle.text.specs.Limits.{stepPlace}
+use Rattle.text.specs.Limits.{stepPlace, actionOfStepPlace, targetPlace}
 use Rattle.text.specs.Model.{Model}
+use Rattle.model.specs.StoredModel.{headAt}
 use Rattle.model.specs.System.{source, action, target}
 use Rattle.model.specs.Inner.Stored.{Stored}
 
 module _ {s : List ℕ} {m : Model} (st : Stored s m) where
-  pub stored-states : getD s 0 0 ≡ m .head .states
+  pub stored-states : headAt s .states ≡ m .head .states
   stored-states = ap (λ (h : Head). h .states) (st .head-is)
 
-  pub stored-actions : getD s 1 0 ≡ m .head .actions
+  pub stored-actions : headAt s .actions ≡ m .head .actions
   stored-actions = ap (λ (h : Head). h .actions) (st .head-is)
 
-  pub stored-steps : getD s 2 0 ≡ length (m .steps)
+  pub stored-steps : headAt s .steps ≡ length (m .steps)
   stored-steps = ap (λ (h : Head). h .steps) (st .head-is) ∙ st .steps-is
 
-  pub stored-start : getD s 3 0 ≡ m .head .start .0
+  pub stored-start : headAt s .start .0 ≡ m .head .start .0
   stored-start = ap (λ (h : Head). h .start .0) (st .head-is)
 
   pub stored-source : (j : ℕ) → j < length (m .steps) → getD s (stepPlace j) 0 ≡ source m j
   stored-source j l = ap (λ (x : StepLine). x .source .0) (st .step-is j l)
 
-  pub stored-action : (j : ℕ) → j < length (m .steps) → getD s (stepPlace j + 1) 0 ≡ action m j
+  pub stored-action : (j : ℕ) → j < length (m .steps) → getD s (actionOfStepPlace j) 0 ≡ action m j
   stored-action j l = ap (λ (x : StepLine). x .action .0) (st .step-is j l)
 
-  pub stored-target : (j : ℕ) → j < length (m .steps) → getD s (stepPlace j + 2) 0 ≡ target m j
+  pub stored-target : (j : ℕ) → j < length (m .steps) → getD s (targetPlace j) 0 ≡ target m j
   stored-target j l = ap (λ (x : StepLine). x .target .0) (st .step-is j l)

@@ -11,7 +11,7 @@ use lib.ListN.{length, getD}
 use borrow.Author.Tests.{eqb-false}
 use Rattle.lts.specs.TestsLaws.{and-left, and-right, or-cases, not-T→false}
 use Rattle.text.specs.declared.Fault.the-variants.{Shape, Repeated}
-use Rattle.text.specs.Bytes.{kindOf, between?, digit, smallLetter, capital, comma}
+use Rattle.text.specs.Bytes.{kindOf, between?, digit, smallLetter, capital, comma, byteA, byteD, byteH, byteL}
 use Rattle.text.specs.Limits.{nameLimit}
 use Rattle.text.specs.Laws.BytesLaws.{between?→le, digit-within, smallLetter-within}
 use Rattle.text.specs.Split.{same?}
@@ -38,10 +38,11 @@ levelOf-levelByte (suc (suc (suc n))) h = absurd (omega arith)
 pub byte-of-levelOf : (f : List ℕ) (level : ℕ) → levelOf f ≡ good level → (f ≡ levelByte level ∷ []) × (level ≤ high)
 unfolding levelOf levelByte
 byte-of-levelOf f level h =
-    by-test (same? f (76 ∷ [])) (same?→eq f (76 ∷ [])) (same? f (68 ∷ [])) (same?→eq f (68 ∷ []))
-    (same? f (72 ∷ [])) (same?→eq f (72 ∷ [])) h
+    by-test (same? f (byteL ∷ [])) (same?→eq f (byteL ∷ [])) (same? f (byteD ∷ [])) (same?→eq f (byteD ∷ []))
+    (same? f (byteH ∷ [])) (same?→eq f (byteH ∷ [])) h
   where
-    by-test : (s : Bool) → (T s → f ≡ 76 ∷ []) → (t : Bool) → (T t → f ≡ 68 ∷ []) → (u : Bool) → (T u → f ≡ 72 ∷ [])
+    by-test : (s : Bool) → (T s → f ≡ byteL ∷ []) → (t : Bool) → (T t → f ≡ byteD ∷ [])
+        → (u : Bool) → (T u → f ≡ byteH ∷ [])
         → _≡_ {A = Line ℕ} (cond s (good low) (cond t (good release) (cond u (good high) (bad Shape)))) (good level)
         → (f ≡ levelByte level ∷ []) × (level ≤ high)
     by-test true a t b u c q = let e : 0 ≡ level = cc in (a tt ∙ rw (← e), omega arith)
@@ -84,7 +85,7 @@ pub levelByte-capital : (level : ℕ) → kindOf (levelByte level) ≡ capital
 unfolding levelByte kindOf
 levelByte-capital level = by-test (eqb level low) (eqb level release)
   where
-    by-test : (s t : Bool) → kindOf (cond s 76 (cond t 68 72)) ≡ capital
+    by-test : (s t : Bool) → kindOf (cond s byteL (cond t byteD byteH)) ≡ capital
     by-test true t = refl
     by-test false true = refl
     by-test false false = refl
@@ -128,7 +129,7 @@ module _ (before : List ActionLine) where
       let bytes = name-bytes (a .name) (f .name) in
       let name = all-of-all NameByte (λ b. kindOf b ≡ comma → ⊥) nameByte-without (a .name) bytes in
       let fs : List (List ℕ) = (levelByte (a .level) ∷ []) ∷ a .name ∷ [] in
-      let e = fieldsOf-line 65 fs (λ z. eqb-false 3 4 refl z) ((level, tt), (name, tt)) in
+      let e = fieldsOf-line byteA fs (λ z. eqb-false 3 4 refl z) ((level, tt), (name, tt)) in
       let n = checked-good Shape (name? (a .name)) a (f .name) in
       let u = not-T→false (used? (a .name) before) (f .fresh) in
       rw (e, actionFields, levelOf-levelByte (a .level) (f .level), nameFrom, n, actionFrom, u)
@@ -137,16 +138,16 @@ module _ (before : List ActionLine) where
       → (line ≡ lineOfAction a) × ActionFits before a
   unfolding actionOf actionFields
   line-of-actionOf line a q =
-      let f = good-actionFrom before (actionFields (fieldsOf 65 2 line)) a q in
-      by-fields (f .1) (fieldsOf 65 2 line) refl (f .0)
+      let f = good-actionFrom before (actionFields (fieldsOf byteA 2 line)) a q in
+      by-fields (f .1) (fieldsOf byteA 2 line) refl (f .0)
     where
-      by-fields : T (not (used? (a .name) before)) → (l : Line (List (List ℕ))) → fieldsOf 65 2 line ≡ l
+      by-fields : T (not (used? (a .name) before)) → (l : Line (List (List ℕ))) → fieldsOf byteA 2 line ≡ l
           → actionFields l ≡ good a → (line ≡ lineOfAction a) × ActionFits before a
       by-fields fresh (good fs) e g =
           let n = good-nameFrom (levelOf (getD fs 0 [])) (getD fs 1 []) a g in
           let v = byte-of-levelOf (getD fs 0 []) (a .level) (n .0) in
-          let w = line-of-fieldsOf 65 fs 2 line e in
+          let w = line-of-fieldsOf byteA fs 2 line e in
           let two = fields-two fs (w .1) in
           let k : fs ≡ (levelByte (a .level) ∷ []) ∷ a .name ∷ [] = cc in
-          (w .0 ∙ ap (lineOf 65) k, record { level = v .1; name = n .2; fresh = fresh })
+          (w .0 ∙ ap (lineOf byteA) k, record { level = v .1; name = n .2; fresh = fresh })
       by-fields fresh (bad fault) e g = let z : _≡_ {A = ℕ} 0 1 = cc in absurd (omega arith)

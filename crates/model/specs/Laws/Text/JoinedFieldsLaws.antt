@@ -13,7 +13,7 @@ use Rattle.text.specs.declared.Fault.{Fault}
 use Rattle.text.specs.declared.Fault.the-variants.{Shape}
 use Rattle.text.specs.declared.number.Number.{Number}
 use Rattle.text.specs.declared.number.Number.the-variants.{Value, Bad}
-use Rattle.text.specs.Bytes.{kindOf, digit, comma}
+use Rattle.text.specs.Bytes.{kindOf, digit, comma, byteComma}
 use Rattle.text.specs.Laws.BytesLaws.{comma-only}
 use Rattle.text.specs.Numbers.{numberOf, digits}
 use Rattle.text.specs.Laws.DigitsLaws.{digits-digit, numberOf-digits, digits-of-numberOf}
@@ -48,7 +48,7 @@ module _ (letter : ℕ) (fs : List (List ℕ)) where
       → fieldsOf letter (length fs) (lineOf letter fs) ≡ good fs
   unfolding fieldsOf fieldsFrom kindOf
   fieldsOf-line h a =
-      let e = split-join comma 44 refl ((letter ∷ []) ∷ fs) (omega arith) ((h, tt), a) in
+      let e = split-join comma byteComma refl ((letter ∷ []) ∷ fs) (omega arith) ((h, tt), a) in
       let s = same?-refl (letter ∷ []) in
       let t = and-intro (same? (letter ∷ []) (letter ∷ [])) (eqb (length fs) (length fs)) s (eqb-refl (length fs)) in
       rw e (checked-good Shape _ fs t)
@@ -64,7 +64,7 @@ module _ (letter : ℕ) (fs : List (List ℕ)) where
       let c = good-checked Shape (s && t) (w .1) fs q in
       let e = same?→eq (w .0) (letter ∷ []) (and-left s t (c .0)) in
       let l = eqb→eq (length (w .1)) n (and-right s t (c .0)) in
-      (sym (join-split comma 44 comma-only line) ∙ ap (join 44) (w .2 ∙ rw (e, c .1)), rw (c .1) at l)
+      (sym (join-split comma byteComma comma-only line) ∙ ap (join byteComma) (w .2 ∙ rw (e, c .1)), rw (c .1) at l)
 
 -- ---- numbers
 

@@ -10,16 +10,16 @@ use borrow.Author.Tests.{eqb-false}
 use Rattle.text.specs.declared.Fault.the-variants.{Range, Order}
 use Rattle.text.specs.declared.Head.{Head}
 use Rattle.text.specs.declared.StepLine.{StepLine}
-use Rattle.text.specs.Bytes.{kindOf}
+use Rattle.text.specs.Bytes.{kindOf, byteM, byteS}
 use Rattle.text.specs.Numbers.{digits}
 use Rattle.text.specs.Model.{aboveLast?}
 use Rattle.text.specs.Lines.{Line, good, bad, checked, numbersLine, headFits?, headNumbers, headFrom, headOf}
 use Rattle.text.specs.Lines.{stepFits?, stepNumbers, rising, stepFrom, stepOf}
-use Rattle.model.specs.Store.{headPlaces}
+use Rattle.model.specs.Store.{headPlaces, stepPlaces}
 use Rattle.text.specs.Inner.Ranges.{HeadRanges, Small}
 use Rattle.text.specs.Laws.RangesLaws.{headFits?→HeadRanges, stepFits?→StepRanges}
 use Rattle.model.specs.WellFormed.{StepFits}
-use Rattle.model.specs.Inner.LineText.{lineOf, lineOfHead, stepPlaces, lineOfStep}
+use Rattle.model.specs.Inner.LineText.{lineOf, lineOfHead, lineOfStep}
 use Rattle.model.specs.Laws.Text.JoinedFieldsLaws.{checked-good, good-checked, numbersLine-line}
 use Rattle.model.specs.Laws.Text.JoinedFieldsLaws.{line-of-numbersLine}
 
@@ -42,20 +42,20 @@ pub headOf-line : (h : Head) → T (headFits? h) → headOf (lineOfHead h) ≡ g
 unfolding headOf headFrom headPlaces kindOf
 headOf-line h t =
     let s = headPlaces-small h (headFits?→HeadRanges h t) in
-    let e = numbersLine-line 77 (headPlaces h) (λ z. eqb-false 3 4 refl z) s in
+    let e = numbersLine-line byteM (headPlaces h) (λ z. eqb-false 3 4 refl z) s in
     rw (e, headFrom) (checked-good Range (headFits? h) h t)
 
 pub line-of-headOf : (line : List ℕ) (h : Head) → headOf line ≡ good h → (line ≡ lineOfHead h) × T (headFits? h)
 unfolding headOf headFrom
-line-of-headOf line h q = by-numbers (numbersLine 77 4 line) refl q
+line-of-headOf line h q = by-numbers (numbersLine byteM 4 line) refl q
   where
-    by-numbers : (l : Line (List ℕ)) → numbersLine 77 4 line ≡ l → headFrom l ≡ good h
+    by-numbers : (l : Line (List ℕ)) → numbersLine byteM 4 line ≡ l → headFrom l ≡ good h
         → (line ≡ lineOfHead h) × T (headFits? h)
     by-numbers (good ns) e g =
         let c = good-checked Range (headFits? (headNumbers ns)) (headNumbers ns) h g in
-        let w = line-of-numbersLine 77 ns 4 line e in
+        let w = line-of-numbersLine byteM ns 4 line e in
         let p = sym (headPlaces-headNumbers ns (w .1)) ∙ ap headPlaces (c .1) in
-        (w .0 ∙ ap (λ (x : List ℕ). lineOf 77 (map digits x)) p, subst (λ (x : Head). T (headFits? x)) (c .1) (c .0))
+        (w .0 ∙ ap (λ (x : List ℕ). lineOf byteM (map digits x)) p, subst (λ (x : Head). T (headFits? x)) (c .1) (c .0))
     by-numbers (bad fault) e g = let z : _≡_ {A = ℕ} 0 1 = cc in absurd (omega arith)
 
 -- ---- `S,source,action,target`
@@ -73,14 +73,14 @@ module _ (h : Head) (before : List StepLine) where
   stepOf-line s r f =
       let u = stepFits?→StepRanges h s (f .in-range) in
       let small : Small (stepPlaces s) = (omega arith, (omega arith, (omega arith, tt))) in
-      let e = numbersLine-line 83 (stepPlaces s) (λ z. eqb-false 3 4 refl z) small in
+      let e = numbersLine-line byteS (stepPlaces s) (λ z. eqb-false 3 4 refl z) small in
       rw (e, stepFrom, checked-good Range (stepFits? h s) s (f .in-range), rising)
       (checked-good Order (aboveLast? before s) s (f .rising))
 
   pub line-of-stepOf : (line : List ℕ) (s : StepLine) → stepOf h before line ≡ good s
       → (line ≡ lineOfStep s) × StepFits h before s
   unfolding stepOf stepFrom rising
-  line-of-stepOf line s q = by-numbers (numbersLine 83 3 line) refl q
+  line-of-stepOf line s q = by-numbers (numbersLine byteS 3 line) refl q
     where
       by-range : (ns : List ℕ) (l : Line StepLine) → checked Range (stepFits? h (stepNumbers ns)) (stepNumbers ns) ≡ l
           → rising before l ≡ good s → (stepNumbers ns ≡ s) × StepFits h before s
@@ -96,11 +96,11 @@ module _ (h : Head) (before : List StepLine) where
           )
       by-range ns (bad fault) e g = let z : _≡_ {A = ℕ} 0 1 = cc in absurd (omega arith)
 
-      by-numbers : (l : Line (List ℕ)) → numbersLine 83 3 line ≡ l → stepFrom h before l ≡ good s
+      by-numbers : (l : Line (List ℕ)) → numbersLine byteS 3 line ≡ l → stepFrom h before l ≡ good s
           → (line ≡ lineOfStep s) × StepFits h before s
       by-numbers (good ns) e g =
           let c = by-range ns (checked Range (stepFits? h (stepNumbers ns)) (stepNumbers ns)) refl g in
-          let w = line-of-numbersLine 83 ns 3 line e in
+          let w = line-of-numbersLine byteS ns 3 line e in
           let p = sym (stepPlaces-stepNumbers ns (w .1)) ∙ ap stepPlaces (c .0) in
-          (w .0 ∙ ap (λ (x : List ℕ). lineOf 83 (map digits x)) p, c .1)
+          (w .0 ∙ ap (λ (x : List ℕ). lineOf byteS (map digits x)) p, c .1)
       by-numbers (bad fault) e g = let z : _≡_ {A = ℕ} 0 1 = cc in absurd (omega arith)

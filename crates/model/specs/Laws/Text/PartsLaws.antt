@@ -7,6 +7,7 @@ use Prim.Native.Nat.{ℕ, zero, suc, _+_, _<_}
 use native.Mathlib.Omega.{arith}
 use lib.Dec.{T}
 use lib.ListN.{length, length-append}
+use Rattle.text.specs.Bytes.{byteE}
 use Rattle.text.specs.declared.Fault.the-variants.{Shape}
 use Rattle.text.specs.declared.Head.{Head}
 use Rattle.text.specs.declared.StepLine.{StepLine}
@@ -105,7 +106,7 @@ module _ {A : Type 0} (line : A → List ℕ) (Fits : List A → A → Type 0) (
 
 -- ---- the end
 
-readEnd-last : (k : ℕ) (m : Model) → readEnd k m ((69 ∷ []) ∷ [] ∷ []) ≡ done m
+readEnd-last : (k : ℕ) (m : Model) → readEnd k m ((byteE ∷ []) ∷ [] ∷ []) ≡ done m
 unfolding readEnd onLine same? readNothing
 readEnd-last k m = refl
 
@@ -118,16 +119,16 @@ readNothing-done k m n ([] ∷ part ∷ parts) l h = let z : _≡_ {A = ℕ} 0 1
 readNothing-done k m n ((b ∷ bs) ∷ parts) l h = let z : _≡_ {A = ℕ} 0 1 = cc in absurd (omega arith)
 
 readEnd-done : (k : ℕ) (m n : Model) (parts : List (List ℕ)) → readEnd k m parts ≡ done n
-    → (parts ≡ (69 ∷ []) ∷ [] ∷ []) × (m ≡ n)
+    → (parts ≡ (byteE ∷ []) ∷ [] ∷ []) × (m ≡ n)
 unfolding readEnd
 readEnd-done k m n parts h =
-    let o = onLine-done k parts _ n h in by-test (o .0) (o .1) (o .2) (o .3) (same? (o .0) (69 ∷ [])) refl (o .4)
+    let o = onLine-done k parts _ n h in by-test (o .0) (o .1) (o .2) (o .3) (same? (o .0) (byteE ∷ [])) refl (o .4)
   where
     by-test : (line : List ℕ) (rest : List (List ℕ)) → parts ≡ line ∷ rest → 0 < length rest
-        → (t : Bool) → same? line (69 ∷ []) ≡ t → cond t (readNothing (suc k) m rest) (faulty Shape k) ≡ done n
-        → (parts ≡ (69 ∷ []) ∷ [] ∷ []) × (m ≡ n)
+        → (t : Bool) → same? line (byteE ∷ []) ≡ t → cond t (readNothing (suc k) m rest) (faulty Shape k) ≡ done n
+        → (parts ≡ (byteE ∷ []) ∷ [] ∷ []) × (m ≡ n)
     by-test line rest p l true e q =
-        let a = same?→eq line (69 ∷ []) (subst T (sym e) tt) in
+        let a = same?→eq line (byteE ∷ []) (subst T (sym e) tt) in
         let b = readNothing-done (suc k) m n rest l q in
         let c = b .0 in
         (cc, b .1)
@@ -136,7 +137,7 @@ readEnd-done k m n parts h =
 -- ---- the parts of a text
 
 abbrev last : List (List ℕ)
-last = (69 ∷ []) ∷ [] ∷ []
+last = (byteE ∷ []) ∷ [] ∷ []
 
 abbrev model : Head → List ActionLine → List StepLine → Model
 model h actions steps = record { head = h; actions = actions; steps = steps }

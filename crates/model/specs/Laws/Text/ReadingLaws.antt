@@ -1,4 +1,4 @@
--- Exactly the texts of well-formed models are read, each to its model.
+-- Exactly the texts that state a model are read, each to its model.
 -- Document 01, "The text". Assumes nothing.
 use mathlib.Core.Bool.{Bool, true, false, cond}
 use mathlib.Core.List.{List}
@@ -9,7 +9,7 @@ use native.Mathlib.Omega.{arith}
 use lib.Dec.{ltb, lit<}
 use lib.ListN.{length}
 use borrow.Author.Tests.{le-ltb}
-use Rattle.text.specs.Bytes.{kindOf, lineEnd}
+use Rattle.text.specs.Bytes.{kindOf, lineEnd, byteLineEnd}
 use Rattle.text.specs.Laws.BytesLaws.{lineEnd-only}
 use Rattle.text.specs.Limits.{textLimit, outLength}
 use Rattle.text.specs.Split.{split}
@@ -18,67 +18,81 @@ use Rattle.text.specs.Join.{join}
 use Rattle.text.specs.Laws.JoinLaws.{all-join, split-join, join-split}
 use Rattle.text.specs.Model.{Model}
 use Rattle.model.specs.Reading.{done, tooLong, readModel, readText}
-use Rattle.model.specs.Text.{textOf}
+use Rattle.model.specs.Text.{modelText}
 use Rattle.model.specs.WellFormed.{WellFormed}
+use Rattle.model.specs.StatedText.{MText, TextKind, m-text, States}
 use Rattle.model.specs.Inner.LineText.{partsOf}
-use Rattle.model.specs.Laws.Text.TextLaws.{textOf-parts, partsOf-all}
-use Rattle.model.specs.Laws.Text.TextLengthLaws.{textOf-length-le}
+use Rattle.model.specs.Laws.Text.TextLaws.{modelText-parts, partsOf-all}
+use Rattle.model.specs.Laws.Text.TextLengthLaws.{modelText-length-le}
 use Rattle.model.specs.Laws.Text.PartsLaws.{readModel-parts, partsOf-of-readModel}
 
 -- ---- a text and its model
 
-split-textOf : (m : Model) → WellFormed m → split lineEnd (textOf m) ≡ partsOf m
+split-modelText : (m : Model) → WellFormed m → split lineEnd (modelText m) ≡ partsOf m
 unfolding kindOf
-split-textOf m w =
+split-modelText m w =
     let bytes = partsOf-all m w (λ b. kindOf b ≡ lineEnd → ⊥) (λ b p. p .1) in
-    ap (split lineEnd) (textOf-parts m) ∙ split-join lineEnd 10 refl (partsOf m) (omega arith) bytes
+    ap (split lineEnd) (modelText-parts m) ∙ split-join lineEnd byteLineEnd refl (partsOf m) (omega arith) bytes
 
 -- what is written reads back
-pub readText-textOf : (m : Model) → WellFormed m → readText (textOf m) ≡ done m
+pub readText-modelText : (m : Model) → WellFormed m → readText (modelText m) ≡ done m
 unfolding readText
-readText-textOf m w =
-    let l = textOf-length-le m w in
-    let n : length (textOf m) ≤ textLimit = omega arith in
-    rw (le-ltb textLimit (length (textOf m)) n, split-textOf m w) (readModel-parts m w)
+readText-modelText m w =
+    let l = modelText-length-le m w in
+    let n : length (modelText m) ≤ textLimit = omega arith in
+    rw (le-ltb textLimit (length (modelText m)) n, split-modelText m w) (readModel-parts m w)
 
 -- only what is written so reads
-pub textOf-of-readText : (t : List ℕ) (m : Model) → readText t ≡ done m → WellFormed m × (t ≡ textOf m)
+m-text-of-readText : (t : List ℕ) (m : Model) → readText t ≡ done m → WellFormed m × MText t m
 unfolding readText
-textOf-of-readText t m q = by-test (ltb textLimit (length t)) q
+m-text-of-readText t m q = by-test (ltb textLimit (length t)) q
   where
-    by-test : (b : Bool) → cond b tooLong (readModel (split lineEnd t)) ≡ done m → WellFormed m × (t ≡ textOf m)
+    by-test : (b : Bool) → cond b tooLong (readModel (split lineEnd t)) ≡ done m → WellFormed m × MText t m
     by-test true h = let z : _≡_ {A = ℕ} 0 1 = cc in absurd (omega arith)
     by-test false h =
         let p = partsOf-of-readModel (split lineEnd t) m h in
-        (p .0, sym (join-split lineEnd 10 lineEnd-only t) ∙ ap (join 10) (p .1) ∙ sym (textOf-parts m))
+        let e = sym (join-split lineEnd byteLineEnd lineEnd-only t) in
+        (p .0, e ∙ ap (join byteLineEnd) (p .1) ∙ sym (modelText-parts m))
 
--- exactly the texts of well-formed models are read, each to its model
-pub readText-iff : (t : List ℕ) (m : Model) → (readText t ≡ done m) ↔ (WellFormed m × (t ≡ textOf m))
-readText-iff t m =
-    (textOf-of-readText t m, λ h. ap readText (h .1) ∙ readText-textOf m (h .0))
+pub states-of-readText : (t : List ℕ) (m : Model) → readText t ≡ done m → States t m
+states-of-readText t m q =
+    let h = m-text-of-readText t m q in record { well-formed = h .0; kind = m-text (h .1) }
 
--- ---- what follows of a text that reads
+pub readText-of-states : (t : List ℕ) (m : Model) → States t m → readText t ≡ done m
+readText-of-states t m s = by-kind (s .kind)
+  where
+    by-kind : TextKind t m → readText t ≡ done m
+    by-kind (m-text e) = ap readText e ∙ readText-modelText m (s .well-formed)
 
--- writing what was read gives its text back
-pub textOf-readText : (t : List ℕ) (m : Model) → readText t ≡ done m → textOf m ≡ t
-textOf-readText t m q = sym (textOf-of-readText t m q .1)
+-- exactly the texts that state a model are read, each to its model
+pub readText-iff : (t : List ℕ) (m : Model) → (readText t ≡ done m) ↔ States t m
+readText-iff t m = (states-of-readText t m, readText-of-states t m)
 
--- two texts that read to one model are the same text
-pub readText-unique : (t u : List ℕ) (m : Model) → readText t ≡ done m → readText u ≡ done m → t ≡ u
-readText-unique t u m q r = textOf-of-readText t m q .1 ∙ textOf-readText u m r
+pub readText-well-formed : (t : List ℕ) (m : Model) → readText t ≡ done m → WellFormed m
+readText-well-formed t m q = states-of-readText t m q .well-formed
 
-pub readText-length-le : (t : List ℕ) (m : Model) → readText t ≡ done m → length t ≤ outLength
-readText-length-le t m q =
-    let w = textOf-of-readText t m q in
-    let e = w .1 in
-    subst (λ (l : List ℕ). length l ≤ outLength) (sym e) (textOf-length-le m (w .0))
+-- ---- `M` texts
 
-pub textOf-bytes : (m : Model) → WellFormed m → All (λ b. b < 256) (textOf m)
-textOf-bytes m w =
+-- `M` texts are the only kind so far
+pub states-m-text : (t : List ℕ) (m : Model) → States t m → MText t m
+states-m-text t m s = by-kind (s .kind)
+  where
+    by-kind : TextKind t m → MText t m
+    by-kind (m-text e) = e
+
+-- two `M` texts that state one model are the same text
+pub m-text-unique : (t u : List ℕ) (m : Model) → MText t m → MText u m → t ≡ u
+m-text-unique t u m p q = p ∙ sym q
+
+pub m-text-length-le : (t : List ℕ) (m : Model) → WellFormed m → MText t m → length t ≤ outLength
+m-text-length-le t m w e =
+    subst (λ (l : List ℕ). length l ≤ outLength) (sym e) (modelText-length-le m w)
+
+pub modelText-bytes : (m : Model) → WellFormed m → All (λ b. b < 256) (modelText m)
+modelText-bytes m w =
     let bytes = partsOf-all m w (λ b. b < 256) (λ b p. p .0) in
-    subst (All (λ b. b < 256)) (sym (textOf-parts m)) (all-join (λ b. b < 256) 10 (lit< tt) (partsOf m) bytes)
+    subst (All (λ b. b < 256)) (sym (modelText-parts m))
+    (all-join (λ b. b < 256) byteLineEnd (lit< tt) (partsOf m) bytes)
 
--- a text that reads is a list of bytes
-pub readText-bytes : (t : List ℕ) (m : Model) → readText t ≡ done m → All (λ b. b < 256) t
-readText-bytes t m q =
-    let w = textOf-of-readText t m q in subst (All (λ b. b < 256)) (sym (w .1)) (textOf-bytes m (w .0))
+pub m-text-bytes : (t : List ℕ) (m : Model) → WellFormed m → MText t m → All (λ b. b < 256) t
+m-text-bytes t m w e = subst (All (λ b. b < 256)) (sym e) (modelText-bytes m w)

@@ -10,7 +10,7 @@ use lib.ListN.{length, length-append}
 use borrow.Author.Tests.{eqb-false}
 use Rattle.text.specs.declared.Head.{Head}
 use Rattle.text.specs.declared.StepLine.{StepLine}
-use Rattle.text.specs.Bytes.{kindOf, digit, capital}
+use Rattle.text.specs.Bytes.{kindOf, digit, capital, byteA, byteComma, byteE, byteLineEnd, byteM, byteS}
 use Rattle.text.specs.Laws.BytesLaws.{digit-within, smallLetter-within, capital-within}
 use Rattle.text.specs.Numbers.{digits}
 use Rattle.text.specs.Laws.DigitsLaws.{digits-digit}
@@ -20,91 +20,92 @@ use Rattle.text.specs.Join.{join}
 use Rattle.text.specs.Laws.JoinLaws.{join-cons, all-join}
 use Rattle.text.specs.Model.{ActionLine, Model}
 use Rattle.text.specs.Lines.{good, headFits?, headOf, name?, actionOf, stepOf}
-use Rattle.model.specs.Text.{headText, levelByte, actionText, stepText, actionsText, stepsText, textOf}
-use Rattle.model.specs.Store.{headPlaces}
+use Rattle.model.specs.Text.{headText, levelByte, actionText, stepText, actionsText, stepsText, modelText}
+use Rattle.model.specs.Store.{headPlaces, stepPlaces}
 use Rattle.model.specs.WellFormed.{ActionFits, StepFits, WellFormed}
 use Rattle.model.specs.Laws.Store.EachLaws.{all-of-each}
-use Rattle.model.specs.Inner.LineText.{NameByte, LineByte, lineOf, lineOfHead, lineOfAction, stepPlaces}
+use Rattle.model.specs.Inner.LineText.{NameByte, LineByte, lineOf, lineOfHead, lineOfAction}
 use Rattle.model.specs.Inner.LineText.{lineOfStep, partsOf}
 use Rattle.model.specs.Laws.Text.ActionLineLaws.{name-bytes, levelByte-capital, line-of-actionOf}
 use Rattle.model.specs.Laws.Text.LineTextLaws.{line-of-headOf, line-of-stepOf}
 
 -- ---- a line's text is the line and its end
 
-pub headText-line : (h : Head) → headText h ≡ lineOfHead h ++ (10 ∷ [])
+pub headText-line : (h : Head) → headText h ≡ lineOfHead h ++ (byteLineEnd ∷ [])
 unfolding headText join headPlaces
 headText-line h = simp append-assoc
 
-pub actionText-line : (a : ActionLine) → actionText a ≡ lineOfAction a ++ (10 ∷ [])
+pub actionText-line : (a : ActionLine) → actionText a ≡ lineOfAction a ++ (byteLineEnd ∷ [])
 unfolding actionText join
 actionText-line a = refl
 
-pub stepText-line : (s : StepLine) → stepText s ≡ lineOfStep s ++ (10 ∷ [])
+pub stepText-line : (s : StepLine) → stepText s ≡ lineOfStep s ++ (byteLineEnd ∷ [])
 unfolding stepText join
 stepText-line s = simp append-assoc
 
 -- ---- a line that reads is, with its end, the text of what it states
 
 pub headText-of-headOf : (line : List ℕ) (h : Head) → headOf line ≡ good h
-    → (line ++ (10 ∷ []) ≡ headText h) × T (headFits? h)
+    → (line ++ (byteLineEnd ∷ []) ≡ headText h) × T (headFits? h)
 headText-of-headOf line h q =
-    let l = line-of-headOf line h q in (ap (λ (x : List ℕ). x ++ (10 ∷ [])) (l .0) ∙ sym (headText-line h), l .1)
+    let l = line-of-headOf line h q in
+    (ap (λ (x : List ℕ). x ++ (byteLineEnd ∷ [])) (l .0) ∙ sym (headText-line h), l .1)
 
 pub actionText-of-actionOf : (before : List ActionLine) (line : List ℕ) (a : ActionLine) → actionOf before line ≡ good a
-    → (line ++ (10 ∷ []) ≡ actionText a) × ActionFits before a
+    → (line ++ (byteLineEnd ∷ []) ≡ actionText a) × ActionFits before a
 actionText-of-actionOf before line a q =
     let l = line-of-actionOf before line a q in
-    (ap (λ (x : List ℕ). x ++ (10 ∷ [])) (l .0) ∙ sym (actionText-line a), l .1)
+    (ap (λ (x : List ℕ). x ++ (byteLineEnd ∷ [])) (l .0) ∙ sym (actionText-line a), l .1)
 
 pub stepText-of-stepOf : (h : Head) (before : List StepLine) (line : List ℕ) (s : StepLine)
-    → stepOf h before line ≡ good s → (line ++ (10 ∷ []) ≡ stepText s) × StepFits h before s
+    → stepOf h before line ≡ good s → (line ++ (byteLineEnd ∷ []) ≡ stepText s) × StepFits h before s
 stepText-of-stepOf h before line s q =
     let l = line-of-stepOf h before line s q in
-    (ap (λ (x : List ℕ). x ++ (10 ∷ [])) (l .0) ∙ sym (stepText-line s), l .1)
+    (ap (λ (x : List ℕ). x ++ (byteLineEnd ∷ [])) (l .0) ∙ sym (stepText-line s), l .1)
 
 -- ---- the text is the lines joined
 
 -- lines before others, whatever they are lines of
 join-lines : {A : Type 0} (line : A → List ℕ) (text : List A → List ℕ) → text [] ≡ []
-    → ((x : A) (xs : List A) → text (x ∷ xs) ≡ line x ++ (10 ∷ []) ++ text xs)
+    → ((x : A) (xs : List A) → text (x ∷ xs) ≡ line x ++ (byteLineEnd ∷ []) ++ text xs)
     → (xs : List A) (parts : List (List ℕ)) → 0 < length parts
-    → join 10 (map line xs ++ parts) ≡ text xs ++ join 10 parts
+    → join byteLineEnd (map line xs ++ parts) ≡ text xs ++ join byteLineEnd parts
 join-lines line text nil cons [] parts h = rw nil
 join-lines line text nil cons (x ∷ xs) parts h =
     let l : 0 < length (map line xs ++ parts) = simp length-append (omega arith) in
-    join-cons 10 (line x) (map line xs ++ parts) l
+    join-cons byteLineEnd (line x) (map line xs ++ parts) l
     ∙ rw (join-lines line text nil cons xs parts h, cons) (simp append-assoc)
 
 actionsText-line : (a : ActionLine) (rest : List ActionLine)
-    → actionsText (a ∷ rest) ≡ lineOfAction a ++ (10 ∷ []) ++ actionsText rest
+    → actionsText (a ∷ rest) ≡ lineOfAction a ++ (byteLineEnd ∷ []) ++ actionsText rest
 unfolding actionsText
 actionsText-line a rest = rw (actionText-line a)
 
 stepsText-line : (s : StepLine) (rest : List StepLine)
-    → stepsText (s ∷ rest) ≡ lineOfStep s ++ (10 ∷ []) ++ stepsText rest
+    → stepsText (s ∷ rest) ≡ lineOfStep s ++ (byteLineEnd ∷ []) ++ stepsText rest
 unfolding stepsText
 stepsText-line s rest = rw (stepText-line s)
 
-join-last : join 10 ((69 ∷ []) ∷ [] ∷ []) ≡ 69 ∷ 10 ∷ []
+join-last : join byteLineEnd ((byteE ∷ []) ∷ [] ∷ []) ≡ byteE ∷ byteLineEnd ∷ []
 unfolding join
 join-last = refl
 
-regroup : (h a s e : List ℕ) → h ++ (10 ∷ []) ++ a ++ s ++ e ≡ h ++ (10 ∷ (a ++ (s ++ e)))
+regroup : (h a s e : List ℕ) → h ++ (byteLineEnd ∷ []) ++ a ++ s ++ e ≡ h ++ (byteLineEnd ∷ (a ++ (s ++ e)))
 regroup h a s e = simp append-assoc
 
-pub textOf-parts : (m : Model) → textOf m ≡ join 10 (partsOf m)
-unfolding textOf actionsText stepsText
-textOf-parts m =
-    let last : List (List ℕ) = (69 ∷ []) ∷ [] ∷ [] in
+pub modelText-parts : (m : Model) → modelText m ≡ join byteLineEnd (partsOf m)
+unfolding modelText actionsText stepsText
+modelText-parts m =
+    let last : List (List ℕ) = (byteE ∷ []) ∷ [] ∷ [] in
     let from-steps : List (List ℕ) = map lineOfStep (m .steps) ++ last in
     let from-actions : List (List ℕ) = map lineOfAction (m .actions) ++ from-steps in
     let k : 0 < length from-steps = simp length-append (omega arith) in
     let l : 0 < length from-actions = simp length-append (omega arith) in
     let steps = join-lines lineOfStep stepsText refl stepsText-line (m .steps) last (omega arith) in
     let actions = join-lines lineOfAction actionsText refl actionsText-line (m .actions) from-steps k in
-    sym (join-cons 10 (lineOfHead (m .head)) from-actions l
+    sym (join-cons byteLineEnd (lineOfHead (m .head)) from-actions l
     ∙ rw (actions, steps, join-last, headText-line (m .head))
-    (sym (regroup (lineOfHead (m .head)) (actionsText (m .actions)) (stepsText (m .steps)) (69 ∷ 10 ∷ []))))
+    (sym (regroup (lineOfHead (m .head)) (actionsText (m .actions)) (stepsText (m .steps)) (byteE ∷ byteLineEnd ∷ []))))
 
 -- ---- the bytes of lines
 
@@ -118,7 +119,7 @@ nameByte-lineByte b (inr e) = let w = smallLetter-within b e in (omega arith, λ
 capital-lineByte : (b : ℕ) → kindOf b ≡ capital → LineByte b
 capital-lineByte b e = let w = capital-within b e in (omega arith, λ z. omega arith)
 
-comma-lineByte : LineByte 44
+comma-lineByte : LineByte byteComma
 unfolding kindOf
 comma-lineByte = (lit< tt, λ z. eqb-false 4 5 refl z)
 
@@ -133,27 +134,27 @@ digits-lineBytes ns =
 lineOf-lineBytes : (letter : ℕ) (fs : List (List ℕ)) → kindOf letter ≡ capital → All (All LineByte) fs
     → All LineByte (lineOf letter fs)
 lineOf-lineBytes letter fs e h =
-    all-join LineByte 44 comma-lineByte ((letter ∷ []) ∷ fs) ((capital-lineByte letter e, tt), h)
+    all-join LineByte byteComma comma-lineByte ((letter ∷ []) ∷ fs) ((capital-lineByte letter e, tt), h)
 
 pub lineOfHead-lineBytes : (h : Head) → All LineByte (lineOfHead h)
 unfolding kindOf
-lineOfHead-lineBytes h = lineOf-lineBytes 77 (map digits (headPlaces h)) refl (digits-lineBytes (headPlaces h))
+lineOfHead-lineBytes h = lineOf-lineBytes byteM (map digits (headPlaces h)) refl (digits-lineBytes (headPlaces h))
 
 pub lineOfStep-lineBytes : (s : StepLine) → All LineByte (lineOfStep s)
 unfolding kindOf
-lineOfStep-lineBytes s = lineOf-lineBytes 83 (map digits (stepPlaces s)) refl (digits-lineBytes (stepPlaces s))
+lineOfStep-lineBytes s = lineOf-lineBytes byteS (map digits (stepPlaces s)) refl (digits-lineBytes (stepPlaces s))
 
 pub lineOfAction-lineBytes : (a : ActionLine) → T (name? (a .name)) → All LineByte (lineOfAction a)
 unfolding kindOf
 lineOfAction-lineBytes a t =
     let level = capital-lineByte (levelByte (a .level)) (levelByte-capital (a .level)) in
     let name = all-of-all NameByte LineByte nameByte-lineByte (a .name) (name-bytes (a .name) t) in
-    lineOf-lineBytes 65 ((levelByte (a .level) ∷ []) ∷ a .name ∷ []) refl ((level, tt), (name, tt))
+    lineOf-lineBytes byteA ((levelByte (a .level) ∷ []) ∷ a .name ∷ []) refl ((level, tt), (name, tt))
 
 module _ (m : Model) (w : WellFormed m) where
-  last-lineBytes : All (All LineByte) ((69 ∷ []) ∷ [] ∷ [])
+  last-lineBytes : All (All LineByte) ((byteE ∷ []) ∷ [] ∷ [])
   unfolding kindOf
-  last-lineBytes = ((capital-lineByte 69 refl, tt), (tt, tt))
+  last-lineBytes = ((capital-lineByte byteE refl, tt), (tt, tt))
 
   steps-lineBytes : All (All LineByte) (map lineOfStep (m .steps))
   steps-lineBytes =
@@ -168,7 +169,7 @@ module _ (m : Model) (w : WellFormed m) where
 
   pub partsOf-lineBytes : All (All LineByte) (partsOf m)
   partsOf-lineBytes =
-      let last : List (List ℕ) = (69 ∷ []) ∷ [] ∷ [] in
+      let last : List (List ℕ) = (byteE ∷ []) ∷ [] ∷ [] in
       let steps : List (List ℕ) = map lineOfStep (m .steps) in
       let from-steps = all-append (All LineByte) steps last steps-lineBytes last-lineBytes in (
         lineOfHead-lineBytes (m .head),

@@ -11,7 +11,7 @@ use Rattle.text.specs.Limits.{outLength}
 use Rattle.text.specs.Laws.DigitsLaws.{digits-length-le}
 use Rattle.text.specs.Model.{ActionLine, Model}
 use Rattle.text.specs.Lines.{name?}
-use Rattle.model.specs.Text.{headText, actionText, stepText, actionsText, stepsText, textOf}
+use Rattle.model.specs.Text.{headText, actionText, stepText, actionsText, stepsText, modelText}
 use Rattle.text.specs.Inner.Ranges.{HeadRanges, StepRanges}
 use Rattle.text.specs.Laws.RangesLaws.{headFits?→HeadRanges, stepFits?→StepRanges}
 use Rattle.model.specs.WellFormed.{EachAfter, ActionFits, StepFits, WellFormed}
@@ -59,9 +59,9 @@ stepsText-length-le h before (s ∷ rest) r e =
     let i = stepsText-length-le h (before ++ (s ∷ [])) rest r (e .1) in
     simp length-append (omega arith)
 
-pub textOf-length-le : (m : Model) → WellFormed m → length (textOf m) ≤ outLength
-unfolding textOf
-textOf-length-le m w =
+pub modelText-length-le : (m : Model) → WellFormed m → length (modelText m) ≤ outLength
+unfolding modelText
+modelText-length-le m w =
     let r = headFits?→HeadRanges (m .head) (w .head) in
     let h = headText-length-le (m .head) r in
     let a = actionsText-length-le [] (m .actions) (w .actions) in

@@ -1,6 +1,6 @@
 -- What Read left is printed as Page does, or why it refused. Assumes nothing.
 use borrow.Author.Needs.{needs}
-use Rattle.reader.proofs.ReadAnswers.{not-done}
+use Rattle.read_write.proofs.ReadAnswers.{not-done}
 use Rattle.tell.proofs.TextAnswers.{read-long-good}
 use Rattle.page.proofs.PrintAnswers.{unread-promised, read-promised}
 use Rattle.page.proofs.ReadRefusals.{refuses-of}

@@ -6,36 +6,37 @@ use Prim.Native.Nat.{_+_, _-_, _≤_, _<_}
 use mathlib.Core.Path.{_≡_, sym, ap, _∙_}
 use lib.ListN.{length, take, drop}
 use Rattle.text.specs.Limits.{nameLimit}
-use Rattle.text.specs.Bytes.{lineEnd}
+use Rattle.text.specs.Bytes.{byteA, lineEnd}
 use Rattle.text.specs.Laws.SplitLaws.{found-le}
 use Rattle.text.specs.Lines.{good, fieldsOf, actionFields}
 use Rattle.text.specs.Inner.LineAnswers.{actionRead}
 use Rattle.reader.specs.Inner.ReadSoFar.{Further}
-use Rattle.reader.specs.Laws.ReadLaws.{action-absent, action-bad, action-next, AfterActions-length}
+use Rattle.reader.specs.Laws.ReadLaws.{action-absent, action-bad, action-next, afterActions-length}
 use Rattle.reader.specs.Laws.ReadLaws.{actionOf-bad, actionOf-used, actionOf-good}
-use Rattle.reader.specs.Laws.NameLaws.{name-part, ActionsStored-so-far}
+use Rattle.reader.specs.Laws.NameLaws.{name-part, actionsStored-so-far}
 use Rattle.reader.proofs.actions.action.Statement.{statement}
 use Rattle.reader.proofs.actions.action.Tie as tie
 
 -- where the line has an end
 inside : (c : tie.Else1)
     → (c .before .find .result < length (c .before .before .before .before .args .text .now))
-    × (c .before .before .before .before .args .at ≤ c .before .find .result)
+    × (c .before .before .before .before .args .start .at ≤ c .before .find .result)
 inside c =
     let f = c .before in
-    let n = found-le lineEnd _ _ _ (f .before .before .before .pre .0 .place) (f .find .ensures) in
+    let n = found-le lineEnd _ _ _ (f .before .before .before .pre .0 .inside .place) (f .find .ensures) in
     (omega arith, n .0)
 
 -- where the line is an action's: its end, its name and its fields
 named : (c : tie.After-known-told2)
     → let f = c .before .before .before .before .before .before in
-    let a = f .before .before .before .args in
-    (a .at + 4 ≤ f .find .result)
-    × (length (take (f .find .result - (a .at + 4)) (drop (a .at + 4) (a .text .now))) ≤ nameLimit)
-    × (actionFields (fieldsOf 65 2 (take (f .find .result - a .at) (drop (a .at) (a .text .now))))
+    let text = f .before .before .before .args .text .now in
+    let at = f .before .before .before .args .start .at in
+    (at + 4 ≤ f .find .result)
+    × (length (take (f .find .result - (at + 4)) (drop (at + 4) text)) ≤ nameLimit)
+    × (actionFields (fieldsOf byteA 2 (take (f .find .result - at) (drop at text)))
     ≡ good (record {
       level = c .before .read2 .given .0 .0;
-      name = take (f .find .result - (a .at + 4)) (drop (a .at + 4) (a .text .now));
+      name = take (f .find .result - (at + 4)) (drop (at + 4) text);
     }))
 unfolding actionRead
 named c =
@@ -43,11 +44,8 @@ named c =
     let i = inside (r .before .before) in
     name-part _ _ _ _ (i .1) (i .0) (r .action-line .ensures ∙ ap (actionRead _) (c .before .read2 .given .1))
 
-add-line : tie.Need-add-line
-add-line c = search needs
-
 find-requires : tie.Need-find-requires
-find-requires c κs = (c .before .before .pre .0 .place, search needs)
+find-requires c κs = (c .before .before .pre .0 .inside .place, search needs)
 
 returns : tie.Need-returns
 unfolding Further
@@ -74,8 +72,8 @@ enum-known-read c = search needs
 enum-known-read-2 : tie.Need-enum-known-read-2
 enum-known-read-2 c = search needs
 
-add-from : tie.Need-add-from
-add-from c = let n = named c in omega arith
+add-name : tie.Need-add-name
+add-name c = let n = named c in omega arith
 
 sub-used : tie.Need-sub-used
 sub-used c = let n = named (c .before) in omega arith
@@ -94,7 +92,7 @@ used-requires c κs =
     let k = c .before .before in
     let s = k .before .before .before .before .before .before .before .before .before in
     let m = s .pre .0 .limits .actions in
-    let l = AfterActions-length _ _ _ (s .args .i) _ (s .pre .0) (omega arith) in
+    let l = afterActions-length _ _ _ (s .args .i) _ (s .pre .0) (omega arith) in
     (omega arith, omega arith, named k .1)
 
 same-length : tie.Need-same-length
@@ -108,15 +106,9 @@ returns-2 c =
     let e = k .before .before .before .before .before in
     let s = e .before .before .before .before in
     let b = s .pre .0 in
-    let t = sym (u .used .ensures (b .actions) (ActionsStored-so-far _ _ _ _ _ b) (b .count)) ∙ c .if2 .taken in
+    let t = sym (u .used .ensures (b .actions) (actionsStored-so-far _ _ _ _ _ b) (b .count)) ∙ c .if2 .taken in
     action-bad _ _ _ (s .args .i) _ b (s .pre .1) _ (e .before .find .ensures) (inside e .0) _
     (actionOf-used (b .actions) _ _ (named k .2) t)
-
-mul-put-action : tie.Need-mul-put-action
-mul-put-action c = omega arith
-
-add-put-action : tie.Need-add-put-action
-add-put-action c = omega arith
 
 sub-put-action : tie.Need-sub-put-action
 sub-put-action c = let n = named (c .before .before .before .before .before) in omega arith
@@ -136,14 +128,21 @@ put-action-requires c κs =
     let k = c .before .before .before .before .before .before in
     let s = k .before .before .before .before .before .before .before .before .before in
     let m = s .pre .0 .limits .actions in
-    let l = AfterActions-length _ _ _ (s .args .i) _ (s .pre .0) (omega arith) in
-    (omega arith, named k .1)
+    let l = afterActions-length _ _ _ (s .args .i) _ (s .pre .0) (omega arith) in
+    (omega arith, omega arith, named k .1)
 
-add-t24 : tie.Need-add-t24
-add-t24 c =
+add-t25 : tie.Need-add-t25
+add-t25 c =
     let k = c .before .before .before .before .before .before .before .before .before in
     let i = inside (k .before .before .before .before .before) in
     omega arith
+
+add-t36 : tie.Need-add-t36
+add-t36 c =
+    let k = c .before .before .before .before .before .before .before .before .before in
+    let s = k .before .before .before .before .before .before .before .before .before in
+    let i = s .pre .0 .inside in
+    omega (arith, i .place, i .line-le)
 
 returns-3 : tie.Need-returns-3
 unfolding Further actionRead
@@ -167,7 +166,7 @@ returns-4 c =
     let e = k .before .before .before .before .before in
     let s = e .before .before .before .before in
     let b = s .pre .0 in
-    let t = sym (u .used .ensures (b .actions) (ActionsStored-so-far _ _ _ _ _ b) (b .count))
+    let t = sym (u .used .ensures (b .actions) (actionsStored-so-far _ _ _ _ _ b) (b .count))
     ∙ p .before .before .before .if2 .left in
     rw (p .put-action .ensures)
     (action-next _ _ _ (s .args .i) _ b (s .pre .1) _ (e .before .find .ensures) (inside e .0) _
@@ -177,7 +176,6 @@ pub action-spec : {M : Type 1} → statement M
 action-spec =
     tie.close
     (tie.spec
-    add-line
     find-requires
     returns
     sub-action-line
@@ -186,20 +184,19 @@ action-spec =
     action-line-requires
     enum-known-read
     enum-known-read-2
-    add-from
+    add-name
     sub-used
     part-used-start
     part-used-end
     used-requires
     same-length
     returns-2
-    mul-put-action
-    add-put-action
     sub-put-action
     part-put-action-start
     part-put-action-end
     put-action-requires
-    add-t24
+    add-t25
+    add-t36
     returns-3
     same-length-2
     returns-4)

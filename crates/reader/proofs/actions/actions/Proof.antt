@@ -5,22 +5,19 @@ use Prim.Native.Nat.{_-_, _≤_}
 use mathlib.Core.Path.{_≡_, refl, _∙_}
 use lib.ListN.{length}
 use Rattle.reader.specs.Inner.ReadSoFar.{AfterActions, Further}
-use Rattle.reader.specs.Laws.ReadLaws.{AfterActions-count, Further-faulty, Further-next}
+use Rattle.reader.specs.Laws.ReadLaws.{afterActions-count, further-faulty, further-next}
 use Rattle.reader.proofs.actions.actions.Statement.{statement}
 use Rattle.reader.proofs.actions.actions.Tie as tie
 
 abbrev Inv-loop : tie.InvT-loop
-Inv-loop kinds text at head out₀ count from₀ i₀ out from i =
+Inv-loop kinds text head out₀ count from₀ i₀ out from i =
     (i ≤ head .actions) × (length out ≡ length out₀) × AfterActions head text from i out
 
 abbrev μ-loop : tie.MeasureT-loop
-μ-loop kinds text at head out₀ count from₀ i₀ out from i = head .actions - i
-
-cast-count : tie.Need-cast-count Inv-loop μ-loop
-cast-count c = search needs
+μ-loop kinds text head out₀ count from₀ i₀ out from i = head .actions - i
 
 loop-holds : tie.Need-loop-holds Inv-loop μ-loop
-loop-holds c = (search needs, refl, c .before .before .before .pre .0)
+loop-holds c = (search needs, refl, c .before .before .pre .0)
 
 action-requires : tie.Need-action-requires Inv-loop μ-loop
 action-requires c κs = let l = c .before .before in (l .loop .inv .2, omega arith, search needs)
@@ -34,7 +31,7 @@ same-length c =
     a .action .kept .1 .1 .1 .1 .1 .0 ∙ a .before .before .before .loop .inv .1
 
 returns : tie.Need-returns Inv-loop μ-loop
-returns c = Further-faulty _ _ _ _ _ _ (c .enum-told .given .1) (c .before .before .before .before .action .ensures)
+returns c = further-faulty _ _ _ _ _ _ (c .enum-told .given .1) (c .before .before .before .before .action .ensures)
 
 enum-known-read : tie.Need-enum-known-read Inv-loop μ-loop
 enum-known-read c = search needs
@@ -49,7 +46,7 @@ loop-again : tie.Need-loop-again Inv-loop μ-loop
 loop-again c =
     let a = c .before .before .before .before .before in
     let l = a .before .before .before in
-    let next = Further-next _ _ _ _ (c .before .read .given .1) (a .action .ensures) in
+    let next = further-next _ _ _ _ (c .before .read .given .1) (a .action .ensures) in
     (omega arith, a .action .kept .1 .1 .1 .1 .1 .0 ∙ l .loop .inv .1, next)
 
 same-length-2 : tie.Need-same-length-2 Inv-loop μ-loop
@@ -57,7 +54,7 @@ same-length-2 c = c .before .loop .inv .1
 
 returns-2 : tie.Need-returns-2 Inv-loop μ-loop
 unfolding Further
-returns-2 c = let l = c .before in AfterActions-count _ _ _ (l .loop .i) _ _ (omega arith) (l .loop .inv .2)
+returns-2 c = let l = c .before in afterActions-count _ _ _ (l .loop .i) _ _ (omega arith) (l .loop .inv .2)
 
 pub actions-spec : {M : Type 1} → statement M
 actions-spec =
@@ -65,7 +62,6 @@ actions-spec =
     (tie.spec
     Inv-loop
     μ-loop
-    cast-count
     loop-holds
     action-requires
     enum-told

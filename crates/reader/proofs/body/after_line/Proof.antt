@@ -3,12 +3,12 @@ use borrow.Author.Needs.{needs}
 use native.Mathlib.Omega.{arith}
 use Rattle.text.specs.Bytes.{lineEnd}
 use Rattle.text.specs.Laws.SplitLaws.{found-le}
-use Rattle.reader.specs.Laws.ReadAnswerLaws.{AfterLine-past, AfterLine-absent, AfterLine-line}
+use Rattle.reader.specs.Laws.TextReadLaws.{afterLine-past, afterLine-absent, afterLine-line}
 use Rattle.reader.proofs.body.after_line.Statement.{statement}
 use Rattle.reader.proofs.body.after_line.Tie as tie
 
 returns : tie.Need-returns
-returns c = AfterLine-past _ _ (c .if1 .taken)
+returns c = afterLine-past _ _ (c .if1 .taken)
 
 kinds-requires : tie.Need-kinds-requires
 kinds-requires c κs = search needs
@@ -19,7 +19,7 @@ find-requires c κs = search needs
 returns-2 : tie.Need-returns-2
 returns-2 c =
     let f = c .before in
-    AfterLine-absent _ _ _ (f .before .before .before .if1 .left) (f .find .ensures) (omega arith)
+    afterLine-absent _ _ _ (f .before .before .before .if1 .left) (f .find .ensures) (omega arith)
 
 add-result : tie.Need-add-result
 add-result c =
@@ -30,7 +30,7 @@ returns-3 : tie.Need-returns-3
 returns-3 c =
     let f = c .before in
     let n = found-le lineEnd _ _ _ (f .before .before .before .if1 .left) (f .find .ensures) in
-    AfterLine-line _ _ _ (f .before .before .before .if1 .left) (f .find .ensures) (omega arith)
+    afterLine-line _ _ _ (f .before .before .before .if1 .left) (f .find .ensures) (omega arith)
 
 pub after-line-spec : {M : Type 1} → statement M
 after-line-spec = tie.close (tie.spec returns kinds-requires find-requires returns-2 add-result returns-3)

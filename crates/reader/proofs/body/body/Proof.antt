@@ -1,6 +1,6 @@
 -- By cases on the first line.
 use borrow.Author.Needs.{needs}
-use Rattle.reader.specs.Laws.ReadAnswerLaws.{AfterFirst-bad, AfterFirst-good, ReadOut-faulty}
+use Rattle.reader.specs.Laws.TextReadLaws.{afterFirst-bad, afterFirst-good, readOut-faulty}
 use Rattle.reader.proofs.body.body.Statement.{statement}
 use Rattle.reader.proofs.body.body.Tie as tie
 
@@ -14,13 +14,13 @@ model-requires : tie.Need-model-requires
 model-requires c κs =
     let k = c .before .before in
     let s = k .before .before .before .before in
-    (AfterFirst-good _ _ _ _ (k .first2 .given .1) (s .pre .0), s .pre .1)
+    (afterFirst-good _ _ _ _ (k .first2 .given .1) (s .pre .0), s .pre .1)
 
 returns : tie.Need-returns
 returns c =
     let k = c .before in
     let s = k .before .before .before .before in
-    ReadOut-faulty _ _ _ _ (AfterFirst-bad _ _ _ _ (k .first .given .1) (s .pre .0))
+    readOut-faulty _ _ _ _ (afterFirst-bad _ _ _ _ (k .first .given .1) (s .pre .0))
 
 same-length : tie.Need-same-length
 same-length c = search needs

@@ -5,7 +5,7 @@ use mathlib.Core.Path.{sym, _∙_}
 use Rattle.text.specs.Bytes.{lineEnd}
 use Rattle.text.specs.Laws.SplitLaws.{found-le}
 use Rattle.text.specs.Inner.LineAnswers.{headRead}
-use Rattle.reader.specs.Laws.ReadAnswerLaws.{firstLine-past, firstLine-absent, firstLine-line}
+use Rattle.reader.specs.Laws.TextReadLaws.{firstLine-past, firstLine-absent, firstLine-line}
 use Rattle.reader.proofs.body.first_line.Statement.{statement}
 use Rattle.reader.proofs.body.first_line.Tie as tie
 

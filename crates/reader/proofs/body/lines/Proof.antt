@@ -1,28 +1,29 @@
 -- Each phase begins where the one before it ended, or its refusal is the answer.
 use borrow.Author.Needs.{needs}
-use Rattle.reader.specs.Laws.ReadLaws.{Further-faulty, Further-next}
+use Rattle.reader.specs.Inner.ReadSoFar.{Through}
+use Rattle.reader.specs.Laws.ReadLaws.{further-refused, further-next}
 use Rattle.reader.proofs.body.lines.Statement.{statement}
 use Rattle.reader.proofs.body.lines.Tie as tie
 
 actions-requires : tie.Need-actions-requires
 actions-requires c κs = (c .before .before .before .pre .0, search needs)
 
-enum-told : tie.Need-enum-told
-enum-told c = search needs
-
 enum-known-acted : tie.Need-enum-known-acted
 enum-known-acted c = search needs
+
+enum-known-acted-2 : tie.Need-enum-known-acted-2
+enum-known-acted-2 c = search needs
 
 steps-requires : tie.Need-steps-requires
 steps-requires c κs =
     let k = c .before .before in
-    (Further-next _ _ _ _ (k .acted .given .1) (k .before .before .before .before .actions .ensures), search needs)
-
-enum-told-2 : tie.Need-enum-told-2
-enum-told-2 c = search needs
+    (further-next _ _ _ _ (k .acted2 .given .1) (k .before .before .before .before .actions .ensures), search needs)
 
 enum-known-stepped : tie.Need-enum-known-stepped
 enum-known-stepped c = search needs
+
+enum-known-stepped-2 : tie.Need-enum-known-stepped-2
+enum-known-stepped-2 c = search needs
 
 end-requires : tie.Need-end-requires
 end-requires c κs =
@@ -30,19 +31,25 @@ end-requires c κs =
     let s = k .before .before .before .before in
     let a = s .before .before .before .before .before .before .before in
     let start = a .before .before .before .before in
-    (Further-next _ _ _ _ (k .stepped .given .1) (s .steps .ensures), start .pre .1)
+    (further-next _ _ _ _ (k .stepped2 .given .1) (s .steps .ensures), start .pre .1)
 
 same-length : tie.Need-same-length
 same-length c = search needs
 
 returns : tie.Need-returns
-returns c = Further-faulty _ _ _ _ _ _ (c .enum-told .given .1) (c .before .before .before .before .actions .ensures)
+unfolding Through
+returns c =
+    let k = c .before in
+    further-refused _ _ _ _ _ (k .acted .given .1) (k .before .before .before .before .actions .ensures)
 
 same-length-2 : tie.Need-same-length-2
 same-length-2 c = search needs
 
 returns-2 : tie.Need-returns-2
-returns-2 c = Further-faulty _ _ _ _ _ _ (c .enum-told2 .given .1) (c .before .before .before .before .steps .ensures)
+unfolding Through
+returns-2 c =
+    let k = c .before in
+    further-refused _ _ _ _ _ (k .stepped .given .1) (k .before .before .before .before .steps .ensures)
 
 same-length-3 : tie.Need-same-length-3
 same-length-3 c = search needs
@@ -55,11 +62,11 @@ lines-spec =
     tie.close
     (tie.spec
     actions-requires
-    enum-told
     enum-known-acted
+    enum-known-acted-2
     steps-requires
-    enum-told-2
     enum-known-stepped
+    enum-known-stepped-2
     end-requires
     same-length
     returns

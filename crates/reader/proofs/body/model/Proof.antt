@@ -2,9 +2,9 @@
 -- stored.
 use borrow.Author.Needs.{needs}
 use mathlib.Core.Path.{_∙_}
-use Rattle.reader.specs.Laws.FillLaws.{storeOf-head}
-use Rattle.reader.specs.Laws.ReadLaws.{after-head, Further-next, Further-refused}
-use Rattle.reader.specs.Laws.ReadAnswerLaws.{ReadOut-done, ReadOut-faulty}
+use Rattle.model.specs.Laws.Store.PutLaws.{storeOf-head}
+use Rattle.reader.specs.Laws.ReadLaws.{after-head}
+use Rattle.reader.specs.Laws.TextReadLaws.{readOut-done, through-done, through-faulty}
 use Rattle.reader.proofs.body.model.Statement.{statement}
 use Rattle.reader.proofs.body.model.Tie as tie
 
@@ -36,8 +36,8 @@ slice-aggregate-copy c = search needs
 copy-requires : tie.Need-copy-requires
 copy-requires c κs = search needs
 
-enum-known-read : tie.Need-enum-known-read
-enum-known-read c = search needs
+enum-told-2 : tie.Need-enum-told-2
+enum-told-2 c = search needs
 
 same-length : tie.Need-same-length
 same-length c = search needs
@@ -48,12 +48,12 @@ returns c =
     let t = p .before .before .before in
     let r = t .before .before .before in
     let kept = r .lines .kept .1 .1 .1 .1 .0 ∙ r .before .before .before .before .put-head .kept .0 in
-    ReadOut-done _ _ _ _ (Further-next _ _ _ _ (t .enum-told .given .1) (r .lines .ensures)) kept (p .copy .ensures)
+    readOut-done _ _ _ _ (through-done _ _ _ (t .enum-told .given .1) (r .lines .ensures)) kept (p .copy .ensures)
 
 returns-2 : tie.Need-returns-2
 returns-2 c =
-    let r = c .before .before .before .before in
-    ReadOut-faulty _ _ _ _ (Further-refused _ _ _ _ _ (c .before .read .given .1) (r .lines .ensures))
+    let r = c .before .before .before in
+    through-faulty _ _ _ _ _ _ (c .enum-told2 .given .1) (r .lines .ensures)
 
 pub model-spec : {M : Type 1} → statement M
 model-spec =
@@ -67,7 +67,7 @@ model-spec =
     enum-told
     slice-aggregate-copy
     copy-requires
-    enum-known-read
+    enum-told-2
     same-length
     returns
     returns-2)

@@ -41,14 +41,14 @@ use Rattle.text.specs.Bytes.{lineEnd}
 use Rattle.text.specs.Split as S
 use Rattle.text.specs.Inner.LineAnswers.{headRead}
 use Rattle.reader.specs.Inner.ReadSoFar.{AfterFirst, AfterLine, ReadOut, firstLine}
-use Rattle.reader.specs.Laws.ReadAnswerLaws.{after-first}
+use Rattle.reader.specs.Laws.TextReadLaws.{after-first}
 use Rattle.text.specs.declared.line.HeadRead.{HeadRead}
-use Rattle.reader.specs.declared.answers.ReadAnswer.{ReadAnswer}
+use Rattle.reader.specs.declared.answers.TextRead.{TextRead}
 use Rattle.reader.specs.declared.reader.Reader.{Reader}
 use Rattle.text.proofs.line.HeadRead as E
 use Rattle.text.proofs.line.HeadRead.Laws as E′
-use Rattle.reader.proofs.answers.ReadAnswer as R
-use Rattle.reader.proofs.answers.ReadAnswer.Laws as R′
+use Rattle.reader.proofs.answers.TextRead as R
+use Rattle.reader.proofs.answers.TextRead.Laws as R′
 use Rattle.reader.proofs.reader.Reader as T
 use Rattle.reader.proofs.reader.Reader.Laws as T′
 use Rattle.reader.proofs.ReaderParts.{life, row, textValue, TextOwn}
@@ -193,7 +193,7 @@ module _ {M : Type 1} (𝓤 : URA M) (H : Heap 𝓤) (A : Atoms 𝓤) (W : Given
         → ent 𝓤 (⋆ 𝓤 H A (Tokens ∷ ‵ (Handed n w h u) ∷ [])) (Rest 𝓤 H A mem run .pre (to-rest n w h u))
     goes-rest n w h u pre = qed W (Tokens ∷ ‵ (Handed n w h u) ∷ []) ∵ says ! pre $ frame ! $ done !
 
-    exits : (r : ReadAnswer) (w : Val) (zs : List ℕ) → ReadOut (now t) ys r zs → length zs ≡ length ys
+    exits : (r : TextRead) (w : Val) (zs : List ℕ) → ReadOut (now t) ys r zs → length zs ≡ length ys
         → ent 𝓤 (⋆ 𝓤 H A (Tokens ∷ ‵ (finally u16 γ zs) ∷ ‵ (R.the-row .own r (w ∷ [])) ∷ [])) (Post w)
     exits r w zs out l =
         qed W (Tokens ∷ ‵ (finally u16 γ zs) ∷ ‵ (R.the-row .own r (w ∷ [])) ∷ []) ∵
@@ -280,7 +280,7 @@ module _ {M : Type 1} (𝓤 : URA M) (H : Heap 𝓤) (A : Atoms 𝓤) (W : Given
           (and-then ! (load ! (from ! (stop !)) (look ! 8 refl)) (and-then ! (load ! (from ! (stop !)) (look ! 12 refl))
           (and-then ! (load ! (from ! (stop !)) (look ! 2 refl)) (no-more !)))) (λ w.
           use1 W
-          (later (some (λ (r : ReadAnswer).
+          (later (some (λ (r : TextRead).
           (Tokens ⊛ ‵ (R.the-row .own r (w ∷ [])))
           ⊛ raw (ensured 𝓤 H A rest.ended (rest.clauses 𝓤 H A mem run) (κ, (ν, tt)) (a′ (d₁ .at) h) tt r)))) (id⊢ 𝓤 _) $
           await ! tt $ pick ! (λ r. split ! $ move ! (1 ∷ []) $

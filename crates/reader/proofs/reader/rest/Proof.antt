@@ -40,12 +40,12 @@ use denote.Exit.{yes}
 use Rattle.text.specs.Limits.{storeLength}
 use Rattle.reader.specs.Inner.ReadSoFar.{AfterFirst, ReadOut}
 use Rattle.text.specs.declared.line.HeadRead.{HeadRead}
-use Rattle.reader.specs.declared.answers.ReadAnswer.{ReadAnswer}
+use Rattle.reader.specs.declared.answers.TextRead.{TextRead}
 use Rattle.reader.specs.declared.reader.Reader.{Reader}
 use Rattle.text.proofs.line.HeadRead as E
 use Rattle.text.proofs.line.HeadRead.Laws as E′
-use Rattle.reader.proofs.answers.ReadAnswer as R
-use Rattle.reader.proofs.answers.ReadAnswer.Laws as R′
+use Rattle.reader.proofs.answers.TextRead as R
+use Rattle.reader.proofs.answers.TextRead.Laws as R′
 use Rattle.reader.proofs.reader.Reader as T
 use Rattle.reader.proofs.reader.Reader.Laws as T′
 use Rattle.reader.proofs.ReaderParts.{life, row, textValue, TextOwn, ReaderOwn, lends}
@@ -125,7 +125,7 @@ module _ {M : Type 1} (𝓤 : URA M) (H : Heap 𝓤) (A : Atoms 𝓤) (W : Given
     goes : Pre → ent 𝓤 (⋆ 𝓤 H A (Tokens ∷ ‵ Asked ∷ [])) (Body 𝓤 H A mem run .pre to)
     goes pre = qed W (Tokens ∷ ‵ Asked ∷ []) ∵ says ! pre $ frame ! $ done !
 
-    exits : (r : ReadAnswer) (w : Val) (zs : List ℕ) → ReadOut (now (d .text)) ys r zs → length zs ≡ length ys
+    exits : (r : TextRead) (w : Val) (zs : List ℕ) → ReadOut (now (d .text)) ys r zs → length zs ≡ length ys
         → ent 𝓤 (⋆ 𝓤 H A (Tokens ∷ ‵ (finally u16 γ zs) ∷ ‵ (R.the-row .own r (w ∷ [])) ∷ [])) (Post w)
     exits r w zs out l =
         qed W (Tokens ∷ ‵ (finally u16 γ zs) ∷ ‵ (R.the-row .own r (w ∷ [])) ∷ []) ∵
@@ -168,7 +168,7 @@ module _ {M : Type 1} (𝓤 : URA M) (H : Heap 𝓤) (A : Atoms 𝓤) (W : Given
           (and-then ! (load ! (from ! (stop !)) (look ! 7 refl)) (and-then ! (load ! (from ! (stop !)) (look ! 5 refl))
           (and-then ! (load ! (from ! (stop !)) (look ! 11 refl)) (and-then ! (load ! (from ! (stop !)) (look ! 1 refl)) (no-more !))))) (λ w.
           use1 W
-          (later (some (λ (r : ReadAnswer).
+          (later (some (λ (r : TextRead).
           (Tokens ⊛ ‵ (R.the-row .own r (w ∷ [])))
           ⊛ raw (ensured 𝓤 H A body.ended (body.clauses 𝓤 H A mem run) (κ, (ν, tt)) a′ tt r)))) (id⊢ 𝓤 _) $
           await ! tt $ pick ! (λ r. split ! $ move ! (1 ∷ []) $

@@ -8,37 +8,28 @@ use lib.ListN.{length}
 use Rattle.text.specs.Laws.ScanLaws.{step-at-good, step-at-bad}
 use Rattle.reader.specs.Inner.ReadSoFar.{AfterStep, Further}
 use Rattle.reader.specs.Laws.ReadStepsLaws.{after-actions, step-refused, step-taken}
-use Rattle.reader.specs.Laws.ReadStepsLaws.{AfterStep-length, after-steps}
+use Rattle.reader.specs.Laws.ReadStepsLaws.{afterStep-length, after-steps}
 use Rattle.reader.proofs.steps.steps.Statement.{statement}
 use Rattle.reader.proofs.steps.steps.Tie as tie
 
 abbrev Inv-loop : tie.InvT-loop
-Inv-loop kinds text at head out₀ count first last₀ from₀ j₀ out last from j =
+Inv-loop kinds text head out₀ count last₀ from₀ j₀ out last from j =
     (j ≤ head .steps) × (length out ≡ length out₀) × AfterStep head text from j last out
 
 abbrev μ-loop : tie.MeasureT-loop
-μ-loop kinds text at head out₀ count first last₀ from₀ j₀ out last from j = head .steps - j
+μ-loop kinds text head out₀ count last₀ from₀ j₀ out last from j = head .steps - j
 
 cast-count : tie.Need-cast-count Inv-loop μ-loop
 cast-count c = search needs
 
-cast-first : tie.Need-cast-first Inv-loop μ-loop
-cast-first c = search needs
-
-add-first : tie.Need-add-first Inv-loop μ-loop
-add-first c = search needs
-
 loop-holds : tie.Need-loop-holds Inv-loop μ-loop
-loop-holds c = (search needs, refl, after-actions _ _ _ _ _ (c .before .before .before .before .pre .0))
+loop-holds c = (search needs, refl, after-actions _ _ _ _ _ (c .before .before .before .pre .0))
 
 step-at-requires : tie.Need-step-at-requires Inv-loop μ-loop
-step-at-requires c κs = (c .before .loop .inv .2 .place, search needs)
+step-at-requires c κs = (c .before .loop .inv .2 .inside .place, search needs)
 
 enum-known-read : tie.Need-enum-known-read Inv-loop μ-loop
 enum-known-read c = search needs
-
-add-t20 : tie.Need-add-t20 Inv-loop μ-loop
-add-t20 c = let m = c .before .before .before .before .before .loop .inv .2 .limits in omega arith
 
 same-length : tie.Need-same-length Inv-loop μ-loop
 same-length c = c .before .before .before .before .before .loop .inv .1
@@ -54,19 +45,22 @@ returns c =
 enum-known-read-2 : tie.Need-enum-known-read-2 Inv-loop μ-loop
 enum-known-read-2 c = search needs
 
-mul-put-step : tie.Need-mul-put-step Inv-loop μ-loop
-mul-put-step c = omega arith
-
-add-put-step : tie.Need-add-put-step Inv-loop μ-loop
-add-put-step c = omega arith
+cast-t21 : tie.Need-cast-t21 Inv-loop μ-loop
+cast-t21 c = omega arith
 
 put-step-requires : tie.Need-put-step-requires Inv-loop μ-loop
 put-step-requires c κs =
     let l = c .before .before .before .before .before .before in
     let b = l .loop .inv .2 in
-    let n = AfterStep-length _ _ _ (l .loop .j) _ _ b (l .loop .inv .0) in
+    let n = afterStep-length _ _ _ (l .loop .j) _ _ b (l .loop .inv .0) in
     let m = b .limits .steps in
     omega arith
+
+add-t23 : tie.Need-add-t23 Inv-loop μ-loop
+add-t23 c =
+    let l = c .before .before .before .before .before .before .before .before .before .before in
+    let i = l .loop .inv .2 .inside in
+    omega (arith, i .place, i .line-le)
 
 add-j : tie.Need-add-j Inv-loop μ-loop
 add-j c = omega arith
@@ -76,7 +70,7 @@ loop-less c = omega arith
 
 loop-again : tie.Need-loop-again Inv-loop μ-loop
 loop-again c =
-    let p = c .before .before in
+    let p = c .before .before .before in
     let r = p .before .before .before in
     let a = r .before .before in
     let l = a .before .before in (
@@ -101,18 +95,15 @@ steps-spec =
     Inv-loop
     μ-loop
     cast-count
-    cast-first
-    add-first
     loop-holds
     step-at-requires
     enum-known-read
-    add-t20
     same-length
     returns
     enum-known-read-2
-    mul-put-step
-    add-put-step
+    cast-t21
     put-step-requires
+    add-t23
     add-j
     loop-less
     loop-again

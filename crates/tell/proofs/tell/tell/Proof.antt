@@ -1,6 +1,6 @@
 -- A refusal of Read is told as it is; what Read has left is judged, and demand 3 follows from the three promises.
 use borrow.Author.Needs.{needs}
-use Rattle.reader.proofs.ReadAnswers.{not-done}
+use Rattle.read_write.proofs.ReadAnswers.{not-done}
 use Rattle.tell.proofs.TextAnswers.{unread-promised, unread-claimed, read-long-good, judged-promised}
 use Rattle.tell.proofs.TextAnswers.{judged-claimed}
 use Rattle.tell.proofs.tell.tell.Statement.{statement}

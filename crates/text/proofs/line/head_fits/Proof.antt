@@ -6,6 +6,9 @@ use Rattle.text.specs.Laws.LinesLaws.{headFits-tests}
 use Rattle.text.proofs.line.head_fits.Statement.{statement}
 use Rattle.text.proofs.line.head_fits.Tie as tie
 
+cast-between : tie.Need-cast-between
+cast-between c = search needs
+
 between-requires : tie.Need-between-requires
 between-requires c κs = search needs
 
@@ -13,6 +16,9 @@ returns : tie.Need-returns
 returns c =
     let e = sym (c .before .between .ensures) ∙ not-true _ (c .if1 .taken) in
     sym (headFits-tests _ e refl refl refl)
+
+cast-between-2 : tie.Need-cast-between-2
+cast-between-2 c = search needs
 
 between-requires-2 : tie.Need-between-requires-2
 between-requires-2 c κs = search needs
@@ -23,6 +29,9 @@ returns-2 c =
     let e = sym (p .before .between .ensures) ∙ not-false _ (p .if1 .left) in
     let f = sym (c .before .between2 .ensures) ∙ not-true _ (c .if2 .taken) in
     sym (headFits-tests _ e f refl refl)
+
+cast-if3 : tie.Need-cast-if3
+cast-if3 c = search needs
 
 returns-3 : tie.Need-returns-3
 returns-3 c =
@@ -41,4 +50,15 @@ returns-4 c =
     sym (headFits-tests _ e f (le-leb _ _ (c .if3 .left)) refl)
 
 pub head-fits-spec : {M : Type 1} → statement M
-head-fits-spec = tie.close (tie.spec between-requires returns between-requires-2 returns-2 returns-3 returns-4)
+head-fits-spec =
+    tie.close
+    (tie.spec
+    cast-between
+    between-requires
+    returns
+    cast-between-2
+    between-requires-2
+    returns-2
+    cast-if3
+    returns-3
+    returns-4)

@@ -6,7 +6,7 @@ use native.Mathlib.Omega.{arith}
 use lib.Dec.{T}
 use borrow.Author.Needs.{needs}
 use borrow.Author.Tests.{not-true, not-false}
-use Rattle.text.specs.Bytes.{kindOf}
+use Rattle.text.specs.Bytes.{byteM, kindOf}
 use Rattle.text.specs.Lines.{good, checked, numbersLine, headNumbers}
 use Rattle.text.specs.Inner.LineAnswers.{headRead}
 use Rattle.text.specs.Laws.LinesLaws.{headOf-bad, headOf-numbers}
@@ -22,7 +22,7 @@ stored c = c .row .last .1 .1 .1 .0
 
 -- all fields are numbers
 read : (c : tie.After-enum-told) → let r = c .before .before .before in
-    numbersLine 77 4 (r .before .before .before .args .line .now) ≡ good (stored r)
+    numbersLine byteM 4 (r .before .before .before .args .line .now) ≡ good (stored r)
 read c = let r = c .before .before .before in row-good _ _ _ (r .row .ensures) (c .enum-told .given .1)
 
 range : (c : tie.Else1) → HeadRanges (headNumbers (stored (c .before .before .before .before .before)))

@@ -5,6 +5,7 @@ use Prim.Native.Nat.{_-_, _≤_, _<_}
 use native.Mathlib.Omega.{arith}
 use lib.ListN.{length, drop, drop-of-length-le}
 use borrow.Author.Needs.{needs}
+use Rattle.text.specs.Limits.{nameLimit}
 use Rattle.text.specs.Lines.{allOf, nameByte?}
 use Rattle.text.specs.Laws.ListLaws.{drop-next}
 use Rattle.text.specs.Laws.ActionLaws.{allName-nil, allName-cons, allName-bad, name-short, name-long, name-all}
@@ -13,13 +14,16 @@ use Rattle.text.proofs.line.is_name.Tie as tie
 
 abbrev Inv-loop : tie.InvT-loop
 Inv-loop kinds f i₀ i =
-    (1 ≤ length f) × (length f ≤ 12) × (i ≤ length f) × (allOf nameByte? (drop i f) ≡ allOf nameByte? f)
+    (1 ≤ length f) × (length f ≤ nameLimit) × (i ≤ length f) × (allOf nameByte? (drop i f) ≡ allOf nameByte? f)
 
 abbrev μ-loop : tie.MeasureT-loop
 μ-loop kinds f i₀ i = length f - i
 
 returns : tie.Need-returns Inv-loop μ-loop
 returns c = sym (name-short _ (c .if1 .taken))
+
+cast-if2 : tie.Need-cast-if2 Inv-loop μ-loop
+cast-if2 c = search needs
 
 returns-2 : tie.Need-returns-2 Inv-loop μ-loop
 returns-2 c = sym (name-long _ (c .if2 .taken))
@@ -79,6 +83,7 @@ is-name-spec =
     Inv-loop
     μ-loop
     returns
+    cast-if2
     returns-2
     loop-holds
     shared-slice-read-kind

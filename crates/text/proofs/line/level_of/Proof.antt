@@ -1,9 +1,9 @@
 -- `level_of` compares a byte with the three letters of levels, each of which is a capital.
-use mathlib.Core.Path.{sym, _∙_}
+use mathlib.Core.Path.{refl, _∙_}
 use borrow.Author.Needs.{needs}
 use borrow.Author.Tests.{eq-eqb, ne-eqb}
-use Rattle.text.specs.Inner.PartAnswers.{levelNumber}
-use Rattle.text.specs.Laws.ActionLaws.{levelNumber-other}
+use Rattle.text.specs.Inner.PartAnswers.{levelRead}
+use Rattle.text.specs.Laws.ActionLaws.{levelOf-byte, levelOf-other}
 use Rattle.text.proofs.line.level_of.Statement.{statement}
 use Rattle.text.proofs.line.level_of.Tie as tie
 
@@ -11,27 +11,32 @@ kind-requires : tie.Need-kind-requires
 kind-requires c κs = search needs
 
 returns : tie.Need-returns
-returns c = sym (levelNumber-other _ (λ e. c .if1 .taken (c .before .kind .ensures ∙ e)))
+unfolding levelRead
+returns c = levelOf-other _ (λ e. c .if1 .taken (c .before .kind .ensures ∙ e))
 
 returns-2 : tie.Need-returns-2
-unfolding levelNumber
-returns-2 c = simp (eq-eqb _ _ (c .if2 .taken))
+unfolding levelRead
+returns-2 c = levelOf-byte _ (eq-eqb _ _ (c .if2 .taken)) refl refl
 
 returns-3 : tie.Need-returns-3
-unfolding levelNumber
-returns-3 c = simp (ne-eqb _ _ (c .before .if2 .left), eq-eqb _ _ (c .if3 .taken))
+unfolding levelRead
+returns-3 c = levelOf-byte _ (ne-eqb _ _ (c .before .if2 .left)) (eq-eqb _ _ (c .if3 .taken)) refl
 
 returns-4 : tie.Need-returns-4
-unfolding levelNumber
+unfolding levelRead
 returns-4 c =
-    simp
-    (ne-eqb _ _ (c .before .before .if2 .left), ne-eqb _ _ (c .before .if3 .left), eq-eqb _ _ (c .if4 .taken))
+    levelOf-byte _
+    (ne-eqb _ _ (c .before .before .if2 .left))
+    (ne-eqb _ _ (c .before .if3 .left))
+    (eq-eqb _ _ (c .if4 .taken))
 
 returns-5 : tie.Need-returns-5
-unfolding levelNumber
+unfolding levelRead
 returns-5 c =
-    simp
-    (ne-eqb _ _ (c .before .before .if2 .left), ne-eqb _ _ (c .before .if3 .left), ne-eqb _ _ (c .if4 .left))
+    levelOf-byte _
+    (ne-eqb _ _ (c .before .before .if2 .left))
+    (ne-eqb _ _ (c .before .if3 .left))
+    (ne-eqb _ _ (c .if4 .left))
 
 pub level-of-spec : {M : Type 1} → statement M
 level-of-spec = tie.close (tie.spec kind-requires returns returns-2 returns-3 returns-4 returns-5)

@@ -55,6 +55,9 @@ mul-v c = omega (arith, at-digit c)
 cast-v : tie.Need-cast-v Inv-loop μ-loop
 cast-v c = omega (arith, at-digit c)
 
+cast-v-2 : tie.Need-cast-v-2 Inv-loop μ-loop
+cast-v-2 c = search needs
+
 sub-v : tie.Need-sub-v Inv-loop μ-loop
 sub-v c = omega (arith, at-digit c)
 
@@ -97,6 +100,7 @@ digits-value-spec =
     returns
     mul-v
     cast-v
+    cast-v-2
     sub-v
     add-v
     add-i

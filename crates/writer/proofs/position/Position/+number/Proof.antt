@@ -10,6 +10,7 @@ use borrow.Author.Needs.{needs}
 use borrow.Fn.Kinds.{In}
 use borrow.Fn.PlainCycle.{Measures, is, falls, and}
 use Rattle.writer.specs.Laws.WroteLaws.{wrote-append}
+use Rattle.text.specs.Bytes.{byteZero}
 use Rattle.text.specs.Numbers.{digits}
 use Rattle.text.specs.Laws.DigitsLaws.{digitsUpTo-lt, digitsUpTo-le, digits-digitsUpTo}
 use Rattle.writer.proofs.position.Position.number.Reads as number
@@ -21,18 +22,18 @@ use Rattle.writer.proofs.position.Position.+number.Tie.{close}
 
 -- ---- digits, the last one apart
 
-digits-lt : (n : ℕ) → n < 10 → digits n ≡ (48 + n) ∷ []
+digits-lt : (n : ℕ) → n < 10 → digits n ≡ (byteZero + n) ∷ []
 unfolding digits
 digits-lt n h = digitsUpTo-lt 4 n h
 
-digits-le : (n : ℕ) → 10 ≤ n → n < 100000 → digits n ≡ digits (n / 10) ++ ((48 + n % 10) ∷ [])
+digits-le : (n : ℕ) → 10 ≤ n → n < 100000 → digits n ≡ digits (n / 10) ++ ((byteZero + n % 10) ∷ [])
 digits-le n h b =
     digits-digitsUpTo 0 5 n b (lit< tt) refl
     ∙ digitsUpTo-le 4 n h
     ∙ rw (digits-digitsUpTo 1 4 (n / 10) (omega arith) (lit< tt) refl)
 
 digits-le-length : (n : ℕ) → 10 ≤ n → n < 100000 → length (digits n) ≡ length (digits (n / 10)) + 1
-digits-le-length n h b = ap length (digits-le n h b) ∙ length-append (digits (n / 10)) ((48 + n % 10) ∷ [])
+digits-le-length n h b = ap length (digits-le n h b) ∙ length-append (digits (n / 10)) ((byteZero + n % 10) ∷ [])
 
 -- ---- the function
 

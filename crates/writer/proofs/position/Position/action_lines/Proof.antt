@@ -3,9 +3,9 @@ use Prim.Native.Nat.{_-_, _≤_, _<_}
 use mathlib.Core.Path.{_≡_}
 use native.Mathlib.Omega.{arith}
 use borrow.Author.Needs.{needs}
-use lib.ListN.{length, getD}
+use lib.ListN.{length}
 use denote.Ref.{now}
-use Rattle.model.specs.StoredModel.{listed, actionAt, modelAt}
+use Rattle.model.specs.StoredModel.{headAt, listed, actionAt, modelAt}
 use Rattle.model.specs.Text.{actionsText}
 use Rattle.writer.specs.Wrote.{Wrote}
 use Rattle.writer.specs.Laws.WroteLaws.{wrote-nil, wrote-append}
@@ -34,8 +34,8 @@ action-at-requires c κs =
     let s = loop .before .before .before .before in
     let i = loop .loop .i in
     let store = now (s .args .store) in
-    let h : i < getD store 1 0 = omega (arith, loop .before .actions .ensures, c .before .loop-test .taken) in
-    (s .pre .0, (h, omega (arith, s .pre .1, actionsText-room (actionAt store) i (getD store 1 0) h)))
+    let h : i < headAt store .actions = omega (arith, loop .before .actions .ensures, c .before .loop-test .taken) in
+    (s .pre .0, (h, omega (arith, s .pre .1, actionsText-room (actionAt store) i (headAt store .actions) h)))
 
 add-i : tie.Need-add-i Inv-loop μ-loop
 add-i c = search needs
@@ -57,7 +57,7 @@ unfolding modelAt
 returns c =
     let loop = c .before in
     let s = loop .before .before .before .before in
-    let e : loop .loop .i ≡ getD (now (s .args .store)) 1 0 = omega (arith, loop .before .actions .ensures) in
+    let e : loop .loop .i ≡ headAt (now (s .args .store)) .actions = omega (arith, loop .before .actions .ensures) in
     rw (← e) (loop .loop .inv .2)
 
 pub action-lines-spec : {M : Type 1} → statement M

@@ -6,9 +6,9 @@ use lib.ListN.{length, length-append}
 use denote.Ref.{now}
 use Rattle.text.specs.declared.Head.{Head}
 use Rattle.model.specs.StoredModel.{modelAt}
-use Rattle.model.specs.Text.{headText, textOf}
+use Rattle.model.specs.Text.{headText, modelText}
 use Rattle.writer.specs.Laws.WroteLaws.{wrote-append, wrote-length}
-use Rattle.writer.specs.Laws.WritingLaws.{textOf-length}
+use Rattle.writer.specs.Laws.WritingLaws.{modelText-length}
 use Rattle.writer.proofs.position.Position.model.Statement.{statement}
 use Rattle.writer.proofs.position.Position.model.Tie as tie
 
@@ -19,7 +19,7 @@ head-line-requires : tie.Need-head-line-requires
 unfolding modelAt
 head-line-requires c κs =
     let s = c .before .before .before .before in
-    rw (c .head .ensures) (omega (arith, s .pre .1, textOf-length (modelAt (now (s .args .store)))))
+    rw (c .head .ensures) (omega (arith, s .pre .1, modelText-length (modelAt (now (s .args .store)))))
 
 action-lines-requires : tie.Need-action-lines-requires
 unfolding modelAt
@@ -27,7 +27,7 @@ action-lines-requires c κs =
     let head = c .before .before .before .before in
     let s = head .before .before .before .before in
     let e = ap (λ (h : Head). length (headText h)) (head .head .ensures) in
-    (s .pre .0, omega (arith, s .pre .1, textOf-length (modelAt (now (s .args .store)))))
+    (s .pre .0, omega (arith, s .pre .1, modelText-length (modelAt (now (s .args .store)))))
 
 step-lines-requires : tie.Need-step-lines-requires
 unfolding modelAt
@@ -35,7 +35,7 @@ step-lines-requires c κs =
     let head = c .before .before .before .before .before .before .before .before in
     let s = head .before .before .before .before in
     let e = ap (λ (h : Head). length (headText h)) (head .head .ensures) in
-    (s .pre .0, omega (arith, s .pre .1, textOf-length (modelAt (now (s .args .store)))))
+    (s .pre .0, omega (arith, s .pre .1, modelText-length (modelAt (now (s .args .store)))))
 
 slice-aggregate-text : tie.Need-slice-aggregate-text
 slice-aggregate-text c = search needs
@@ -49,14 +49,14 @@ text-requires c κs =
     let s = head .before .before .before .before .before in
     let line = rw (head .before .head .ensures) at (head .head-line .ensures) in
     let w = wrote-append (wrote-append line (actions .action-lines .ensures)) (steps .step-lines .ensures) in
-    let l = textOf-length (modelAt (now (s .args .store))) in
+    let l = modelText-length (modelAt (now (s .args .store))) in
     omega (arith, s .pre .1, wrote-length w, simp length-append at (w .place))
 
 same-length : tie.Need-same-length
 same-length c = search needs
 
 returns : tie.Need-returns
-unfolding textOf modelAt
+unfolding modelText modelAt
 returns c =
     let end = c .before .before in
     let steps = end .before .before .before .before .before in

@@ -3,9 +3,9 @@ use Prim.Native.Nat.{_-_, _≤_, _<_}
 use mathlib.Core.Path.{_≡_}
 use native.Mathlib.Omega.{arith}
 use borrow.Author.Needs.{needs}
-use lib.ListN.{length, getD}
+use lib.ListN.{length}
 use denote.Ref.{now}
-use Rattle.model.specs.StoredModel.{listed, stepAt, modelAt}
+use Rattle.model.specs.StoredModel.{headAt, listed, stepAt, modelAt}
 use Rattle.model.specs.Text.{stepsText}
 use Rattle.writer.specs.Wrote.{Wrote}
 use Rattle.writer.specs.Laws.WroteLaws.{wrote-nil, wrote-append}
@@ -42,8 +42,9 @@ step-line-requires-2 c κs =
     let s = loop .before .before .before .before in
     let i = loop .loop .i in
     let store = now (s .args .store) in
-    let h : i < getD store 2 0 = omega (arith, loop .before .steps .ensures, c .before .before .loop-test .taken) in
-    let room = stepsText-room (stepAt store) i (getD store 2 0) h in
+    let n = loop .before .steps .ensures in
+    let h : i < headAt store .steps = omega (arith, n, c .before .before .loop-test .taken) in
+    let room = stepsText-room (stepAt store) i (headAt store .steps) h in
     rw (c .step-line .ensures) (omega (arith, s .pre .1))
 
 add-i : tie.Need-add-i Inv-loop μ-loop
@@ -66,7 +67,7 @@ unfolding modelAt
 returns c =
     let loop = c .before in
     let s = loop .before .before .before .before in
-    let e : loop .loop .i ≡ getD (now (s .args .store)) 2 0 = omega (arith, loop .before .steps .ensures) in
+    let e : loop .loop .i ≡ headAt (now (s .args .store)) .steps = omega (arith, loop .before .steps .ensures) in
     rw (← e) (loop .loop .inv .2)
 
 pub step-lines-spec : {M : Type 1} → statement M

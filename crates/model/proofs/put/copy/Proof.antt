@@ -6,9 +6,9 @@ use mathlib.Core.List.{_++_}
 use mathlib.Core.Path.{_≡_, _∙_}
 use lib.ListN.{length, take, drop, length-set}
 use lib.Seq.{take-length}
-use Rattle.reader.specs.Laws.FillLaws.{copy-suc}
-use Rattle.reader.proofs.body.copy.Statement.{statement}
-use Rattle.reader.proofs.body.copy.Tie as tie
+use Rattle.model.specs.Laws.Store.PutLaws.{copy-suc}
+use Rattle.model.proofs.put.copy.Statement.{statement}
+use Rattle.model.proofs.put.copy.Tie as tie
 
 abbrev Inv-loop : tie.InvT-loop
 Inv-loop from to₀ i₀ to i = (i ≤ length from) × (length to ≡ length to₀) × (to ≡ take i from ++ drop i to₀)

@@ -6,8 +6,8 @@ use Prim.Native.Nat.{_+_, _-_, _≤_, _<_}
 use mathlib.Core.Path.{_≡_, refl, sym, _∙_}
 use lib.ListN.{length, length-set}
 use lib.Seq.{paste, paste-zero, paste-suc, sets-eq, take-length}
-use Rattle.reader.proofs.actions.put_name.Statement.{statement}
-use Rattle.reader.proofs.actions.put_name.Tie as tie
+use Rattle.model.proofs.put.put_name.Statement.{statement}
+use Rattle.model.proofs.put.put_name.Tie as tie
 
 abbrev Inv-loop : tie.InvT-loop
 Inv-loop out₀ at name i₀ out i = (i ≤ length name) × (length out ≡ length out₀) × (out ≡ paste out₀ at name i)

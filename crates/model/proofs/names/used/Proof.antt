@@ -6,17 +6,18 @@ use mathlib.Core.Bool.{true, false}
 use mathlib.Core.List.{List}
 use mathlib.Core.Path.{_≡_, refl, sym, _∙_}
 use lib.ListN.{length, drop}
+use Rattle.text.specs.Limits.{actionsBegin}
 use Rattle.text.specs.Model.{ActionLine}
 use Rattle.text.specs.Lines.{used?}
-use Rattle.reader.specs.Inner.ReadSoFar.{ActionsStored}
-use Rattle.reader.specs.Laws.NameLaws.{used?-drop, used?-none}
-use Rattle.reader.proofs.actions.used.Statement.{statement}
-use Rattle.reader.proofs.actions.used.Tie as tie
+use Rattle.model.specs.Inner.StoredActions.{ActionsStored}
+use Rattle.model.specs.Laws.Store.NamesLaws.{used?-drop, used?-none}
+use Rattle.model.proofs.names.used.Statement.{statement}
+use Rattle.model.proofs.names.used.Tie as tie
 
 abbrev Inv-loop : tie.InvT-loop
 Inv-loop store count name i₀ i =
     (i ≤ count)
-    × ((before : List ActionLine) → ActionsStored store 4 before → length before ≡ count
+    × ((before : List ActionLine) → ActionsStored store actionsBegin before → length before ≡ count
     → used? name before ≡ used? name (drop i before))
 
 abbrev μ-loop : tie.MeasureT-loop
@@ -24,12 +25,6 @@ abbrev μ-loop : tie.MeasureT-loop
 
 loop-holds : tie.Need-loop-holds Inv-loop μ-loop
 loop-holds c = (search needs, λ before s n. refl)
-
-mul-named : tie.Need-mul-named Inv-loop μ-loop
-mul-named c = search needs
-
-add-named : tie.Need-add-named Inv-loop μ-loop
-add-named c = search needs
 
 named-requires : tie.Need-named-requires Inv-loop μ-loop
 named-requires c κs = search needs
@@ -73,8 +68,6 @@ used-spec =
     Inv-loop
     μ-loop
     loop-holds
-    mul-named
-    add-named
     named-requires
     returns
     add-i

@@ -1,5 +1,5 @@
--- What Read answers and leaves, by what its first line and the lines behind it came to.
--- Document 01, "The operations, in the order of the work", 1, and both sections on refusals. Assumes nothing.
+-- What the lines of a text answer and leave, by what the first line and the lines behind it came to.
+-- Document 01, operation 1, and "Refused because of the input". Assumes nothing.
 use mathlib.Core.List.{List, [], _∷_, _++_}
 use mathlib.Core.Path.{_≡_, refl, sym, ap, _∙_}
 use Prim.Native.Nat.{ℕ, _+_, _-_, _≤_, _<_}
@@ -10,7 +10,8 @@ use Rattle.text.specs.declared.Fault.the-variants.{Absent}
 use Rattle.text.specs.declared.Head.{Head}
 use Rattle.text.specs.declared.line.HeadRead.{HeadRead}
 use Rattle.text.specs.declared.line.HeadRead.the-variants as head-read
-use Rattle.reader.specs.declared.answers.ReadAnswer.the-variants.{Done, Faulty}
+use Rattle.reader.specs.declared.answers.TextRead.{TextRead}
+use Rattle.reader.specs.declared.answers.TextRead.the-variants.{Done, Faulty}
 use Rattle.text.specs.Limits.{storeLength}
 use Rattle.text.specs.Bytes.{lineEnd}
 use Rattle.text.specs.Split.{split, indexOf}
@@ -18,8 +19,9 @@ use Rattle.text.specs.Laws.SplitLaws.{split-nil, split-first, split-part, split
 use Rattle.text.specs.Lines.{bad, headOf}
 use Rattle.text.specs.Inner.LineAnswers.{headRead}
 use Rattle.model.specs.Reading.{faulty, onLine, orFault, readModel}
-use Rattle.reader.specs.Answers.{readAnswer, readingStore}
-use Rattle.reader.specs.Inner.ReadSoFar.{whole, AfterHead, AfterEnd, AfterLine, AfterFirst, firstLine, ReadOut}
+use Rattle.reader.specs.Answers.{readingStore, ReadAs}
+use Rattle.reader.specs.Inner.ReadSoFar.{whole, AfterHead, AfterEnd, Through}
+use Rattle.reader.specs.Inner.ReadSoFar.{AfterLine, AfterFirst, firstLine, ReadOut}
 use Rattle.reader.specs.Laws.ReadLaws.{headOf-limits}
 
 -- ---- the first line
@@ -35,8 +37,8 @@ pub firstLine-past : (text : List ℕ) (at : ℕ) → length text < at → bad A
 unfolding firstLine
 firstLine-past text at h = rw (past text at h)
 
-pub AfterLine-past : (text : List ℕ) (at : ℕ) → length text < at → AfterLine text at (length text)
-AfterLine-past text at h =
+pub afterLine-past : (text : List ℕ) (at : ℕ) → length text < at → AfterLine text at (length text)
+afterLine-past text at h =
     record { place = omega arith; rest = λ line part parts s. absurd (one-part (sym (past text at h) ∙ s)) }
 
 module _ (text : List ℕ) (at e : ℕ) (le : at ≤ length text) (found : e ≡ at + indexOf lineEnd (drop at text)) where
@@ -50,16 +52,20 @@ module _ (text : List ℕ) (at e : ℕ) (le : at ≤ length text) (found : e ≡
   firstLine-line l =
       let w = split-first lineEnd (drop (e + 1) text) in rw (split-part lineEnd text at e le found l, w .2)
 
-  pub AfterLine-absent : length text ≤ e → AfterLine text at e
-  AfterLine-absent l =
+  pub afterLine-absent : length text ≤ e → AfterLine text at e
+  afterLine-absent l =
       let f = found-le lineEnd text at e le found in
       record {
         place = f .1;
         rest = λ line part parts s. absurd (one-part (sym (split-last lineEnd text at e le found l) ∙ s));
       }
 
-  pub AfterLine-line : e < length text → AfterLine text at (e + 1)
-  AfterLine-line l = record { place = omega arith; rest = λ line part parts s. tail (sym (split-part lineEnd text at e le found l) ∙ s) }
+  pub afterLine-line : e < length text → AfterLine text at (e + 1)
+  afterLine-line l =
+      record {
+        place = omega arith;
+        rest = λ line part parts s. tail (sym (split-part lineEnd text at e le found l) ∙ s);
+      }
     where
       tail : {p q : List ℕ} {ps qs : List (List ℕ)} → p ∷ ps ≡ q ∷ qs → ps ≡ qs
       tail h = cc
@@ -70,12 +76,13 @@ headRead-bad (head-read.Good h) fault e = let z : _≡_ {A = ℕ} 0 1 = cc in ab
 headRead-bad (head-read.Bad f) fault e = let d : f ≡ fault = cc in ap head-read.Bad d
 
 -- the first line of the text, and the place after it
-pub after-first : (r : HeadRead) (text : List ℕ) (at : ℕ) → headRead r ≡ firstLine (split lineEnd text) → AfterLine text 0 at
-    → AfterFirst r text at
+pub after-first : (r : HeadRead) (text : List ℕ) (at : ℕ) → headRead r ≡ firstLine (split lineEnd text)
+    → AfterLine text 0 at → AfterFirst r text at
 unfolding firstLine AfterFirst readModel onLine orFault headRead
 after-first r text at e b = go (split lineEnd text) refl r e
   where
-    go : (parts : List (List ℕ)) → split lineEnd text ≡ parts → (r : HeadRead) → headRead r ≡ firstLine parts → AfterFirst r text at
+    go : (parts : List (List ℕ)) → split lineEnd text ≡ parts → (r : HeadRead) → headRead r ≡ firstLine parts
+        → AfterFirst r text at
     go [] s (head-read.Good h) d = let z : _≡_ {A = ℕ} 0 1 = cc in absurd (omega arith)
     go [] s (head-read.Bad f) d = let f′ : f ≡ Absent = cc in rw (s, f′)
     go (line ∷ []) s (head-read.Good h) d = let z : _≡_ {A = ℕ} 0 1 = cc in absurd (omega arith)
@@ -83,29 +90,41 @@ after-first r text at e b = go (split lineEnd text) refl r e
     go (line ∷ part ∷ parts) s (head-read.Good h) d =
         record {
           limits = headOf-limits line h (sym d);
-          place = b .place;
+          inside = record { place = b .place; line-le = omega arith };
           rest = rw (s, ← d, b .rest line part parts s);
         }
     go (line ∷ part ∷ parts) s (head-read.Bad f) d = rw (s, ← d)
 
-pub AfterFirst-bad : (r : HeadRead) (text : List ℕ) (at : ℕ) (fault : Fault) → r ≡ head-read.Bad fault → AfterFirst r text at
-    → whole text ≡ faulty fault 1
+pub afterFirst-bad : (r : HeadRead) (text : List ℕ) (at : ℕ) (fault : Fault) → r ≡ head-read.Bad fault
+    → AfterFirst r text at → whole text ≡ faulty fault 1
 unfolding AfterFirst
-AfterFirst-bad r text at fault e b = rw e at b
+afterFirst-bad r text at fault e b = rw e at b
 
-pub AfterFirst-good : (r : HeadRead) (text : List ℕ) (at : ℕ) (h : Head) → r ≡ head-read.Good h → AfterFirst r text at
-    → AfterHead h text at
+pub afterFirst-good : (r : HeadRead) (text : List ℕ) (at : ℕ) (h : Head) → r ≡ head-read.Good h → AfterFirst r text at
+    → AfterHead h text (record { at = at; line = 2 })
 unfolding AfterFirst
-AfterFirst-good r text at h e b = rw e at b
+afterFirst-good r text at h e b = rw e at b
 
 -- ---- the answer
 
-pub ReadOut-faulty : (text store : List ℕ) (fault : Fault) (line : ℕ) → whole text ≡ faulty fault line
+pub readOut-faulty : (text store : List ℕ) (fault : Fault) (line : ℕ) → whole text ≡ faulty fault line
     → ReadOut text store (Faulty fault line) store
-unfolding readAnswer readingStore
-ReadOut-faulty text store fault line e = record { answer = rw e; filled = rw e }
+unfolding ReadAs readingStore
+readOut-faulty text store fault line e = record { answer = e; filled = rw e }
 
-pub ReadOut-done : (text store local exit : List ℕ) → AfterEnd text local → length local ≡ storeLength
+pub readOut-done : (text store local exit : List ℕ) → AfterEnd text local → length local ≡ storeLength
     → exit ≡ local ++ drop (length local) store → ReadOut text store Done exit
-unfolding readAnswer readingStore
-ReadOut-done text store local exit b n c = record { answer = rw (b .reads); filled = c ∙ rw (b .reads, n, b .stored) }
+unfolding ReadAs readingStore
+readOut-done text store local exit b n c =
+    record { answer = (b .model, b .reads); filled = c ∙ rw (b .reads, n, b .stored) }
+
+-- by what the lines behind the first came to
+pub through-done : (text local : List ℕ) (r : TextRead) → r ≡ Done → Through text local r → AfterEnd text local
+unfolding Through
+through-done text local r e h = rw e at h
+
+pub through-faulty : (text store local : List ℕ) (r : TextRead) (fault : Fault) (line : ℕ) → r ≡ Faulty fault line
+    → Through text local r → ReadOut text store r store
+unfolding Through
+through-faulty text store local Done fault line e h = let z : _≡_ {A = ℕ} 0 1 = cc in absurd (omega arith)
+through-faulty text store local (Faulty f k) fault line e h = readOut-faulty text store f k h

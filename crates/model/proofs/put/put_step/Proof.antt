@@ -3,8 +3,11 @@ use borrow.Author.Needs.{needs}
 use native.Mathlib.Omega.{arith}
 use native.Mathlib.Numerals.{add-one, add-two}
 use lib.ListN.{length-set}
-use Rattle.reader.proofs.steps.put_step.Statement.{statement}
-use Rattle.reader.proofs.steps.put_step.Tie as tie
+use Rattle.model.proofs.put.put_step.Statement.{statement}
+use Rattle.model.proofs.put.put_step.Tie as tie
+
+step-place-requires : tie.Need-step-place-requires
+step-place-requires c κs = search needs
 
 mul-out : tie.Need-mul-out
 mul-out c = search needs
@@ -34,12 +37,13 @@ same-length : tie.Need-same-length
 same-length c = simp length-set
 
 returns : tie.Need-returns
-returns c = simp (add-one, add-two)
+returns c = rw (c .step-place .ensures) (simp (add-one, add-two))
 
 pub put-step-spec : {M : Type 1} → statement M
 put-step-spec =
     tie.close
     (tie.spec
+    step-place-requires
     mul-out
     slice-write-out
     add-out

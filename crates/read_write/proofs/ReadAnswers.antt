@@ -5,9 +5,9 @@ use mathlib.Core.Path.{_≡_, subst}
 use native.Mathlib.Omega.{arith}
 use denote.Enum.Declared.{tagOf}
 use types.Run.{OneOf}
-use Rattle.reader.proofs.answers.ReadAnswer.{the-type}
-use Rattle.reader.specs.declared.answers.ReadAnswer.{ReadAnswer}
-use Rattle.reader.specs.declared.answers.ReadAnswer.the-variants.{Done}
+use Rattle.read_write.proofs.read.ReadAnswer.{the-type}
+use Rattle.read_write.specs.declared.read.ReadAnswer.{ReadAnswer}
+use Rattle.read_write.specs.declared.read.ReadAnswer.the-variants.{Done}
 
 pub not-done : (r : ReadAnswer) → OneOf (1 ∷ 2 ∷ 3 ∷ []) (tagOf the-type r) → ¬ (r ≡ Done)
 not-done r k e = go (subst (λ (x : ReadAnswer). OneOf (1 ∷ 2 ∷ 3 ∷ []) (tagOf the-type x)) e k)

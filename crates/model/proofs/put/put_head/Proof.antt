@@ -3,9 +3,9 @@ use borrow.Author.Needs.{needs}
 use native.Mathlib.Omega.{arith}
 use mathlib.Core.Path.{refl}
 use lib.ListN.{length-set}
 use Rattle.model.specs.Store.{headPlaces}
-use Rattle.reader.proofs.body.put_head.Statement.{statement}
-use Rattle.reader.proofs.body.put_head.Tie as tie
+use Rattle.model.proofs.put.put_head.Statement.{statement}
+use Rattle.model.proofs.put.put_head.Tie as tie
 
 slice-write-out : tie.Need-slice-write-out
 slice-write-out c = search needs

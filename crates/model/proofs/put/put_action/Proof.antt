@@ -4,8 +4,11 @@ use native.Mathlib.Omega.{arith}
 use native.Mathlib.Numerals.{add-one, add-two}
 use mathlib.Core.Path.{_∙_}
 use lib.ListN.{length-set}
-use Rattle.reader.proofs.actions.put_action.Statement.{statement}
-use Rattle.reader.proofs.actions.put_action.Tie as tie
+use Rattle.model.proofs.put.put_action.Statement.{statement}
+use Rattle.model.proofs.put.put_action.Tie as tie
+
+action-place-requires : tie.Need-action-place-requires
+action-place-requires c κs = search needs
 
 mul-out : tie.Need-mul-out
 mul-out c = search needs
@@ -35,12 +38,15 @@ same-length : tie.Need-same-length
 same-length c = c .before .before .put-name .kept .0 ∙ simp length-set
 
 returns : tie.Need-returns
-returns c = c .before .before .put-name .ensures ∙ simp (add-one, add-two)
+returns c =
+    let p = c .before .before in
+    p .put-name .ensures ∙ rw (p .before .before .action-place .ensures) (simp (add-one, add-two))
 
 pub put-action-spec : {M : Type 1} → statement M
 put-action-spec =
     tie.close
     (tie.spec
+    action-place-requires
     mul-out
     slice-write-out
     cast-out
