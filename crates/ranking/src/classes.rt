@@ -1,5 +1,6 @@
 // Ranks by classes, over moves given as lists: entry p of a class list is the lowest state of the class of p, and each
 // round compares states by the classes of the round before.
+use crate::table::pair_place;
 use text::State;
 use text::limits::ACTION_LIMIT;
 use text::limits::INDEX_LENGTH;
@@ -300,10 +301,10 @@ fn write_pair(
     if c.0 == d.0 {
         return;
     }
-    let x = p.0 as usize;
-    let y = q.0 as usize;
-    table[ROW * x + y] = round;
-    table[ROW * y + x] = round;
+    let at = pair_place(p, q);
+    let back = pair_place(q, p);
+    table[at] = round;
+    table[back] = round;
 }
 
 // Writes the round for p and each state that it separates from p.

@@ -104,11 +104,11 @@ module _ {class next : List ℕ} (round : ℕ) (t : List ℕ) {p q : ℕ} (lp : 
       (set (set t (pairPlace p q) round) (pairPlace q p) round)
   second n ln kp kq = written-set (set t (pairPlace p q) round) ln kq kp (simp length-set lt) (separatedBy-sym h)
 
-  pub pair-written : (n : ℕ) → n ≤ stateLimit → p < n → q < n
+  pair-written : (n : ℕ) → n ≤ stateLimit → p < n → q < n
       → Written n class next round t (set (set t (pairPlace p q) round) (pairPlace q p) round)
   pair-written n ln kp kq = written-trans (written-set t ln kp kq lt h) (second n ln kp kq)
 
-  pub pair-both : PairWritten class next round (set (set t (pairPlace p q) round) (pairPlace q p) round) p q
+  pair-both : PairWritten class next round (set (set t (pairPlace p q) round) (pairPlace q p) round) p q
   pair-both =
       let long : tableLength ≤ length (set t (pairPlace p q) round) = simp length-set lt in
       record {
@@ -118,6 +118,17 @@ module _ {class next : List ℕ} (round : ℕ) (t : List ℕ) {p q : ℕ} (lp : 
           getD-set-same (set t (pairPlace p q) round) (pairPlace q p) round 0 (omega arith),
         );
       }
+
+  -- the round is written at the places i and j
+  pub pair-set : {i j : ℕ} → i ≡ pairPlace p q → j ≡ pairPlace q p
+      → ((n : ℕ) → n ≤ stateLimit → p < n → q < n → Written n class next round t (set (set t i round) j round))
+      × PairWritten class next round (set (set t i round) j round) p q
+  pair-set {i} {j} e f =
+      let exit : set (set t i round) j round ≡ set (set t (pairPlace p q) round) (pairPlace q p) round =
+      (λ k. set (set t (e k) round) (f k) round) in (
+        λ n ln kp kq. subst (Written n class next round t) (sym exit) (pair-written n ln kp kq),
+        subst (λ (u : List ℕ). PairWritten class next round u p q) (sym exit) pair-both,
+      )
 
 module _ {class next t : List ℕ} {round : ℕ} where
   pub row-zero : {p : ℕ} → RowWritten class next round t p 0

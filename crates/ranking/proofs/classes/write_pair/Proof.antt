@@ -3,7 +3,7 @@ use mathlib.Core.Path.{sym, _∙_}
 use native.Mathlib.Omega.{arith}
 use lib.ListN.{length-set}
 use Rattle.ranking.specs.Inner.TableWrites.{SeparatedBy}
-use Rattle.ranking.specs.Laws.TableWritesLaws.{written-refl, pair-written, pair-both}
+use Rattle.ranking.specs.Laws.TableWritesLaws.{written-refl, pair-set}
 use borrow.Author.Needs.{needs}
 use Rattle.ranking.proofs.classes.write_pair.Statement.{statement}
 use Rattle.ranking.proofs.classes.write_pair.Tie as tie
@@ -32,26 +32,14 @@ returns-2 c =
     let d = c .before .before .before .class-of4 .ensures in
     (λ n _ _ _. written-refl _, record { both = λ h. absurd (h .not-same-after (e ∙ d)) })
 
-cast-x : tie.Need-cast-x
-cast-x c = search needs
+pair-place-requires : tie.Need-pair-place-requires
+pair-place-requires c κs = search needs
 
-cast-y : tie.Need-cast-y
-cast-y c = search needs
-
-mul-table : tie.Need-mul-table
-mul-table c = search needs
-
-add-table : tie.Need-add-table
-add-table c = search needs
+pair-place-requires-2 : tie.Need-pair-place-requires-2
+pair-place-requires-2 c κs = search needs
 
 slice-write-table : tie.Need-slice-write-table
 slice-write-table c = search needs
-
-mul-table-2 : tie.Need-mul-table-2
-mul-table-2 c = search needs
-
-add-table-2 : tie.Need-add-table-2
-add-table-2 c = search needs
 
 slice-write-table-2 : tie.Need-slice-write-table-2
 slice-write-table-2 c = simp length-set (omega arith)
@@ -61,20 +49,21 @@ same-length c = search needs
 
 returns-3 : tie.Need-returns-3
 returns-3 c =
-    let after = c .before .before in
+    let placed = c .before in
+    let after = placed .before in
     let x = after .before .before .before .before .class-of3 .ensures in
     let y = after .before .before .before .class-of4 .ensures in
     let before = after .before .before .before .before .before in
     let u = before .before .before .before .before .class-of .ensures in
     let v = before .before .before .before .class-of2 .ensures in
-    let a = before .before .before .before .before .before .before .args in
+    let at-start = before .before .before .before .before .before .before in
+    let a = at-start .args in
     let h : SeparatedBy (a .class .now) (a .next .now) (a .p .0) (a .q .0) = record {
       same-before = sym u ∙ before .if1 .left ∙ v;
       not-same-after = λ e. after .if2 .left (x ∙ e ∙ sym y);
-    } in (
-      pair-written (a .round) (a .table .now) (omega arith) (omega arith) (omega arith) h,
-      pair-both (a .round) (a .table .now) (omega arith) (omega arith) (omega arith) h,
-    )
+    } in
+    pair-set (a .round) (a .table .now) (at-start .pre .1 .0) (at-start .pre .1 .1) (at-start .pre .0) h
+    (placed .pair-place .ensures) (c .pair-place2 .ensures)
 
 pub write-pair-spec : {M : Type 1} → statement M
 write-pair-spec =
@@ -86,13 +75,9 @@ write-pair-spec =
     class-of-requires-3
     class-of-requires-4
     returns-2
-    cast-x
-    cast-y
-    mul-table
-    add-table
+    pair-place-requires
+    pair-place-requires-2
     slice-write-table
-    mul-table-2
-    add-table-2
     slice-write-table-2
     same-length
     returns-3)
