@@ -9,7 +9,7 @@ use Rattle.verdicts.specs.declared.judging.Verdict.{Verdict}
 use Rattle.letters.specs.declared.word.WordAnswer.{WordAnswer}
 use Rattle.letters.specs.declared.word.WordAnswer.the-variants.{Shown, ShortList, NotGood, NotDeterministic, NoLeak}
 use Rattle.letters.specs.Inner.Letters.{Showable}
-use Rattle.lines.specs.PageLines.{PageLine, end-line, branch-line}
+use Rattle.lines.specs.PageLines.{PageLine, allows-line, branch-line}
 use Rattle.lines.specs.Page.{nameLine}
 
 -- The first n places of a list are actions of the model.
@@ -28,7 +28,7 @@ Spelled m NoLeak word = Unit {0}
 
 -- The lines for what Word answers.
 abbrev pub shownLines : Model → WordAnswer → List ℕ → List PageLine
-shownLines m (Shown n end) word = map (nameLine m) (take n word) ++ (end-line end ∷ [])
+shownLines m (Shown n end) word = map (nameLine m) (take n word) ++ (allows-line end ∷ [])
 shownLines m (ShortList place) word = branch-line ∷ []
 shownLines m NotGood word = branch-line ∷ []
 shownLines m (NotDeterministic j) word = branch-line ∷ []

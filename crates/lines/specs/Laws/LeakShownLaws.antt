@@ -29,7 +29,7 @@ use Rattle.letters.specs.WordDone.{wordOutcome, WordDone}
 use Rattle.letters.specs.Laws.LettersLaws.{stored-rank-lt}
 use Rattle.letters.specs.Laws.WordDoneLaws.{branch-cases, endNumber-injective}
 use Rattle.lines.specs.Page.{nameLine, LeakShown, by-word, by-branch, LeakLines, AfterStates}
-use Rattle.lines.specs.PageLines.{PageLine, run-line, end-line, branch-line}
+use Rattle.lines.specs.PageLines.{PageLine, run-line, allows-line, branch-line}
 use Rattle.lines.specs.Inner.Leak.{Letters, Spelled, shownLines}
 use Rattle.lines.specs.Inner.LinesWritten.{LinesWritten}
 use Rattle.lines.specs.Inner.Room.{runRoom, shownRoom, leakRoom}
@@ -101,12 +101,12 @@ module _ {s : List ℕ} {m : Model} (st : Stored s m) {j depth : ℕ} (refused :
                 omega (arith, e, letters-lt m w (word-shown .word-of .first-word .is-low) i h);
           }
 
-      by-word-shown : LeakShown m j depth word word′ (map (nameLine m) (take n word′) ++ (end-line end ∷ []))
+      by-word-shown : LeakShown m j depth word word′ (map (nameLine m) (take n word′) ++ (allows-line end ∷ []))
       by-word-shown =
-          subst (λ (e : End). LeakShown m j depth word word′ (map (nameLine m) (take n word′) ++ (end-line e ∷ [])))
+          subst (λ (e : End). LeakShown m j depth word word′ (map (nameLine m) (take n word′) ++ (allows-line e ∷ [])))
           (sym word-end)
           (subst
-          (λ (w : List ℕ). LeakShown m j depth word word′ (map (nameLine m) w ++ (end-line (word-shown .end) ∷ [])))
+          (λ (w : List ℕ). LeakShown m j depth word word′ (map (nameLine m) w ++ (allows-line (word-shown .end) ∷ [])))
           (sym word-taken)
           (by-word word-deterministic (word-shown .word-of) (word-shown .length-is) (word-shown .list)))
 
