@@ -1,2 +1,3 @@
 pub mod RunAnswers
 pub mod WordAnswers
+pub mod JudgeWordAnswers

@@ -11,32 +11,32 @@ use Rattle.model.specs.StoredModel.{modelAt}
 use Rattle.text.specs.Laws.FirstShortLaws.{first-short, second-short, third-short, fourth-short, none-short-four}
 use Rattle.model.specs.Laws.OnStoreLaws.{onStore-short, onStore-not-good, onStore-model}
 use Rattle.verdicts.specs.JudgeFilled.{JudgeFilled}
-use Rattle.letters.specs.declared.word.WordAnswer.{WordAnswer}
-use Rattle.letters.specs.declared.word.WordAnswer.the-variants.{ShortList, NotGood}
-use Rattle.letters.specs.WordDone.{wordOutcome, WordDone}
-use Rattle.judge.specs.WordPromise.{wordLists, WordPromise}
+use Rattle.letters.specs.declared.word.Shown.{Shown}
+use Rattle.letters.specs.WordDone.{shownOutcome, WordDone}
+use Rattle.judge.specs.declared.word.WordAnswer.the-variants as word-answer
+use Rattle.judge.specs.WordPromise.{wordOutcome, wordLists, WordPromise}
 
 module _ (store distances table word : List ℕ) where
   pub short-store-promised : length store < storeLength
-      → WordPromise store distances table word (wordOutcome (ShortList 1)) distances table word
+      → WordPromise store distances table word (wordOutcome (word-answer.ShortList 1)) distances table word
   unfolding wordOutcome
   short-store-promised h = onStore-short (first-short _ _ h) refl (refl, refl, refl)
 
   module _ (first-long : storeLength ≤ length store) where
     pub short-distances-promised : length distances < distancesLength
-        → WordPromise store distances table word (wordOutcome (ShortList 2)) distances table word
+        → WordPromise store distances table word (wordOutcome (word-answer.ShortList 2)) distances table word
     unfolding wordOutcome
     short-distances-promised h = onStore-short (second-short _ _ first-long h) refl (refl, refl, refl)
 
     module _ (second-long : distancesLength ≤ length distances) where
       pub short-table-promised : length table < tableLength
-          → WordPromise store distances table word (wordOutcome (ShortList 3)) distances table word
+          → WordPromise store distances table word (wordOutcome (word-answer.ShortList 3)) distances table word
       unfolding wordOutcome
       short-table-promised h = onStore-short (third-short _ _ first-long second-long h) refl (refl, refl, refl)
 
       module _ (third-long : tableLength ≤ length table) where
         pub short-word-promised : length word < wordLength
-            → WordPromise store distances table word (wordOutcome (ShortList 4)) distances table word
+            → WordPromise store distances table word (wordOutcome (word-answer.ShortList 4)) distances table word
         unfolding wordOutcome
         short-word-promised h =
             onStore-short (fourth-short _ _ first-long second-long third-long h) refl (refl, refl, refl)
@@ -46,14 +46,16 @@ module _ (store distances table word : List ℕ) where
           wordLists-none = none-short-four first-long second-long third-long fourth-long
 
           pub not-good-promised : ¬ (Good store)
-              → WordPromise store distances table word (wordOutcome NotGood) distances table word
+              → WordPromise store distances table word (wordOutcome word-answer.NotGood) distances table word
           unfolding wordOutcome
           not-good-promised n = onStore-not-good wordLists-none n refl (refl, refl, refl)
 
-          pub done-promised : (r : WordAnswer) (distances′ table′ word′ : List ℕ) → Good store
+          pub done-promised : (s : Shown) (distances′ table′ word′ : List ℕ) → Good store
               → JudgeFilled (modelAt store) distances table distances′ table′
-              → WordDone (modelAt store) (wordOutcome r) word word′
-              → WordPromise store distances table word (wordOutcome r) distances′ table′ word′
-          done-promised r distances′ table′ word′ good f d =
-              onStore-model (λ m. JudgeFilled m distances table distances′ table′ × WordDone m (wordOutcome r) word word′)
+              → WordDone (modelAt store) (shownOutcome s) word word′
+              → WordPromise store distances table word (wordOutcome (word-answer.Shown s)) distances′ table′ word′
+          unfolding wordOutcome
+          done-promised s distances′ table′ word′ good f d =
+              onStore-model
+              (λ m. JudgeFilled m distances table distances′ table′ × WordDone m (shownOutcome s) word word′)
               wordLists-none good (f, d)

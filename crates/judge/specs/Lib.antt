@@ -4,3 +4,4 @@ pub mod RankPromise
 pub mod JudgePromise
 pub mod RunPromise
 pub mod WordPromise
+pub mod JudgeWordPromise

@@ -7,10 +7,18 @@ use Prim.Native.Nat.{ℕ}
 use lib.ListN.{length}
 use Rattle.text.specs.Limits.{storeLength}
 use Rattle.text.specs.Limits.{distancesLength, tableLength, wordLength}
-use Rattle.text.specs.Faults.{Outcome, firstShort}
+use Rattle.text.specs.Faults.{Outcome, refuses, firstShort}
 use Rattle.model.specs.OnStore.{OnStore}
 use Rattle.verdicts.specs.JudgeFilled.{JudgeFilled}
-use Rattle.letters.specs.WordDone.{WordDone}
+use Rattle.letters.specs.WordDone.{shownOutcome, WordDone}
+use Rattle.judge.specs.declared.word.WordAnswer.{WordAnswer}
+use Rattle.judge.specs.declared.word.WordAnswer.the-variants as word
+
+-- What is shown answers a word or gives 23 or 24.
+unfoldable pub wordOutcome : WordAnswer → Outcome
+wordOutcome (word.Shown shown) = shownOutcome shown
+wordOutcome (word.ShortList place) = refuses 21 place
+wordOutcome word.NotGood = refuses 22 0
 
 abbrev pub wordLists : List ℕ → List ℕ → List ℕ → List ℕ → Option ℕ
 wordLists store distances table word =

@@ -1,5 +1,6 @@
 // Judging: Reach, Rank, Judge, Run and Word.
 pub mod judge;
+pub mod judge_word;
 pub mod rank;
 pub mod reach;
 pub mod run;

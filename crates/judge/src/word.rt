@@ -1,5 +1,5 @@
 // The operation Word.
-use letters::word::WordAnswer;
+use letters::word::Shown;
 use text::limits::DISTANCES_LENGTH;
 use text::limits::INDEX_LENGTH;
 use text::limits::ROLES_LENGTH;
@@ -8,8 +8,14 @@ use text::limits::TABLE_LENGTH;
 use text::limits::WORD_LENGTH;
 ghost use Prim.Native.Nat.{_<_};
 ghost use lib.ListN.{length};
-ghost use Rattle.letters.specs.WordDone.{wordOutcome};
-ghost use Rattle.judge.specs.WordPromise.{WordPromise};
+ghost use Rattle.judge.specs.WordPromise.{wordOutcome, WordPromise};
+
+// What Word answers: what is shown of a good store.
+pub enum WordAnswer {
+    Shown(Shown),
+    ShortList(usize),
+    NotGood,
+}
 
 // Fills the distances and the table, and the first shortest word that shows the leak; answers its length and the end
 // that allows it.
@@ -35,5 +41,6 @@ pub fn word(store: &[u16], distances: &mut [u16], table: &mut [u8], word: &mut [
     let mut begins = [0u16; INDEX_LENGTH];
     let mut roles = [0u16; ROLES_LENGTH];
     let verdict = verdicts::judging::judge_good(store, &mut begins, &mut roles, distances, table);
-    letters::word::show(store, &begins, &roles, distances, table, verdict, word)
+    let shown = letters::word::show(store, &begins, &roles, distances, table, verdict, word);
+    WordAnswer::Shown(shown)
 }

@@ -17,9 +17,9 @@ use Rattle.verdicts.specs.Verdicts.{Leak, PassedWith, RefusedAt, Judged}
 use Rattle.verdicts.specs.Laws.VerdictsLaws.{no-leak-of-bnid, passed-not-refused, refusedAt-unique}
 use Rattle.letters.specs.declared.word.End.{End}
 use Rattle.letters.specs.declared.word.End.the-variants.{Source, Target}
-use Rattle.letters.specs.declared.word.WordAnswer.the-variants.{Shown, NotDeterministic, NoLeak}
+use Rattle.letters.specs.declared.word.Shown.the-variants.{Word, NotDeterministic, NoLeak}
 use Rattle.letters.specs.Words.{Branches, WordOf, WordShown}
-use Rattle.letters.specs.WordDone.{wordOutcome, WordDone}
+use Rattle.letters.specs.WordDone.{shownOutcome, WordDone}
 use Rattle.letters.specs.Inner.Letters.{First, Showable, WordLists, SeparatedPair}
 use Rattle.letters.specs.Inner.WordHead.{WordFrom, WordWritten}
 use Rattle.letters.specs.Laws.WordsLaws.{not-branches}
@@ -62,8 +62,8 @@ judged-refused {m} e x = subst (Judged m) e x
 
 module _ {m : Model} where
   pub branching-done : (j : Step) (word : List ℕ) → First (Branches m) (j .0)
-      → WordDone m (wordOutcome (NotDeterministic j)) word word
-  unfolding wordOutcome
+      → WordDone m (shownOutcome (NotDeterministic j)) word word
+  unfolding shownOutcome
   branching-done j word x = record {
     branching = λ i y.
         let e : j .0 ≡ i = omega (arith, x .first i (y .branches), y .first (j .0) (x .holds)) in
@@ -73,8 +73,8 @@ module _ {m : Model} where
   }
 
   module _ (none : (j : ℕ) → ¬ (Branches m j)) where
-    pub passed-done : {top : ℕ} (word : List ℕ) → PassedWith m top → WordDone m (wordOutcome NoLeak) word word
-    unfolding wordOutcome
+    pub passed-done : {top : ℕ} (word : List ℕ) → PassedWith m top → WordDone m (shownOutcome NoLeak) word word
+    unfolding shownOutcome
     passed-done {top} word x = record {
       branching = λ i y. absurd (none i (y .branches));
       passed = λ _ _. (refl, refl);
@@ -86,22 +86,22 @@ module _ {m : Model} where
     wordFrom→WordOf Target x = record { first-word = x .first-word; only-from-end = x .only-from }
 
     pub shown-done : {j d p q : ℕ} (end : End) {entry exit : List ℕ} → RefusedAt m j d → p ≡ source m j → q ≡ target m j
-        → WordWritten m p q d end entry exit → WordDone m (wordOutcome (Shown d end)) entry exit
-    unfolding wordOutcome
+        → WordWritten m p q d end entry exit → WordDone m (shownOutcome (Word d end)) entry exit
+    unfolding shownOutcome
     shown-done {j} {d} {p} {q} end {entry} {exit} r e f x = record {
       branching = λ i y. absurd (none i (y .branches));
       passed = λ _ b. absurd (no-leak-of-bnid m b j d (r .leak));
       refused = λ _ i k y.
           let u = refusedAt-unique m j i d k r y in
-          subst (λ (n : ℕ). WordShown m n k (wordOutcome (Shown d end)) entry exit) (u .0)
-          (subst (λ (n : ℕ). WordShown m j n (wordOutcome (Shown d end)) entry exit) (u .1) shown);
+          subst (λ (n : ℕ). WordShown m n k (shownOutcome (Word d end)) entry exit) (u .0)
+          (subst (λ (n : ℕ). WordShown m j n (shownOutcome (Word d end)) entry exit) (u .1) shown);
     }
       where
         from : WordFrom m (source m j) (target m j) (x .word) end
         from = subst (λ (n : ℕ). WordFrom m n (target m j) (x .word) end) e
             (subst (λ (n : ℕ). WordFrom m p n (x .word) end) f (x .word-from))
 
-        shown : WordShown m j d (wordOutcome (Shown d end)) entry exit
+        shown : WordShown m j d (shownOutcome (Word d end)) entry exit
         shown = record {
           word = x .word;
           end = end;

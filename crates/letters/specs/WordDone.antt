@@ -1,4 +1,4 @@
--- What Word does on a good store.
+-- What Word shows on a good store.
 -- Document 01, operation 6, and "Refused because of the state", 23 and 24.
 use mathlib.Core.List.{List, [], _∷_}
 use mathlib.Core.Path.{_≡_}
@@ -9,18 +9,16 @@ use Rattle.text.specs.Faults.{Outcome, answers, refuses}
 use Rattle.text.specs.Model.{Model}
 use Rattle.model.specs.System.{DeterministicModel, view}
 use Rattle.verdicts.specs.Verdicts.{RefusedAt}
-use Rattle.letters.specs.declared.word.WordAnswer.{WordAnswer}
-use Rattle.letters.specs.declared.word.WordAnswer.the-variants.{Shown, ShortList, NotGood, NotDeterministic, NoLeak}
+use Rattle.letters.specs.declared.word.Shown.{Shown}
+use Rattle.letters.specs.declared.word.Shown.the-variants.{Word, NotDeterministic, NoLeak}
 use Rattle.letters.specs.Words.{FirstBranch, endNumber, WordShown}
 
--- "23 (Word): not deterministic; place: the first step with a reachable source that shares source and action with the
+-- "Answers its length, which is the depth, and the end that allows it." "23 (Word): not deterministic; place: the first step with a reachable source that shares source and action with the
 -- step before it." "24 (Word): deterministic and passed; place 0."
-unfoldable pub wordOutcome : WordAnswer → Outcome
-wordOutcome (Shown length end) = answers (length ∷ endNumber end ∷ [])
-wordOutcome (ShortList place) = refuses 21 place
-wordOutcome NotGood = refuses 22 0
-wordOutcome (NotDeterministic j) = refuses 23 (j .0)
-wordOutcome NoLeak = refuses 24 0
+unfoldable pub shownOutcome : Shown → Outcome
+shownOutcome (Word length end) = answers (length ∷ endNumber end ∷ [])
+shownOutcome (NotDeterministic j) = refuses 23 (j .0)
+shownOutcome NoLeak = refuses 24 0
 
 -- What Word shows of a model: its outcome, and the word's list.
 pub record WordDone (m : Model) (outcome : Outcome) (word word′ : List ℕ) : Type 0 where

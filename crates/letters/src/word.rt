@@ -9,7 +9,7 @@ ghost use Prim.Native.Nat.{_≤_, _<_};
 ghost use lib.ListN.{length};
 ghost use Rattle.text.specs.Limits.{wordLength};
 ghost use Rattle.model.specs.StoredModel.{modelAt};
-ghost use Rattle.letters.specs.WordDone.{wordOutcome, WordDone};
+ghost use Rattle.letters.specs.WordDone.{shownOutcome, WordDone};
 ghost use Rattle.letters.specs.Inner.Letters.{Showable, StepLists, WordLists, SeparatedPair};
 ghost use Rattle.letters.specs.Inner.WordHead.{WordFrom, WordWritten};
 
@@ -19,11 +19,10 @@ pub enum End {
     Target,
 }
 
-// What Word answers: the word's length, which is the depth, and the end that allows it.
-pub enum WordAnswer {
-    Shown(usize, End),
-    ShortList(usize),
-    NotGood,
+// What is shown of a good store: the word's length, which is the depth, and the end that allows it; or why there is
+// none.
+pub enum Shown {
+    Word(usize, End),
     NotDeterministic(Step),
     NoLeak,
 }
@@ -118,21 +117,21 @@ pub fn show(
     table: &[u8],
     verdict: Verdict,
     word: &mut [u16],
-) -> WordAnswer
+) -> Shown
     requires { ⌜ Showable (modelAt (now store)) verdict (now store) (now begins) (now roles) (now distances) (now table)
         (now word) ⌝ }
-    ensures { λ r. ⌜ WordDone (modelAt (now (store .entry))) (wordOutcome r) (now (word .entry)) (now (word .exit)) ⌝ }
+    ensures { λ r. ⌜ WordDone (modelAt (now (store .entry))) (shownOutcome r) (now (word .entry)) (now (word .exit)) ⌝ }
 {
     match crate::branch::first_branch(store, distances) {
-        Found::At(j) => WordAnswer::NotDeterministic(j),
+        Found::At(j) => Shown::NotDeterministic(j),
         Found::Nothing => match verdict {
-            Verdict::Passed(_) => WordAnswer::NoLeak,
+            Verdict::Passed(_) => Shown::NoLeak,
             Verdict::Refused(j, depth) => {
                 let p = model::store::source(store, j);
                 let q = model::store::target(store, j);
                 let end = fill_word(store, begins, roles, table, word, p, q, depth);
                 let length = depth as usize;
-                WordAnswer::Shown(length, end)
+                Shown::Word(length, end)
             }
         },
     }

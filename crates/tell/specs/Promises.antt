@@ -7,11 +7,11 @@ use Prim.Native.Nat.{ℕ}
 use Rattle.text.specs.Faults.{Outcome, answers}
 use Rattle.reader.specs.declared.answers.ReadAnswer.{ReadAnswer}
 use Rattle.read_write.specs.ReadPromise.{readOutcome, ReadPromise, ReadCause}
-use Rattle.judge.specs.JudgePromise.{judgeOutcome, JudgePromise}
+use Rattle.judge.specs.JudgePromise.{judgeOutcome}
 use Rattle.tell.specs.declared.tell.TextAnswer.{TextAnswer}
 use Rattle.tell.specs.declared.tell.TextAnswer.the-variants.{Unread, Judged}
-use Rattle.letters.specs.WordDone.{wordOutcome}
-use Rattle.judge.specs.WordPromise.{WordPromise}
+use Rattle.judge.specs.WordPromise.{wordOutcome}
+use Rattle.judge.specs.JudgeWordPromise.{JudgeWordPromise}
 use Rattle.tell.specs.Claim.{Claim}
 
 -- Where Read refuses, with its cause, the other two are not called.
@@ -29,8 +29,7 @@ pub record NotRead (text store distances table word : List ℕ) (read : ReadAnsw
 pub record ReadJudged (text store distances table word : List ℕ) (judge shown : Outcome)
     (store′ distances′ table′ word′ : List ℕ) : Type 0 where
   pub read-promise : ReadPromise text store (answers []) store′
-  pub judge-promise : JudgePromise store′ distances table judge distances′ table′
-  pub word-promise : WordPromise store′ distances′ table′ word shown distances′ table′ word′
+  pub judge-word-promise : JudgeWordPromise store′ distances table word judge shown distances′ table′ word′
 
 abbrev pub TellPromise : List ℕ → List ℕ → List ℕ → List ℕ → List ℕ → TextAnswer → List ℕ → List ℕ → List ℕ → List ℕ
     → Type 0

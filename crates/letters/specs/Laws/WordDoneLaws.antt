@@ -7,13 +7,12 @@ use mathlib.Core.Path.{_≡_, refl, sym, ap, _∙_, subst}
 use Prim.Native.Nat.{ℕ, zero, suc, _-_, _≤_, _<_}
 use native.Mathlib.Omega.{arith}
 use lib.Dec.{eqb}
-use lib.ListN.{length, drop}
+use lib.ListN.{length, drop, getD}
 use Rattle.lts.specs.FirstWordLaws.{first-word-unique}
 use Rattle.lts.specs.TestsLaws.{lt-or-le, eq-or-not, lt-suc-cases}
 use Rattle.lts.specs.Word.{OnlyFrom}
 use Rattle.lts.specs.WordLaws.{only-from-unique}
 use Rattle.text.specs.Faults.{Outcome, answers, refuses}
-use Rattle.text.specs.Laws.OutcomeLaws.{injective-of-inverse}
 use Rattle.text.specs.Model.{Model}
 use Rattle.model.specs.System.{source, action, target, ReachableIn, DeterministicModel, view}
 use Rattle.verdicts.specs.declared.judging.Verdict.{Verdict}
@@ -25,44 +24,35 @@ use Rattle.model.specs.Laws.System.StepTestLaws.{reachable-cases}
 use Rattle.verdicts.specs.Laws.VerdictTestLaws.{verdictOf-judged}
 use Rattle.letters.specs.declared.word.End.{End}
 use Rattle.letters.specs.declared.word.End.the-variants.{Source, Target}
-use Rattle.letters.specs.declared.word.WordAnswer.{WordAnswer}
-use Rattle.letters.specs.declared.word.WordAnswer.the-variants.{Shown, ShortList, NotGood, NotDeterministic, NoLeak}
+use Rattle.letters.specs.declared.word.Shown.{Shown}
+use Rattle.letters.specs.declared.word.Shown.the-variants.{Word, NotDeterministic, NoLeak}
 use Rattle.letters.specs.Words.{Branches, FirstBranch, endNumber, endState, otherState, WordOf, WordShown}
-use Rattle.letters.specs.WordDone.{wordOutcome, WordDone}
+use Rattle.letters.specs.WordDone.{shownOutcome, WordDone}
 use Rattle.letters.specs.Laws.WordsLaws.{branches-source, branches-action, branches-of, deterministic-of-no-branch}
 
--- ---- outcomes tell answers apart
+-- ---- outcomes tell what is shown apart
 
 endOf : ℕ → End
 endOf zero = Source
 endOf (suc n) = Target
 
-answerOf : Outcome → WordAnswer
-answerOf (answers []) = NoLeak
-answerOf (answers (n ∷ [])) = NoLeak
-answerOf (answers (n ∷ e ∷ [])) = Shown n (endOf e)
-answerOf (answers (n ∷ e ∷ k ∷ l)) = NoLeak
-answerOf (refuses k place) = cond (eqb k 21) (ShortList place)
-    (cond (eqb k 22) NotGood (cond (eqb k 23) (NotDeterministic (record { 0 = place })) NoLeak))
+pub shownBack : Outcome → Shown
+shownBack (answers values) = Word (getD values 0 0) (endOf (getD values 1 0))
+shownBack (refuses number place) = cond (eqb number 23) (NotDeterministic (record { 0 = place })) NoLeak
 
 endOf-endNumber : (e : End) → endOf (endNumber e) ≡ e
 unfolding endNumber endOf
 endOf-endNumber Source = refl
 endOf-endNumber Target = refl
 
-answerOf-wordOutcome : (r : WordAnswer) → answerOf (wordOutcome r) ≡ r
-unfolding wordOutcome answerOf
-answerOf-wordOutcome (Shown n e) = ap (Shown n) (endOf-endNumber e)
-answerOf-wordOutcome (ShortList place) = refl
-answerOf-wordOutcome NotGood = refl
-answerOf-wordOutcome (NotDeterministic j) = refl
-answerOf-wordOutcome NoLeak = refl
+pub shownBack-is : (r : Shown) → shownBack (shownOutcome r) ≡ r
+unfolding shownOutcome shownBack
+shownBack-is (Word n e) = ap (Word n) (endOf-endNumber e)
+shownBack-is (NotDeterministic j) = refl
+shownBack-is NoLeak = refl
 
 pub endNumber-injective : (d e : End) → endNumber d ≡ endNumber e → d ≡ e
 endNumber-injective d e h = sym (endOf-endNumber d) ∙ ap endOf h ∙ endOf-endNumber e
-
-pub wordOutcome-injective : (r s : WordAnswer) → wordOutcome r ≡ wordOutcome s → r ≡ s
-wordOutcome-injective = injective-of-inverse wordOutcome answerOf answerOf-wordOutcome
 
 -- ---- a first branch, or a deterministic model
 

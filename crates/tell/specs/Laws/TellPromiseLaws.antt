@@ -14,11 +14,9 @@ use Rattle.judge.specs.Laws.JudgeOutcomeLaws.{judgeOutcome-injective}
 use Rattle.judge.specs.Laws.JudgePromiseLaws.{judgePromise-unique}
 use Rattle.tell.specs.declared.tell.TextAnswer.{TextAnswer}
 use Rattle.tell.specs.declared.tell.TextAnswer.the-variants.{Unread, Judged}
-use Rattle.letters.specs.WordDone.{wordOutcome}
-use Rattle.judge.specs.WordPromise.{WordPromise}
+use Rattle.judge.specs.WordPromise.{wordOutcome, WordPromise}
 use Rattle.tell.specs.Promises.{NotRead, ReadJudged, TellPromise}
-use Rattle.letters.specs.Laws.WordDoneLaws.{wordOutcome-injective}
-use Rattle.judge.specs.Laws.WordPromiseLaws.{wordPromise-unique}
+use Rattle.judge.specs.Laws.WordPromiseLaws.{wordOutcome-injective, wordPromise-unique}
 
 module _ (text store distances table word : List ℕ) where
   -- What Read refuses is not judged.
@@ -35,12 +33,12 @@ module _ (text store distances table word : List ℕ) where
       → ((j ≡ k) × (v ≡ u)) × (s ≡ s′) × (d ≡ d′) × (t ≡ t′) × (w ≡ w′)
   readJudged-unique j k v u s d t w s′ d′ t′ w′ x y =
       let e = readPromise-unique text store (answers []) (answers []) s s′ (x .read-promise) (y .read-promise) .1 in
-      let judged = judgePromise-unique s distances table j k d t d′ t′ (x .judge-promise)
-      (subst (λ (z : List ℕ). JudgePromise z distances table k d′ t′) (sym e) (y .judge-promise)) in
-      let shown = wordPromise-unique s d t word v u d t w d′ t′ w′ (x .word-promise)
+      let judged = judgePromise-unique s distances table j k d t d′ t′ (x .judge-word-promise .judge-promise)
+      (subst (λ (z : List ℕ). JudgePromise z distances table k d′ t′) (sym e) (y .judge-word-promise .judge-promise)) in
+      let shown = wordPromise-unique s d t word v u d t w d′ t′ w′ (x .judge-word-promise .word-promise)
       (subst (λ (z : List ℕ). WordPromise s d z word u d′ t′ w′) (sym (judged .2))
       (subst (λ (z : List ℕ). WordPromise s z t′ word u d′ t′ w′) (sym (judged .1))
-      (subst (λ (z : List ℕ). WordPromise z d′ t′ word u d′ t′ w′) (sym e) (y .word-promise)))) in
+      (subst (λ (z : List ℕ). WordPromise z d′ t′ word u d′ t′ w′) (sym e) (y .judge-word-promise .word-promise)))) in
       ((judged .0, shown .0), e, judged .1, judged .2, shown .3)
 
   pub tellPromise-unique : (a b : TextAnswer) (s d t w s′ d′ t′ w′ : List ℕ)

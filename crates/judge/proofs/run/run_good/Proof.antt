@@ -2,6 +2,7 @@
 use mathlib.Core.Path.{_∙_}
 use native.Mathlib.Omega.{arith}
 use borrow.Author.Needs.{needs}
+use Rattle.text.specs.Laws.DecidesLaws.{decides-true, decides-false}
 use Rattle.model.specs.Laws.System.StoredLaws.{stored-states}
 use Rattle.distances.specs.Laws.DistancesLaws.{list-reachable}
 use Rattle.judge.proofs.RunAnswers.{no-state-done, unreachable-done, filled-done}
@@ -32,20 +33,14 @@ fill-distances-requires c κs =
     let pre = indexed .before .before .before .before .before .before .before .before .pre in
     (pre .0, (indexed .index .ensures, (omega arith, pre .1 .0)))
 
-cast-place : tie.Need-cast-place
-cast-place c = search needs
-
-mul-if2 : tie.Need-mul-if2
-mul-if2 c = search needs
-
-slice-read-if2 : tie.Need-slice-read-if2
-slice-read-if2 c =
-    let filled = c .before .before .before .before in
+is-unreachable-requires : tie.Need-is-unreachable-requires
+is-unreachable-requires c κs =
+    let filled = c .before .before .before in
     let below = filled .before .before .before .before .before .before in
     let pre = below .before .before .before .before .before .before .pre in
     let e = below .before .before .states .ensures ∙ stored-states (pre .0) in
     let n = filled .fill-distances .ensures .past .same-length in
-    omega (arith, e, n, below .if1 .left, pre .0 .states-le, pre .1)
+    (omega (arith, e, below .if1 .left, pre .0 .states-le), omega (arith, n, pre .1))
 
 same-length : tie.Need-same-length
 same-length c = search needs
@@ -57,7 +52,7 @@ returns-2 c =
     let at-start = below .before .before .before .before .before .before in
     let e = below .before .before .states .ensures ∙ stored-states (at-start .pre .0) in
     unreachable-done (at-start .pre .0) (at-start .args .p) _ (omega (arith, e, below .if1 .left))
-    (filled .fill-distances .ensures) (c .if2 .taken)
+    (filled .fill-distances .ensures) (decides-true _ _ (c .before .is-unreachable .ensures) (c .if2 .taken))
 
 fill-run-requires : tie.Need-fill-run-requires
 fill-run-requires c κs =
@@ -67,7 +62,8 @@ fill-run-requires c κs =
     let pre = below .before .before .before .before .before .before .pre in
     let e = below .before .before .states .ensures ∙ stored-states (pre .0) in
     let d = filled .fill-distances .ensures in
-    let r = list-reachable (pre .0) (d .list) (omega (arith, e, below .if1 .left)) (reached .if2 .left) in
+    let has-distance = decides-false _ _ (reached .before .is-unreachable .ensures) (reached .if2 .left) in
+    let r = list-reachable (pre .0) (d .list) (omega (arith, e, below .if1 .left)) has-distance in
     (pre .0, ((omega (arith, d .past .same-length, pre .1), d .list), (r, pre .1 .1)))
 
 same-length-2 : tie.Need-same-length-2
@@ -84,7 +80,9 @@ returns-3 c =
     let at-start = below .before .before .before .before .before .before in
     let e = below .before .before .states .ensures ∙ stored-states (at-start .pre .0) in
     filled-done (at-start .pre .0) (at-start .args .p) (omega (arith, e, below .if1 .left))
-    (filled .fill-distances .ensures) (reached .if2 .left) (c .before .before .fill-run .ensures)
+    (filled .fill-distances .ensures)
+    (decides-false _ _ (reached .before .is-unreachable .ensures) (reached .if2 .left))
+    (c .before .before .fill-run .ensures)
 
 pub run-good-spec : {M : Type 1} → statement M
 run-good-spec =
@@ -96,9 +94,7 @@ run-good-spec =
     index-requires
     slice-aggregate-fill-distances
     fill-distances-requires
-    cast-place
-    mul-if2
-    slice-read-if2
+    is-unreachable-requires
     same-length
     returns-2
     fill-run-requires

@@ -12,8 +12,8 @@ read-requires c κs = search needs
 enum-told : tie.Need-enum-told
 enum-told c = search needs
 
-judge-text-requires : tie.Need-judge-text-requires
-judge-text-requires c κs =
+judge-word-requires : tie.Need-judge-word-requires
+judge-word-requires c κs =
     let done = c .before .before .before .before in
     let read = done .before .before .before .before in
     read-long-good (read .read .ensures .0) (done .enum-told .given .1)
@@ -37,9 +37,9 @@ returns c =
     let read = done .before .before .before .before in
     let promise = read .read .ensures .0 in
     let is-done = done .enum-told .given .1 in
-    let r = judged .judge-text .result in (
-      judged-promised promise is-done r _ _ _ _ _ _ (judged .judge-text .ensures),
-      judged-claimed promise is-done r _ _ _ _ _ _ (judged .judge-text .ensures),
+    let told = judged .judge-word .result in (
+      judged-promised promise is-done (told .judge) (told .word) _ _ _ _ _ _ (judged .judge-word .ensures),
+      judged-claimed promise is-done (told .judge) (told .word) _ _ _ _ _ _ (judged .judge-word .ensures),
     )
 
 same-length-5 : tie.Need-same-length-5
@@ -58,7 +58,7 @@ tell-spec =
     (tie.spec
     read-requires
     enum-told
-    judge-text-requires
+    judge-word-requires
     same-length
     same-length-2
     same-length-3

@@ -3,10 +3,10 @@ use native.Mathlib.Omega.{arith}
 use borrow.Author.Needs.{needs}
 use Rattle.model.specs.Laws.System.GoodStoredLaws.{good→Stored}
 use Rattle.letters.specs.Laws.ShowableLaws.{judging→Showable}
-use Rattle.tell.proofs.TextAnswers.{short-distances-answered, short-table-answered, short-word-answered}
-use Rattle.tell.proofs.TextAnswers.{done-answered}
-use Rattle.tell.proofs.tell.judge_text.Statement.{statement}
-use Rattle.tell.proofs.tell.judge_text.Tie as tie
+use Rattle.judge.proofs.JudgeWordAnswers.{short-distances-answered, short-table-answered, short-word-answered}
+use Rattle.judge.proofs.JudgeWordAnswers.{done-answered}
+use Rattle.judge.proofs.judge_word.judge_word.Statement.{statement}
+use Rattle.judge.proofs.judge_word.judge_word.Tie as tie
 
 returns : tie.Need-returns
 returns c =
@@ -99,8 +99,8 @@ returns-4 c =
     (second-long .if1 .left) (third-long .if2 .left) (start .pre .1) (judged .judge-good .ensures)
     (fourth-long .if3 .left) (shown .show .result) (shown .show .ensures)
 
-pub judge-text-spec : {M : Type 1} → statement M
-judge-text-spec =
+pub judge-word-spec : {M : Type 1} → statement M
+judge-word-spec =
     tie.close
     (tie.spec
     returns
