@@ -23,11 +23,11 @@ pub data DistanceField (m : Model) (p : ℕ) : Option ℕ → Type 0 where
   unreached : ¬ (ReachableIn m p) → DistanceField m p none
   reached : {d : ℕ} → DistanceIn m p d → DistanceField m p (some d)
 
--- Of the states that `Picked` holds of, the lowest of rank 0 to p.
-pub record LowestAlike (m : Model) (Picked : ℕ → Type 0) (p class : ℕ) : Type 0 where
-  pub picked : Picked class
+-- Of the states of a kind, the lowest of rank 0 to p.
+pub record LowestAlike (m : Model) (Among : ℕ → Type 0) (p class : ℕ) : Type 0 where
+  pub class-among : Among class
   pub rank-zero : Rank (LowMove (view m)) p class 0
-  pub lowest : (q : ℕ) → q < class → Picked q → ¬ (Rank (LowMove (view m)) p q 0)
+  pub lowest : (q : ℕ) → q < class → Among q → ¬ (Rank (LowMove (view m)) p q 0)
 
 -- "class is the lowest state of rank 0 to it"
 abbrev pub ClassOf : Model → ℕ → ℕ → Type 0

@@ -1,6 +1,6 @@
 // The lines that show the leak of a refused model.
 use crate::lines::PagePosition;
-use letters::word::WordAnswer;
+use letters::word::Shown;
 use text::Action;
 use text::Step;
 use verdicts::judging::Verdict;
@@ -65,21 +65,15 @@ impl PagePosition {
         page
     }
 
-    // What Word shows: at most 127 letters and the end that allows them, or `N`.
-    fn shown_lines(
-        self,
-        out: &mut [u8],
-        store: &[u16],
-        word: &[u16],
-        shown: WordAnswer,
-    ) -> PagePosition
+    // A word's at most 127 letters and the end that allows it, or `N`.
+    fn shown_lines(self, out: &mut [u8], store: &[u16], word: &[u16], shown: Shown) -> PagePosition
         requires { ⌜ Writable (now store) ⌝ }
         requires { ⌜ Spelled (modelAt (now store)) shown (now word) ⌝ }
         requires { ⌜ self .at .at + shownRoom ≤ length (now out) ⌝ }
         ensures { λ r. ⌜ LinesWritten (_≡_ (shownLines (modelAt (now (store .entry))) shown (now (word .entry))))
             shownRoom (now (out .entry)) (self .at .at) (now (out .exit)) (r .at .at) ⌝ }
     {
-        if let WordAnswer::Shown(n, end) = shown {
+        if let Shown::Word(n, end) = shown {
             let page = self.word_lines(out, store, word, n);
             return page.allows_text(out, end).line_end(out);
         }

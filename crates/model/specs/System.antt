@@ -49,6 +49,10 @@ view m = record {
   states = m .head .states;
 }
 
+-- p is a state of the model.
+abbrev pub IsState : Model → ℕ → Type 0
+IsState m p = p < m .head .states
+
 -- "A state is reachable if steps of any level lead to it from the start."
 abbrev pub ReachableIn : Model → ℕ → Type 0
 ReachableIn m p = Reachable (view m) p

@@ -61,7 +61,9 @@ fn fault_line(read: ReadAnswer, out: &mut [u8]) -> PagePosition
 {
     let refusal = refusal_of(read);
     let start = PagePosition::start();
-    start.fault_text(out, refusal.number, refusal.place).line_end(out)
+    start
+        .fault_text(out, refusal.number, refusal.place)
+        .line_end(out)
 }
 
 // Prints the page of a text, or why Read refuses it, where all lists are long enough.

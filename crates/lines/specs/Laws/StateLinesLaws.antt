@@ -50,7 +50,7 @@ module _ {s : List ℕ} {m : Model} {roles distances table : List ℕ} (L : Mode
 
   pub class-of-zero : (p q : ℕ) → p < m .head .states → LowestZero table p q → ClassOf m p q
   class-of-zero p q l z = record {
-    picked = omega (arith, l, z .le);
+    class-among = omega (arith, l, z .le);
     rank-zero = subst (Rank (LowMove (view m)) p q) (z .zero) (L .ranks .ranks p q l (omega (arith, z .le)));
     lowest = λ i k _ x. z .lowest i k (rank-unique (LowMove (view m)) p i (getD table (pairPlace p i) 0) 0
         (L .ranks .ranks p i l (omega (arith, z .le))) x);
@@ -76,13 +76,13 @@ module _ {s : List ℕ} {m : Model} {roles distances table : List ℕ} (L : Mode
 
 module _ {m : Model} {p class : ℕ} where
   pub classOf-lowest : ClassOf m p class → (q : ℕ) → q < class → ¬ (Rank (LowMove (view m)) p q 0)
-  classOf-lowest x q l = x .lowest q l (omega (arith, l, x .picked))
+  classOf-lowest x q l = x .lowest q l (omega (arith, l, x .class-among))
 
   pub classOf-of-lowest : IsState m p → Rank (LowMove (view m)) p class 0
       → ((q : ℕ) → q < class → ¬ (Rank (LowMove (view m)) p q 0)) → ClassOf m p class
   classOf-of-lowest l r lowest =
       let le : class ≤ p = le-of-not-lt class p (λ k. lowest p k (bisimilar (bisimilar-refl (LowMove (view m)) p))) in
-      record { picked = omega (arith, l, le); rank-zero = r; lowest = λ q k _. lowest q k }
+      record { class-among = omega (arith, l, le); rank-zero = r; lowest = λ q k _. lowest q k }
 
 -- ---- the lines
 

@@ -1,4 +1,4 @@
--- A word's letters and its end, or `N` where Word answers none. Assumes nothing.
+-- A word's letters and the end that allows it, or `N` where none is shown. Assumes nothing.
 use mathlib.Core.List.{List, [], _∷_, _++_, map}
 use mathlib.Core.Logic.{inl, inr}
 use mathlib.Core.Path.{_≡_, refl, subst}
@@ -13,10 +13,10 @@ use Rattle.text.specs.Model.{Model}
 use Rattle.model.specs.StoredModel.{modelAt}
 use Rattle.writer.specs.Wrote.{Wrote}
 use Rattle.writer.specs.Laws.WroteLaws.{wrote-length}
-use Rattle.letters.proofs.word.WordAnswer.{the-type}
+use Rattle.letters.proofs.word.Shown.{the-type}
 use Rattle.letters.specs.declared.word.End.{End}
-use Rattle.letters.specs.declared.word.WordAnswer.{WordAnswer}
-use Rattle.letters.specs.declared.word.WordAnswer.the-variants.{Shown, ShortList, NotGood, NotDeterministic, NoLeak}
+use Rattle.letters.specs.declared.word.Shown.{Shown}
+use Rattle.letters.specs.declared.word.Shown.the-variants.{Word, NotDeterministic, NoLeak}
 use Rattle.lines.specs.Page.{nameLine}
 use Rattle.lines.specs.PageLines.{PageLine, allows-line, branch-line, lineBytes}
 use Rattle.lines.specs.Inner.Leak.{Letters, Spelled, shownLines}
@@ -28,21 +28,17 @@ use Rattle.lines.specs.Laws.PageLinesLaws.{lineBytes-length, allows-leng
 use Rattle.lines.proofs.lines.PagePosition.shown_lines.Statement.{statement}
 use Rattle.lines.proofs.lines.PagePosition.shown_lines.Tie as tie
 
--- any other answer than the first shows no word
-no-word : (m : Model) (shown : WordAnswer) (word : List ℕ) → OneOf (1 ∷ 2 ∷ 3 ∷ 4 ∷ []) (tagOf the-type shown)
+-- where no word is shown
+no-word : (m : Model) (shown : Shown) (word : List ℕ) → OneOf (1 ∷ 2 ∷ []) (tagOf the-type shown)
     → shownLines m shown word ≡ branch-line ∷ []
-no-word m (Shown n end) word (inl e) = absurd (omega arith)
-no-word m (Shown n end) word (inr (inl e)) = absurd (omega arith)
-no-word m (Shown n end) word (inr (inr (inl e))) = absurd (omega arith)
-no-word m (Shown n end) word (inr (inr (inr e))) = absurd (omega arith)
-no-word m (ShortList place) word k = refl
-no-word m NotGood word k = refl
+no-word m (Word n end) word (inl e) = absurd (omega arith)
+no-word m (Word n end) word (inr e) = absurd (omega arith)
 no-word m (NotDeterministic j) word k = refl
 no-word m NoLeak word k = refl
 
-letters-of : {m : Model} {shown : WordAnswer} {word : List ℕ} {n : ℕ} {end : End} → shown ≡ Shown n end
+letters-of : {m : Model} {shown : Shown} {word : List ℕ} {n : ℕ} {end : End} → shown ≡ Word n end
     → Spelled m shown word → Letters m n word
-letters-of {m} {word = word} e x = subst (λ (a : WordAnswer). Spelled m a word) e x
+letters-of {m} {word = word} e x = subst (λ (a : Shown). Spelled m a word) e x
 
 -- the letters' lines, and the end's
 with-end : (m : Model) (n : ℕ) (word : List ℕ) {at mid next : ℕ} {entry middle exit : List ℕ} (end : End)
