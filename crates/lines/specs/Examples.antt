@@ -7,7 +7,7 @@ use Prim.Native.Nat.{ℕ}
 use Rattle.text.specs.Numbers.{digits, digitsUpTo}
 use Rattle.verdicts.specs.declared.judging.Verdict.the-variants.{Refused}
 use Rattle.letters.specs.declared.word.End.the-variants.{Source}
-use Rattle.lines.specs.PageLines.{PageLine, verdict-line, state-line, word-line, end-line, last-line}
+use Rattle.lines.specs.PageLines.{PageLine, verdict-line, state-line, word-line, allows-line, last-line}
 use Rattle.lines.specs.PageLines.{distanceText, endText, lineText, pageBytes}
 
 abbrev scan : List ℕ
@@ -22,7 +22,7 @@ workedLines =
     ∷ state-line 3 (some 2) 3
     ∷ word-line scan
     ∷ word-line scan
-    ∷ end-line Source
+    ∷ allows-line Source
     ∷ last-line
     ∷ []
 

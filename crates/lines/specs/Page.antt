@@ -7,14 +7,14 @@ use Prim.Native.Nat.{ℕ, suc, _<_}
 use lib.ListN.{length, getD, drop}
 use Rattle.lts.specs.Alike.{Rank}
 use Rattle.text.specs.Model.{Model, noAction}
-use Rattle.model.specs.System.{source, ReachableIn, DistanceIn, DeterministicModel, view}
+use Rattle.model.specs.System.{source, ReachableIn, DistanceIn, DeterministicModel, IsState, view}
 use Rattle.verdicts.specs.declared.judging.Verdict.{Verdict}
 use Rattle.verdicts.specs.declared.judging.Verdict.the-variants.{Passed, Refused}
 use Rattle.distances.specs.Runs.{RunTo}
 use Rattle.verdicts.specs.Verdicts.{Judged}
 use Rattle.letters.specs.declared.word.End.{End}
 use Rattle.letters.specs.Words.{WordOf}
-use Rattle.lines.specs.PageLines.{PageLine, verdict-line, state-line, run-line, word-line, end-line, branch-line}
+use Rattle.lines.specs.PageLines.{PageLine, verdict-line, state-line, run-line, word-line, allows-line, branch-line}
 use Rattle.lines.specs.PageLines.{last-line}
 use Rattle.lts.specs.Noninterference.{LowMove}
 
@@ -23,10 +23,15 @@ pub data DistanceField (m : Model) (p : ℕ) : Option ℕ → Type 0 where
   unreached : ¬ (ReachableIn m p) → DistanceField m p none
   reached : {d : ℕ} → DistanceIn m p d → DistanceField m p (some d)
 
--- "class is the lowest state of rank 0 to it"
-pub record ClassOf (m : Model) (p class : ℕ) : Type 0 where
+-- Of the states of a kind, the lowest of rank 0 to p.
+pub record LowestAlike (m : Model) (Among : ℕ → Type 0) (p class : ℕ) : Type 0 where
+  pub class-among : Among class
   pub rank-zero : Rank (LowMove (view m)) p class 0
-  pub lowest : (q : ℕ) → q < class → ¬ (Rank (LowMove (view m)) p q 0)
+  pub lowest : (q : ℕ) → q < class → Among q → ¬ (Rank (LowMove (view m)) p q 0)
+
+-- "class is the lowest state of rank 0 to it"
+abbrev pub ClassOf : Model → ℕ → ℕ → Type 0
+ClassOf m p class = LowestAlike m (IsState m) p class
 
 -- The `C` lines of the states below n, "per state" one.
 pub data StateLines (m : Model) : ℕ → List PageLine → Type 0 where
@@ -47,7 +52,7 @@ nameLine m a = word-line (nameOf m a)
 -- `N`". "Page fills [..] word if it prints a `B` line (as Word does)." The word has as many letters as the depth says.
 pub data LeakShown (m : Model) (j depth : ℕ) (word word′ : List ℕ) : List PageLine → Type 0 where
   by-word : {w : List ℕ} {end : End} → DeterministicModel m → WordOf m j w end → length w ≡ depth
-      → word′ ≡ w ++ drop (length w) word → LeakShown m j depth word word′ (map (nameLine m) w ++ (end-line end ∷ []))
+      → word′ ≡ w ++ drop (length w) word → LeakShown m j depth word word′ (map (nameLine m) w ++ (allows-line end ∷ []))
   by-branch : ¬ (DeterministicModel m) → word′ ≡ word → LeakShown m j depth word word′ (branch-line ∷ [])
 
 -- "If refused: `R,step` per step of the run to the source of Judge's step"; then what shows the leak. "Page fills run

@@ -3,6 +3,7 @@
 use mathlib.Core.List.{List, [], _∷_, _++_}
 use mathlib.Core.Option.{Option, none, some}
 use Prim.Native.Nat.{ℕ}
+use Rattle.text.specs.Bytes.{byteLineEnd, byteDash, byteV, byteC, byteR, byteW, byteB, byteN, byteE, byteF}
 use Rattle.text.specs.Numbers.{digits}
 use Rattle.model.specs.Text.{field}
 use Rattle.verdicts.specs.declared.judging.Verdict.{Verdict}
@@ -16,7 +17,7 @@ pub data PageLine : Type 0 where
   state-line : (state : ℕ) (distance : Option ℕ) (class : ℕ) → PageLine
   run-line : (step : ℕ) → PageLine
   word-line : (name : List ℕ) → PageLine
-  end-line : End → PageLine
+  allows-line : End → PageLine
   branch-line : PageLine
   last-line : PageLine
 
@@ -29,7 +30,7 @@ refuseText = 114 ∷ 101 ∷ 102 ∷ 117 ∷ 115 ∷ 101 ∷ []
 
 -- "distance `-` if unreachable"
 unfoldable pub distanceText : Option ℕ → List ℕ
-distanceText none = 45 ∷ []
+distanceText none = byteDash ∷ []
 distanceText (some d) = digits d
 
 -- `source` or `target`
@@ -40,26 +41,29 @@ endText Target = 116 ∷ 97 ∷ 114 ∷ 103 ∷ 101 ∷ 116 ∷ []
 -- `V,pass,rank` or `V,refuse,step,depth`, `C,state,distance,class`, `R,step`, `W,name`, `B,source` or `B,target`, `N`
 -- and `E`
 unfoldable pub lineText : PageLine → List ℕ
-lineText (verdict-line (Passed rank)) = (86 ∷ []) ++ field passText ++ field (digits rank)
+lineText (verdict-line (Passed rank)) = (byteV ∷ []) ++ field passText ++ field (digits rank)
 lineText (verdict-line (Refused j depth)) =
-    (86 ∷ []) ++ field refuseText ++ field (digits (j .0)) ++ field (digits depth)
+    (byteV ∷ []) ++ field refuseText ++ field (digits (j .0)) ++ field (digits depth)
 lineText (state-line p distance class) =
-    (67 ∷ []) ++ field (digits p) ++ field (distanceText distance) ++ field (digits class)
-lineText (run-line j) = (82 ∷ []) ++ field (digits j)
-lineText (word-line name) = (87 ∷ []) ++ field name
-lineText (end-line end) = (66 ∷ []) ++ field (endText end)
-lineText branch-line = 78 ∷ []
-lineText last-line = 69 ∷ []
+    (byteC ∷ []) ++ field (digits p) ++ field (distanceText distance) ++ field (digits class)
+lineText (run-line j) = (byteR ∷ []) ++ field (digits j)
+lineText (word-line name) = (byteW ∷ []) ++ field name
+lineText (allows-line end) = (byteB ∷ []) ++ field (endText end)
+lineText branch-line = byteN ∷ []
+lineText last-line = byteE ∷ []
 
 -- "each line ends in byte 10"
 abbrev pub lineBytes : PageLine → List ℕ
-lineBytes l = lineText l ++ (10 ∷ [])
+lineBytes l = lineText l ++ (byteLineEnd ∷ [])
 
 -- The bytes of a page: its lines, one after the other.
 unfoldable pub pageBytes : List PageLine → List ℕ
 pageBytes [] = []
 pageBytes (l ∷ ls) = lineBytes l ++ pageBytes ls
 
--- `F,number,place` and its end
-unfoldable pub faultBytes : ℕ → ℕ → List ℕ
-faultBytes number place = (70 ∷ []) ++ field (digits number) ++ field (digits place) ++ (10 ∷ [])
+-- `F,number,place`, which is no line of a page
+unfoldable pub faultText : ℕ → ℕ → List ℕ
+faultText number place = (byteF ∷ []) ++ field (digits number) ++ field (digits place)
+
+abbrev pub faultBytes : ℕ → ℕ → List ℕ
+faultBytes number place = faultText number place ++ (byteLineEnd ∷ [])

@@ -1,6 +1,6 @@
 // The class of a state: the lowest state of rank 0 to it.
+use ranking::table::rank_at;
 use text::State;
-use text::limits::ROW;
 ghost use mathlib.Core.Path.{_≡_};
 ghost use Prim.Native.Nat.{_≤_, _<_};
 ghost use lib.ListN.{length, getD};
@@ -15,11 +15,9 @@ pub fn class_of(table: &[u8], p: State) -> State
     ensures { λ r. ⌜ LowestZero (now (table .entry)) (p .0) (r .0) ⌝ }
 {
     let n = p.0;
-    let row = ROW * n as usize;
     let mut q: u16 = 0;
     while q < n {
-        let at = row + q as usize;
-        if table[at] == 0 {
+        if rank_at(table, p, State(q)) == 0 {
             return State(q);
         }
         q += 1;

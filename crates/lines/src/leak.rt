@@ -1,6 +1,6 @@
 // The lines that show the leak of a refused model.
-use crate::lines::PageEnd;
-use letters::word::WordAnswer;
+use crate::lines::PagePosition;
+use letters::word::Shown;
 use text::Action;
 use text::Step;
 use verdicts::judging::Verdict;
@@ -11,15 +11,15 @@ ghost use lib.ListN.{length, take};
 ghost use Rattle.model.specs.StoredModel.{modelAt};
 ghost use Rattle.writer.specs.Inner.Writable.{Writable};
 ghost use Rattle.writer.specs.Wrote.{Wrote};
-ghost use Rattle.lines.specs.PageLines.{run-line, lineBytes};
+ghost use Rattle.lines.specs.PageLines.{run-line, lineText};
 ghost use Rattle.lines.specs.Page.{nameLine, AfterStates};
 ghost use Rattle.lines.specs.Inner.LinesWritten.{LinesWritten};
 ghost use Rattle.lines.specs.Inner.Room.{runRoom, nameRoom, shownRoom, leakRoom};
 ghost use Rattle.lines.specs.Inner.Leak.{Letters, Spelled, shownLines, JudgedLists};
 
-impl PageEnd {
+impl PagePosition {
     // A line for each of the first n steps of a run.
-    fn run_lines(self, out: &mut [u8], run: &[u16], n: usize) -> PageEnd
+    fn run_lines(self, out: &mut [u8], run: &[u16], n: usize) -> PagePosition
         requires { ⌜ (n ≤ length (now run)) × (self .at .at + runRoom * n ≤ length (now out)) ⌝ }
         ensures { λ r. ⌜ LinesWritten (_≡_ (map run-line (take n (now (run .entry))))) (runRoom * n) (now (out .entry))
             (self .at .at) (now (out .exit)) (r .at .at) ⌝ }
@@ -27,27 +27,28 @@ impl PageEnd {
         let mut page = self;
         let mut i: usize = 0;
         while i < n {
-            page = page.run_line(out, Step(run[i]));
+            let j = run[i];
+            page = page.run_text(out, Step(j)).line_end(out);
             i += 1;
         }
         page
     }
 
-    // The line of an action's name, which the store holds.
-    fn name_line(self, out: &mut [u8], store: &[u16], a: Action) -> PageEnd
+    // `W,name` of an action, whose name the store holds.
+    fn name_text(self, out: &mut [u8], store: &[u16], a: Action) -> PagePosition
         requires { ⌜ Writable (now store) ⌝ }
         requires { ⌜ a .0 < length (modelAt (now store) .actions) ⌝ }
-        requires { ⌜ self .at .at + nameRoom ≤ length (now out) ⌝ }
+        requires { ⌜ self .at .at + length (lineText (nameLine (modelAt (now store)) (a .0))) ≤ length (now out) ⌝ }
         ensures { λ r. ⌜ Wrote (now (out .entry)) (self .at .at)
-            (lineBytes (nameLine (modelAt (now (store .entry))) (a .0))) (now (out .exit)) (r .at .at) ⌝ }
+            (lineText (nameLine (modelAt (now (store .entry))) (a .0))) (now (out .exit)) (r .at .at) ⌝ }
     {
         let from = model::store::name_place(a);
         let to = from + model::store::name_length(store, a) as usize;
-        self.word_line(out, &store[from..to])
+        self.word_text(out, &store[from..to])
     }
 
     // A line for each of the first n letters of a word.
-    fn word_lines(self, out: &mut [u8], store: &[u16], word: &[u16], n: usize) -> PageEnd
+    fn word_lines(self, out: &mut [u8], store: &[u16], word: &[u16], n: usize) -> PagePosition
         requires { ⌜ Writable (now store) ⌝ }
         requires { ⌜ Letters (modelAt (now store)) n (now word) ⌝ }
         requires { ⌜ self .at .at + nameRoom * n ≤ length (now out) ⌝ }
@@ -57,25 +58,26 @@ impl PageEnd {
         let mut page = self;
         let mut i: usize = 0;
         while i < n {
-            page = page.name_line(out, store, Action(word[i]));
+            let a = word[i];
+            page = page.name_text(out, store, Action(a)).line_end(out);
             i += 1;
         }
         page
     }
 
-    // What Word shows: at most 127 letters and the end, or `N`.
-    fn shown_lines(self, out: &mut [u8], store: &[u16], word: &[u16], shown: WordAnswer) -> PageEnd
+    // A word's at most 127 letters and the end that allows it, or `N`.
+    fn shown_lines(self, out: &mut [u8], store: &[u16], word: &[u16], shown: Shown) -> PagePosition
         requires { ⌜ Writable (now store) ⌝ }
         requires { ⌜ Spelled (modelAt (now store)) shown (now word) ⌝ }
         requires { ⌜ self .at .at + shownRoom ≤ length (now out) ⌝ }
         ensures { λ r. ⌜ LinesWritten (_≡_ (shownLines (modelAt (now (store .entry))) shown (now (word .entry))))
             shownRoom (now (out .entry)) (self .at .at) (now (out .exit)) (r .at .at) ⌝ }
     {
-        if let WordAnswer::Shown(n, end) = shown {
+        if let Shown::Word(n, end) = shown {
             let page = self.word_lines(out, store, word, n);
-            return page.end_line(out, end);
+            return page.allows_text(out, end).line_end(out);
         }
-        self.branch_line(out)
+        self.branch_text(out).line_end(out)
     }
 
     // What follows the `C` lines: for a refused model the run to the source of Judge's step and what Word shows. The
@@ -91,7 +93,7 @@ impl PageEnd {
         v: Verdict,
         run: &mut [u16],
         word: &mut [u16],
-    ) -> PageEnd
+    ) -> PagePosition
         requires { ⌜ JudgedLists (modelAt (now store)) v (now store) (now begins) (now roles) (now distances)
             (now table) (now run) (now word) ⌝ }
         requires { ⌜ self .at .at + leakRoom ≤ length (now out) ⌝ }

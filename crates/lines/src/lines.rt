@@ -1,185 +1,180 @@
-// The lines of a page.
+// The texts of a page's lines, and the line end.
+use distances::distances::distance_at;
+use distances::distances::is_unreachable;
 use letters::word::End;
 use text::State;
 use text::Step;
-use text::limits::UNREACHABLE;
 use verdicts::judging::Verdict;
 use writer::position::Position;
+ghost use mathlib.Core.List.{[], _∷_};
 ghost use mathlib.Core.Path.{_≡_};
 ghost use Prim.Native.Nat.{ℕ, _+_, _≤_, _<_};
 ghost use lib.ListN.{length};
 ghost use Rattle.text.specs.All.{All};
+ghost use Rattle.text.specs.Bytes.{byteLineEnd};
+ghost use Rattle.text.specs.Limits.{distancesLength};
 ghost use Rattle.model.specs.Text.{field};
 ghost use Rattle.writer.specs.Wrote.{Wrote};
 ghost use Rattle.verdicts.specs.declared.judging.Verdict.the-variants.{Passed, Refused};
-ghost use Rattle.lines.specs.PageLines.{verdict-line, state-line, run-line, word-line, end-line, branch-line};
-ghost use Rattle.lines.specs.PageLines.{last-line, distanceText, lineBytes, faultBytes};
+ghost use Rattle.lines.specs.PageLines.{verdict-line, state-line, run-line, word-line, allows-line, branch-line};
+ghost use Rattle.lines.specs.PageLines.{last-line, distanceText, lineText, faultText};
 ghost use Rattle.lines.specs.Inner.Entries.{distanceOf};
 
-// Where the page ends so far, by value: each writer takes it and hands back where its line or field ended. Each asks
-// for room for just its own bytes.
-pub struct PageEnd {
+// A comma, and the distance of p or `-`.
+fn distance_field(at: Position, out: &mut [u8], distances: &[u16], p: State) -> Position
+    requires { ⌜ (p .0 < distancesLength) × (distancesLength ≤ length (now distances)) ⌝ }
+    requires { ⌜ at .at + length (field (distanceText (distanceOf (now distances) (p .0)))) ≤ length (now out) ⌝ }
+    ensures { λ r. ⌜ Wrote (now (out .entry)) (at .at)
+        (field (distanceText (distanceOf (now (distances .entry)) (p .0)))) (now (out .exit)) (r .at) ⌝ }
+{
+    if is_unreachable(distances, p) {
+        return at.text(out, b",-");
+    }
+    at.field(out, distance_at(distances, p))
+}
+
+// How far the page is written, by value: each writer takes it and hands back where it ended. Each asks for room for
+// just its own bytes. A line is its text, then the line end.
+pub struct PagePosition {
     pub at: Position,
 }
 
-impl PageEnd {
-    pub fn start() -> PageEnd
+impl PagePosition {
+    pub fn start() -> PagePosition
         ensures { λ r. ⌜ r .at .at ≡ 0 ⌝ }
     {
         let at = Position::start();
-        PageEnd { at: at }
+        PagePosition { at }
     }
 
-    // `V,pass,rank` and the line end.
-    fn passed_line(self, out: &mut [u8], rank: u8) -> PageEnd
-        requires { ⌜ self .at .at + length (lineBytes (verdict-line (Passed rank))) ≤ length (now out) ⌝ }
-        ensures { λ r. ⌜ Wrote (now (out .entry)) (self .at .at) (lineBytes (verdict-line (Passed rank)))
+    // What ends each line.
+    pub fn line_end(self, out: &mut [u8]) -> PagePosition
+        requires { ⌜ self .at .at < length (now out) ⌝ }
+        ensures { λ r. ⌜ Wrote (now (out .entry)) (self .at .at) (byteLineEnd ∷ []) (now (out .exit)) (r .at .at) ⌝ }
+    {
+        let at = self.at.byte(out, b'\n');
+        PagePosition { at }
+    }
+
+    // `V,pass,rank`
+    fn passed_text(self, out: &mut [u8], rank: u8) -> PagePosition
+        requires { ⌜ self .at .at + length (lineText (verdict-line (Passed rank))) ≤ length (now out) ⌝ }
+        ensures { λ r. ⌜ Wrote (now (out .entry)) (self .at .at) (lineText (verdict-line (Passed rank)))
             (now (out .exit)) (r .at .at) ⌝ }
     {
-        let at = self.at;
-        let p = at.text(out, b"V,pass");
-        let q = p.field(out, rank as u16);
-        let u = q.byte(out, b'\n');
-        PageEnd { at: u }
+        let at = self.at.text(out, b"V,pass").field(out, rank as u16);
+        PagePosition { at }
     }
 
-    // `V,refuse,step,depth` and the line end.
-    fn refused_line(self, out: &mut [u8], j: Step, depth: u8) -> PageEnd
-        requires { ⌜ self .at .at + length (lineBytes (verdict-line (Refused j depth))) ≤ length (now out) ⌝ }
-        ensures { λ r. ⌜ Wrote (now (out .entry)) (self .at .at) (lineBytes (verdict-line (Refused j depth)))
+    // `V,refuse,step,depth`
+    fn refused_text(self, out: &mut [u8], j: Step, depth: u8) -> PagePosition
+        requires { ⌜ self .at .at + length (lineText (verdict-line (Refused j depth))) ≤ length (now out) ⌝ }
+        ensures { λ r. ⌜ Wrote (now (out .entry)) (self .at .at) (lineText (verdict-line (Refused j depth)))
             (now (out .exit)) (r .at .at) ⌝ }
     {
-        let at = self.at;
-        let p = at.text(out, b"V,refuse");
-        let q = p.field(out, j.0);
-        let u = q.field(out, depth as u16);
-        let v = u.byte(out, b'\n');
-        PageEnd { at: v }
+        let at = self.at
+            .text(out, b"V,refuse")
+            .field(out, j.0)
+            .field(out, depth as u16);
+        PagePosition { at }
     }
 
-    // The line of a verdict.
-    pub fn verdict_line(self, out: &mut [u8], v: Verdict) -> PageEnd
-        requires { ⌜ self .at .at + length (lineBytes (verdict-line v)) ≤ length (now out) ⌝ }
-        ensures { λ r. ⌜ Wrote (now (out .entry)) (self .at .at) (lineBytes (verdict-line v)) (now (out .exit))
+    // The verdict.
+    pub fn verdict_text(self, out: &mut [u8], v: Verdict) -> PagePosition
+        requires { ⌜ self .at .at + length (lineText (verdict-line v)) ≤ length (now out) ⌝ }
+        ensures { λ r. ⌜ Wrote (now (out .entry)) (self .at .at) (lineText (verdict-line v)) (now (out .exit))
             (r .at .at) ⌝ }
     {
         match v {
-            Verdict::Passed(rank) => self.passed_line(out, rank),
-            Verdict::Refused(j, depth) => self.refused_line(out, j, depth),
+            Verdict::Passed(rank) => self.passed_text(out, rank),
+            Verdict::Refused(j, depth) => self.refused_text(out, j, depth),
         }
     }
 
-    // A comma, and a distance or `-`.
-    fn distance_field(self, out: &mut [u8], d: u16) -> PageEnd
-        requires { ⌜ self .at .at + length (field (distanceText (distanceOf d))) ≤ length (now out) ⌝ }
-        ensures { λ r. ⌜ Wrote (now (out .entry)) (self .at .at) (field (distanceText (distanceOf d))) (now (out .exit))
-            (r .at .at) ⌝ }
-    {
-        let at = self.at;
-        if d == UNREACHABLE {
-            let p = at.text(out, b",-");
-            return PageEnd { at: p };
-        }
-        let q = at.field(out, d);
-        PageEnd { at: q }
-    }
-
-    // `C,state,distance,class` and the line end.
-    pub fn state_line(self, out: &mut [u8], p: State, d: u16, class: State) -> PageEnd
-        requires { ⌜ self .at .at + length (lineBytes (state-line (p .0) (distanceOf d) (class .0)))
+    // `C,state,distance,class`
+    pub fn state_text(
+        self,
+        out: &mut [u8],
+        p: State,
+        distances: &[u16],
+        class: State,
+    ) -> PagePosition
+        requires { ⌜ (p .0 < distancesLength) × (distancesLength ≤ length (now distances)) ⌝ }
+        requires { ⌜ self .at .at + length (lineText (state-line (p .0) (distanceOf (now distances) (p .0)) (class .0)))
             ≤ length (now out) ⌝ }
         ensures { λ r. ⌜ Wrote (now (out .entry)) (self .at .at)
-            (lineBytes (state-line (p .0) (distanceOf d) (class .0))) (now (out .exit)) (r .at .at) ⌝ }
-    {
-        let at = self.at;
-        let q = at.byte(out, b'C');
-        let u = q.field(out, p.0);
-        let begun = PageEnd { at: u };
-        let told = begun.distance_field(out, d);
-        let v = told.at;
-        let w = v.field(out, class.0);
-        let x = w.byte(out, b'\n');
-        PageEnd { at: x }
-    }
-
-    // `R,step` and the line end.
-    pub fn run_line(self, out: &mut [u8], j: Step) -> PageEnd
-        requires { ⌜ self .at .at + length (lineBytes (run-line (j .0))) ≤ length (now out) ⌝ }
-        ensures { λ r. ⌜ Wrote (now (out .entry)) (self .at .at) (lineBytes (run-line (j .0))) (now (out .exit))
+            (lineText (state-line (p .0) (distanceOf (now (distances .entry)) (p .0)) (class .0))) (now (out .exit))
             (r .at .at) ⌝ }
     {
-        let at = self.at;
-        let p = at.byte(out, b'R');
-        let q = p.field(out, j.0);
-        let u = q.byte(out, b'\n');
-        PageEnd { at: u }
+        let at = self.at.byte(out, b'C').field(out, p.0);
+        let at = distance_field(at, out, distances, p).field(out, class.0);
+        PagePosition { at }
     }
 
-    // `W,name` and the line end.
-    pub fn word_line(self, out: &mut [u8], name: &[u16]) -> PageEnd
-        requires { ⌜ self .at .at + length (lineBytes (word-line (now name))) ≤ length (now out) ⌝ }
+    // `R,step`
+    pub fn run_text(self, out: &mut [u8], j: Step) -> PagePosition
+        requires { ⌜ self .at .at + length (lineText (run-line (j .0))) ≤ length (now out) ⌝ }
+        ensures { λ r. ⌜ Wrote (now (out .entry)) (self .at .at) (lineText (run-line (j .0))) (now (out .exit))
+            (r .at .at) ⌝ }
+    {
+        let at = self.at.byte(out, b'R').field(out, j.0);
+        PagePosition { at }
+    }
+
+    // `W,name`
+    pub fn word_text(self, out: &mut [u8], name: &[u16]) -> PagePosition
+        requires { ⌜ self .at .at + length (lineText (word-line (now name))) ≤ length (now out) ⌝ }
         requires { ⌜ All (λ (b : ℕ). b < 256) (now name) ⌝ }
-        ensures { λ r. ⌜ Wrote (now (out .entry)) (self .at .at) (lineBytes (word-line (now (name .entry))))
+        ensures { λ r. ⌜ Wrote (now (out .entry)) (self .at .at) (lineText (word-line (now (name .entry))))
             (now (out .exit)) (r .at .at) ⌝ }
     {
-        let at = self.at;
-        let p = at.text(out, b"W,");
-        let q = p.name(out, name);
-        let u = q.byte(out, b'\n');
-        PageEnd { at: u }
+        let at = self.at.text(out, b"W,").name(out, name);
+        PagePosition { at }
     }
 
-    // `B,source` or `B,target` and the line end.
-    pub fn end_line(self, out: &mut [u8], end: End) -> PageEnd
-        requires { ⌜ self .at .at + length (lineBytes (end-line end)) ≤ length (now out) ⌝ }
-        ensures { λ r. ⌜ Wrote (now (out .entry)) (self .at .at) (lineBytes (end-line end)) (now (out .exit))
+    // `B,source` or `B,target`
+    pub fn allows_text(self, out: &mut [u8], end: End) -> PagePosition
+        requires { ⌜ self .at .at + length (lineText (allows-line end)) ≤ length (now out) ⌝ }
+        ensures { λ r. ⌜ Wrote (now (out .entry)) (self .at .at) (lineText (allows-line end)) (now (out .exit))
             (r .at .at) ⌝ }
     {
         let at = self.at;
         match end {
-            End::Source => {
-                let p = at.text(out, b"B,source\n");
-                PageEnd { at: p }
-            }
-            End::Target => {
-                let p = at.text(out, b"B,target\n");
-                PageEnd { at: p }
-            }
+            End::Source => PagePosition {
+                at: at.text(out, b"B,source"),
+            },
+            End::Target => PagePosition {
+                at: at.text(out, b"B,target"),
+            },
         }
     }
 
-    // `N` and the line end.
-    pub fn branch_line(self, out: &mut [u8]) -> PageEnd
-        requires { ⌜ self .at .at + length (lineBytes branch-line) ≤ length (now out) ⌝ }
-        ensures { λ r. ⌜ Wrote (now (out .entry)) (self .at .at) (lineBytes branch-line) (now (out .exit))
+    // `N`
+    pub fn branch_text(self, out: &mut [u8]) -> PagePosition
+        requires { ⌜ self .at .at + length (lineText branch-line) ≤ length (now out) ⌝ }
+        ensures { λ r. ⌜ Wrote (now (out .entry)) (self .at .at) (lineText branch-line) (now (out .exit))
             (r .at .at) ⌝ }
     {
-        let at = self.at;
-        let p = at.text(out, b"N\n");
-        PageEnd { at: p }
+        let at = self.at.byte(out, b'N');
+        PagePosition { at }
     }
 
-    // `E` and the line end.
-    pub fn last_line(self, out: &mut [u8]) -> PageEnd
-        requires { ⌜ self .at .at + length (lineBytes last-line) ≤ length (now out) ⌝ }
-        ensures { λ r. ⌜ Wrote (now (out .entry)) (self .at .at) (lineBytes last-line) (now (out .exit)) (r .at .at) ⌝ }
+    // `E`
+    pub fn last_text(self, out: &mut [u8]) -> PagePosition
+        requires { ⌜ self .at .at + length (lineText last-line) ≤ length (now out) ⌝ }
+        ensures { λ r. ⌜ Wrote (now (out .entry)) (self .at .at) (lineText last-line) (now (out .exit)) (r .at .at) ⌝ }
     {
-        let at = self.at;
-        let p = at.text(out, b"E\n");
-        PageEnd { at: p }
+        let at = self.at.byte(out, b'E');
+        PagePosition { at }
     }
 
-    // `F,number,place` and the line end.
-    pub fn fault_line(self, out: &mut [u8], number: u16, place: u16) -> PageEnd
-        requires { ⌜ self .at .at + length (faultBytes number place) ≤ length (now out) ⌝ }
-        ensures { λ r. ⌜ Wrote (now (out .entry)) (self .at .at) (faultBytes number place) (now (out .exit))
+    // `F,number,place`, which is no line of a page.
+    pub fn fault_text(self, out: &mut [u8], number: u16, place: u16) -> PagePosition
+        requires { ⌜ self .at .at + length (faultText number place) ≤ length (now out) ⌝ }
+        ensures { λ r. ⌜ Wrote (now (out .entry)) (self .at .at) (faultText number place) (now (out .exit))
             (r .at .at) ⌝ }
     {
-        let at = self.at;
-        let p = at.byte(out, b'F');
-        let q = p.field(out, number);
-        let u = q.field(out, place);
-        let v = u.byte(out, b'\n');
-        PageEnd { at: v }
+        let at = self.at.byte(out, b'F').field(out, number).field(out, place);
+        PagePosition { at }
     }
 }

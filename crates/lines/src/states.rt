@@ -1,16 +1,17 @@
 // The `C` lines of a page.
 use crate::class::class_of;
-use crate::lines::PageEnd;
+use crate::lines::PagePosition;
 use text::State;
-ghost use Prim.Native.Nat.{_+_, _*_, _≤_};
+ghost use mathlib.Core.List.{List};
+ghost use Prim.Native.Nat.{ℕ, _+_, _*_, _≤_};
 ghost use lib.ListN.{length};
 ghost use Rattle.model.specs.StoredModel.{modelAt};
+ghost use Rattle.verdicts.specs.Inner.ModelLists.{ModelLists};
 ghost use Rattle.lines.specs.Page.{StateLines};
-ghost use Rattle.lines.specs.Inner.Entries.{ListsOf};
 ghost use Rattle.lines.specs.Inner.LinesWritten.{LinesWritten};
 ghost use Rattle.lines.specs.Inner.Room.{stateRoom};
 
-impl PageEnd {
+impl PagePosition {
     // The lines of all states.
     pub fn state_lines(
         self,
@@ -18,8 +19,9 @@ impl PageEnd {
         store: &[u16],
         distances: &[u16],
         table: &[u8],
-    ) -> PageEnd
-        requires { ⌜ ListsOf (modelAt (now store)) (now store) (now distances) (now table) ⌝ }
+    ) -> PagePosition
+        requires { ⌜ ((roles : List ℕ) × ModelLists (modelAt (now store)) (now store) roles (now distances)
+            (now table)) ⌝ }
         requires { ⌜ self .at .at + stateRoom * modelAt (now store) .head .states ≤ length (now out) ⌝ }
         ensures { λ r. ⌜ LinesWritten
             (StateLines (modelAt (now (store .entry))) (modelAt (now (store .entry)) .head .states))
@@ -30,9 +32,9 @@ impl PageEnd {
         let mut page = self;
         let mut i: u16 = 0;
         while i < n {
-            let place = i as usize;
             let class = class_of(table, State(i));
-            page = page.state_line(out, State(i), distances[place], class);
+            page = page.state_text(out, State(i), distances, class)
+                .line_end(out);
             i += 1;
         }
         page

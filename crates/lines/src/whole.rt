@@ -1,5 +1,5 @@
 // The whole page of a judged model.
-use crate::lines::PageEnd;
+use crate::lines::PagePosition;
 use verdicts::judging::Verdict;
 ghost use Prim.Native.Nat.{_≤_};
 ghost use lib.ListN.{length};
@@ -20,16 +20,16 @@ pub fn judged_page(
     run: &mut [u16],
     word: &mut [u16],
     out: &mut [u8],
-) -> PageEnd
+) -> PagePosition
     requires { ⌜ JudgedLists (modelAt (now store)) v (now store) (now begins) (now roles) (now distances) (now table)
         (now run) (now word) ⌝ }
     requires { ⌜ pageLength ≤ length (now out) ⌝ }
     ensures { λ r. ⌜ LinesWritten (PageOf (modelAt (now (store .entry))) (now (run .entry)) (now (word .entry))
         (now (run .exit)) (now (word .exit))) pageLength (now (out .entry)) 0 (now (out .exit)) (r .at .at) ⌝ }
 {
-    let start = PageEnd::start();
-    let verdict = start.verdict_line(out, v);
+    let start = PagePosition::start();
+    let verdict = start.verdict_text(out, v).line_end(out);
     let states = verdict.state_lines(out, store, distances, table);
     let leak = states.leak_lines(out, store, begins, roles, distances, table, v, run, word);
-    leak.last_line(out)
+    leak.last_text(out).line_end(out)
 }

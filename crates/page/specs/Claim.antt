@@ -8,7 +8,7 @@ use mathlib.Core.Path.{_≡_}
 use Prim.Native.Nat.{ℕ, _+_, _<_}
 use lib.ListN.{length, getD, take}
 use Rattle.lts.specs.Noninterference.{INI}
-use Rattle.text.specs.Bytes.{comma, lineEnd}
+use Rattle.text.specs.Bytes.{byteComma, byteV, comma, lineEnd}
 use Rattle.text.specs.Faults.{Outcome, answers}
 use Rattle.text.specs.Model.{Model}
 use Rattle.text.specs.Numbers.{numberOf}
@@ -21,17 +21,17 @@ use Rattle.verdicts.specs.declared.judging.Verdict.the-variants.{Refused}
 use Rattle.distances.specs.Runs.{RunTo}
 use Rattle.letters.specs.declared.word.End.{End}
 use Rattle.tell.specs.Claim.{States, ShowsLeak}
-use Rattle.lines.specs.PageLines.{PageLine, verdict-line, run-line, end-line, last-line, passText, refuseText}
+use Rattle.lines.specs.PageLines.{PageLine, verdict-line, run-line, allows-line, last-line, passText, refuseText}
 use Rattle.lines.specs.PageLines.{lineText, pageBytes}
 use Rattle.lines.specs.Page.{StateLines, nameLine}
 use Rattle.lts.specs.Noninterference.{LowMove}
 
 -- The page begins with `V,pass,`, or with `V,refuse,`.
 abbrev pub SaysPass : List ℕ → Type 0
-SaysPass bytes = take 7 bytes ≡ (86 ∷ []) ++ field passText ++ (44 ∷ [])
+SaysPass bytes = take 7 bytes ≡ (byteV ∷ []) ++ field passText ++ (byteComma ∷ [])
 
 abbrev pub SaysRefuse : List ℕ → Type 0
-SaysRefuse bytes = take 9 bytes ≡ (86 ∷ []) ++ field refuseText ++ (44 ∷ [])
+SaysRefuse bytes = take 9 bytes ≡ (byteV ∷ []) ++ field refuseText ++ (byteComma ∷ [])
 
 -- The fields of line i, counted from 0: the bytes part at the line ends, and a line at its commas.
 abbrev pub lineFields : List ℕ → ℕ → List (List ℕ)
@@ -40,14 +40,14 @@ lineFields bytes i = split comma (getD (split lineEnd bytes) i [])
 -- The first line is `V,pass,rank`, the number read as Read reads one.
 pub record PassFields (bytes : List ℕ) (rank : ℕ) : Type 0 where
   pub count : length (lineFields bytes 0) ≡ 3
-  pub letter : getD (lineFields bytes 0) 0 [] ≡ 86 ∷ []
+  pub letter : getD (lineFields bytes 0) 0 [] ≡ byteV ∷ []
   pub verdict : getD (lineFields bytes 0) 1 [] ≡ passText
   pub rank-field : numberOf (getD (lineFields bytes 0) 2 []) ≡ Value rank
 
 -- The first line is `V,refuse,step,depth`.
 pub record RefuseFields (bytes : List ℕ) (step depth : ℕ) : Type 0 where
   pub count : length (lineFields bytes 0) ≡ 4
-  pub letter : getD (lineFields bytes 0) 0 [] ≡ 86 ∷ []
+  pub letter : getD (lineFields bytes 0) 0 [] ≡ byteV ∷ []
   pub verdict : getD (lineFields bytes 0) 1 [] ≡ refuseText
   pub step-field : numberOf (getD (lineFields bytes 0) 2 []) ≡ Value step
   pub depth-field : numberOf (getD (lineFields bytes 0) 3 []) ≡ Value depth
@@ -71,7 +71,7 @@ pub record LeakPage (m : Model) (bytes word : List ℕ) : Type 0 where
   pub run : List ℕ
   pub run-to : RunTo m (source m step) run
   pub run-fields : (i : ℕ) → i < length run
-      → numberOf (getD (lineFields bytes (1 + m .head .states + i)) 1 []) ≡ Value (getD run i 0)
+      → numberOf (getD (lineFields bytes (1 + length states + i)) 1 []) ≡ Value (getD run i 0)
   -- "a low sequence is shown", with all that demand 3 says of it; by `depth-is` the depth is the number of `W` lines
   pub sequence : List ℕ
   pub end : End
@@ -80,7 +80,7 @@ pub record LeakPage (m : Model) (bytes word : List ℕ) : Type 0 where
   -- `V,refuse,step,depth`, the `C` lines, `R,step` per step, `W,name` per action of the sequence, `B,` and the end, `E`
   pub lines : List PageLine
   pub lines-are : lines ≡ (verdict-line (Refused (record { 0 = step }) depth) ∷ []) ++ states
-      ++ (map run-line run ++ (map (nameLine m) sequence ++ (end-line end ∷ []))) ++ (last-line ∷ [])
+      ++ (map run-line run ++ (map (nameLine m) sequence ++ (allows-line end ∷ []))) ++ (last-line ∷ [])
   -- these are the lines of the page: its bytes are theirs, and part at the line ends into their texts
   pub bytes-are : bytes ≡ pageBytes lines
   pub parted : split lineEnd bytes ≡ map lineText lines ++ ([] ∷ [])
@@ -97,7 +97,7 @@ pub record PageTells (m : Model) (bytes word : List ℕ) : Type 0 where
 -- A call that gives 21 tells nothing; any other leaves its bytes at the front of `out`.
 pub record PrintClaim (text : List ℕ) (outcome : Outcome) (word out : List ℕ) : Type 0 where
   -- "Take every text that is read (each without a fault listed for Read is)": what is printed then begins with `V`
-  pub read-iff : (n : ℕ) → outcome ≡ answers (n ∷ []) → (take 1 (take n out) ≡ 86 ∷ [])
+  pub read-iff : (n : ℕ) → outcome ≡ answers (n ∷ []) → (take 1 (take n out) ≡ byteV ∷ [])
       ↔ ((m : Model) × States text m)
   -- "and in which no reachable state has two steps of one action"
   pub tells : (n : ℕ) → outcome ≡ answers (n ∷ []) → (m : Model) → States text m → DeterministicModel m

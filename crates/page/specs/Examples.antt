@@ -13,7 +13,7 @@ use Rattle.tell.specs.Bench.{refusedAt}
 use Rattle.tell.specs.BenchModels.{workedText, scannedOnceText, releasedText, closeLowText, branchingText, noStepsText}
 use Rattle.tell.specs.BenchModels.{printLoopText, unreachedPrintText}
 use Rattle.lines.specs.Examples.{workedPage}
-use Rattle.lines.specs.PageLines.{PageLine, verdict-line, state-line, word-line, end-line, branch-line, last-line}
+use Rattle.lines.specs.PageLines.{PageLine, verdict-line, state-line, word-line, allows-line, branch-line, last-line}
 use Rattle.lines.specs.PageLines.{pageBytes}
 use Rattle.page.specs.PrintPromise.{printLists, PrintPromise}
 
@@ -60,7 +60,7 @@ closeLowLines =
     ∷ state-line 1 (some 1) 1
     ∷ state-line 2 (some 2) 2
     ∷ word-line (99 ∷ 108 ∷ 111 ∷ 115 ∷ 101 ∷ [])
-    ∷ end-line Target
+    ∷ allows-line Target
     ∷ last-line
     ∷ []
 

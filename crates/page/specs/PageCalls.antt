@@ -11,7 +11,7 @@ use Rattle.judge.specs.JudgePromise.{verdictOutcome}
 use Rattle.letters.specs.declared.word.End.{End}
 use Rattle.letters.specs.Words.{endNumber}
 use Rattle.lines.specs.Page.{StateLines, nameLine}
-use Rattle.lines.specs.PageLines.{PageLine, verdict-line, run-line, end-line, last-line, pageBytes}
+use Rattle.lines.specs.PageLines.{PageLine, verdict-line, run-line, allows-line, last-line, pageBytes}
 
 -- Judge's verdict is that of the `V` line.
 pub record JudgeOnPage (bytes : List ℕ) (judge : Outcome) : Type 0 where
@@ -31,4 +31,4 @@ pub record WordOnPage (m : Model) (bytes : List ℕ) (word : Outcome) (list : Li
   pub state-lines : StateLines m (m .head .states) states
   pub run : List ℕ
   pub bytes-are : bytes ≡ pageBytes ((verdict-line verdict ∷ []) ++ states
-      ++ (map run-line run ++ (map (nameLine m) sequence ++ (end-line end ∷ []))) ++ (last-line ∷ []))
+      ++ (map run-line run ++ (map (nameLine m) sequence ++ (allows-line end ∷ []))) ++ (last-line ∷ []))

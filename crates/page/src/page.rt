@@ -1,5 +1,5 @@
 // The operation Page.
-use lines::lines::PageEnd;
+use lines::lines::PagePosition;
 use text::limits::DISTANCES_LENGTH;
 use text::limits::INDEX_LENGTH;
 use text::limits::PAGE_LENGTH;
@@ -60,7 +60,7 @@ pub fn page_good(
     run: &mut [u16],
     word: &mut [u16],
     out: &mut [u8],
-) -> PageEnd
+) -> PagePosition
     requires { ⌜ PageLists (now store) (now distances) (now table) (now run) (now word) (now out) ⌝ }
     ensures { λ r. ⌜ PageMade (modelAt (now (store .entry))) (r .at .at) (now (distances .entry)) (now (table .entry))
         (now (run .entry)) (now (word .entry)) (now (out .entry)) (now (distances .exit)) (now (table .exit))

@@ -1,7 +1,7 @@
 // From a text to its page.
 use crate::page::first_short;
 use crate::page::page_good;
-use lines::lines::PageEnd;
+use lines::lines::PagePosition;
 use read_write::read::ReadAnswer;
 ghost use mathlib.Core.List.{[], _∷_};
 ghost use mathlib.Core.Path.{_≡_};
@@ -54,14 +54,16 @@ fn refusal_of(read: ReadAnswer) -> Refusal
     }
 }
 
-// What is printed of a text that Read refuses.
-fn unread_page(read: ReadAnswer, out: &mut [u8]) -> PageEnd
+// The line `F,number,place` of a text that Read refuses.
+fn fault_line(read: ReadAnswer, out: &mut [u8]) -> PagePosition
     requires { ⌜ Refuses read × (pageLength ≤ length (now out)) ⌝ }
     ensures { λ r. ⌜ FaultWritten (readOutcome read) (now (out .entry)) (now (out .exit)) (r .at .at) ⌝ }
 {
     let refusal = refusal_of(read);
-    let start = PageEnd::start();
-    start.fault_line(out, refusal.number, refusal.place)
+    let start = PagePosition::start();
+    start
+        .fault_text(out, refusal.number, refusal.place)
+        .line_end(out)
 }
 
 // Prints the page of a text, or why Read refuses it, where all lists are long enough.
@@ -73,7 +75,7 @@ fn print_text(
     run: &mut [u16],
     word: &mut [u16],
     out: &mut [u8],
-) -> PageEnd
+) -> PagePosition
     requires { ⌜ LongLists (now store) (now distances) (now table) (now run) (now word) (now out) ⌝ }
     ensures { λ r. ⌜ PrintPromise (now (text .entry)) (now (store .entry)) (now (distances .entry)) (now (table .entry))
         (now (run .entry)) (now (word .entry)) (now (out .entry)) (answers (r .at .at ∷ [])) (now (store .exit))
@@ -82,7 +84,7 @@ fn print_text(
     let read = read_write::read::read(text, store);
     match read {
         ReadAnswer::Done => page_good(store, distances, table, run, word, out),
-        _ => unread_page(read, out),
+        _ => fault_line(read, out),
     }
 }
 

@@ -6,10 +6,10 @@ use Rattle.text.specs.Limits.{runLength, wordLength}
 use Rattle.text.specs.Model.{Model}
 use Rattle.model.specs.Store.{Good}
 use Rattle.verdicts.specs.declared.judging.Verdict.{Verdict}
-use Rattle.letters.specs.declared.word.WordAnswer.{WordAnswer}
-use Rattle.letters.specs.declared.word.WordAnswer.the-variants.{Shown, ShortList, NotGood, NotDeterministic, NoLeak}
+use Rattle.letters.specs.declared.word.Shown.{Shown}
+use Rattle.letters.specs.declared.word.Shown.the-variants.{Word, NotDeterministic, NoLeak}
 use Rattle.letters.specs.Inner.Letters.{Showable}
-use Rattle.lines.specs.PageLines.{PageLine, end-line, branch-line}
+use Rattle.lines.specs.PageLines.{PageLine, allows-line, branch-line}
 use Rattle.lines.specs.Page.{nameLine}
 
 -- The first n places of a list are actions of the model.
@@ -18,19 +18,15 @@ pub record Letters (m : Model) (n : ℕ) (word : List ℕ) : Type 0 where
   pub list-le : n ≤ length word
   pub actions : (i : ℕ) → i < n → getD word i 0 < length (m .actions)
 
--- A word that Word answers stands in its list.
-abbrev pub Spelled : Model → WordAnswer → List ℕ → Type 0
-Spelled m (Shown n end) word = Letters m n word
-Spelled m (ShortList place) word = Unit {0}
-Spelled m NotGood word = Unit {0}
+-- A word that is shown stands in its list.
+abbrev pub Spelled : Model → Shown → List ℕ → Type 0
+Spelled m (Word n end) word = Letters m n word
 Spelled m (NotDeterministic j) word = Unit {0}
 Spelled m NoLeak word = Unit {0}
 
--- The lines for what Word answers.
-abbrev pub shownLines : Model → WordAnswer → List ℕ → List PageLine
-shownLines m (Shown n end) word = map (nameLine m) (take n word) ++ (end-line end ∷ [])
-shownLines m (ShortList place) word = branch-line ∷ []
-shownLines m NotGood word = branch-line ∷ []
+-- The lines for what is shown.
+abbrev pub shownLines : Model → Shown → List ℕ → List PageLine
+shownLines m (Word n end) word = map (nameLine m) (take n word) ++ (allows-line end ∷ [])
 shownLines m (NotDeterministic j) word = branch-line ∷ []
 shownLines m NoLeak word = branch-line ∷ []
 

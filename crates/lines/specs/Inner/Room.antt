@@ -22,12 +22,16 @@ abbrev pub nameRoom : ℕ
 nameRoom = 15
 
 -- `B,source` or `B,target`
-abbrev pub endRoom : ℕ
-endRoom = 9
+abbrev pub allowsRoom : ℕ
+allowsRoom = 9
 
--- All letters of a word, and the end: 1,914. `N` takes less.
+-- `N` or `E`
+abbrev pub letterRoom : ℕ
+letterRoom = 2
+
+-- All letters of a word, and the end that allows it: 1,914. `N` takes less.
 abbrev pub shownRoom : ℕ
-shownRoom = nameRoom * wordLength + endRoom
+shownRoom = nameRoom * wordLength + allowsRoom
 
 -- All steps of a run, and what shows the leak: 2,930.
 abbrev pub leakRoom : ℕ

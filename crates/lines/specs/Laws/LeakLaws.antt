@@ -18,11 +18,11 @@ use Rattle.writer.specs.Inner.Writable.{Writable}
 use Rattle.writer.specs.Laws.WritableLaws.{name-bytes-at, actionAt-part}
 use Rattle.writer.specs.Wrote.{Wrote}
 use Rattle.writer.specs.Laws.WroteLaws.{take-next}
-use Rattle.lines.specs.PageLines.{PageLine, run-line, lineBytes}
+use Rattle.lines.specs.PageLines.{PageLine, run-line, word-line, lineBytes}
 use Rattle.lines.specs.Page.{nameOf, nameLine}
 use Rattle.lines.specs.Inner.LinesWritten.{LinesWritten}
 use Rattle.lines.specs.Inner.Room.{runRoom, nameRoom}
-use Rattle.lines.specs.Laws.PageLinesLaws.{run-length, word-length}
+use Rattle.lines.specs.Laws.PageLinesLaws.{lineBytes-length, run-length, word-length}
 use Rattle.lines.specs.Laws.LinesWrittenLaws.{written-line, written-both, written-of}
 
 -- a line for one element more of a list
@@ -43,7 +43,7 @@ written-next line width l i h k x w =
 -- `R,step` and the line end
 pub run-length-le : (j : ℕ) → length (lineBytes (run-line j)) ≤ runRoom
 unfolding digits
-run-length-le j = omega (arith, run-length j, digitsUpTo-length-le 5 j)
+run-length-le j = omega (arith, lineBytes-length (run-line j), run-length j, digitsUpTo-length-le 5 j)
 
 -- ---- the name of an action, as the store holds it
 
@@ -68,7 +68,9 @@ module _ {s : List ℕ} (w : Writable s) (a : ℕ) (l : a < length (modelAt s .a
       omega (arith, b, t, ap length nameOf-stored)
 
   pub name-line-length-le : length (lineBytes (nameLine (modelAt s) a)) ≤ nameRoom
-  name-line-length-le = omega (arith, word-length (nameOf (modelAt s) a), name-length-le)
+  name-line-length-le =
+      let name = nameOf (modelAt s) a in
+      omega (arith, lineBytes-length (word-line name), word-length name, name-length-le)
 
   pub name-bytes-lt : All (λ (b : ℕ). b < 256) (nameOf (modelAt s) a)
   name-bytes-lt =

@@ -22,14 +22,14 @@ use Rattle.verdicts.specs.declared.judging.Verdict.the-variants.{Refused}
 use Rattle.text.specs.declared.Step.{Step}
 use Rattle.verdicts.specs.Verdicts.{RefusedAt, Judged}
 use Rattle.letters.specs.declared.word.End.{End}
-use Rattle.letters.specs.declared.word.WordAnswer.{WordAnswer}
-use Rattle.letters.specs.declared.word.WordAnswer.the-variants.{Shown, ShortList, NotGood, NotDeterministic, NoLeak}
+use Rattle.letters.specs.declared.word.Shown.{Shown}
+use Rattle.letters.specs.declared.word.Shown.the-variants.{Word, NotDeterministic, NoLeak}
 use Rattle.letters.specs.Words.{endNumber, WordShown}
-use Rattle.letters.specs.WordDone.{wordOutcome, WordDone}
+use Rattle.letters.specs.WordDone.{shownOutcome, WordDone}
 use Rattle.letters.specs.Laws.LettersLaws.{stored-rank-lt}
 use Rattle.letters.specs.Laws.WordDoneLaws.{branch-cases, endNumber-injective}
 use Rattle.lines.specs.Page.{nameLine, LeakShown, by-word, by-branch, LeakLines, AfterStates}
-use Rattle.lines.specs.PageLines.{PageLine, run-line, end-line, branch-line}
+use Rattle.lines.specs.PageLines.{PageLine, run-line, allows-line, branch-line}
 use Rattle.lines.specs.Inner.Leak.{Letters, Spelled, shownLines}
 use Rattle.lines.specs.Inner.LinesWritten.{LinesWritten}
 use Rattle.lines.specs.Inner.Room.{runRoom, shownRoom, leakRoom}
@@ -101,12 +101,12 @@ module _ {s : List ℕ} {m : Model} (st : Stored s m) {j depth : ℕ} (refused :
                 omega (arith, e, letters-lt m w (word-shown .word-of .first-word .is-low) i h);
           }
 
-      by-word-shown : LeakShown m j depth word word′ (map (nameLine m) (take n word′) ++ (end-line end ∷ []))
+      by-word-shown : LeakShown m j depth word word′ (map (nameLine m) (take n word′) ++ (allows-line end ∷ []))
       by-word-shown =
-          subst (λ (e : End). LeakShown m j depth word word′ (map (nameLine m) (take n word′) ++ (end-line e ∷ [])))
+          subst (λ (e : End). LeakShown m j depth word word′ (map (nameLine m) (take n word′) ++ (allows-line e ∷ [])))
           (sym word-end)
           (subst
-          (λ (w : List ℕ). LeakShown m j depth word word′ (map (nameLine m) w ++ (end-line (word-shown .end) ∷ [])))
+          (λ (w : List ℕ). LeakShown m j depth word word′ (map (nameLine m) w ++ (allows-line (word-shown .end) ∷ [])))
           (sym word-taken)
           (by-word word-deterministic (word-shown .word-of) (word-shown .length-is) (word-shown .list)))
 
@@ -123,28 +123,24 @@ module _ {s : List ℕ} {m : Model} (st : Stored s m) {j depth : ℕ} (refused :
       by-branch-shown : LeakShown m j depth word word′ (branch-line ∷ [])
       by-branch-shown = by-branch not-deterministic word-kept
 
-    -- ---- whatever Word answers
+    -- ---- whatever is shown
 
-    pub spelled-of : (shown : WordAnswer) → WordDone m (wordOutcome shown) word word′ → Spelled m shown word′
-    unfolding wordOutcome
-    spelled-of (Shown n end) done = word-letters end done
-    spelled-of (ShortList place) done = tt
-    spelled-of NotGood done = tt
+    pub spelled-of : (shown : Shown) → WordDone m (shownOutcome shown) word word′ → Spelled m shown word′
+    unfolding shownOutcome
+    spelled-of (Word n end) done = word-letters end done
     spelled-of (NotDeterministic i) done = tt
     spelled-of NoLeak done = tt
 
-    pub leak-shown-of : (shown : WordAnswer) → WordDone m (wordOutcome shown) word word′
+    pub leak-shown-of : (shown : Shown) → WordDone m (shownOutcome shown) word word′
         → LeakShown m j depth word word′ (shownLines m shown word′)
-    unfolding wordOutcome
-    leak-shown-of (Shown n end) done = by-word-shown end done
-    leak-shown-of (ShortList place) done = by-branch-shown done
-    leak-shown-of NotGood done = by-branch-shown done
+    unfolding shownOutcome
+    leak-shown-of (Word n end) done = by-word-shown end done
     leak-shown-of (NotDeterministic i) done = by-branch-shown done
     leak-shown-of NoLeak done = by-branch-shown done
 
     -- the lines of the run, and those
-    pub leak-lines-written : {p n at mid next : ℕ} {run run′ entry middle exit : List ℕ} (shown : WordAnswer)
-        → p ≡ source m j → RunWritten m p n run run′ → WordDone m (wordOutcome shown) word word′
+    pub leak-lines-written : {p n at mid next : ℕ} {run run′ entry middle exit : List ℕ} (shown : Shown)
+        → p ≡ source m j → RunWritten m p n run run′ → WordDone m (shownOutcome shown) word word′
         → LinesWritten (_≡_ (map run-line (take n run′))) (runRoom * n) entry at middle mid
         → LinesWritten (_≡_ (shownLines m shown word′)) shownRoom middle mid exit next
         → LinesWritten (LeakLines m j depth run word run′ word′) leakRoom entry at exit next

@@ -2,12 +2,14 @@
 -- Document 01, "The page": "Writing a line goes on from where the last one ended." Assumes nothing.
 use mathlib.Core.List.{List, [], _∷_, _++_, append-assoc, append-nil}
 use mathlib.Core.Path.{_≡_, refl, sym, ap, _∙_}
-use Prim.Native.Nat.{ℕ, _+_, _≤_}
+use Prim.Native.Nat.{ℕ, _+_, _≤_, _<_}
 use native.Mathlib.Omega.{arith}
 use lib.ListN.{length, length-append}
+use Rattle.text.specs.Bytes.{byteLineEnd}
 use Rattle.writer.specs.Wrote.{Wrote}
-use Rattle.writer.specs.Laws.WroteLaws.{wrote-nil, wrote-append}
-use Rattle.lines.specs.PageLines.{PageLine, lineBytes, pageBytes}
+use Rattle.writer.specs.Laws.WroteLaws.{wrote-nil, wrote-append, wrote-length}
+use Rattle.lines.specs.PageLines.{PageLine, lineText, lineBytes, pageBytes}
+use Rattle.lines.specs.Laws.PageLinesLaws.{lineBytes-length}
 use Rattle.lines.specs.Inner.LinesWritten.{LinesWritten}
 
 pub pageBytes-append : (xs ys : List PageLine) → pageBytes (xs ++ ys) ≡ pageBytes xs ++ pageBytes ys
@@ -20,6 +22,20 @@ pageBytes-append (x ∷ xs) ys =
 pub pageBytes-line : (l : PageLine) → pageBytes (l ∷ []) ≡ lineBytes l
 unfolding pageBytes
 pageBytes-line l = append-nil (lineBytes l)
+
+-- ---- one line
+
+-- the text of a line, then its end
+pub wrote-line : {entry middle exit : List ℕ} {at mid next : ℕ} (l : PageLine) → Wrote entry at (lineText l) middle mid
+    → Wrote middle mid (byteLineEnd ∷ []) exit next → Wrote entry at (lineBytes l) exit next
+wrote-line l text end = wrote-append text end
+
+-- where there is room for a line, there is room for its end behind its text
+pub end-room : {entry middle : List ℕ} {at mid room : ℕ} (l : PageLine) → length (lineBytes l) ≤ room
+    → at + room ≤ length entry → Wrote entry at (lineText l) middle mid → mid < length middle
+end-room l h k w = omega (arith, h, k, lineBytes-length l, w .place, wrote-length w)
+
+-- ---- lines one after the other
 
 -- nothing is written yet
 pub written-nil : {P : List PageLine → Type 0} {room : ℕ} {out : List ℕ} {at : ℕ} → P []

@@ -4,30 +4,41 @@ use mathlib.Core.List.{List, [], _∷_, _++_}
 use mathlib.Core.Path.{_≡_, refl, sym}
 use Prim.Native.Nat.{ℕ, _+_, _*_, _≤_}
 use native.Mathlib.Omega.{arith}
+use lib.ListN.{length}
 use Rattle.text.specs.Limits.{stateLimit}
 use Rattle.text.specs.Limits.{pageLength}
 use Rattle.text.specs.Model.{Model}
 use Rattle.writer.specs.Wrote.{Wrote}
+use Rattle.writer.specs.Laws.WroteLaws.{wrote-length}
 use Rattle.verdicts.specs.declared.judging.Verdict.{Verdict}
-use Rattle.verdicts.specs.Inner.ModelLists.{ModelLists}
 use Rattle.verdicts.specs.Verdicts.{Judged}
-use Rattle.lines.specs.PageLines.{verdict-line, last-line, lineBytes}
+use Rattle.lines.specs.PageLines.{PageLine, verdict-line, last-line, lineBytes}
 use Rattle.lines.specs.Page.{StateLines, AfterStates, PageOf}
-use Rattle.lines.specs.Inner.Entries.{ListsOf}
 use Rattle.lines.specs.Inner.LinesWritten.{LinesWritten}
-use Rattle.lines.specs.Inner.Room.{verdictRoom, stateRoom, leakRoom}
-use Rattle.lines.specs.Laws.PageLinesLaws.{verdict-length-le, last-length}
+use Rattle.lines.specs.Inner.Room.{stateRoom, leakRoom, letterRoom}
+use Rattle.lines.specs.Laws.PageLinesLaws.{verdict-length-le, last-length-le}
 use Rattle.lines.specs.Laws.LinesWrittenLaws.{written-line, written-exact, written-both, written-of}
 
-pub listsOf : {m : Model} {store roles distances table : List ℕ} → ModelLists m store roles distances table
-    → ListsOf m store distances table
-listsOf x = record {
-  stored = x .stored;
-  distances-length = x .distances-length;
-  distances-are = x .distances-are;
-  table-length = x .table-length;
-  ranks = x .ranks;
-}
+-- where the last line begins there is room for it
+pub last-room : (v : Verdict) {n a b c d : ℕ} {out out₁ out₂ out₃ : List ℕ} {P Q : List PageLine → Type 0}
+    → n ≤ stateLimit → pageLength ≤ length out → a ≡ 0 → Wrote out a (lineBytes (verdict-line v)) out₁ b
+    → LinesWritten P (stateRoom * n) out₁ b out₂ c → LinesWritten Q leakRoom out₂ c out₃ d
+    → d + letterRoom ≤ length out₃
+last-room v few long start first states after = omega (
+  arith,
+  few,
+  long,
+  start,
+  verdict-length-le v,
+  first .place,
+  wrote-length first,
+  states .wrote .place,
+  states .length-le,
+  wrote-length (states .wrote),
+  after .wrote .place,
+  after .length-le,
+  wrote-length (after .wrote),
+)
 
 module _ {m : Model} {run word run′ word′ : List ℕ} where
   -- 21 bytes, 14 per state, 2,930, and 2 for `E`: the page fits its list
@@ -39,10 +50,9 @@ module _ {m : Model} {run word run′ word′ : List ℕ} where
       → LinesWritten (PageOf m run word run′ word′) pageLength out 0 out₄ d
   page-written v few judged first states after last =
       let whole = written-both (written-both
-      (written-both (written-line {P = _≡_ (verdict-line v ∷ [])} {room = verdictRoom} (verdict-line v) refl
-      (verdict-length-le v) first)
+      (written-both (written-line {P = _≡_ (verdict-line v ∷ [])} (verdict-line v) refl (verdict-length-le v) first)
       (written-exact states)) (written-exact after))
-      (written-line {P = _≡_ (last-line ∷ [])} {room = 2} last-line refl (omega (arith, last-length)) last) in
+      (written-line {P = _≡_ (last-line ∷ [])} last-line refl last-length-le last) in
       written-of
       (λ zs (e : (verdict-line v ∷ []) ++ states .lines ++ after .lines ++ (last-line ∷ []) ≡ zs). record {
         verdict = v;

@@ -10,7 +10,7 @@ use native.Mathlib.Numerals.{add-one}
 use lib.ListN.{length, getD, length-append}
 use Rattle.lts.specs.Alike.{Rank, bisimilar}
 use Rattle.lts.specs.AlikeLaws.{rank-unique, bisimilar-refl}
-use Rattle.lts.specs.TestsLaws.{eq-or-not}
+use Rattle.lts.specs.TestsLaws.{eq-or-not, le-of-not-lt}
 use Rattle.text.specs.Limits.{pairPlace, unreachable}
 use Rattle.text.specs.Model.{Model}
 use Rattle.text.specs.Laws.DigitsLaws.{digits-length-le}
@@ -19,25 +19,27 @@ use Rattle.model.specs.Laws.System.StepTestLaws.{distance-lt}
 use Rattle.distances.specs.Laws.DistancesLaws.{list-distance, list-unreachable}
 use Rattle.lines.specs.Page.{DistanceField, unreached, reached, ClassOf, StateLines, no-state, next-state}
 use Rattle.lines.specs.PageLines.{PageLine, state-line, distanceText, lineBytes}
-use Rattle.lines.specs.Inner.Entries.{ListsOf, distanceOf, LowestZero}
+use Rattle.verdicts.specs.Inner.ModelLists.{ModelLists}
+use Rattle.lines.specs.Inner.Entries.{distanceOf, LowestZero}
 use Rattle.lines.specs.Inner.LinesWritten.{LinesWritten}
 use Rattle.lines.specs.Inner.Room.{stateRoom}
-use Rattle.lines.specs.Laws.PageLinesLaws.{state-length, distanceOf-unreachable, distanceOf-reachable}
+use Rattle.lines.specs.Laws.PageLinesLaws.{lineBytes-length, state-length}
+use Rattle.lines.specs.Laws.PageLinesLaws.{distanceOf-unreachable, distanceOf-reachable}
 use Rattle.lines.specs.Laws.LinesWrittenLaws.{written-line, written-append, written-of}
-use Rattle.model.specs.System.{view}
+use Rattle.model.specs.System.{IsState, view}
 use Rattle.lts.specs.Noninterference.{LowMove}
 
-module _ {s : List ℕ} {m : Model} {distances table : List ℕ} (L : ListsOf m s distances table) where
+module _ {s : List ℕ} {m : Model} {roles distances table : List ℕ} (L : ModelLists m s roles distances table) where
   -- ---- the distance
 
-  pub distance-field : (p : ℕ) → p < m .head .states → DistanceField m p (distanceOf (getD distances p 0))
+  pub distance-field : (p : ℕ) → p < m .head .states → DistanceField m p (distanceOf distances p)
   distance-field p l = go (eq-or-not (getD distances p 0) unreachable)
     where
       go : (getD distances p 0 ≡ unreachable) ⊎ (¬ (getD distances p 0 ≡ unreachable))
-          → DistanceField m p (distanceOf (getD distances p 0))
-      go (inl e) = rw (distanceOf-unreachable (getD distances p 0) e)
+          → DistanceField m p (distanceOf distances p)
+      go (inl e) = rw (distanceOf-unreachable distances p e)
           (unreached (list-unreachable (L .stored) (L .distances-are) e))
-      go (inr n) = rw (distanceOf-reachable (getD distances p 0) n)
+      go (inr n) = rw (distanceOf-reachable distances p n)
           (reached (list-distance (L .stored) (L .distances-are) (omega (arith, L .stored .states-le)) refl n))
 
   -- ---- the class
@@ -48,8 +50,9 @@ module _ {s : List ℕ} {m : Model} {distances table : List ℕ} (L : ListsOf m 
 
   pub class-of-zero : (p q : ℕ) → p < m .head .states → LowestZero table p q → ClassOf m p q
   class-of-zero p q l z = record {
+    class-among = omega (arith, l, z .le);
     rank-zero = subst (Rank (LowMove (view m)) p q) (z .zero) (L .ranks .ranks p q l (omega (arith, z .le)));
-    lowest = λ i k x. z .lowest i k (rank-unique (LowMove (view m)) p i (getD table (pairPlace p i) 0) 0
+    lowest = λ i k _ x. z .lowest i k (rank-unique (LowMove (view m)) p i (getD table (pairPlace p i) 0) 0
         (L .ranks .ranks p i l (omega (arith, z .le))) x);
   }
 
@@ -67,7 +70,21 @@ module _ {s : List ℕ} {m : Model} {distances table : List ℕ} (L : ListsOf m 
       let a = digits-length-le 3 p (omega (arith, L .stored .states-le)) (omega arith) (omega arith) in
       let b = distanceText-length p d x in
       let c = digits-length-le 3 class (omega (arith, L .stored .states-le)) (omega arith) (omega arith) in
-      omega (arith, state-length p d class)
+      omega (arith, lineBytes-length (state-line p d class), state-length p d class)
+
+-- ---- the class of a state is the lowest number of rank 0 to it, be it a state or not
+
+module _ {m : Model} {p class : ℕ} where
+  pub classOf-lowest : ClassOf m p class → (q : ℕ) → q < class → ¬ (Rank (LowMove (view m)) p q 0)
+  classOf-lowest x q l = x .lowest q l (omega (arith, l, x .class-among))
+
+  pub classOf-of-lowest : IsState m p → Rank (LowMove (view m)) p class 0
+      → ((q : ℕ) → q < class → ¬ (Rank (LowMove (view m)) p q 0)) → ClassOf m p class
+  classOf-of-lowest l r lowest =
+      let le : class ≤ p = le-of-not-lt class p (λ k. lowest p k (bisimilar (bisimilar-refl (LowMove (view m)) p))) in
+      record { class-among = omega (arith, l, le); rank-zero = r; lowest = λ q k _. lowest q k }
+
+-- ---- the lines
 
 -- as many lines as states
 pub stateLines-length : {m : Model} {n : ℕ} {lines : List PageLine} → StateLines m n lines → length lines ≡ n

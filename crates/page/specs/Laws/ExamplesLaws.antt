@@ -29,7 +29,7 @@ use Rattle.tell.specs.Laws.BenchLaws.{joint-fact}
 use Rattle.lines.specs.Examples.{workedLines, prints}
 use Rattle.page.specs.Laws.PagePromiseLaws.{pagePrinted-unique}
 use Rattle.lines.specs.Page.{nameLine, by-word, by-branch, AfterStates}
-use Rattle.lines.specs.PageLines.{PageLine, verdict-line, end-line, branch-line, last-line, pageBytes}
+use Rattle.lines.specs.PageLines.{PageLine, verdict-line, allows-line, branch-line, last-line, pageBytes}
 use Rattle.page.specs.PagePromise.{PagePrinted}
 use Rattle.page.specs.Examples.{PrintsPage, PagesPrinted, scannedOnceLines, releasedLines, closeLowLines}
 use Rattle.page.specs.Examples.{branchingLines, oneStateLines, unreachedPrintLines}
@@ -44,7 +44,7 @@ pageWith m v after = (verdict-line v ∷ []) ++ stateLinesOf m (m .head .states)
 
 -- The lines of a word.
 abbrev wordLines : Model → List ℕ → End → List PageLine
-wordLines m w end = map (nameLine m) w ++ (end-line end ∷ [])
+wordLines m w end = map (nameLine m) w ++ (allows-line end ∷ [])
 
 record Computed : Type 0 where
   worked : pageWith worked (refusedAt 1 2) (wordLines worked (0 ∷ 0 ∷ []) Source) ≡ workedLines

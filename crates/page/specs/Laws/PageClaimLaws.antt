@@ -8,7 +8,7 @@ use Prim.Native.Nat.{ℕ, _<_}
 use native.Mathlib.Omega.{arith}
 use lib.ListN.{length, getD, take}
 use Rattle.text.specs.All.{All}
-use Rattle.text.specs.Bytes.{lineEnd}
+use Rattle.text.specs.Bytes.{byteV, lineEnd}
 use Rattle.text.specs.Faults.{Outcome, answers, faultNumber}
 use Rattle.text.specs.Laws.OutcomeLaws.{answers-not-refuses}
 use Rattle.text.specs.Model.{Model}
@@ -34,7 +34,8 @@ use Rattle.letters.specs.Laws.LettersLaws.{stored-rank-lt}
 use Rattle.tell.specs.Laws.ReadTextLaws.{lists-of-notShort, states→readText, readText→states}
 use Rattle.page.specs.Claim.{SaysPass, SaysRefuse, PassPage, LeakPage, PageTells, PrintClaim}
 use Rattle.lines.specs.Page.{nameLine, LeakShown, by-word, by-branch, LeakLines, AfterStates, StateLines}
-use Rattle.lines.specs.PageLines.{PageLine, verdict-line, run-line, end-line, last-line, lineText, pageBytes, faultBytes}
+use Rattle.lines.specs.PageLines.{PageLine, verdict-line, run-line, allows-line, last-line, lineText, pageBytes}
+use Rattle.lines.specs.PageLines.{faultText, faultBytes}
 use Rattle.page.specs.PagePromise.{PagePrinted}
 use Rattle.page.specs.PrintPromise.{printLists, FaultPrinted, PrintPromise}
 use Rattle.lines.specs.Laws.LeakShownLaws.{depth-lt}
@@ -91,7 +92,7 @@ module _ {s : List ℕ} {m : Model} (st : Stored s m) (det : DeterministicModel 
           → LeakPage m bytes word′
       go _ (by-branch n k) f = absurd (n det)
       go _ (by-word {w = w} {end = end} d y l k) f =
-          let rest = map (nameLine m) w ++ (end-line end ∷ []) in
+          let rest = map (nameLine m) w ++ (allows-line end ∷ []) in
           let lines-are = e ∙ ap (λ (z : List PageLine). head ++ z ++ (last-line ∷ [])) f in
           record {
             step = j;
@@ -106,7 +107,7 @@ module _ {s : List ℕ} {m : Model} (st : Stored s m) (det : DeterministicModel 
             run-to = x .run-to;
             run-fields =
                 run-fields bytes parted head (x .steps) rest (last-line ∷ []) lines-are
-                (omega (arith, stateLines-length state-lines)) (small-run st (x .run-to));
+                refl (small-run st (x .run-to));
             sequence = w;
             end = end;
             shown = shows-of-wordOf st refused y l;
@@ -174,22 +175,22 @@ page-tells w det {run = run} {word} {run′ = run′} {word′} n e x =
 -- ---- the claim
 
 -- any page begins with `V`
-begins-verdict : (v : Verdict) (rest : List PageLine) → take 1 (pageBytes (verdict-line v ∷ rest)) ≡ 86 ∷ []
+begins-verdict : (v : Verdict) (rest : List PageLine) → take 1 (pageBytes (verdict-line v ∷ rest)) ≡ byteV ∷ []
 unfolding pageBytes lineText
 begins-verdict (Passed rank) rest = refl
 begins-verdict (Refused j depth) rest = refl
 
 printed-begins : {m : Model} {outcome : Outcome} {run word out run′ word′ out′ : List ℕ} (n : ℕ)
     → outcome ≡ answers (n ∷ []) → PagePrinted m outcome run word out run′ word′ out′
-    → take 1 (take n out′) ≡ 86 ∷ []
+    → take 1 (take n out′) ≡ byteV ∷ []
 printed-begins n e x =
     ap (take 1) (printed-bytes n e x) ∙ ap (λ (z : List PageLine). take 1 (pageBytes z)) (x .page .lines-are)
     ∙ begins-verdict (x .page .verdict) _
 
 -- a refusal with `F`
 fault-begins : {number place : ℕ} {outcome : Outcome} {out out′ : List ℕ} (n : ℕ) → outcome ≡ answers (n ∷ [])
-    → FaultPrinted number place outcome out out′ → ¬ (take 1 (take n out′) ≡ 86 ∷ [])
-unfolding faultBytes
+    → FaultPrinted number place outcome out out′ → ¬ (take 1 (take n out′) ≡ byteV ∷ [])
+unfolding faultText
 fault-begins {number} {place} n e x v =
     let taken = take-filled (faultBytes number place) _ (x .list) n (same-number (sym e ∙ x .outcome-is)) in
     let f = ap (λ (l : List ℕ). getD l 0 0) (sym (ap (take 1) taken) ∙ v) in
@@ -216,7 +217,7 @@ module _ {text store distances table run word out : List ℕ} {outcome : Outcome
   }
     where
       stated : (n : ℕ) → outcome ≡ answers (n ∷ []) → printLists text store distances table run word out ≡ none
-          → (r : Reading) → readText text ≡ r → take 1 (take n out′) ≡ 86 ∷ [] → (m : Model) × States text m
+          → (r : Reading) → readText text ≡ r → take 1 (take n out′) ≡ byteV ∷ [] → (m : Model) × States text m
       stated n told long (done m) e v = (m, readText→states e)
       stated n told long tooLong e v =
           absurd (fault-begins n told (p .unread long 1 0 (ap readingOutcome e) .1) v)

@@ -7,7 +7,7 @@ use native.Mathlib.Omega.{arith}
 use lib.ListN.{length, getD}
 use borrow.Author.Tests.{eqb-false}
 use Rattle.text.specs.All.{All}
-use Rattle.text.specs.Bytes.{digit, comma, lineEnd, kindOf}
+use Rattle.text.specs.Bytes.{byteComma, byteV, byteR, digit, comma, lineEnd, kindOf}
 use Rattle.text.specs.Numbers.{numberOf, digits}
 use Rattle.text.specs.Split.{split}
 use Rattle.text.specs.declared.number.Number.the-variants.{Value}
@@ -25,23 +25,23 @@ no-commas : (ns : List ℕ) → All (Without comma) (map digits ns)
 no-commas = digits-without comma (λ e. eqb-false digit comma refl e)
 
 passed-fields : (rank : ℕ)
-    → split comma (lineText (verdict-line (Passed rank))) ≡ (86 ∷ []) ∷ passText ∷ digits rank ∷ []
+    → split comma (lineText (verdict-line (Passed rank))) ≡ (byteV ∷ []) ∷ passText ∷ digits rank ∷ []
 unfolding lineText join without? kindOf
-passed-fields rank = split-join comma 44 refl ((86 ∷ []) ∷ passText ∷ digits rank ∷ []) (omega arith)
-    (without-test comma (86 ∷ []) tt, (without-test comma passText tt, no-commas (rank ∷ [])))
+passed-fields rank = split-join comma byteComma refl ((byteV ∷ []) ∷ passText ∷ digits rank ∷ []) (omega arith)
+    (without-test comma (byteV ∷ []) tt, (without-test comma passText tt, no-commas (rank ∷ [])))
 
 refused-fields : (j depth : ℕ)
     → split comma (lineText (verdict-line (Refused (record { 0 = j }) depth)))
-    ≡ (86 ∷ []) ∷ refuseText ∷ digits j ∷ digits depth ∷ []
+    ≡ (byteV ∷ []) ∷ refuseText ∷ digits j ∷ digits depth ∷ []
 unfolding lineText join without? kindOf
-refused-fields j depth = split-join comma 44 refl ((86 ∷ []) ∷ refuseText ∷ digits j ∷ digits depth ∷ []) (omega arith)
-    (without-test comma (86 ∷ []) tt, (without-test comma refuseText tt, no-commas (j ∷ depth ∷ [])))
+refused-fields j depth = split-join comma byteComma refl ((byteV ∷ []) ∷ refuseText ∷ digits j ∷ digits depth ∷ []) (omega arith)
+    (without-test comma (byteV ∷ []) tt, (without-test comma refuseText tt, no-commas (j ∷ depth ∷ [])))
 
 run-line-number : (j : ℕ) → j < 100000 → numberOf (getD (split comma (lineText (run-line j))) 1 []) ≡ Value j
 unfolding lineText join without? kindOf
 run-line-number j l =
-    let e = split-join comma 44 refl ((82 ∷ []) ∷ digits j ∷ []) (omega arith)
-    (without-test comma (82 ∷ []) tt, no-commas (j ∷ [])) in
+    let e = split-join comma byteComma refl ((byteR ∷ []) ∷ digits j ∷ []) (omega arith)
+    (without-test comma (byteR ∷ []) tt, no-commas (j ∷ [])) in
     ap (λ (fields : List (List ℕ)). numberOf (getD fields 1 [])) e ∙ numberOf-digits j l
 
 -- the lines of a run, behind others

@@ -22,7 +22,7 @@ use Rattle.distances.specs.Laws.RunsLaws.{runTo-unique}
 use Rattle.verdicts.specs.Laws.VerdictsLaws.{judged-unique}
 use Rattle.letters.specs.declared.word.End.{End}
 use Rattle.letters.specs.Laws.WordDoneLaws.{wordOf-unique}
-use Rattle.lines.specs.PageLines.{PageLine, verdict-line, run-line, end-line, last-line, pageBytes}
+use Rattle.lines.specs.PageLines.{PageLine, verdict-line, run-line, allows-line, last-line, pageBytes}
 use Rattle.lines.specs.Page.{DistanceField, unreached, reached, ClassOf, StateLines, no-state, next-state}
 use Rattle.lines.specs.Page.{nameLine, LeakShown, by-word, by-branch, AfterStates, PageOf}
 use Rattle.page.specs.declared.page.PageAnswer.{PageAnswer}
@@ -41,7 +41,7 @@ distanceField-unique {m} {p} (reached {d = d} x) (reached {d = e} y) =
 
 classOf-unique : {m : Model} {p c d : ℕ} → ClassOf m p c → ClassOf m p d → c ≡ d
 classOf-unique {c = c} {d} x y =
-    eq-of-not-lt c d (λ l. y .lowest c l (x .rank-zero)) (λ l. x .lowest d l (y .rank-zero))
+    eq-of-not-lt c d (λ l. y .lowest c l (x .class-among) (x .rank-zero)) (λ l. x .lowest d l (y .class-among) (y .rank-zero))
 
 stateLines-unique : {m : Model} (n : ℕ) {xs ys : List PageLine} → StateLines m n xs → StateLines m n ys → xs ≡ ys
 stateLines-unique zero no-state no-state = refl
@@ -58,8 +58,8 @@ leakShown-unique : {m : Model} {j depth : ℕ} {word word′ word″ : List ℕ}
     → LeakShown m j depth word word′ xs → LeakShown m j depth word word″ ys → (xs ≡ ys) × (word′ ≡ word″)
 leakShown-unique {m} {word = word} (by-word {w = w} {end = d} det x _ e) (by-word {w = u} {end = f} _ y _ g) =
     let same = wordOf-unique x y in (
-      ap (λ (z : List ℕ). map (nameLine m) z ++ (end-line d ∷ [])) (same .0)
-          ∙ ap (λ (z : End). map (nameLine m) u ++ (end-line z ∷ [])) (same .1),
+      ap (λ (z : List ℕ). map (nameLine m) z ++ (allows-line d ∷ [])) (same .0)
+          ∙ ap (λ (z : End). map (nameLine m) u ++ (allows-line z ∷ [])) (same .1),
       e ∙ ap (λ (z : List ℕ). z ++ drop (length z) word) (same .0) ∙ sym g,
     )
 leakShown-unique (by-word det x _ e) (by-branch n g) = absurd (n det)

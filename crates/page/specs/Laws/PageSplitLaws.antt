@@ -10,6 +10,7 @@ use lib.Dec.{T}
 use borrow.Author.Tests.{eqb-false}
 use Rattle.lts.specs.Noninterference.{Low}
 use Rattle.text.specs.All.{All}
+use Rattle.text.specs.Bytes.{byteLineEnd, byteDash, byteV, byteC, byteR, byteW, byteB, byteN, byteE}
 use Rattle.text.specs.Bytes.{digit, lineEnd, kindOf}
 use Rattle.text.specs.Model.{Model}
 use Rattle.text.specs.Numbers.{digits}
@@ -29,7 +30,7 @@ use Rattle.verdicts.specs.declared.judging.Verdict.{Verdict}
 use Rattle.verdicts.specs.declared.judging.Verdict.the-variants.{Passed, Refused}
 use Rattle.letters.specs.declared.word.End.{End}
 use Rattle.letters.specs.declared.word.End.the-variants.{Source, Target}
-use Rattle.lines.specs.PageLines.{PageLine, verdict-line, state-line, run-line, word-line, end-line, branch-line}
+use Rattle.lines.specs.PageLines.{PageLine, verdict-line, state-line, run-line, word-line, allows-line, branch-line}
 use Rattle.lines.specs.PageLines.{last-line, passText, refuseText, distanceText, endText, lineText}
 use Rattle.lines.specs.PageLines.{pageBytes}
 use Rattle.lines.specs.Page.{StateLines, no-state, next-state, nameOf, nameLine, LeakShown, by-word, by-branch}
@@ -65,45 +66,45 @@ PlainLine l = Plain (lineText l)
 
 plain-distance : (d : Option ℕ) → Plain (distanceText d)
 unfolding distanceText without? kindOf
-plain-distance none = plain-test (45 ∷ []) tt
+plain-distance none = plain-test (byteDash ∷ []) tt
 plain-distance (some d) = plain-digits d
 
 plain-verdict : (v : Verdict) → PlainLine (verdict-line v)
 unfolding PlainLine lineText without? kindOf
 plain-verdict (Passed rank) =
-    let text = (86 ∷ []) ++ field passText in
+    let text = (byteV ∷ []) ++ field passText in
     plain-number text rank (plain-test text tt)
 plain-verdict (Refused j depth) =
-    let text = (86 ∷ []) ++ field refuseText in
+    let text = (byteV ∷ []) ++ field refuseText in
     plain-number (text ++ field (digits (j .0))) depth (plain-number text (j .0) (plain-test text tt))
 
 plain-state : (p : ℕ) (d : Option ℕ) (class : ℕ) → PlainLine (state-line p d class)
 unfolding PlainLine lineText without? kindOf
 plain-state p d class =
-    plain-number ((67 ∷ []) ++ field (digits p) ++ field (distanceText d)) class
-    (plain-append ((67 ∷ []) ++ field (digits p)) (field (distanceText d))
-    (plain-number (67 ∷ []) p (plain-test (67 ∷ []) tt)) (plain-field (distanceText d) (plain-distance d)))
+    plain-number ((byteC ∷ []) ++ field (digits p) ++ field (distanceText d)) class
+    (plain-append ((byteC ∷ []) ++ field (digits p)) (field (distanceText d))
+    (plain-number (byteC ∷ []) p (plain-test (byteC ∷ []) tt)) (plain-field (distanceText d) (plain-distance d)))
 
 plain-run : (j : ℕ) → PlainLine (run-line j)
 unfolding PlainLine lineText without? kindOf
-plain-run j = plain-number (82 ∷ []) j (plain-test (82 ∷ []) tt)
+plain-run j = plain-number (byteR ∷ []) j (plain-test (byteR ∷ []) tt)
 
 plain-word : (name : List ℕ) → Plain name → PlainLine (word-line name)
 unfolding PlainLine lineText without? kindOf
-plain-word name p = plain-append (87 ∷ []) (field name) (plain-test (87 ∷ []) tt) (plain-field name p)
+plain-word name p = plain-append (byteW ∷ []) (field name) (plain-test (byteW ∷ []) tt) (plain-field name p)
 
-plain-end : (end : End) → PlainLine (end-line end)
+plain-allows : (end : End) → PlainLine (allows-line end)
 unfolding PlainLine lineText endText without? kindOf
-plain-end Source = plain-test ((66 ∷ []) ++ field (endText Source)) tt
-plain-end Target = plain-test ((66 ∷ []) ++ field (endText Target)) tt
+plain-allows Source = plain-test ((byteB ∷ []) ++ field (endText Source)) tt
+plain-allows Target = plain-test ((byteB ∷ []) ++ field (endText Target)) tt
 
 plain-branch : PlainLine branch-line
 unfolding PlainLine lineText without? kindOf
-plain-branch = plain-test (78 ∷ []) tt
+plain-branch = plain-test (byteN ∷ []) tt
 
 plain-last : PlainLine last-line
 unfolding PlainLine lineText without? kindOf
-plain-last = plain-test (69 ∷ []) tt
+plain-last = plain-test (byteE ∷ []) tt
 
 -- ---- the page
 
@@ -131,8 +132,8 @@ module _ {m : Model} (w : WellFormed m) where
   plain-leak : {j depth : ℕ} {word word′ : List ℕ} {lines : List PageLine} → LeakShown m j depth word word′ lines
       → All PlainLine lines
   plain-leak (by-word {w = word} {end = end} det x l e) =
-      all-append PlainLine (map (nameLine m) word) (end-line end ∷ [])
-      (all-map PlainLine (nameLine m) word (plain-names word (x .first-word .is-low))) (plain-end end, tt)
+      all-append PlainLine (map (nameLine m) word) (allows-line end ∷ [])
+      (all-map PlainLine (nameLine m) word (plain-names word (x .first-word .is-low))) (plain-allows end, tt)
   plain-leak (by-branch n e) = (plain-branch, tt)
 
   plain-after : (v : Verdict) (run word run′ word′ : List ℕ) (lines : List PageLine)
@@ -159,8 +160,8 @@ split-lines : (lines : List PageLine) → All PlainLine lines
 unfolding pageBytes PlainLine kindOf
 split-lines [] p = split-nil lineEnd
 split-lines (l ∷ lines) p =
-    ap (split lineEnd) (append-assoc (lineText l) (10 ∷ []) (pageBytes lines))
-    ∙ split-append lineEnd 10 (lineText l) (pageBytes lines) refl (p .0)
+    ap (split lineEnd) (append-assoc (lineText l) (byteLineEnd ∷ []) (pageBytes lines))
+    ∙ split-append lineEnd byteLineEnd (lineText l) (pageBytes lines) refl (p .0)
     ∙ ap (_∷_ (lineText l)) (split-lines lines (p .1))
 
 -- whoever parts the page at its line ends has its lines

@@ -65,13 +65,15 @@ module _ {s : List ℕ} {m : Model} (st : Stored s m) where
 
   classOf-of-least : (p c : ℕ) → p < m .head .states → LeastUpTo p (rankZero? m p) c → ClassOf m p c
   classOf-of-least p c lp (found l x) = record {
+    class-among = omega arith;
     rank-zero = subst (Rank (LowMove (view m)) p c) (eqb→eq (rankIn m p c) 0 (x .passes))
         (rankIn→Rank st p c lp (omega arith));
-    lowest = λ q k. not-rankZero?→not-Rank p q lp (omega arith) (x .none-below q k);
+    lowest = λ q k _. not-rankZero?→not-Rank p q lp (omega arith) (x .none-below q k);
   }
   classOf-of-least p _ lp (nowhere x) = record {
+    class-among = lp;
     rank-zero = bisimilar (bisimilar-refl (LowMove (view m)) p);
-    lowest = λ q k. not-rankZero?→not-Rank p q lp (omega arith) (x q k);
+    lowest = λ q k _. not-rankZero?→not-Rank p q lp (omega arith) (x q k);
   }
 
   -- ---- the lines

@@ -31,8 +31,8 @@ page-good-requires c κs =
       };
     }
 
-unread-page-requires : tie.Need-unread-page-requires
-unread-page-requires c κs =
+fault-line-requires : tie.Need-fault-line-requires
+fault-line-requires c κs =
     let other = c .before in
     let read = other .before .before .before in
     let long = read .before .before .before .before .before .before .before .before .before .pre in (
@@ -78,7 +78,7 @@ returns-2 c =
     let page = c .before .before in
     let read = page .before .before .before .before .before in
     let long = read .before .before .before .before .before .before .before .before .before .pre in
-    unread-promised _ _ _ _ _ _ _ long (read .read .result) (read .read .ensures .0) _ _ (page .unread-page .ensures)
+    unread-promised _ _ _ _ _ _ _ long (read .read .result) (read .read .ensures .0) _ _ (page .fault-line .ensures)
 
 pub print-text-spec : {M : Type 1} → statement M
 print-text-spec =
@@ -87,7 +87,7 @@ print-text-spec =
     read-requires
     enum-told
     page-good-requires
-    unread-page-requires
+    fault-line-requires
     same-length
     same-length-2
     same-length-3

@@ -1,0 +1,35 @@
+-- Each field goes on from where the last one ended; the text's length is what its fields ask for. Assumes nothing.
+use borrow.Author.Needs.{needs}
+use native.Mathlib.Omega.{arith}
+use denote.Ref.{now}
+use Rattle.writer.specs.Laws.WroteLaws.{wrote-append}
+use Rattle.lines.specs.PageLines.{lineText}
+use Rattle.lines.specs.Laws.PageLinesLaws.{word-length}
+use Rattle.lines.proofs.lines.PagePosition.word_text.Statement.{statement}
+use Rattle.lines.proofs.lines.PagePosition.word_text.Tie as tie
+
+slice-aggregate-text : tie.Need-slice-aggregate-text
+slice-aggregate-text c = search needs
+
+text-requires : tie.Need-text-requires
+text-requires c κs =
+    let s = c .before .before .before .before in
+    omega (arith, s .pre .0, word-length (now (s .args .name)))
+
+name-requires : tie.Need-name-requires
+name-requires c κs =
+    let s = c .before .before .before .before .before .before .before .before in
+    (omega (arith, s .pre .0, word-length (now (s .args .name))), s .pre .1)
+
+same-length : tie.Need-same-length
+same-length c = search needs
+
+returns : tie.Need-returns
+unfolding lineText
+returns c =
+    let name = c .before .before in
+    let letter = name .before .before .before .before in
+    wrote-append (letter .text .ensures) (name .name .ensures)
+
+pub word-text-spec : {M : Type 1} → statement M
+word-text-spec = tie.close (tie.spec slice-aggregate-text text-requires name-requires same-length returns)
