@@ -1,13 +1,13 @@
 //! How Judge's time grows with the states and with the steps.
 use crate::shapes;
-use crate::times::{Lists, TURNS};
+use crate::times::{Timed, TURNS};
 use second::Model;
 
 /// The best time of one size.
 pub struct Point {
     pub size: usize,
     pub time: f64,
-    lists: Lists,
+    timed: Timed,
 }
 
 /// The times of one kind of model, by size.
@@ -37,7 +37,7 @@ fn line(name: &'static str, sizes: &[usize], model: impl Fn(usize) -> Model) -> 
     let point = |&size: &usize| Point {
         size,
         time: f64::MAX,
-        lists: Lists::of(&model(size)),
+        timed: Timed::of(&model(size)),
     };
     Line {
         name,
@@ -79,7 +79,7 @@ pub fn panels() -> [Panel; 2] {
     for _ in 0..TURNS {
         let lines = panels.iter_mut().flat_map(|panel| &mut panel.lines);
         let points = lines.flat_map(|line| &mut line.points);
-        points.for_each(|point| point.time = point.time.min(point.lists.judge()));
+        points.for_each(|point| point.time = point.time.min(point.timed.judge()));
     }
     panels
 }

@@ -1,10 +1,10 @@
 //! Times of the proved operations and of the program, beside those of the second checker and of a plain ranking, all in
-//! one run. Prints the tables; with `--write` it also writes them into the repository.
+//! one run. Prints the tables; with `--write` it also writes them to TABLE.md, the plot beside it, and a short table
+//! into the README.
 mod growth;
 mod plain;
 mod plot;
 mod process;
-mod proved;
 mod shapes;
 mod tables;
 mod times;
@@ -12,11 +12,11 @@ mod times;
 use std::fs;
 use std::path::Path;
 
-/// The README's tables stand between these two lines.
+/// The README's table stands between these two lines.
 const FROM: &str = "<!-- from here to the next mark: bench/run --write -->\n";
 const TO: &str = "<!-- end of bench/run's part -->\n";
 
-/// The README with its tables made new.
+/// The README with its table made new.
 fn renewed(readme: &str, part: &str) -> String {
     let (before, rest) = readme.split_once(FROM).expect("the README's first mark");
     let (_, after) = rest.split_once(TO).expect("the README's second mark");

@@ -2,14 +2,14 @@
 use crate::growth::{Line, Panel};
 use crate::process;
 use crate::shapes::{self, LEGEND};
-use crate::times::{best_of_turns, Lists, Times, NAMES, RANK, WORDS};
+use crate::times::{best_of_turns, column, names, Timed, Times};
 
 /// A model with its times.
 struct Measured {
     name: &'static str,
     states: u16,
     steps: usize,
-    letters: Result<u64, u64>,
+    letters: Result<usize, u16>,
     times: Times,
 }
 
@@ -21,13 +21,13 @@ pub struct Report {
 
 pub fn measure() -> Report {
     let measured = |(name, model): (_, second::Model)| {
-        let mut lists = Lists::of(&model);
+        let mut timed = Timed::of(&model);
         Measured {
             name,
             states: model.states,
             steps: model.steps.len(),
-            letters: lists.letters,
-            times: lists.times(),
+            letters: timed.letters,
+            times: timed.times(),
         }
     };
     let empty = |program| best_of_turns(|| process::run(program, b""));
@@ -58,13 +58,14 @@ fn digits(value: f64) -> String {
 }
 
 impl Measured {
+    /// Whether this is the time of Word, and of its refusal.
+    fn is_refused(&self, index: usize) -> bool {
+        index == column("Word") && self.letters.is_err()
+    }
+
     /// A time of ours; Word's is marked where it is the time of a refusal.
     fn ours(&self, index: usize) -> String {
-        let mark = if index == WORDS && self.letters.is_err() {
-            "*"
-        } else {
-            ""
-        };
+        let mark = if self.is_refused(index) { "*" } else { "" };
         digits(self.times.ours[index]) + mark
     }
 
@@ -79,17 +80,17 @@ impl Measured {
             self.steps.to_string(),
             letters,
         ];
-        row.extend((0..NAMES.len()).map(|index| self.ours(index)));
+        row.extend((0..self.times.ours.len()).map(|index| self.ours(index)));
         row
     }
 
     /// Our time by the second checker's, none where Word refuses; after the last, Rank's by the plain ranking's.
     fn ratio(&self, index: usize) -> Option<f64> {
         let times = &self.times;
-        match index {
-            WORDS if self.letters.is_err() => None,
-            _ if index == NAMES.len() => Some(times.ours[RANK] / times.plain),
-            _ => Some(times.ours[index] / times.second[index]),
+        match times.ours.get(index) {
+            Some(_) if self.is_refused(index) => None,
+            Some(ours) => Some(ours / times.second[index]),
+            None => Some(self.rank() / times.plain),
         }
     }
 
@@ -103,12 +104,20 @@ impl Measured {
             )
         };
         let mut row = vec![self.name.to_string()];
-        row.extend((0..NAMES.len()).map(cell));
+        row.extend((0..self.times.ours.len()).map(cell));
         row
     }
 
+    fn rank(&self) -> f64 {
+        self.times.ours[column("Rank")]
+    }
+
+    fn program(&self) -> f64 {
+        self.times.ours[column("program")]
+    }
+
     fn plain_row(&self) -> Vec<String> {
-        let (rank, plain) = (self.times.ours[RANK], self.times.plain);
+        let (rank, plain) = (self.rank(), self.times.plain);
         vec![
             self.name.to_string(),
             digits(rank),
@@ -118,21 +127,18 @@ impl Measured {
     }
 }
 
-/// The machine, and how the times were taken.
-fn how() -> String {
+/// The machine that the times were taken on.
+fn machine() -> String {
     let cores = std::thread::available_parallelism().map_or(1, usize::from);
     let machine = std::env::consts::ARCH.replace('_', "-");
-    format!(
-        "Microseconds, the best of many calls, all in one run, on a machine of {cores} cores, {machine}. \
-         No list is cleared\nbetween calls: each call fills its lists over what the call before it left.\n"
-    )
+    format!("a machine of {cores} cores, {machine}")
 }
 
 const COLUMNS: &str = "\
 Letters: the length of the word that Word shows. *: the model branches and has no word, and Word's time is that of its
 refusal, 23; the row below it has its deterministic variant, which is refused with a word. Run goes to a reachable state
-as far from the start as any. Path is the way from the text to the page in one call; program is the same with its
-process, from its start to its end.
+as far from the start as any. Print is the way from the text to the page in one call, and tell is Read, Judge and Word
+in one; program is print with its process, from its start to its end.
 ";
 
 const RATIOS: &str = "\
@@ -145,10 +151,20 @@ takes a store tests within its time that the store is good, and so does the seco
 written for speed in Rust, is not proved, and takes a good store for granted.
 ";
 
+/// The models that the README shows, and what it calls them.
+const SHORT: [(&str, &str); 3] = [
+    ("typical", "a typical till"),
+    ("chain of 128, 8 actions", "the largest chain"),
+    ("dense random", "dense, at random"),
+];
+
+/// What the README shows of them.
+const SHORT_COLUMNS: [&str; 4] = ["Read", "Judge", "Page", "program"];
+
 impl Report {
     /// The times of the proved operations and of the program.
     fn ours(&self) -> String {
-        let head = [&["model", "states", "steps", "letters"], &NAMES[..]].concat();
+        let head = [&["model", "states", "steps", "letters"], &names()[..]].concat();
         table(&head, self.models.iter().map(Measured::row))
     }
 
@@ -159,37 +175,61 @@ impl Report {
             ratios.reduce(choose).expect("some model has a word")
         };
         let row = |name: &str, choose: fn(f64, f64) -> f64| {
-            let cells = (0..=NAMES.len()).map(|index| digits(over(index, choose)));
+            let cells = (0..=names().len()).map(|index| digits(over(index, choose)));
             [name.to_string()].into_iter().chain(cells).collect()
         };
-        let head = [&["ratio"], &NAMES[..], &["Rank to plain"]].concat();
+        let head = [&["ratio"], &names()[..], &["Rank to plain"]].concat();
         table(&head, [row("least", f64::min), row("greatest", f64::max)])
     }
 
-    /// What the README shows.
+    fn named(&self, name: &str) -> &Measured {
+        let mut models = self.models.iter();
+        models.find(|model| model.name == name).expect("a model")
+    }
+
+    /// What the README shows: a few rows, and what they mean.
     pub fn short(&self) -> String {
-        let parts = [
-            &how(),
-            &self.ours(),
-            LEGEND,
-            COLUMNS,
-            RATIOS,
-            &self.ratios(),
-            SECOND,
-        ];
-        parts.join("\n")
+        let row = |(name, called): (&str, &str)| {
+            let model = self.named(name);
+            let sizes = [
+                called.to_string(),
+                model.states.to_string(),
+                model.steps.to_string(),
+            ];
+            let times = SHORT_COLUMNS.map(|name| model.ours(column(name)));
+            [&sizes[..], &times].concat()
+        };
+        let head = [&["model", "states", "steps"], &SHORT_COLUMNS[..]].concat();
+        let times = table(&head, SHORT.map(row));
+        let programs = self.models.iter().map(Measured::program);
+        let slowest = digits(programs.reduce(f64::max).expect("some model"));
+        let [process, _] = self.empty.map(digits);
+        format!(
+            "Microseconds, the best of many calls, on {}:\n\n{times}\n\
+             The program answers on every model of the benchmark within {slowest}; {process} of that go to its \
+             process, as an empty text shows.\n\
+             `bench/TABLE.md` has every model and operation, and beside them the times of the second checker \
+             and of a plain ranking.\n",
+            machine()
+        )
     }
 
     /// All tables but the growth.
     pub fn whole(&self) -> String {
-        let head = [&["model"], &NAMES[..]].concat();
+        let head = [&["model"], &names()[..]].concat();
         let second = table(&head, self.models.iter().map(Measured::second_row));
         let head = ["model", "Rank", "plain", "Rank / plain"];
         let plain = table(&head, self.models.iter().map(Measured::plain_row));
         let [program, second_program] = self.empty.map(digits);
-        let short = self.short();
+        let how = format!(
+            "Microseconds, the best of many calls, all in one run, on {}. No list is cleared\n\
+             between calls: each call fills its lists over what the call before it left.\n",
+            machine()
+        );
+        let (ours, ratios) = (self.ours(), self.ratios());
+        let parts = [&how, &ours, LEGEND, COLUMNS, RATIOS, &ratios, SECOND].join("\n");
         format!(
-            "# Times\n\nMade by `bash bench/run --write`.\n\n{short}\n\
+            "# Times\n\nMade by `bash bench/run --write`.\n\n{parts}\n\
              A process alone: on an empty text the program takes {program}, the second checker's {second_program}.\n\n\
              ## The second checker (in brackets: our time by its time)\n\n{second}\n\
              ## Rank beside the plain ranking\n\n{plain}\n"

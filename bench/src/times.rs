@@ -2,12 +2,16 @@
 use std::hint::black_box;
 use std::time::{Duration, Instant};
 
-use second::store::{DISTANCES, PAGE, RUN, STORE, TABLE, WORD, WRITTEN};
+use second::gen::Rng;
+use second::store::TABLE;
 use second::Model;
+use suite::input::Input;
+use suite::lists::{Lists, LEAST};
+use suite::operations::{AnyOperation, ALL, JUDGE, PRINT, WORD, WRITE};
+use suite::stores::Store;
 
 use crate::plain;
 use crate::process;
-use crate::proved;
 
 /// How long each call is repeated at a time, and how often at least.
 const LONG_ENOUGH: Duration = Duration::from_millis(40);
@@ -19,14 +23,19 @@ pub const TURNS: usize = 5;
 const UNREACHABLE: u16 = 65_535;
 
 /// What is timed, in the order of the tables.
-pub const NAMES: [&str; 10] = [
-    "Read", "Reach", "Rank", "Judge", "Run", "Word", "Page", "Write", "path", "program",
-];
-pub const RANK: usize = 2;
-pub const WORDS: usize = 5;
+pub fn names() -> Vec<&'static str> {
+    let operations = ALL.iter().map(|operation| operation.name());
+    operations.chain(["program"]).collect()
+}
 
-/// Microseconds in the order of `NAMES`.
-pub type Each = [f64; NAMES.len()];
+/// The place of a name among them.
+pub fn column(name: &str) -> usize {
+    let mut names = names().into_iter();
+    names.position(|other| other == name).expect("a name")
+}
+
+/// Microseconds in the order of `names`.
+pub type Each = Vec<f64>;
 
 /// The best time of many calls, in microseconds.
 fn best<T>(mut call: impl FnMut() -> T) -> f64 {
@@ -47,9 +56,11 @@ pub fn best_of_turns<T>(mut call: impl FnMut() -> T) -> f64 {
     (0..TURNS).map(|_| best(&mut call)).fold(f64::MAX, f64::min)
 }
 
-/// The less of two times, place by place.
-fn least<const N: usize>(one: [f64; N], other: [f64; N]) -> [f64; N] {
-    std::array::from_fn(|place| one[place].min(other[place]))
+/// Keeps the less of two times, place by place.
+fn least(times: &mut Each, others: &Each) {
+    for (time, other) in times.iter_mut().zip(others) {
+        *time = time.min(*other);
+    }
 }
 
 /// The best times of one model.
@@ -59,104 +70,80 @@ pub struct Times {
     pub plain: f64,
 }
 
-/// The lists of one model, filled over and over.
-pub struct Lists {
-    text: Vec<u8>,
-    store: Vec<u16>,
-    distances: Vec<u16>,
-    table: Vec<u8>,
-    run: Vec<u16>,
-    word: Vec<u16>,
-    out: Vec<u8>,
-    written: Vec<u8>,
-    /// A reachable state as far from the start as any: Run goes there.
-    furthest: u16,
+/// A model and its lists, which are filled over and over.
+pub struct Timed {
+    /// Run goes to a reachable state as far from the start as any.
+    input: Input,
+    lists: Lists,
     /// The letters of Word's answer, or its refusal's number.
-    pub letters: Result<u64, u64>,
+    pub letters: Result<usize, u16>,
 }
 
-impl Lists {
+impl Timed {
     /// Lists of least length, filled once.
-    pub fn of(model: &Model) -> Lists {
-        let mut lists = Lists {
-            text: model.to_text(),
-            store: vec![0; STORE],
-            distances: vec![0; DISTANCES],
-            table: vec![1; TABLE],
-            run: vec![0; RUN],
-            word: vec![0; WORD],
-            out: vec![0; PAGE],
-            written: vec![0; WRITTEN],
-            furthest: 0,
+    pub fn of(model: &Model) -> Timed {
+        let mut timed = Timed {
+            input: Input {
+                store: Store::of(model),
+                ..Input::from(&model.to_text())
+            },
+            lists: Lists::anything(&mut Rng::new(0), LEAST),
             letters: Ok(0),
         };
-        lists.fill();
-        lists.succeed();
-        lists
+        timed.fill();
+        timed.compare();
+        timed
     }
 
     /// What the three rankings fill is the same, both pages are, and what is written is the text.
     fn fill(&mut self) {
-        let l = &mut *self;
-        let page = proved::print(
-            &l.text,
-            &mut l.store,
-            &mut l.distances,
-            &mut l.table,
-            &mut l.run,
-            &mut l.word,
-            &mut l.out,
+        let Timed { input, lists, .. } = self;
+        let length = PRINT.told(input.clone(), lists).expect("a page");
+        assert!(
+            second::program(&input.text) == lists.page[..length],
+            "one page"
         );
-        let page = &l.out[..page.first as usize];
-        assert!(second::program(&l.text) == page, "one page");
         let mut plain = vec![2; TABLE];
-        plain::rank(&l.store, &mut plain);
-        assert!(l.table == plain, "one table");
-        let length = proved::write(&l.store, &mut l.written).first as usize;
-        assert!(l.written[..length] == l.text, "one text");
-        let word = proved::word(&l.store, &mut l.distances, &mut l.table, &mut l.word);
-        l.letters = match word.number {
-            0 => Ok(word.first),
-            refusal => Err(refusal),
-        };
-        let distance = |&p: &u16| l.distances[usize::from(p)];
-        l.furthest = (0..l.store[0])
+        plain::rank(&input.store, &mut plain);
+        assert!(lists.table[..] == plain, "one table");
+        let length = WRITE.told(input.clone(), lists).expect("a text");
+        assert!(lists.written[..length] == input.text[..], "one text");
+        let word = WORD.told(input.clone(), lists);
+        self.letters = word
+            .map(|(length, _)| length)
+            .map_err(|refusal| refusal.number);
+        let distance = |&p: &u16| lists.distances[usize::from(p)];
+        input.state = (0..input.store[0])
             .filter(|p| distance(p) != UNREACHABLE)
             .max_by_key(distance)
             .expect("the start is reachable");
     }
 
-    /// No operation but Word is timed on a refusal.
-    fn succeed(&mut self) {
-        let l = self;
-        let (store, distances, table) = (&mut l.store, &mut l.distances, &mut l.table);
-        let answers = [
-            proved::read(&l.text, store),
-            proved::reach(store, distances),
-            proved::rank(store, table),
-            proved::judge(store, distances, table),
-            proved::run(store, distances, &mut l.run, l.furthest),
-            proved::page(store, distances, table, &mut l.run, &mut l.word, &mut l.out),
-        ];
-        assert_eq!(answers.map(|answer| answer.number), [0; 6]);
+    /// Each operation does what the second checker's does, and none but Word is timed on a refusal.
+    fn compare(&self) {
+        for operation in ALL {
+            let (refusal, _) = operation.refusal(&self.input, &self.lists);
+            let name = operation.name();
+            assert!(refusal.is_none() || name == WORD.name, "{name}");
+        }
     }
 
     /// One turn of Judge alone.
     pub fn judge(&mut self) -> f64 {
-        let l = self;
-        best(|| proved::judge(black_box(&l.store), &mut l.distances, &mut l.table))
+        best(|| JUDGE.call_proved(&self.input, &mut self.lists))
     }
 
     pub fn times(&mut self) -> Times {
         let mut times = Times {
-            ours: [f64::MAX; NAMES.len()],
-            second: [f64::MAX; NAMES.len()],
+            ours: vec![f64::MAX; names().len()],
+            second: vec![f64::MAX; names().len()],
             plain: f64::MAX,
         };
         for _ in 0..TURNS {
-            times.ours = least(times.ours, self.ours());
-            times.second = least(times.second, self.second());
-            let plain = best(|| plain::rank(black_box(&self.store), &mut self.table));
+            least(&mut times.ours, &self.ours());
+            least(&mut times.second, &self.second());
+            let Timed { input, lists, .. } = self;
+            let plain = best(|| plain::rank(black_box(&input.store), &mut lists.table));
             times.plain = times.plain.min(plain);
         }
         times
@@ -164,57 +151,19 @@ impl Lists {
 
     /// One turn of the proved operations and the program.
     fn ours(&mut self) -> Each {
-        let Lists {
-            text,
-            store,
-            distances,
-            table,
-            run,
-            word,
-            out,
-            written,
-            furthest,
-            ..
-        } = self;
-        [
-            best(|| proved::read(black_box(text), store)),
-            best(|| proved::reach(black_box(store), distances)),
-            best(|| proved::rank(black_box(store), table)),
-            best(|| proved::judge(black_box(store), distances, table)),
-            best(|| proved::run(black_box(store), distances, run, *furthest)),
-            best(|| proved::word(black_box(store), distances, table, word)),
-            best(|| proved::page(black_box(store), distances, table, run, word, out)),
-            best(|| proved::write(black_box(store), written)),
-            best(|| proved::print(black_box(text), store, distances, table, run, word, out)),
-            best(|| process::run(process::PROGRAM, text)),
-        ]
+        let Timed { input, lists, .. } = self;
+        let call = |operation: &&dyn AnyOperation| best(|| operation.call_proved(input, lists));
+        let mut each: Each = ALL.iter().map(call).collect();
+        each.push(best(|| process::run(process::PROGRAM, &input.text)));
+        each
     }
 
     /// One turn of the second checker and its process.
     fn second(&mut self) -> Each {
-        let Lists {
-            text,
-            store,
-            distances,
-            table,
-            run,
-            word,
-            out,
-            written,
-            furthest,
-            ..
-        } = self;
-        [
-            best(|| second::read(black_box(text), store)),
-            best(|| second::reach(black_box(store), distances)),
-            best(|| second::rank(black_box(store), table)),
-            best(|| second::judge(black_box(store), distances, table)),
-            best(|| second::run(black_box(store), distances, run, *furthest)),
-            best(|| second::word(black_box(store), distances, table, word)),
-            best(|| second::page(black_box(store), distances, table, run, word, out)),
-            best(|| second::write(black_box(store), written)),
-            best(|| second::program(black_box(text))),
-            best(|| process::run(process::SECOND, text)),
-        ]
+        let Timed { input, lists, .. } = self;
+        let call = |operation: &&dyn AnyOperation| best(|| operation.call_second(input, lists));
+        let mut each: Each = ALL.iter().map(call).collect();
+        each.push(best(|| process::run(process::SECOND, &input.text)));
+        each
     }
 }

@@ -12,6 +12,9 @@ pub const NAME_LIMIT: u16 = 12;
 // A text has at most so many bytes.
 pub const TEXT_LIMIT: usize = 16384;
 
+// One byte more is read of a text, so that a longer text is told from the longest.
+pub const INPUT_LENGTH: usize = TEXT_LIMIT + 1;
+
 // Places 0 to 3 of the store: states, actions, steps, start. Then a section of rows for the actions: the level, the
 // length of the name, and the places of the name.
 pub const ACTIONS_AT: usize = 4;

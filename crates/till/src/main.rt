@@ -3,23 +3,25 @@ use libc::STDIN_FILENO;
 use libc::STDOUT_FILENO;
 use page::print::PrintAnswer;
 use text::limits::DISTANCES_LENGTH;
+use text::limits::INPUT_LENGTH;
 use text::limits::PAGE_LENGTH;
 use text::limits::RUN_LENGTH;
 use text::limits::STORE_LENGTH;
 use text::limits::TABLE_LENGTH;
 use text::limits::WORD_LENGTH;
-ghost use Prim.Native.Nat.{_≤_};
+ghost use Prim.Native.Nat.{_≤_, _<_};
 ghost use lib.ListN.{length, take};
 ghost use Rattle.io.specs.Counts.{Counts};
-ghost use Rattle.text.specs.Limits.{pageLength};
+ghost use Rattle.text.specs.Limits.{textLimit, pageLength};
 ghost use Rattle.page.specs.Prints.{Prints};
 
-// Puts what is printed of a text at the front of `out`, and answers how many bytes that is; 0 if `out` is shorter than
-// a page may need. The other lists are long enough for any text.
-fn print(text: &[u8], out: &mut [u8]) -> usize
+// Puts what is printed of the first n bytes of the input at the front of `out`, and answers how many bytes that is. The
+// caller owes an input list that holds a byte more than the longest text, and room for any page.
+fn print(input: &[u8], n: usize, out: &mut [u8]) -> usize
+    requires { ⌜ (textLimit < length (now input)) × Counts n (now input) ⌝ }
+    requires { ⌜ pageLength ≤ length (now out) ⌝ }
     ensures { λ r. ⌜ Counts r (now (out .exit)) ⌝ }
-    ensures { λ r. ⌜ (pageLength ≤ length (now (out .entry))
-        → Prints (now (text .entry)) (take r (now (out .exit)))) ⌝ }
+    ensures { λ r. ⌜ Prints (take n (now (input .entry))) (take r (now (out .exit))) ⌝ }
 {
     let mut store = [0u16; STORE_LENGTH];
     let mut distances = [0u16; DISTANCES_LENGTH];
@@ -27,7 +29,7 @@ fn print(text: &[u8], out: &mut [u8]) -> usize
     let mut run = [0u16; RUN_LENGTH];
     let mut word = [0u16; WORD_LENGTH];
     let answer = page::print::print(
-        text,
+        &input[..n],
         &mut store,
         &mut distances,
         &mut table,
@@ -37,15 +39,15 @@ fn print(text: &[u8], out: &mut [u8]) -> usize
     );
     match answer {
         PrintAnswer::Printed(length) => length,
+        // Does not occur: each list has its least length.
         PrintAnswer::ShortList(_) => 0,
     }
 }
 
-// One byte more than a text may have is read, so that a longer text is told from the longest.
 fn main() {
-    let mut text = [0u8; 16385];
-    let n = io::read_full(STDIN_FILENO, &mut text);
+    let mut input = [0u8; INPUT_LENGTH];
     let mut out = [0u8; PAGE_LENGTH];
-    let length = print(&text[..n], &mut out);
+    let n = io::read_full(STDIN_FILENO, &mut input);
+    let length = print(&input, n, &mut out);
     io::write_all(STDOUT_FILENO, &out[..length]);
 }

@@ -29,16 +29,94 @@ pub fn write(store: &[u16], out: &mut [u8]) -> Result<usize, Refusal> {
     Ok(text.len())
 }
 
+/// Why a text is refused, in the order in which a line is tested.
+#[derive(Debug, Clone, Copy, PartialEq, Eq, PartialOrd, Ord, Hash)]
+pub enum Cause {
+    /// More bytes than a text may have.
+    TooLong,
+    /// A line that is missing or has no line end.
+    NoLine,
+    /// Bytes after `E`.
+    AfterEnd,
+    Letter,
+    FieldCount,
+    Level,
+    Name,
+    /// Not 1 to 5 digits without a leading zero.
+    Digits,
+    /// A number outside its range.
+    Range,
+    /// A name used before.
+    NameUsed,
+    /// A step not above the one before it.
+    Order,
+}
+
+impl Cause {
+    /// All causes, in their order.
+    pub const ALL: [Cause; 11] = [
+        Cause::TooLong,
+        Cause::NoLine,
+        Cause::AfterEnd,
+        Cause::Letter,
+        Cause::FieldCount,
+        Cause::Level,
+        Cause::Name,
+        Cause::Digits,
+        Cause::Range,
+        Cause::NameUsed,
+        Cause::Order,
+    ];
+
+    /// The number of the refusal.
+    pub fn number(self) -> u16 {
+        match self {
+            Cause::TooLong => 1,
+            Cause::NoLine | Cause::AfterEnd => 2,
+            Cause::Letter | Cause::FieldCount | Cause::Level | Cause::Name => 2,
+            Cause::Digits => 2,
+            Cause::Range => 3,
+            Cause::NameUsed => 4,
+            Cause::Order => 5,
+        }
+    }
+}
+
+/// A cause with its place: the line, from 1, or 0.
+type Refused = (Cause, u64);
+
 /// The model of a text, or the refusal because of the input.
 pub fn parse(text: &[u8]) -> Result<Model, Refusal> {
+    parse_or_cause(text).map_err(|(cause, place)| Refusal::new(cause.number(), place))
+}
+
+/// The model of a text, or why and where it is refused.
+pub fn parse_or_cause(text: &[u8]) -> Result<Model, (Cause, u64)> {
     if text.len() > TEXT {
-        return Err(Refusal::new(1, 0));
+        return Err((Cause::TooLong, 0));
     }
     let mut lines = Lines {
         rest: text,
         line: 0,
     };
+    let (mut model, actions, steps) = head(&mut lines)?;
+    for _ in 0..actions {
+        let action = action(&mut lines, &model)?;
+        model.actions.push(action);
+    }
+    for _ in 0..steps {
+        let step = step(&mut lines, &model)?;
+        model.steps.push(step);
+    }
+    lines.next(b'E', 0)?;
+    if !lines.rest.is_empty() {
+        return Err((Cause::AfterEnd, lines.line + 1));
+    }
+    Ok(model)
+}
 
+/// The first line: a model with no actions and steps yet, and their counts.
+fn head(lines: &mut Lines) -> Result<(Model, usize, usize), Refused> {
     let fields = lines.next(b'M', 4)?;
     let numbers = lines.numbers(&fields)?;
     let (states, actions, steps, start) = (numbers[0], numbers[1], numbers[2], numbers[3]);
@@ -47,53 +125,50 @@ pub fn parse(text: &[u8]) -> Result<Model, Refusal> {
         && steps <= MOST_STEPS
         && start < states;
     if !in_range {
-        return Err(lines.refusal(3));
+        return Err(lines.refused(Cause::Range));
     }
-    let mut model = Model {
+    let model = Model {
         states: states as u16,
         start: start as u16,
         actions: Vec::new(),
         steps: Vec::new(),
     };
+    Ok((model, actions, steps))
+}
 
-    for _ in 0..actions {
-        let fields = lines.next(b'A', 2)?;
-        let level = match fields[0] {
-            b"L" => Level::Low,
-            b"D" => Level::Release,
-            b"H" => Level::High,
-            _ => return Err(lines.refusal(2)),
-        };
-        let name = fields[1];
-        if !is_name(name) {
-            return Err(lines.refusal(2));
-        }
-        if model.actions.iter().any(|earlier| earlier.name == name) {
-            return Err(lines.refusal(4));
-        }
-        let name = name.to_vec();
-        model.actions.push(Action { level, name });
+/// The next action, given the model so far.
+fn action(lines: &mut Lines, model: &Model) -> Result<Action, Refused> {
+    let fields = lines.next(b'A', 2)?;
+    let level = match fields[0] {
+        b"L" => Level::Low,
+        b"D" => Level::Release,
+        b"H" => Level::High,
+        _ => return Err(lines.refused(Cause::Level)),
+    };
+    let name = fields[1].to_vec();
+    if !is_name(&name) {
+        return Err(lines.refused(Cause::Name));
     }
+    if model.actions.iter().any(|earlier| earlier.name == name) {
+        return Err(lines.refused(Cause::NameUsed));
+    }
+    Ok(Action { level, name })
+}
 
-    for _ in 0..steps {
-        let fields = lines.next(b'S', 3)?;
-        let numbers = lines.numbers(&fields)?;
-        let (source, action, target) = (numbers[0], numbers[1], numbers[2]);
-        if source >= states || action >= actions || target >= states {
-            return Err(lines.refusal(3));
-        }
-        let step = Step::new(source as u16, action as u16, target as u16);
-        if model.steps.last().is_some_and(|before| step <= *before) {
-            return Err(lines.refusal(5));
-        }
-        model.steps.push(step);
+/// The next step, given the model with all its actions and the steps so far.
+fn step(lines: &mut Lines, model: &Model) -> Result<Step, Refused> {
+    let fields = lines.next(b'S', 3)?;
+    let numbers = lines.numbers(&fields)?;
+    let (source, action, target) = (numbers[0], numbers[1], numbers[2]);
+    let states = usize::from(model.states);
+    if source >= states || action >= model.actions.len() || target >= states {
+        return Err(lines.refused(Cause::Range));
     }
-
-    lines.next(b'E', 0)?;
-    if !lines.rest.is_empty() {
-        return Err(Refusal::new(2, lines.line + 1));
+    let step = Step::new(source as u16, action as u16, target as u16);
+    if model.steps.last().is_some_and(|before| step <= *before) {
+        return Err(lines.refused(Cause::Order));
     }
-    Ok(model)
+    Ok(step)
 }
 
 /// The lines of a text not yet taken, and the number of the last one taken.
@@ -104,28 +179,31 @@ struct Lines<'a> {
 
 impl<'a> Lines<'a> {
     /// Takes a line with this letter and this many fields after it.
-    fn next(&mut self, letter: u8, count: usize) -> Result<Vec<&'a [u8]>, Refusal> {
+    fn next(&mut self, letter: u8, count: usize) -> Result<Vec<&'a [u8]>, Refused> {
         self.line += 1;
         let Some(end) = self.rest.iter().position(|&byte| byte == LINE_END) else {
-            return Err(self.refusal(2));
+            return Err(self.refused(Cause::NoLine));
         };
         let mut fields: Vec<&[u8]> = self.rest[..end].split(|&byte| byte == COMMA).collect();
         self.rest = &self.rest[end + 1..];
-        if fields.len() != count + 1 || fields.remove(0) != [letter] {
-            return Err(self.refusal(2));
+        if fields.remove(0) != [letter] {
+            return Err(self.refused(Cause::Letter));
+        }
+        if fields.len() != count {
+            return Err(self.refused(Cause::FieldCount));
         }
         Ok(fields)
     }
 
     /// All fields of the line just taken as numbers.
-    fn numbers(&self, fields: &[&[u8]]) -> Result<Vec<usize>, Refusal> {
+    fn numbers(&self, fields: &[&[u8]]) -> Result<Vec<usize>, Refused> {
         let numbers: Option<Vec<usize>> = fields.iter().map(|field| number(field)).collect();
-        numbers.ok_or(self.refusal(2))
+        numbers.ok_or(self.refused(Cause::Digits))
     }
 
-    /// A refusal at the line just taken.
-    fn refusal(&self, number: u16) -> Refusal {
-        Refusal::new(number, self.line)
+    /// Refused at the line just taken.
+    fn refused(&self, cause: Cause) -> Refused {
+        (cause, self.line)
     }
 }
 

@@ -6,7 +6,7 @@ use std::collections::BTreeSet;
 use std::process::Command;
 
 use common::Lists;
-use second::{gen, judge, meaning, Level, Model, Step, Verdict};
+use second::{gen, judge, meaning, Action, Level, Model, Step, Verdict};
 
 /// What a command prints.
 fn printed(command: &str) -> Vec<u8> {
@@ -35,6 +35,25 @@ fn a_shown_text_is_printed_again() {
         let text = gen::any_model(&mut rng).to_text();
         let text = gen::mutated_text(&mut rng, &text);
         assert_eq!(printed(&gen::shown(&text)), text);
+    }
+}
+
+/// Every model that is made for the tests has a high action.
+#[test]
+fn every_model_has_a_high_action() {
+    let mut rng = gen::seeded("second::cases::every_model_has_a_high_action", 304);
+    let mut models: Vec<Model> = (2..=128).map(gen::chain).collect();
+    models.extend(
+        gen::limit_models(&mut rng)
+            .into_iter()
+            .map(|(_, model)| model),
+    );
+    models.extend((1..=127).map(|depth| gen::branching_deep_model(&mut rng, depth)));
+    models.extend((0..4_000).map(|_| gen::any_model(&mut rng)));
+    for model in models {
+        let _case = gen::model_case(&model);
+        let is_high = |action: &Action| action.level == Level::High;
+        assert!(model.actions.iter().any(is_high));
     }
 }
 

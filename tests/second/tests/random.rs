@@ -236,6 +236,30 @@ fn tiny_words_by_trying_all() {
     assert!(words > 300, "{words}");
 }
 
+/// Checks the lists that Reach, Rank and Run fill; yields the greatest rank.
+fn check_lists(model: &Model) -> u16 {
+    let store = model.to_store();
+    let mut lists = Lists::new();
+    reach(&store, &mut lists.distances).unwrap();
+    assert_eq!(meaning::distances_hold(model, &lists.distances), Ok(()));
+    let greatest = rank(&store, &mut lists.table).unwrap();
+    assert_eq!(meaning::ranks_hold(model, &lists.table, greatest), Ok(()));
+    assert!(greatest < model.states);
+
+    let reachable = meaning::reachable(model);
+    for state in (0..model.states).filter(|state| state % 16 < 12) {
+        let answer = run(&store, &mut lists.distances, &mut lists.run, state);
+        if reachable.contains(&state) {
+            let steps = &lists.run[..answer.unwrap()];
+            let holds = meaning::run_holds(model, &lists.distances, steps, state);
+            assert_eq!(holds, Ok(()));
+        } else {
+            assert_eq!(answer, Err(Refusal::new(26, u64::from(state))));
+        }
+    }
+    greatest
+}
+
 #[test]
 fn lists_hold_on_all_models() {
     let mut rng = gen::seeded("second::random::lists_hold_on_all_models", 207);
@@ -243,26 +267,7 @@ fn lists_hold_on_all_models() {
     for _ in 0..1_000 {
         let model = gen::any_model(&mut rng);
         let _case = gen::model_case(&model);
-        let store = model.to_store();
-        let mut lists = Lists::new();
-        reach(&store, &mut lists.distances).unwrap();
-        assert_eq!(meaning::distances_hold(&model, &lists.distances), Ok(()));
-        let greatest = rank(&store, &mut lists.table).unwrap();
-        assert_eq!(meaning::ranks_hold(&model, &lists.table, greatest), Ok(()));
-        assert!(greatest < model.states);
-
-        let reachable = meaning::reachable(&model);
-        for state in (0..model.states).filter(|state| state % 16 < 12) {
-            let answer = run(&store, &mut lists.distances, &mut lists.run, state);
-            if reachable.contains(&state) {
-                let steps = &lists.run[..answer.unwrap()];
-                let holds = meaning::run_holds(&model, &lists.distances, steps, state);
-                assert_eq!(holds, Ok(()));
-            } else {
-                assert_eq!(answer, Err(Refusal::new(26, u64::from(state))));
-            }
-        }
-
+        let greatest = check_lists(&model);
         let Told { verdict, word } = told(&model);
         if model.states <= 40 {
             assert_eq!(verdict, meaning::verdict_of(&model));
@@ -271,13 +276,9 @@ fn lists_hold_on_all_models() {
             assert_eq!(rank, greatest);
             passed += 1;
         }
-        let number = word.err().map_or(0, |refusal| refusal.number);
-        if meaning::deterministic(&model) {
-            assert_ne!(number, 23);
-        } else {
-            assert_eq!(number, 23);
-            doubles += 1;
-        }
+        let branches = word.is_err_and(|refusal| refusal.number == 23);
+        assert_eq!(branches, !meaning::deterministic(&model));
+        doubles += usize::from(branches);
     }
     assert!(doubles > 200 && passed > 200, "{doubles} {passed}");
 }

@@ -2,9 +2,12 @@
 
 mod common;
 
+use std::collections::BTreeMap;
+
 use common::{store_of, till, Lists, CLOSE, EXAMPLE, PRINT, SCAN};
 use second::gen;
 use second::store::{DISTANCES, PAGE, RUN, STORE, TABLE, WORD, WRITTEN};
+use second::text::{parse_or_cause, Cause};
 use second::{judge, page, program, rank, reach, read, run, word, write, Refusal, Verdict};
 
 /// Reads a text that must be refused, and checks that the store is kept.
@@ -20,7 +23,7 @@ fn refusal(text: &[u8]) -> (u16, u64) {
 }
 
 #[test]
-fn corner_cases() {
+fn lines_that_are_missing_or_not_ended() {
     assert_eq!(refusal(b""), (2, 1));
     assert_eq!(refusal(b"\n"), (2, 1));
     assert_eq!(refusal(&[b'\n'; 16_384]), (2, 1));
@@ -29,14 +32,17 @@ fn corner_cases() {
     assert_eq!(refusal(b"M"), (2, 1));
     assert_eq!(refusal(b"M,1,1,0,0"), (2, 1));
     assert_eq!(refusal(b"M,1,1,0,0\n"), (2, 2));
-    assert_eq!(refusal(b"M,1,1,0,0\nA,L,a"), (2, 2));
-    assert_eq!(refusal(b"M,1,1,0,0\nA,L,a\n"), (2, 3));
-    assert_eq!(refusal(b"M,1,1,0,0\nA,L,a\nE"), (2, 3));
-    assert_eq!(refusal(b"M,1,1,0,0\nA,L,a\nE\n\n"), (2, 4));
-    assert_eq!(refusal(b"M,1,1,0,0\nA,L,a\nE\nx"), (2, 4));
-    assert_eq!(refusal(b"M,1,1,0,0\nA,L,a\nEx\n"), (2, 3));
-    assert_eq!(refusal(b"M,1,1,0,0\r\nA,L,a\r\nE\r\n"), (2, 1));
+    assert_eq!(refusal(b"M,1,1,0,0\nA,H,a"), (2, 2));
+    assert_eq!(refusal(b"M,1,1,0,0\nA,H,a\n"), (2, 3));
+    assert_eq!(refusal(b"M,1,1,0,0\nA,H,a\nE"), (2, 3));
+    assert_eq!(refusal(b"M,1,1,0,0\nA,H,a\nE\n\n"), (2, 4));
+    assert_eq!(refusal(b"M,1,1,0,0\nA,H,a\nE\nx"), (2, 4));
+    assert_eq!(refusal(b"M,1,1,0,0\nA,H,a\nEx\n"), (2, 3));
+    assert_eq!(refusal(b"M,1,1,0,0\r\nA,H,a\r\nE\r\n"), (2, 1));
+}
 
+#[test]
+fn first_lines() {
     for (first, number) in [
         ("M,99999,3,4,0", 3),
         ("M,100000,3,4,0", 2),
@@ -66,7 +72,10 @@ fn corner_cases() {
         let text = first.to_string() + rest;
         assert_eq!(refusal(text.as_bytes()), (number, 1), "{first}");
     }
+}
 
+#[test]
+fn steps_and_names() {
     let twice = till(2, &[(0, SCAN, 1), (0, SCAN, 1)]);
     assert_eq!(refusal(&twice), (5, 6));
     let falling = till(2, &[(0, PRINT, 1), (0, SCAN, 1)]);
@@ -78,23 +87,43 @@ fn corner_cases() {
     assert_eq!(refusal(&till(2, &[(1, SCAN, 1), (0, SCAN, 2)])), (3, 6));
 
     assert_eq!(refusal(b"M,1,2,0,0\nA,L,a\nA,H,a\nE\n"), (4, 3));
-    assert_eq!(refusal(b"M,1,2,0,0\nA,L,a\nA,X,a\nE\n"), (2, 3));
+    assert_eq!(refusal(b"M,1,2,0,0\nA,H,a\nA,X,a\nE\n"), (2, 3));
     assert_eq!(refusal(b"M,1,2,0,0\nA,L,a\nA,H,a"), (2, 3));
-    assert_eq!(refusal(b"M,1,1,0,0\nA,L,\nE\n"), (2, 2));
-    assert_eq!(refusal(b"M,1,1,0,0\nA,L,abcdefghijklm\nE\n"), (2, 2));
-    assert_eq!(refusal(b"M,1,1,0,0\nA,L,A\nE\n"), (2, 2));
+    assert_eq!(refusal(b"M,1,1,0,0\nA,H,\nE\n"), (2, 2));
+    assert_eq!(refusal(b"M,1,1,0,0\nA,H,abcdefghijklm\nE\n"), (2, 2));
+    assert_eq!(refusal(b"M,1,1,0,0\nA,H,A\nE\n"), (2, 2));
 
-    let twelve = b"M,1,1,0,0\nA,L,abcdefghijkl\nE\n";
+    let twelve = b"M,1,1,0,0\nA,H,abcdefghijkl\nE\n";
     assert_eq!(program(twelve), b"V,pass,0\nC,0,0,0\nE\n");
     // Bytes next to the ends of the allowed ranges.
     for byte in [b'/', b':', b'`', b'{', b'@', b'['] {
-        let text = [b"M,1,1,0,0\nA,L,", &[byte][..], b"\nE\n"].concat();
+        let text = [b"M,1,1,0,0\nA,H,", &[byte][..], b"\nE\n"].concat();
         assert_eq!(refusal(&text), (2, 2));
     }
     for byte in [b'0', b'9', b'a', b'z'] {
-        let text = [b"M,1,1,0,0\nA,L,", &[byte][..], b"\nE\n"].concat();
+        let text = [b"M,1,1,0,0\nA,H,", &[byte][..], b"\nE\n"].concat();
         assert_eq!(program(&text), b"V,pass,0\nC,0,0,0\nE\n");
     }
+}
+
+/// Models in which some level has no action.
+#[test]
+fn levels_that_are_missing() {
+    for levels in ["L", "D", "H", "LD", "LH", "DH", "LDH"] {
+        let mut text = format!("M,1,{},0,0\n", levels.len());
+        for (index, level) in levels.chars().enumerate() {
+            text += &format!("A,{level},a{index}\n");
+        }
+        let page = program((text + "E\n").as_bytes());
+        assert_eq!(page, b"V,pass,0\nC,0,0,0\nE\n", "{levels}");
+    }
+}
+
+/// The number of each cause of a refusal.
+#[test]
+fn causes_have_these_numbers() {
+    let numbers = Cause::ALL.map(Cause::number);
+    assert_eq!(numbers, [1, 2, 2, 2, 2, 2, 2, 2, 3, 4, 5]);
 }
 
 #[test]
@@ -121,7 +150,7 @@ fn faults_in_many_texts() {
         models.push(gen::small_model(&mut rng, false));
     }
     models.push(gen::limit_models(&mut rng).swap_remove(0).1);
-    let mut numbers = [0; 6];
+    let mut causes = BTreeMap::new();
     for model in &models {
         for fault in gen::faults(model) {
             let _case = gen::text_case(&fault.text);
@@ -129,76 +158,78 @@ fn faults_in_many_texts() {
             let answer = read(&fault.text, &mut store);
             assert_eq!(answer, Err(fault.refusal), "{}", fault.what);
             assert!(store.iter().all(|&number| number == 4_321));
-            numbers[usize::from(fault.refusal.number)] += 1;
+            let cause = parse_or_cause(&fault.text).err();
+            let expected = Some((fault.cause, fault.refusal.place));
+            assert_eq!(cause, expected, "{}", fault.what);
+            *causes.entry(fault.cause).or_insert(0) += 1;
         }
     }
-    assert!(numbers[1..].iter().all(|&count| count > 40), "{numbers:?}");
+    let often = |cause| causes.get(cause).is_some_and(|&count| count > 40);
+    assert!(Cause::ALL.iter().all(often), "{causes:?}");
 }
+
+/// The least lengths of all lists, in the order of each operation.
+const LEAST: [(&str, &[usize]); 7] = [
+    ("reach", &[STORE, DISTANCES]),
+    ("rank", &[STORE, TABLE]),
+    ("judge", &[STORE, DISTANCES, TABLE]),
+    ("run", &[STORE, DISTANCES, RUN]),
+    ("word", &[STORE, DISTANCES, TABLE, WORD]),
+    ("page", &[STORE, DISTANCES, TABLE, RUN, WORD, PAGE]),
+    ("write", &[STORE, WRITTEN]),
+];
 
 #[test]
 fn short_lists() {
-    let store = store_of(EXAMPLE);
-    let bad_store = vec![0; STORE];
-    // The least lengths of all lists, in the order of each operation.
-    let names: &[(&str, &[usize])] = &[
-        ("reach", &[STORE, DISTANCES]),
-        ("rank", &[STORE, TABLE]),
-        ("judge", &[STORE, DISTANCES, TABLE]),
-        ("run", &[STORE, DISTANCES, RUN]),
-        ("word", &[STORE, DISTANCES, TABLE, WORD]),
-        ("page", &[STORE, DISTANCES, TABLE, RUN, WORD, PAGE]),
-        ("write", &[STORE, WRITTEN]),
-    ];
-    for &(name, least) in names {
+    let (good, bad) = (store_of(EXAMPLE), vec![0; STORE]);
+    for (name, least) in LEAST {
         for short in 0..1_usize << least.len() {
             for take in [1, usize::MAX] {
-                let length = |list: usize| {
-                    if short >> list & 1 == 1 {
-                        least[list].saturating_sub(take)
-                    } else {
-                        least[list]
-                    }
+                let length = |list: usize| match short >> list & 1 {
+                    1 => least[list].saturating_sub(take),
+                    _ => least[list],
                 };
-                let mut words: Vec<Vec<u16>> = (0..least.len())
-                    .map(|list| vec![4_444; length(list)])
-                    .collect();
-                let mut bytes: Vec<Vec<u8>> = (0..least.len())
-                    .map(|list| vec![44; length(list)])
-                    .collect();
-                let before = (words.clone(), bytes.clone());
-                // 21 comes before 22: try with a bad store as well.
-                for store in [&store[..length(0)], &bad_store[..length(0)]] {
-                    let [_, w1, w2, w3, w4, ..] = &mut padded(&mut words)[..] else {
-                        unreachable!()
-                    };
-                    let [_, b1, b2, _, _, b5] = &mut padded(&mut bytes)[..] else {
-                        unreachable!()
-                    };
-                    let answer = match name {
-                        "reach" => reach(store, w1).err(),
-                        "rank" => rank(store, b1).err(),
-                        "judge" => judge(store, w1, b2).err(),
-                        "run" => run(store, w1, w2, 9_999).err(),
-                        "word" => word(store, w1, b2, w3).err(),
-                        "page" => page(store, w1, b2, w3, w4, b5).err(),
-                        _ => write(store, b1).err(),
-                    };
-                    if short > 0 {
-                        let first = u64::from(short.trailing_zeros()) + 1;
-                        assert_eq!(answer, Some(Refusal::new(21, first)), "{name} {short:b}");
-                        assert_eq!((&words, &bytes), (&before.0, &before.1));
-                    } else if store == bad_store {
-                        assert_eq!(answer, Some(Refusal::new(22, 0)), "{name}");
-                    } else if name == "run" {
-                        assert_eq!(answer, Some(Refusal::new(25, 9_999)));
-                    } else {
-                        assert_eq!(answer, None, "{name}");
-                        break;
-                    }
-                }
+                let lengths: Vec<usize> = (0..least.len()).map(length).collect();
+                // 21 comes before 22, and 22 before 25.
+                let expected = |else_refusal| match short {
+                    0 => else_refusal,
+                    _ => Some(Refusal::new(21, u64::from(short.trailing_zeros()) + 1)),
+                };
+                let no_state = (name == "run").then_some(Refusal::new(25, 9_999));
+                let answer = with_lists(name, &good, &lengths);
+                assert_eq!(answer, expected(no_state), "{name} {short:b}");
+                let answer = with_lists(name, &bad, &lengths);
+                let not_good = Some(Refusal::new(22, 0));
+                assert_eq!(answer, expected(not_good), "{name} {short:b}");
             }
         }
     }
+}
+
+/// The refusal of an operation on lists of these lengths, of which the first
+/// is the store's; it changes none of them.
+fn with_lists(name: &str, store: &[u16], lengths: &[usize]) -> Option<Refusal> {
+    let mut words: Vec<Vec<u16>> = lengths.iter().map(|&n| vec![4_444; n]).collect();
+    let mut bytes: Vec<Vec<u8>> = lengths.iter().map(|&n| vec![44; n]).collect();
+    let before = (words.clone(), bytes.clone());
+    let store = &store[..lengths[0]];
+    let [_, w1, w2, w3, w4, ..] = &mut padded(&mut words)[..] else {
+        unreachable!()
+    };
+    let [_, b1, b2, _, _, b5] = &mut padded(&mut bytes)[..] else {
+        unreachable!()
+    };
+    let refusal = match name {
+        "reach" => reach(store, w1).err(),
+        "rank" => rank(store, b1).err(),
+        "judge" => judge(store, w1, b2).err(),
+        "run" => run(store, w1, w2, 9_999).err(),
+        "word" => word(store, w1, b2, w3).err(),
+        "page" => page(store, w1, b2, w3, w4, b5).err(),
+        _ => write(store, b1).err(),
+    };
+    assert!(refusal.is_none() || (words, bytes) == before, "{name}");
+    refusal
 }
 
 /// Six lists to borrow from, empty ones at the end if there are fewer.
@@ -324,8 +355,8 @@ fn page_fills_only_what_it_prints() {
 }
 
 #[test]
-fn nothing_panics() {
-    let mut rng = gen::seeded("second::refusals::nothing_panics", 33);
+fn no_text_panics() {
+    let mut rng = gen::seeded("second::refusals::no_text_panics", 33);
     let mut good = 0;
     for round in 0..4_000 {
         let model = gen::any_model(&mut rng);
@@ -343,7 +374,11 @@ fn nothing_panics() {
         }
     }
     assert!(good > 100, "{good}");
+}
 
+#[test]
+fn no_store_panics() {
+    let mut rng = gen::seeded("second::refusals::no_store_panics", 34);
     for round in 0..1_500 {
         let store = if round % 3 == 0 {
             gen::scrap_store(&mut rng)
@@ -352,31 +387,35 @@ fn nothing_panics() {
             gen::mutated_store(&mut rng, &model)
         };
         let _case = gen::case(|| gen::shown_numbers(&store));
-        let mut lists = Lists::new();
-        let answer = judge(&store, &mut lists.distances, &mut lists.table);
-        let state = rng.below(140) as u16;
-        let went = run(&store, &mut lists.distances, &mut lists.run, state);
-        let told = word(
-            &store,
-            &mut lists.distances,
-            &mut lists.table,
-            &mut lists.word,
-        );
-        let shown = lists.page(&store);
-        match answer {
-            Err(refusal) => {
-                assert_eq!(refusal, Refusal::new(22, 0));
-                assert_eq!(went, Err(refusal));
-                assert_eq!(told, Err(refusal));
-                assert_eq!(shown, Err(refusal));
-            }
-            Ok(Verdict::Passed { .. }) => assert!(told.is_err() && shown.is_ok()),
-            Ok(Verdict::Refused { depth, .. }) => {
-                assert!(shown.is_ok());
-                match told {
-                    Ok((length, _)) => assert_eq!(length, usize::from(depth)),
-                    Err(refusal) => assert_eq!(refusal.number, 23),
-                }
+        answers_agree(&store, rng.below(140) as u16);
+    }
+}
+
+/// Judge, Run, Word and Page on a store that may be damaged.
+fn answers_agree(store: &[u16], state: u16) {
+    let mut lists = Lists::new();
+    let answer = judge(store, &mut lists.distances, &mut lists.table);
+    let went = run(store, &mut lists.distances, &mut lists.run, state);
+    let told = word(
+        store,
+        &mut lists.distances,
+        &mut lists.table,
+        &mut lists.word,
+    );
+    let shown = lists.page(store);
+    match answer {
+        Err(refusal) => {
+            assert_eq!(refusal, Refusal::new(22, 0));
+            assert_eq!(went, Err(refusal));
+            assert_eq!(told, Err(refusal));
+            assert_eq!(shown, Err(refusal));
+        }
+        Ok(Verdict::Passed { .. }) => assert!(told.is_err() && shown.is_ok()),
+        Ok(Verdict::Refused { depth, .. }) => {
+            assert!(shown.is_ok());
+            match told {
+                Ok((length, _)) => assert_eq!(length, usize::from(depth)),
+                Err(refusal) => assert_eq!(refusal.number, 23),
             }
         }
     }

@@ -11,52 +11,48 @@ use second::{read, write, Model, Refusal};
 
 /// The rules of a good store, one after the other.
 fn follows_the_rules(store: &[u16]) -> bool {
+    head_follows(store) && actions_follow(store) && steps_follow(store)
+}
+
+fn head_follows(store: &[u16]) -> bool {
     let (states, actions, steps, start) = (store[0], store[1], store[2], store[3]);
-    if states == 0 || states > 128 || actions == 0 || actions > 64 || steps > 1_024 {
-        return false;
-    }
-    if start >= states {
-        return false;
-    }
+    let in_range = (1..=128).contains(&states) && (1..=64).contains(&actions) && steps <= 1_024;
+    in_range && start < states
+}
+
+fn unused(entry: &[u16]) -> bool {
+    entry.iter().all(|&number| number == 0)
+}
+
+fn actions_follow(store: &[u16]) -> bool {
     let mut names = BTreeSet::new();
-    for slot in 0..64 {
+    (0..64).all(|slot| {
         let entry = &store[4 + 14 * slot..18 + 14 * slot];
-        if slot >= usize::from(actions) {
-            if entry.iter().any(|&number| number != 0) {
-                return false;
-            }
-            continue;
+        if slot >= usize::from(store[1]) {
+            return unused(entry);
         }
         let length = usize::from(entry[1]);
         if entry[0] > 2 || length == 0 || length > 12 {
             return false;
         }
         let (name, rest) = entry[2..].split_at(length);
-        if !name.iter().all(|n| matches!(n, 48..=57 | 97..=122)) || rest.iter().any(|&n| n != 0) {
-            return false;
-        }
-        if !names.insert(name) {
-            return false;
-        }
-    }
+        name.iter().all(|n| matches!(n, 48..=57 | 97..=122)) && unused(rest) && names.insert(name)
+    })
+}
+
+fn steps_follow(store: &[u16]) -> bool {
+    let (states, actions, steps) = (store[0], store[1], usize::from(store[2]));
     let mut before = None;
-    for slot in 0..1_024 {
+    (0..1_024).all(|slot| {
         let entry = &store[900 + 3 * slot..903 + 3 * slot];
-        if slot >= usize::from(steps) {
-            if entry.iter().any(|&number| number != 0) {
-                return false;
-            }
-            continue;
+        if slot >= steps {
+            return unused(entry);
         }
-        if entry[0] >= states || entry[1] >= actions || entry[2] >= states {
-            return false;
-        }
-        if before.is_some_and(|before| before >= entry) {
-            return false;
-        }
+        let in_range = entry[0] < states && entry[1] < actions && entry[2] < states;
+        let rises = before.is_none_or(|before| before < entry);
         before = Some(entry);
-    }
-    true
+        in_range && rises
+    })
 }
 
 /// Writes a model's store, reads that text, and compares both ways.

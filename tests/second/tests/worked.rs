@@ -61,11 +61,9 @@ fn example_store() {
     assert_eq!(longer, expected);
 }
 
-#[test]
-fn example_step_by_step() {
-    let store = store_of(EXAMPLE);
-    let old = Lists::new();
-
+/// The distances and the table of the example, with the old contents after
+/// them.
+fn example_lists() -> (Vec<u16>, Vec<u8>) {
     let mut distances = vec![65_535; 128];
     distances[..4].copy_from_slice(&[0, 1, 1, 2]);
     distances.extend([7_777; 3]);
@@ -76,20 +74,27 @@ fn example_step_by_step() {
         table[128 * q + p] = rank;
     }
     table.extend([77; 3]);
+    (distances, table)
+}
 
-    let mut lists = old.clone();
+#[test]
+fn example_judged() {
+    let store = store_of(EXAMPLE);
+    let (distances, table) = example_lists();
+
+    let mut lists = Lists::new();
     assert_eq!(reach(&store, &mut lists.distances), Ok(()));
     assert_eq!(lists.distances, distances);
-
     assert_eq!(rank(&store, &mut lists.table), Ok(2));
     assert_eq!(lists.table, table);
 
-    let mut lists = old.clone();
+    let mut lists = Lists::new();
     let answer = judge(&store, &mut lists.distances, &mut lists.table);
     assert_eq!(answer, Ok(refused(1, 2)));
     assert_eq!(lists.distances, distances);
     assert_eq!(lists.table, table);
 
+    let old = Lists::new();
     for (state, steps) in [(0, vec![]), (1, vec![0]), (2, vec![1]), (3, vec![1, 3])] {
         let mut lists = old.clone();
         let answer = run(&store, &mut lists.distances, &mut lists.run, state);
@@ -98,6 +103,19 @@ fn example_step_by_step() {
         assert_eq!(&lists.run[..steps.len()], steps);
         assert_eq!(lists.run[steps.len()..], old.run[steps.len()..]);
     }
+}
+
+#[test]
+fn example_shown() {
+    let (store, old) = (store_of(EXAMPLE), Lists::new());
+    let (distances, table) = example_lists();
+    let shown = |lists: &Lists| {
+        assert_eq!(lists.distances, distances);
+        assert_eq!(lists.table, table);
+        assert_eq!(lists.run, old.run);
+        assert_eq!(lists.word[..2], [SCAN, SCAN]);
+        assert_eq!(lists.word[2..], old.word[2..]);
+    };
 
     let mut lists = old.clone();
     let answer = word(
@@ -107,20 +125,13 @@ fn example_step_by_step() {
         &mut lists.word,
     );
     assert_eq!(answer, Ok((2, End::Source)));
-    assert_eq!(lists.distances, distances);
-    assert_eq!(lists.table, table);
-    assert_eq!(lists.word[..2], [SCAN, SCAN]);
-    assert_eq!(lists.word[2..], old.word[2..]);
+    shown(&lists);
 
     let mut lists = old.clone();
     let length = lists.page(&store).unwrap();
     assert_eq!(&lists.out[..length], EXAMPLE_PAGE.as_bytes());
     assert_eq!(lists.out[length..], old.out[length..]);
-    assert_eq!(lists.distances, distances);
-    assert_eq!(lists.table, table);
-    assert_eq!(lists.run, old.run);
-    assert_eq!(lists.word[..2], [SCAN, SCAN]);
-    assert_eq!(lists.word[2..], old.word[2..]);
+    shown(&lists);
 
     let mut lists = old.clone();
     let length = write(&store, &mut lists.written).unwrap();

@@ -1,9 +1,12 @@
 //! The bench models of the scope document, and the examples.
-use second::store::{DISTANCES, STORE, TABLE};
+use second::gen::Rng;
+use second::store::{DISTANCES, TABLE};
 use second::{text, End, Refusal, Verdict};
 use std::fs;
 use std::path::{Path, PathBuf};
 
+use crate::lists::{Lists, LEAST};
+use crate::operations::READ;
 use crate::stores::Store;
 
 /// The worked example.
@@ -31,11 +34,10 @@ pub fn worked_table() -> Vec<u8> {
 
 /// The store of a text that both checkers read.
 pub fn store_of(text: &[u8]) -> Store {
-    let model = text::parse(text).expect("the text is good");
-    let mut numbers = vec![7; STORE];
-    assert_eq!(crate::read(text, &mut numbers), Ok(()));
-    let store = Store::of(&model);
-    assert_eq!(numbers, store.numbers);
+    let store = Store::of(&text::parse(text).expect("the text is good"));
+    let mut lists = Lists::anything(&mut Rng::new(7), LEAST);
+    assert_eq!(READ.told(text, &mut lists), Ok(()));
+    assert_eq!(lists.store[..], store[..]);
     store
 }
 

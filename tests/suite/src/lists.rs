@@ -1,6 +1,6 @@
 //! Lists as a caller may lend them: of any length, and with anything in them before the call.
 use second::gen::Rng;
-use second::store::{DISTANCES, PAGE, RUN, TABLE, WORD, WRITTEN};
+use second::store::{DISTANCES, PAGE, RUN, STORE, TABLE, WORD, WRITTEN};
 use std::fmt;
 use std::ops::{Deref, DerefMut};
 
@@ -69,14 +69,8 @@ impl<T: Element> Lent<T> {
     }
 }
 
-/// What is lent for one call, and compared afterwards.
-pub trait Compared: Clone + PartialEq {
-    /// Where it differs from what is expected; empty if it does not.
-    fn difference(&self, expected: &Self) -> String;
-}
-
-impl<T: Element> Compared for Lent<T> {
-    /// The first place that differs. A place before the list is below 0.
+impl<T: Element> Lent<T> {
+    /// The first place that differs from what is expected; empty if none does. A place before the list is below 0.
     fn difference(&self, expected: &Lent<T>) -> String {
         let both = self.whole.iter().zip(&expected.whole);
         match both.enumerate().find(|(_, (one, other))| one != other) {
@@ -118,32 +112,83 @@ impl<T> fmt::Display for Lent<T> {
     }
 }
 
-/// The lists that may be lent after the store.
-#[derive(Clone, PartialEq)]
-pub struct Lists {
-    pub distances: Lent<u16>,
-    pub table: Lent<u8>,
-    pub run: Lent<u16>,
-    pub word: Lent<u16>,
-    pub page: Lent<u8>,
-    pub written: Lent<u8>,
+/// `name: element, least length;` for each list.
+macro_rules! lists {
+    ($($list:ident: $element:ty, $least:expr;)*) => {
+        /// The lists that may be lent after what an operation reads.
+        #[derive(Clone, PartialEq)]
+        pub struct Lists {
+            $(pub $list: Lent<$element>,)*
+        }
+
+        /// One of these lists, by the name of its field.
+        #[allow(non_camel_case_types)]
+        #[derive(Clone, Copy)]
+        pub enum List {
+            $($list,)*
+        }
+
+        /// The element of each list.
+        #[allow(non_camel_case_types)]
+        pub mod types {
+            $(pub type $list = $element;)*
+        }
+
+        /// The least length of each list.
+        pub const LEAST: Lengths = [$($least,)*];
+
+        /// A length of each list, in this order.
+        pub type Lengths = [usize; [$(List::$list,)*].len()];
+
+        impl Lists {
+            pub fn anything(rng: &mut Rng, lengths: Lengths) -> Lists {
+                Lists {
+                    $($list: Lent::anything(rng, $least, lengths[List::$list as usize]),)*
+                }
+            }
+
+            /// The same lists, but more or less of them lent.
+            pub fn of_lengths(&self, lengths: Lengths) -> Lists {
+                Lists {
+                    $($list: self.$list.of_length(lengths[List::$list as usize]),)*
+                }
+            }
+
+            /// Where each list differs from what is expected.
+            pub fn difference(&self, expected: &Lists) -> String {
+                let lists = [$((stringify!($list), self.$list.difference(&expected.$list)),)*];
+                let differs = lists.iter().filter(|(_, difference)| !difference.is_empty());
+                differs.map(|(name, difference)| format!("{name}:{difference}\n")).collect()
+            }
+
+            /// Some of the lists as they are made again.
+            pub fn shown(&self, lists: &[List]) -> String {
+                let shown = |list: &List| match list {
+                    $(List::$list => format!("{}: {}\n", stringify!($list), self.$list),)*
+                };
+                lists.iter().map(shown).collect()
+            }
+        }
+    };
 }
 
-/// One of these lists.
-#[derive(Clone, Copy)]
-pub enum List {
-    Distances,
-    Table,
-    Run,
-    Word,
-    Page,
-    Written,
+lists! {
+    store: u16, STORE;
+    distances: u16, DISTANCES;
+    table: u8, TABLE;
+    run: u16, RUN;
+    word: u16, WORD;
+    page: u8, PAGE;
+    written: u8, WRITTEN;
 }
 
-/// A length of each list, in this order.
-pub type Lengths = [usize; 6];
-
-pub const LEAST: Lengths = [DISTANCES, TABLE, RUN, WORD, PAGE, WRITTEN];
+impl Lists {
+    /// Lists that are long enough, some a few places longer.
+    pub fn enough(rng: &mut Rng) -> Lists {
+        let lengths = LEAST.map(|least| least + rng.below(4));
+        Lists::anything(rng, lengths)
+    }
+}
 
 /// Lengths of which one is another.
 pub fn with_length(lengths: Lengths, list: List, length: usize) -> Lengths {
@@ -159,65 +204,4 @@ pub fn every_length(of: &[List]) -> Vec<Lengths> {
         let extended = |choice| around.map(|length| with_length(choice, list, length));
         choices.into_iter().flat_map(extended).collect()
     })
-}
-
-impl Lists {
-    pub fn anything(rng: &mut Rng, lengths: Lengths) -> Lists {
-        let [distances, table, run, word, page, written] = lengths;
-        Lists {
-            distances: Lent::anything(rng, DISTANCES, distances),
-            table: Lent::anything(rng, TABLE, table),
-            run: Lent::anything(rng, RUN, run),
-            word: Lent::anything(rng, WORD, word),
-            page: Lent::anything(rng, PAGE, page),
-            written: Lent::anything(rng, WRITTEN, written),
-        }
-    }
-
-    /// Lists that are long enough, some a few places longer.
-    pub fn enough(rng: &mut Rng) -> Lists {
-        let lengths = LEAST.map(|least| least + rng.below(4));
-        Lists::anything(rng, lengths)
-    }
-
-    /// The same lists, but more or less of them lent.
-    pub fn of_lengths(&self, lengths: Lengths) -> Lists {
-        let [distances, table, run, word, page, written] = lengths;
-        Lists {
-            distances: self.distances.of_length(distances),
-            table: self.table.of_length(table),
-            run: self.run.of_length(run),
-            word: self.word.of_length(word),
-            page: self.page.of_length(page),
-            written: self.written.of_length(written),
-        }
-    }
-}
-
-impl Compared for Lists {
-    fn difference(&self, expected: &Lists) -> String {
-        [
-            ("distances", self.distances.difference(&expected.distances)),
-            ("table", self.table.difference(&expected.table)),
-            ("run", self.run.difference(&expected.run)),
-            ("word", self.word.difference(&expected.word)),
-            ("page", self.page.difference(&expected.page)),
-            ("written", self.written.difference(&expected.written)),
-        ]
-        .iter()
-        .filter(|(_, difference)| !difference.is_empty())
-        .map(|(name, difference)| format!("{name}:{difference}\n"))
-        .collect()
-    }
-}
-
-impl fmt::Display for Lists {
-    fn fmt(&self, f: &mut fmt::Formatter) -> fmt::Result {
-        writeln!(f, "distances: {}", self.distances)?;
-        writeln!(f, "table: {}", self.table)?;
-        writeln!(f, "run: {}", self.run)?;
-        writeln!(f, "word: {}", self.word)?;
-        writeln!(f, "page: {}", self.page)?;
-        write!(f, "written: {}", self.written)
-    }
 }

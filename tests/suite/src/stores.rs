@@ -3,15 +3,17 @@ use second::gen::{self, Rng};
 use second::store::STORE;
 use second::Model;
 use std::fmt;
+use std::ops::Deref;
+use std::rc::Rc;
 
 use crate::lists::Lent;
 
 /// A store to lend, the model that it was made of, and what is wrong with it for sure.
-#[derive(Clone)]
+#[derive(Clone, Default, PartialEq)]
 pub struct Store {
     pub numbers: Vec<u16>,
     pub wrong: Option<&'static str>,
-    model: Option<Model>,
+    model: Option<Rc<Model>>,
 }
 
 impl Store {
@@ -24,7 +26,7 @@ impl Store {
         Store {
             numbers,
             wrong: None,
-            model: Some(model.clone()),
+            model: Some(Rc::new(model.clone())),
         }
     }
 
@@ -50,6 +52,13 @@ impl Store {
 
     pub fn is_short(&self) -> bool {
         self.numbers.len() < STORE
+    }
+}
+
+impl Deref for Store {
+    type Target = [u16];
+    fn deref(&self) -> &[u16] {
+        &self.numbers
     }
 }
 

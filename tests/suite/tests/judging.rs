@@ -1,11 +1,11 @@
 //! Reach, Rank, Judge and Run on models, against the second checker.
 use second::gen::{self, Rng};
-use second::store::{DISTANCES, MOST_ACTIONS, MOST_STATES, MOST_STEPS, RUN, TABLE};
+use second::store::{DISTANCES, MOST_ACTIONS, MOST_STATES, MOST_STEPS, TABLE};
 use second::{Refusal, Verdict};
 use std::collections::BTreeSet;
 use suite::bench::{self, store_of, worked_distances, worked_table, WORKED};
 use suite::lists::Lists;
-use suite::same;
+use suite::operations::{JUDGE, RANK, REACH, RUN};
 use suite::stores::Store;
 
 const SEED: u64 = 7_200;
@@ -18,12 +18,12 @@ fn states() -> impl Iterator<Item = u16> {
 /// All four operations on a good store; Run for some of the states.
 fn judged(rng: &mut Rng, store: &Store, states: impl Iterator<Item = u16>) -> Verdict {
     let before = Lists::enough(rng);
-    assert_eq!(same::reach(store, &before).0, Ok(()));
-    let rank = same::rank(store, &before).0.expect("the store is good");
+    assert_eq!(REACH.same(store, &before).0, Ok(()));
+    let rank = RANK.same(store, &before).0.expect("the store is good");
     for state in states {
-        let _ = same::run(store, &before, state);
+        let _ = RUN.same((store, state), &before);
     }
-    let verdict = same::judge(store, &before).0.expect("the store is good");
+    let verdict = JUDGE.same(store, &before).0.expect("the store is good");
     match verdict {
         Verdict::Passed { rank: told } => assert_eq!(told, rank, "{store}"),
         Verdict::Refused { depth, .. } => assert!(0 < depth && depth <= rank, "{store}"),
@@ -33,26 +33,32 @@ fn judged(rng: &mut Rng, store: &Store, states: impl Iterator<Item = u16>) -> Ve
 
 #[test]
 fn the_worked_example_in_full() {
-    let store = store_of(WORKED).numbers;
-    let (mut distances, mut table) = (vec![7; DISTANCES + 1], vec![9; TABLE + 1]);
-    let expected = [worked_distances(), vec![7]].concat();
-    let ranks = [worked_table(), vec![9]].concat();
-    assert_eq!(suite::reach(&store, &mut distances), Ok(()));
-    assert_eq!(distances, expected);
-    assert_eq!(suite::rank(&store, &mut table), Ok(2));
-    assert_eq!(table, ranks);
+    let mut rng = gen::seeded("judging::the_worked_example_in_full", SEED + 4);
+    let (store, old) = (store_of(WORKED), Lists::enough(&mut rng));
+    // Of distances and table nothing but what is told is changed, and of the other lists nothing.
+    let mut expected = old.clone();
+    expected.distances[..DISTANCES].copy_from_slice(&worked_distances());
+    let mut lists = old.clone();
+    assert_eq!(REACH.told(&store, &mut lists), Ok(()));
+    assert!(lists == expected, "{}", lists.difference(&expected));
 
-    let (mut distances, mut table) = (vec![7; DISTANCES + 1], vec![9; TABLE + 1]);
-    let answer = suite::judge(&store, &mut distances, &mut table);
+    let mut ranked = old.clone();
+    ranked.table[..TABLE].copy_from_slice(&worked_table());
+    let mut lists = old.clone();
+    assert_eq!(RANK.told(&store, &mut lists), Ok(2));
+    assert!(lists == ranked, "{}", lists.difference(&ranked));
+
+    ranked.distances = expected.distances.clone();
+    let mut lists = old.clone();
+    let answer = JUDGE.told(&store, &mut lists);
     assert_eq!(answer, Ok(Verdict::Refused { step: 1, depth: 2 }));
-    assert_eq!((&distances, &table), (&expected, &ranks));
+    assert!(lists == ranked, "{}", lists.difference(&ranked));
 
-    let (mut distances, mut run) = (vec![7; DISTANCES + 1], vec![8; RUN]);
-    assert_eq!(suite::run(&store, &mut distances, &mut run, 3), Ok(2));
-    assert_eq!(distances, expected);
-    assert_eq!(&run[..2], &[1, 3]);
-    assert!(run[2..].iter().all(|&j| j == 8));
-    let no_state = suite::run(&store, &mut distances, &mut run, 4);
+    expected.run[..2].copy_from_slice(&[1, 3]);
+    let mut lists = old.clone();
+    assert_eq!(RUN.told((&store, 3), &mut lists), Ok(2));
+    assert!(lists == expected, "{}", lists.difference(&expected));
+    let no_state = RUN.told((&store, 4), &mut lists);
     assert_eq!(no_state, Err(Refusal::new(25, 4)));
 }
 
@@ -67,7 +73,7 @@ fn the_bench_models() {
     let (step, depth) = (1, 127);
     let verdict = judged(&mut rng, &store, states());
     assert_eq!(verdict, Verdict::Refused { step, depth });
-    assert_eq!(same::rank(&store, &Lists::enough(&mut rng)).0, Ok(127));
+    assert_eq!(RANK.same(&store, &Lists::enough(&mut rng)).0, Ok(127));
 }
 
 #[test]

@@ -2,11 +2,11 @@
 use std::collections::BTreeSet;
 
 use second::gen::{self, Rng};
-use second::store::STORE;
-use second::Model;
+use second::store::{DISTANCES, TABLE};
+use second::{Level, Model, Verdict};
 use suite::bench::{examples, store_of, worked_distances, worked_table, WORKED, WORKED_PAGE};
-use suite::lists::{Lent, Lists, LEAST};
-use suite::same::{self, Printed};
+use suite::lists::{Lists, LEAST};
+use suite::operations::{JUDGE, PAGE, PRINT, READ};
 use suite::stores::Store;
 use suite::texts::models_to_damage;
 
@@ -14,7 +14,7 @@ const SEED: u64 = 7_400;
 
 /// Page on a good store, with lists that are long enough.
 fn page_of(rng: &mut Rng, store: &Store) -> String {
-    let (answer, lists) = same::page(store, &Lists::enough(rng));
+    let (answer, lists) = PAGE.same(store, &Lists::enough(rng));
     let length = answer.expect("the store is good");
     String::from_utf8(lists.page[..length].to_vec()).expect("a page is ASCII")
 }
@@ -23,15 +23,9 @@ fn told(rng: &mut Rng, model: &Model) -> String {
     page_of(rng, &Store::of(model))
 }
 
-/// What is lent from a text to its page, long enough.
-fn to_print(rng: &mut Rng) -> Printed {
-    let length = STORE + rng.below(4);
-    (Lent::anything(rng, STORE, length), Lists::enough(rng))
-}
-
 /// From a text to what is printed.
-fn printed(text: &[u8], before: &Printed) -> String {
-    let (answer, (_, lists)) = same::print(text, before);
+fn printed(text: &[u8], before: &Lists) -> String {
+    let (answer, lists) = PRINT.same(text, before);
     let length = answer.expect("the lists are long enough");
     String::from_utf8(lists.page[..length].to_vec()).expect("a page is ASCII")
 }
@@ -46,13 +40,13 @@ fn the_worked_example_in_full() {
     let mut rng = gen::seeded("pages::the_worked_example_in_full", SEED);
     let store = store_of(WORKED);
     let before = Lists::anything(&mut rng, LEAST.map(|least| least + 1));
-    let (answer, lists) = same::page(&store, &before);
+    let (answer, lists) = PAGE.same(&store, &before);
     let length = WORKED_PAGE.len();
     assert_eq!(answer, Ok(length));
     assert_eq!(&lists.page[..length], WORKED_PAGE);
     assert_eq!(lists.page[length..], before.page[length..]);
-    assert_eq!(lists.distances[..128], worked_distances());
-    assert_eq!(lists.table[..16_384], worked_table());
+    assert_eq!(lists.distances[..DISTANCES], worked_distances());
+    assert_eq!(lists.table[..TABLE], worked_table());
     assert_eq!(&lists.word[..2], &[0, 0]);
     assert_eq!(lists.word[2..], before.word[2..]);
     assert!(lists.run == before.run, "the source of step 1 is the start");
@@ -67,14 +61,15 @@ fn the_examples() {
         let _case = gen::text_case(&text);
         let expected = String::from_utf8(page).expect("a page is ASCII");
         let name = file.display();
-        assert_eq!(printed(&text, &to_print(&mut rng)), expected, "{name}");
+        assert_eq!(printed(&text, &Lists::enough(&mut rng)), expected, "{name}");
         if expected.starts_with("F,") {
             refused += 1;
-            let mut store = vec![7; STORE];
-            let refusal = suite::read(&text, &mut store).expect_err("not read");
+            let before = Lists::enough(&mut rng);
+            let (answer, after) = READ.same(&text, &before);
+            let refusal = answer.expect_err("not read");
             let line = format!("F,{},{}\n", refusal.number, refusal.place);
             assert_eq!(line, expected, "{name}");
-            assert_eq!(store, vec![7; STORE], "{name}");
+            assert!(after == before, "{name}");
         } else {
             assert_eq!(page_of(&mut rng, &store_of(&text)), expected, "{name}");
         }
@@ -90,7 +85,7 @@ fn every_depth() {
         let _case = gen::model_case(&model);
         let page = told(&mut rng, &model);
         assert_eq!((count(&page, 'W'), count(&page, 'B')), (depth, 1));
-        assert_eq!(printed(&model.to_text(), &to_print(&mut rng)), page);
+        assert_eq!(printed(&model.to_text(), &Lists::enough(&mut rng)), page);
     }
     for depth in 1..=127 {
         let model = gen::branching_deep_model(&mut rng, depth);
@@ -100,7 +95,7 @@ fn every_depth() {
         assert!(verdict.ends_with(&format!(",{depth}")), "{verdict}");
         let letters = (count(&page, 'W'), count(&page, 'B'), count(&page, 'N'));
         assert_eq!(letters, (0, 0, 1));
-        assert_eq!(printed(&model.to_text(), &to_print(&mut rng)), page);
+        assert_eq!(printed(&model.to_text(), &Lists::enough(&mut rng)), page);
     }
     for states in 2..=128 {
         let page = told(&mut rng, &gen::chain(states));
@@ -129,7 +124,7 @@ fn models_at_the_limits() {
         let page = told(&mut rng, &model);
         assert_eq!(count(&page, 'C'), usize::from(model.states), "{what}");
         let text = model.to_text();
-        assert_eq!(printed(&text, &to_print(&mut rng)), page, "{what}");
+        assert_eq!(printed(&text, &Lists::enough(&mut rng)), page, "{what}");
         let sizes = [page.len(), count(&page, 'R'), count(&page, 'W')];
         most = [0, 1, 2].map(|index| most[index].max(sizes[index]));
     }
@@ -161,6 +156,76 @@ fn random_models() {
     assert!(words.len() > 60 && runs.len() > 4, "{words:?} {runs:?}");
 }
 
+/// Models whose actions have some of the levels only.
+#[test]
+fn levels_that_are_missing() {
+    use Level::{High, Low, Release};
+    let mut rng = gen::seeded("pages::levels_that_are_missing", SEED + 10);
+    let choices: [&[Level]; 7] = [
+        &[Low],
+        &[Release],
+        &[High],
+        &[Low, Release],
+        &[Low, High],
+        &[Release, High],
+        &[Low, Release, High],
+    ];
+    for levels in choices {
+        let mut passed = 0;
+        for _ in 0..100 {
+            let mut model = gen::any_model(&mut rng);
+            for action in &mut model.actions {
+                action.level = *rng.pick(levels);
+            }
+            let page = told(&mut rng, &model);
+            assert_eq!(printed(&model.to_text(), &Lists::enough(&mut rng)), page);
+            passed += usize::from(page.starts_with("V,pass,"));
+        }
+        // Nothing is to be seen, or nothing to be kept out of sight.
+        let all_pass = !(levels.contains(&Low) && levels.contains(&High));
+        assert_eq!(passed == 100, all_pass, "{levels:?}");
+    }
+}
+
+/// The line that tells a verdict.
+fn verdict_line(verdict: Verdict) -> String {
+    match verdict {
+        Verdict::Passed { rank } => format!("V,pass,{rank}"),
+        Verdict::Refused { step, depth } => format!("V,refuse,{step},{depth}"),
+    }
+}
+
+/// Judge's verdict is what the first line of Page tells, and of what is printed of the text.
+#[test]
+fn the_verdict_is_judges() {
+    let mut rng = gen::seeded("pages::the_verdict_is_judges", SEED + 9);
+    let mut models: Vec<Model> = (0..1_000).map(|_| gen::any_model(&mut rng)).collect();
+    models.extend(
+        gen::limit_models(&mut rng)
+            .into_iter()
+            .map(|(_, model)| model),
+    );
+    models.extend(
+        (1..=127)
+            .step_by(6)
+            .map(|depth| gen::deep_model(&mut rng, depth)),
+    );
+    let mut passed = 0;
+    for model in &models {
+        let _case = gen::model_case(model);
+        let store = Store::of(model);
+        let mut lists = Lists::enough(&mut rng);
+        let verdict = JUDGE.told(&store, &mut lists).expect("the store is good");
+        passed += usize::from(matches!(verdict, Verdict::Passed { .. }));
+        let line = verdict_line(verdict);
+        let page = told(&mut rng, model);
+        assert_eq!(page.lines().next(), Some(&line[..]));
+        let page = printed(&model.to_text(), &lists);
+        assert_eq!(page.lines().next(), Some(&line[..]));
+    }
+    assert!(passed > 200 && models.len() - passed > 200, "{passed}");
+}
+
 #[test]
 fn from_texts_to_pages() {
     let mut rng = gen::seeded("pages::from_texts_to_pages", SEED + 6);
@@ -172,7 +237,7 @@ fn from_texts_to_pages() {
             1 | 2 => gen::mutated_text(&mut rng, &text),
             _ => text,
         };
-        let page = printed(&text, &to_print(&mut rng));
+        let page = printed(&text, &Lists::enough(&mut rng));
         pages += count(&page, 'V');
         faults += count(&page, 'F');
     }
@@ -183,7 +248,7 @@ fn from_texts_to_pages() {
 fn every_fault_of_a_text() {
     let mut rng = gen::seeded("pages::every_fault_of_a_text", SEED + 7);
     for model in models_to_damage(&mut rng, 40) {
-        let before = to_print(&mut rng);
+        let before = Lists::enough(&mut rng);
         for fault in gen::faults(&model) {
             let _case = gen::text_case(&fault.text);
             let line = format!("F,{},{}\n", fault.refusal.number, fault.refusal.place);

@@ -4,112 +4,74 @@ use second::gen;
 use second::store::{action_place, DISTANCES, STORE};
 use second::{Model, Refusal};
 use suite::bench::{store_of, text_of, ACTIONS, WORKED};
-use suite::lists::List::{self, Distances, Page, Run, Table, Word, Written};
-use suite::lists::{every_length, lengths, with_length, Lengths, Lent, Lists, LEAST};
-use suite::same;
+use suite::input::Input;
+use suite::lists::{every_length, with_length, Lengths, List, Lists, LEAST};
+use suite::operations::{on_stores, AnyOperation, PRINT, READ, RUN, WORD};
 use suite::stores::{self, Store};
 
 const SEED: u64 = 7_600;
-
-/// An operation on a store.
-struct Operation {
-    name: &'static str,
-    /// The lists that it is lent after the store.
-    lent: &'static [List],
-    /// The refusal, if the call is refused, and the lists afterwards. Only Run takes a state.
-    call: fn(&Store, &Lists, u16) -> (Option<Refusal>, Lists),
-}
-
-fn refusal<A>((answer, lists): (Result<A, Refusal>, Lists)) -> (Option<Refusal>, Lists) {
-    (answer.err(), lists)
-}
-
-const REACH: Operation = Operation {
-    name: "Reach",
-    lent: &[Distances],
-    call: |store, lists, _| refusal(same::reach(store, lists)),
-};
-const RANK: Operation = Operation {
-    name: "Rank",
-    lent: &[Table],
-    call: |store, lists, _| refusal(same::rank(store, lists)),
-};
-const JUDGE: Operation = Operation {
-    name: "Judge",
-    lent: &[Distances, Table],
-    call: |store, lists, _| refusal(same::judge(store, lists)),
-};
-const RUN: Operation = Operation {
-    name: "Run",
-    lent: &[Distances, Run],
-    call: |store, lists, state| refusal(same::run(store, lists, state)),
-};
-const WORD: Operation = Operation {
-    name: "Word",
-    lent: &[Distances, Table, Word],
-    call: |store, lists, _| refusal(same::word(store, lists)),
-};
-const PAGE: Operation = Operation {
-    name: "Page",
-    lent: &[Distances, Table, Run, Word, Page],
-    call: |store, lists, _| refusal(same::page(store, lists)),
-};
-const WRITE: Operation = Operation {
-    name: "Write",
-    lent: &[Written],
-    call: |store, lists, _| refusal(same::write(store, lists)),
-};
-const OPERATIONS: [Operation; 7] = [REACH, RANK, JUDGE, RUN, WORD, PAGE, WRITE];
-
-/// 21 at the first of some lists that is too short. Those that are lent before them are long enough.
-fn first_short(before: u64, lent: &[List], lengths: &Lengths) -> Option<Refusal> {
-    let short = |&list: &List| lengths[list as usize] < LEAST[list as usize];
-    let index = lent.iter().position(short)?;
-    Some(Refusal::new(21, before + index as u64 + 1))
-}
 
 const NOT_GOOD: Refusal = Refusal {
     number: 22,
     place: 0,
 };
 
-impl Operation {
-    /// The call is refused so, and leaves every list as it was.
-    fn refuses(&self, store: &Store, lists: &Lists, state: u16, expected: Refusal) {
-        let (answer, after) = (self.call)(store, lists, state);
-        let name = self.name;
-        let _case = gen::case(|| format!("{name}, state {state}, {store}\n{lists}"));
-        assert_eq!(answer, Some(expected));
-        assert!(after == *lists, "a list was changed");
-    }
+/// 21 at the first list of an operation that is too short. What it reads is long enough.
+fn first_short(operation: &dyn AnyOperation, lengths: &Lengths) -> Option<Refusal> {
+    let short = |&list: &List| lengths[list as usize] < LEAST[list as usize];
+    let index = operation.lent().iter().position(short)?;
+    let read = operation.reads().len();
+    Some(Refusal::new(21, (read + index + 1) as u64))
+}
 
-    /// The call is refused with 21 where one of the lists is one element too short.
-    fn refuses_short_lists(&self, store: &Store, lists: &Lists, state: u16) {
-        for (index, &list) in self.lent.iter().enumerate() {
-            let short = with_length(LEAST, list, LEAST[list as usize] - 1);
-            let expected = Refusal::new(21, index as u64 + 2);
-            self.refuses(store, &lists.of_lengths(short), state, expected);
-        }
-    }
+/// The call is refused so, and leaves every list as it was.
+fn refuses(
+    operation: &dyn AnyOperation,
+    input: impl Into<Input>,
+    lists: &Lists,
+    expected: Refusal,
+) {
+    let input = input.into();
+    let (answer, after) = operation.refusal(&input, lists);
+    let (name, state, store) = (operation.name(), input.state, &input.store);
+    let _case = gen::case(|| {
+        let lists = lists.shown(operation.lent());
+        format!("{name}, state {state}, {store}\n{lists}")
+    });
+    assert_eq!(answer, Some(expected));
+    assert!(after == *lists, "a list was changed");
+}
 
-    /// Lists of every length, for a store of any length.
-    fn with_every_length(&self, store: &Store, lists: &Lists) {
-        for lengths in every_length(self.lent) {
-            let lists = lists.of_lengths(lengths);
-            let short_store = store.is_short().then_some(Refusal::new(21, 1));
-            let short = short_store.or(first_short(1, self.lent, &lengths));
-            let not_good = store.wrong.map(|_| NOT_GOOD);
-            match short.or(not_good) {
-                Some(expected) => self.refuses(store, &lists, NO_STATE, expected),
-                None => {
-                    let number = (self.call)(store, &lists, 0)
-                        .0
-                        .map(|refusal| refusal.number);
-                    assert!(
-                        matches!(number, None | Some(23 | 24 | 26)),
-                        "{number:?}, {store}"
-                    );
-                }
+/// The call is refused with 21 where one of the lists is one element too short.
+fn refuses_short_lists(operation: &dyn AnyOperation, store: &Store, lists: &Lists, state: u16) {
+    for &list in operation.lent() {
+        let short = with_length(LEAST, list, LEAST[list as usize] - 1);
+        let expected = first_short(operation, &short).expect("a list is short");
+        refuses(
+            operation,
+            (store, state),
+            &lists.of_lengths(short),
+            expected,
+        );
+    }
+}
+
+/// Lists of every length, for a store of any length.
+fn with_every_length(operation: &dyn AnyOperation, store: &Store, lists: &Lists) {
+    for lengths in every_length(operation.lent()) {
+        let lists = lists.of_lengths(lengths);
+        let short_store = store.is_short().then_some(Refusal::new(21, 1));
+        let short = short_store.or(first_short(operation, &lengths));
+        let not_good = store.wrong.map(|_| NOT_GOOD);
+        match short.or(not_good) {
+            Some(expected) => refuses(operation, (store, NO_STATE), &lists, expected),
+            None => {
+                let (refusal, _) = operation.refusal(&store.into(), &lists);
+                let number = refusal.map(|refusal| refusal.number);
+                assert!(
+                    matches!(number, None | Some(23 | 24 | 26)),
+                    "{number:?}, {store}"
+                );
             }
         }
     }
@@ -136,8 +98,8 @@ fn lists_of_every_length() {
         let lists = Lists::anything(&mut rng, LEAST);
         for store in [Store::of(&model), damaged(&model)] {
             for store in store.of_every_length(&mut rng) {
-                for operation in &OPERATIONS {
-                    operation.with_every_length(&store, &lists);
+                for operation in on_stores() {
+                    with_every_length(operation, &store, &lists);
                 }
             }
         }
@@ -153,11 +115,12 @@ fn damaged_stores() {
         let lists = Lists::enough(&mut rng);
         for store in stores::damaged(&mut rng) {
             let state = *rng.pick(&[0, 1, NO_STATE, 65_535]);
-            for operation in &OPERATIONS {
+            let input = Input::from((&store, state));
+            for operation in on_stores() {
                 if store.wrong.is_some() {
-                    operation.refuses(&store, &lists, state, NOT_GOOD);
+                    refuses(operation, input.clone(), &lists, NOT_GOOD);
                     bad += 1;
-                } else if (operation.call)(&store, &lists, state).0.is_none() {
+                } else if operation.refusal(&input, &lists).0.is_none() {
                     good += 1;
                 }
             }
@@ -172,12 +135,13 @@ fn damage_at_every_place() {
     let mut rng = gen::seeded("refusals::damage_at_every_place", SEED + 7);
     let full = gen::limit_models(&mut rng).swap_remove(0).1;
     let models = [gen::chain(3), gen::any_model(&mut rng), full];
+    let operations: Vec<&dyn AnyOperation> = on_stores().collect();
     for (round, model) in models.iter().enumerate() {
         let (store, lists) = (Store::of(model), Lists::enough(&mut rng));
         for place in 0..STORE {
             let damaged = store.damaged("a number too large", &[(place, 65_535)]);
-            let operation = &OPERATIONS[(place + round) % OPERATIONS.len()];
-            operation.refuses(&damaged, &lists, 0, NOT_GOOD);
+            let operation = operations[(place + round) % operations.len()];
+            refuses(operation, &damaged, &lists, NOT_GOOD);
         }
     }
 }
@@ -185,7 +149,7 @@ fn damage_at_every_place() {
 /// The distances and the table are as Judge leaves them; the rest is as it was.
 fn as_judged(store: &Store, before: &Lists, after: &Lists) {
     let mut expected = before.clone();
-    let verdict = second::judge(&store.numbers, &mut expected.distances, &mut expected.table);
+    let verdict = second::judge(store, &mut expected.distances, &mut expected.table);
     assert!(verdict.is_ok(), "{store}");
     assert!(*after == expected, "{store}");
 }
@@ -203,13 +167,13 @@ fn word_in_order() {
         (deterministic_and_passed, 24, 0),
     ] {
         let (store, lists) = (store_of(&text), Lists::enough(&mut rng));
-        let (answer, after) = (WORD.call)(&store, &lists, 0);
-        assert_eq!(answer, Some(Refusal::new(number, place)), "{store}");
+        let (answer, after) = WORD.same(&store, &lists);
+        assert_eq!(answer, Err(Refusal::new(number, place)), "{store}");
         as_judged(&store, &lists, &after);
         let damaged = store.damaged("unused step", &[(STORE - 1, 1)]);
-        WORD.refuses(&damaged, &lists, 0, NOT_GOOD);
-        WORD.refuses_short_lists(&store, &lists, 0);
-        WORD.refuses_short_lists(&damaged, &lists, 0);
+        refuses(&WORD, &damaged, &lists, NOT_GOOD);
+        refuses_short_lists(&WORD, &store, &lists, 0);
+        refuses_short_lists(&WORD, &damaged, &lists, 0);
     }
 }
 
@@ -224,14 +188,14 @@ fn run_in_order() {
     for state in [2, 3, 4, 127, 128, 129, 32_768, 65_535] {
         if state > 2 {
             let expected = Refusal::new(25, u64::from(state));
-            RUN.refuses(&store, &lists, state, expected);
+            refuses(&RUN, (&store, state), &lists, expected);
         }
-        RUN.refuses(&damaged, &lists, state, NOT_GOOD);
-        RUN.refuses_short_lists(&store, &lists, state);
-        RUN.refuses_short_lists(&damaged, &lists, state);
+        refuses(&RUN, (&damaged, state), &lists, NOT_GOOD);
+        refuses_short_lists(&RUN, &store, &lists, state);
+        refuses_short_lists(&RUN, &damaged, &lists, state);
     }
-    let (answer, after) = (RUN.call)(&store, &lists, 2);
-    assert_eq!(answer, Some(Refusal::new(26, 2)));
+    let (answer, after) = RUN.same((&store, 2), &lists);
+    assert_eq!(answer, Err(Refusal::new(26, 2)));
     let mut expected = lists.clone();
     expected.distances[..DISTANCES].fill(65_535);
     expected.distances[..2].copy_from_slice(&[0, 1]);
@@ -247,7 +211,7 @@ fn damage_comes_before_the_state() {
         for store in stores::damaged(&mut rng) {
             if store.wrong.is_some() {
                 for state in [0, store.numbers[0], NO_STATE, 65_535] {
-                    RUN.refuses(&store, &lists, state, NOT_GOOD);
+                    refuses(&RUN, (&store, state), &lists, NOT_GOOD);
                 }
             }
         }
@@ -262,10 +226,10 @@ fn a_short_store_comes_before_every_fault() {
     for _ in 0..4 {
         let model = gen::any_model(&mut rng);
         for length in [0, STORE - 1] {
-            let before = Lent::anything(&mut rng, STORE, length);
+            let before = Lists::anything(&mut rng, with_length(LEAST, List::store, length));
             for fault in gen::faults(&model) {
                 let _case = gen::text_case(&fault.text);
-                let (answer, after) = same::read(&fault.text, &before);
+                let (answer, after) = READ.same(&fault.text, &before);
                 assert_eq!(answer, Err(Refusal::new(21, 2)), "{}", fault.what);
                 assert!(after == before);
                 numbers[usize::from(fault.refusal.number)] += 1;
@@ -282,23 +246,18 @@ fn from_a_text_with_lists_of_every_length() {
     let texts = [
         WORKED.to_vec(),
         gen::branching_deep_model(&mut rng, 9).to_text(),
-        b"M,1,1,0,0\nA,L,a\nE".to_vec(),
+        b"M,1,1,0,0\nA,H,a\nE".to_vec(),
         vec![b'0'; 16_385],
     ];
-    let lent = PAGE.lent;
     for text in texts {
         let _case = gen::text_case(&text);
-        let store = Lent::anything(&mut rng, STORE, STORE);
         let lists = Lists::anything(&mut rng, LEAST);
-        for store_length in lengths(STORE) {
-            for choice in every_length(lent) {
-                let before = (store.of_length(store_length), lists.of_lengths(choice));
-                let (answer, after) = same::print(&text, &before);
-                let short_store = (store_length < STORE).then_some(Refusal::new(21, 2));
-                let short = short_store.or(first_short(2, lent, &choice));
-                assert_eq!(answer.err(), short, "{choice:?}");
-                assert!(short.is_none() || after == before, "{choice:?}");
-            }
+        for choice in every_length(PRINT.lent) {
+            let before = lists.of_lengths(choice);
+            let (answer, after) = PRINT.same(&text, &before);
+            let short = first_short(&PRINT, &choice);
+            assert_eq!(answer.err(), short, "{choice:?}");
+            assert!(short.is_none() || after == before, "{choice:?}");
         }
     }
 }

@@ -3,18 +3,18 @@ use std::collections::BTreeSet;
 
 use second::gen::{self, Rng};
 use second::meaning::{self, Deterministic};
-use second::store::{DISTANCES, MOST_STATES, MOST_STEPS, TABLE, WORD};
+use second::store::{DISTANCES, MOST_STATES, MOST_STEPS, TABLE};
 use second::{End, Model, Refusal, Step, Verdict};
 use suite::bench::{self, store_of, worked_distances, worked_table, WordTold, WORKED};
 use suite::lists::Lists;
-use suite::same;
+use suite::operations::{JUDGE, WORD};
 use suite::stores::Store;
 
 const SEED: u64 = 7_300;
 
 /// Word on a store, with the letters that it fills in.
 fn told_of(rng: &mut Rng, store: &Store) -> (WordTold, Lists) {
-    let (answer, lists) = same::word(store, &Lists::enough(rng));
+    let (answer, lists) = WORD.same(store, &Lists::enough(rng));
     let told = answer.map(|(length, end)| (lists.word[..length].to_vec(), end));
     (told, lists)
 }
@@ -28,7 +28,7 @@ fn told_beside_judge(rng: &mut Rng, model: &Model) -> WordTold {
     let _case = gen::model_case(model);
     let store = Store::of(model);
     let (told, word) = told_of(rng, &store);
-    let (verdict, judge) = same::judge(&store, &Lists::enough(rng));
+    let (verdict, judge) = JUDGE.same(&store, &Lists::enough(rng));
     assert_eq!(word.distances[..DISTANCES], judge.distances[..DISTANCES]);
     assert_eq!(word.table[..TABLE], judge.table[..TABLE]);
     match (Deterministic::new(model), verdict.expect("good"), &told) {
@@ -44,15 +44,15 @@ fn told_beside_judge(rng: &mut Rng, model: &Model) -> WordTold {
 
 #[test]
 fn the_worked_example_in_full() {
-    let store = store_of(WORKED).numbers;
-    let (mut distances, mut table) = (vec![7; DISTANCES + 1], vec![9; TABLE + 1]);
-    let mut word = vec![8; WORD + 1];
-    let answer = suite::word(&store, &mut distances, &mut table, &mut word);
-    assert_eq!(answer, Ok((2, End::Source)));
-    assert_eq!(distances, [worked_distances(), vec![7]].concat());
-    assert_eq!(table, [worked_table(), vec![9]].concat());
-    assert_eq!(&word[..2], &[0, 0]);
-    assert!(word[2..].iter().all(|&letter| letter == 8));
+    let mut rng = gen::seeded("words::the_worked_example_in_full", SEED + 6);
+    let (store, old) = (store_of(WORKED), Lists::enough(&mut rng));
+    let mut expected = old.clone();
+    expected.distances[..DISTANCES].copy_from_slice(&worked_distances());
+    expected.table[..TABLE].copy_from_slice(&worked_table());
+    expected.word[..2].copy_from_slice(&[0, 0]);
+    let mut lists = old;
+    assert_eq!(WORD.told(&store, &mut lists), Ok((2, End::Source)));
+    assert!(lists == expected, "{}", lists.difference(&expected));
 }
 
 #[test]

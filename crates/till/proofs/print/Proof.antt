@@ -1,6 +1,5 @@
--- The lists are as long as `print` asks for, so a list that is refused is `out`; else the answer's promise says what is
+-- The lists are as long as the path to a page asks for, so none is refused, and the answer's promise says what is
 -- printed. Assumes nothing.
-use mathlib.Core.Path.{refl}
 use native.Mathlib.Omega.{arith}
 use borrow.Author.Needs.{needs}
 use Rattle.page.specs.Laws.PrintsLaws.{printed-prints, shortList-not-long}
@@ -22,6 +21,9 @@ slice-aggregate-print-4 c = search needs
 slice-aggregate-print-5 : tie.Need-slice-aggregate-print-5
 slice-aggregate-print-5 c = search needs
 
+slice-aggregate-print-6 : tie.Need-slice-aggregate-print-6
+slice-aggregate-print-6 c = search needs
+
 print-requires : tie.Need-print-requires
 print-requires c κs = search needs
 
@@ -38,25 +40,24 @@ returns : tie.Need-returns
 returns c =
     let o = c .before .before .before .before .before .before .before .before .before .before .print in
     let x = printed-prints _ _ _ _ _ _ _ (o .result) (o .ensures .0) _ (c .before .answer .given .1) in
-    ((x .0, x .1), λ _. x .2)
+    ((x .0, x .1), x .2)
 
 same-length-2 : tie.Need-same-length-2
 same-length-2 c = search needs
 
 returns-2 : tie.Need-returns-2
 returns-2 c =
-    let o = c .before .before .before .before .before .before .before .before .before .print in (
-      (omega arith, refl),
-      λ l.
-          absurd (shortList-not-long _ _ _ _ _ _ _ (o .result) (o .ensures .0) _ (c .enum-told .given .1) (record {
-            store-length = omega arith;
-            distances-length = omega arith;
-            table-length = omega arith;
-            run-length = omega arith;
-            word-length = omega arith;
-            out-length = l;
-          })),
-    )
+    let o = c .before .before .before .before .before .before .before .before .before .print in
+    let start = c .before .before .before .before .before .before .before .before .before .before .before .before
+    .before .before .before .before .before .before .before in
+    absurd (shortList-not-long _ _ _ _ _ _ _ (o .result) (o .ensures .0) _ (c .enum-told .given .1) (record {
+      store-length = omega arith;
+      distances-length = omega arith;
+      table-length = omega arith;
+      run-length = omega arith;
+      word-length = omega arith;
+      out-length = start .pre .1;
+    }))
 
 pub print-spec : {M : Type 1} → statement M
 print-spec =
@@ -67,6 +68,7 @@ print-spec =
     slice-aggregate-print-3
     slice-aggregate-print-4
     slice-aggregate-print-5
+    slice-aggregate-print-6
     print-requires
     enum-known-answer
     enum-told

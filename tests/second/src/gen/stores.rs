@@ -1,130 +1,163 @@
 //! Damaged stores.
 
-use super::{some_of, Rng, NAME_BYTES};
+use super::parts::NAME_BYTES;
+use super::{some_of, Rng};
 use crate::store::{
     action_place, step_place, Model, Step, LONGEST_NAME, MOST_ACTIONS, MOST_STEPS, STORE,
 };
 
 /// Stores that are not good, each with one thing wrong.
 pub fn bad_stores(model: &Model) -> Vec<(&'static str, Vec<u16>)> {
-    let good = model.to_store();
-    let mut stores = Vec::new();
-    let mut change = |what: &'static str, changes: &[(usize, u16)]| {
-        let mut store = good.clone();
+    let mut list = BadStores {
+        model,
+        good: model.to_store(),
+        stores: Vec::new(),
+    };
+    list.head();
+    list.counts();
+    let (actions, steps) = (model.actions.len(), model.steps.len());
+    for i in some_of(0, actions) {
+        list.action(i);
+        list.name_bytes(i);
+        for earlier in some_of(0, i) {
+            list.name_used_before(earlier, i);
+        }
+    }
+    for i in some_of(actions, MOST_ACTIONS) {
+        for k in 0..14 {
+            list.add("unused action", &[(action_place(i) + k, 1)]);
+        }
+    }
+    some_of(0, steps).into_iter().for_each(|j| list.step(j));
+    some_of(1, steps).into_iter().for_each(|j| list.order(j));
+    for j in some_of(steps, MOST_STEPS) {
+        for k in 0..3 {
+            for number in [1, 65_535] {
+                list.add("unused step", &[(step_place(j) + k, number)]);
+            }
+        }
+    }
+    list.stores.push(("all 0", vec![0; STORE]));
+    list.stores.push(("all 1", vec![1; STORE]));
+    list.stores.push(("all 65,535", vec![65_535; STORE]));
+    list.stores
+}
+
+/// Numbers that are no byte of a name.
+const NO_NAME_BYTES: [u16; 14] = [0, 10, 13, 32, 44, 47, 58, 65, 90, 96, 123, 128, 255, 256];
+
+/// A model, its store, and the damaged ones made of it so far.
+struct BadStores<'a> {
+    model: &'a Model,
+    good: Vec<u16>,
+    stores: Vec<(&'static str, Vec<u16>)>,
+}
+
+impl BadStores<'_> {
+    /// The good store with other numbers at some places.
+    fn add(&mut self, what: &'static str, changes: &[(usize, u16)]) {
+        let mut store = self.good.clone();
         for &(place, number) in changes {
             store[place] = number;
         }
-        stores.push((what, store));
-    };
-    let (states, start) = (model.states, model.start);
-    let (actions, steps) = (model.actions.len() as u16, model.steps.len() as u16);
-
-    for count in [0, 129, 256, 65_535] {
-        change("states out of range", &[(0, count)]);
-    }
-    for count in [0, 65, 256, 65_535] {
-        change("actions out of range", &[(1, count)]);
-    }
-    for count in [1_025, 1_026, 32_768, 65_535] {
-        change("steps out of range", &[(2, count)]);
-    }
-    for number in [states, 128, 65_535] {
-        change("start out of range", &[(3, number)]);
-    }
-    change("states not above start", &[(0, start)]);
-    if usize::from(actions) < MOST_ACTIONS {
-        change("an action too few", &[(1, actions + 1)]);
-    }
-    change("an action too many", &[(1, actions - 1)]);
-    if steps > 0 && usize::from(steps) < MOST_STEPS {
-        change("a step too few", &[(2, steps + 1)]);
-    }
-    if model.steps.last().is_some_and(|&s| s != Step::new(0, 0, 0)) {
-        change("a step too many", &[(2, steps - 1)]);
+        self.stores.push((what, store));
     }
 
-    for i in some_of(0, usize::from(actions)) {
+    /// Numbers of the head outside their ranges.
+    fn head(&mut self) {
+        for count in [0, 129, 256, 65_535] {
+            self.add("states out of range", &[(0, count)]);
+        }
+        for count in [0, 65, 256, 65_535] {
+            self.add("actions out of range", &[(1, count)]);
+        }
+        for count in [1_025, 1_026, 32_768, 65_535] {
+            self.add("steps out of range", &[(2, count)]);
+        }
+        for number in [self.model.states, 128, 65_535] {
+            self.add("start out of range", &[(3, number)]);
+        }
+        self.add("states not above start", &[(0, self.model.start)]);
+    }
+
+    /// Counts of the head that do not fit what follows.
+    fn counts(&mut self) {
+        let model = self.model;
+        let (actions, steps) = (model.actions.len() as u16, model.steps.len() as u16);
+        if usize::from(actions) < MOST_ACTIONS {
+            self.add("an action too few", &[(1, actions + 1)]);
+        }
+        self.add("an action too many", &[(1, actions - 1)]);
+        if steps > 0 && usize::from(steps) < MOST_STEPS {
+            self.add("a step too few", &[(2, steps + 1)]);
+        }
+        if model.steps.last().is_some_and(|&s| s != Step::new(0, 0, 0)) {
+            self.add("a step too many", &[(2, steps - 1)]);
+        }
+    }
+
+    /// A level, or the length of a name.
+    fn action(&mut self, i: usize) {
         let place = action_place(i);
-        let length = model.actions[i].name.len();
+        let length = self.model.actions[i].name.len();
         for level in [3, 4, 256, 65_535, u16::from(b'L')] {
-            change("no such level", &[(place, level)]);
+            self.add("no such level", &[(place, level)]);
         }
         for wrong in [0, 13, 14, 256 + length as u16, 65_535] {
-            change("name length out of range", &[(place + 1, wrong)]);
+            self.add("name length out of range", &[(place + 1, wrong)]);
         }
-        change("name one shorter", &[(place + 1, length as u16 - 1)]);
+        self.add("name one shorter", &[(place + 1, length as u16 - 1)]);
         if length < LONGEST_NAME {
-            change("name one longer", &[(place + 1, length as u16 + 1)]);
+            self.add("name one longer", &[(place + 1, length as u16 + 1)]);
             for past in [place + 2 + length, place + 13] {
                 for byte in [1, 97, 65_535] {
-                    change("a byte past the name", &[(past, byte)]);
+                    self.add("a byte past the name", &[(past, byte)]);
                 }
             }
         }
-        for at in [place + 2, place + 1 + length] {
-            let byte = good[at];
-            for wrong in [
-                0,
-                10,
-                13,
-                32,
-                44,
-                47,
-                58,
-                65,
-                90,
-                96,
-                123,
-                128,
-                255,
-                256,
-                256 + byte,
-                65_535,
-            ] {
-                change("no name byte", &[(at, wrong)]);
-            }
-        }
-        for earlier in some_of(0, i) {
-            let from = action_place(earlier);
-            let copied: Vec<(usize, u16)> = (1..14).map(|k| (place + k, good[from + k])).collect();
-            change("name used before", &copied);
-        }
     }
-    for i in some_of(usize::from(actions), MOST_ACTIONS) {
-        for k in 0..14 {
-            change("unused action", &[(action_place(i) + k, 1)]);
+
+    /// The first and the last byte of a name.
+    fn name_bytes(&mut self, i: usize) {
+        let place = action_place(i);
+        for at in [place + 2, place + 1 + self.model.actions[i].name.len()] {
+            let past_255 = [256 + self.good[at], 65_535];
+            for wrong in NO_NAME_BYTES.into_iter().chain(past_255) {
+                self.add("no name byte", &[(at, wrong)]);
+            }
         }
     }
 
-    for j in some_of(0, usize::from(steps)) {
+    fn name_used_before(&mut self, earlier: usize, i: usize) {
+        let (from, place) = (action_place(earlier), action_place(i));
+        let good = &self.good;
+        let copied: Vec<(usize, u16)> = (1..14).map(|k| (place + k, good[from + k])).collect();
+        self.add("name used before", &copied);
+    }
+
+    /// A step's numbers outside their ranges.
+    fn step(&mut self, j: usize) {
         let place = step_place(j);
+        let (states, actions) = (self.model.states, self.model.actions.len() as u16);
         for number in [states, 128, 256, 65_535] {
-            change("no such source", &[(place, number)]);
-            change("no such target", &[(place + 2, number)]);
+            self.add("no such source", &[(place, number)]);
+            self.add("no such target", &[(place + 2, number)]);
         }
         for number in [actions, 64, 256, 65_535] {
-            change("no such action", &[(place + 1, number)]);
+            self.add("no such action", &[(place + 1, number)]);
         }
     }
-    for j in some_of(1, usize::from(steps)) {
+
+    /// A step not above the one before it.
+    fn order(&mut self, j: usize) {
         let (before, place) = (step_place(j - 1), step_place(j));
+        let good = &self.good;
         let equal: Vec<(usize, u16)> = (0..3).map(|k| (place + k, good[before + k])).collect();
-        change("equal steps", &equal);
-        let mut swapped = equal;
+        let mut swapped = equal.clone();
         swapped.extend((0..3).map(|k| (before + k, good[place + k])));
-        change("steps swapped", &swapped);
+        self.add("equal steps", &equal);
+        self.add("steps swapped", &swapped);
     }
-    for j in some_of(usize::from(steps), MOST_STEPS) {
-        for k in 0..3 {
-            for number in [1, 65_535] {
-                change("unused step", &[(step_place(j) + k, number)]);
-            }
-        }
-    }
-    stores.push(("all 0", vec![0; STORE]));
-    stores.push(("all 1", vec![1; STORE]));
-    stores.push(("all 65,535", vec![65_535; STORE]));
-    stores
 }
 
 /// A store with a few random changes. It may still be a good one.
