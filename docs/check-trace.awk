@@ -10,6 +10,7 @@ function add(place, name) {
     if ((place, name) in stands) return
     stands[place, name] = 1
     places[name] = listed(places[name], place)
+    at_place[place] = listed(at_place[place], name)
     likely[tolower(name)] = name
 }
 function add_code(module, name) {
@@ -130,14 +131,29 @@ function miss(line, words) {
     print FILE ":" line ": " words
     misses++
 }
-function now(name, near, owner) {
+# Where a name stands now; or what may have come in its place.
+function now(name, place, near, owner) {
     if (name in places) return "it stands in " places[name]
     near = likely[tolower(name)]
     if (near != "") return "perhaps `" near "` (" places[near] ")"
     owner = name
     if (sub(/\..*$/, "", owner) && (owner in places))
         return "`" owner "` (" places[owner] ") has the parts " parts[owner]
-    return "it stands nowhere"
+    near = akin(name, place)
+    return "it stands nowhere" (near == "" ? "" : "; near it in " place ": " near)
+}
+# The names at a place that share a word of four letters or more with a name.
+function akin(name, place, k, i, n, m, found, near, words, others) {
+    gsub(/[A-Z]/, "-&", name)
+    n = split(tolower(name), words, /[^a-z]+/)
+    m = split(at_place[place], others, ", ")
+    for (k = 1; k <= m; k++) {
+        found = 0
+        for (i = 1; i <= n; i++)
+            if (length(words[i]) > 3 && index(tolower(others[k]), words[i])) found = 1
+        if (found) near = listed(near, others[k])
+    }
+    return near
 }
 function code_now(name, last) {
     last = last_part(name)
@@ -148,11 +164,11 @@ function cited_at(line, name, place) {
     cited++
     if (place ~ /^tests\//) {
         if (!((place, "test " name) in stands))
-            miss(line, "`" name "` is no test of " place ": " now("test " name))
+            miss(line, "`" name "` is no test of " place ": " now("test " name, place))
     } else if (!(place in spec))
         miss(line, "there is no crates/" substr(place, 1, index(place, "/")) "specs" substr(place, index(place, "/")) \
             ".antt, for `" name "`: " now(name))
-    else if (!((place, name) in stands)) miss(line, "`" name "` is not in " place ": " now(name))
+    else if (!((place, name) in stands)) miss(line, "`" name "` is not in " place ": " now(name, place))
 }
 # Names with a place of their own, and names with none.
 function cited_alone(line, name, first) {
