@@ -16,6 +16,7 @@ function add(place, name) {
 function add_code(module, name) {
     add(module, module "::" name)
     code[name] = listed(code[name], module "::" name)
+    in_module[module] = listed(in_module[module], name)
 }
 function indent(line) {
     match(line, /^ */)
@@ -155,9 +156,11 @@ function akin(name, place, k, i, n, m, found, near, words, others) {
     }
     return near
 }
-function code_now(name, last) {
+function code_now(name, last, module) {
     last = last_part(name)
     if (last in code) return "there is " code[last]
+    module = substr(name, 1, length(name) - length(last) - 2)
+    if (module in in_module) return module " has " in_module[module]
     return "no function, type or constant has this name"
 }
 function cited_at(line, name, place) {
