@@ -145,6 +145,7 @@ function now(name, place, near, owner) {
 }
 # The names at a place that share a word of four letters or more with a name.
 function akin(name, place, k, i, n, m, found, near, words, others) {
+    sub(/^test /, "", name)
     gsub(/[A-Z]/, "-&", name)
     n = split(tolower(name), words, /[^a-z]+/)
     m = split(at_place[place], others, ", ")
@@ -173,7 +174,7 @@ function cited_at(line, name, place) {
             ".antt, for `" name "`: " now(name))
     else if (!((place, name) in stands)) miss(line, "`" name "` is not in " place ": " now(name, place))
 }
-# Names with a place of their own, and names with none.
+# Names that tell their place themselves, and names that tell none.
 function cited_alone(line, name, first) {
     if (name ~ /[ ,*&<>()"]/) return
     first = name
@@ -209,7 +210,7 @@ function cited_alone(line, name, first) {
 function settle(k, place) {
     gsub(/[ \t]+/, " ", gap)
     place = ""
-    if (match(gap, /^ ?\([a-z_]+\/[A-Za-z_\/]+\)/)) {
+    if (match(gap, /^ ?\([^ ()]+\/[^ ()]+\)/)) {
         place = substr(gap, 1, RLENGTH)
         gsub(/[ ()]/, "", place)
     }
