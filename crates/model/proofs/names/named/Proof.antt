@@ -6,7 +6,6 @@ use native.Mathlib.Omega.{arith}
 use Prim.Native.Nat.{ℕ, _+_, _-_, _≤_, _<_}
 use mathlib.Core.Path.{_≡_, sym, _∙_}
 use lib.ListN.{length, getD}
-use Rattle.text.specs.Limits.{nameLengthPlace, namePlace}
 use Rattle.model.specs.Laws.Store.NamesLaws.{named-length, named-differ, named-same}
 use Rattle.model.proofs.names.named.Statement.{statement}
 use Rattle.model.proofs.names.named.Tie as tie
