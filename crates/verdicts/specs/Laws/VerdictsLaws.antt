@@ -18,7 +18,6 @@ use Rattle.model.specs.Laws.Store.SystemLaws.{own-step}
 use Rattle.verdicts.specs.declared.judging.Verdict.{Verdict}
 use Rattle.verdicts.specs.declared.judging.Verdict.the-variants.{Passed, Refused}
 use Rattle.model.specs.Inner.Stored.{Stored}
-use Rattle.model.specs.Inner.StepTest.{step?}
 use Rattle.lts.specs.TestsLaws.{T-eqb}
 use Rattle.model.specs.Laws.System.StepTestLaws.{decided-view}
 use Rattle.ranking.specs.Table.{Greatest}
