@@ -18,7 +18,6 @@ use Rattle.lts.specs.DistanceLaws.{Reachable→within?, within?→Reachable}
 use Rattle.text.specs.Model.{high, Model}
 use Rattle.model.specs.System.{source, action, target, level, ReachableIn, IsState, view}
 use Rattle.model.specs.Inner.Stored.{Stored}
-use Rattle.model.specs.Inner.StepTest.{step?, start?}
 use Rattle.lts.specs.TestsLaws.{T-eqb}
 use Rattle.model.specs.Inner.StepTest.{tests}
 use Rattle.model.specs.Laws.System.StepTestLaws.{decided-view}

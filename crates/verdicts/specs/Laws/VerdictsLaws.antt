@@ -18,7 +18,6 @@ use Rattle.model.specs.Laws.Store.SystemLaws.{own-step}
 use Rattle.verdicts.specs.declared.judging.Verdict.{Verdict}
 use Rattle.verdicts.specs.declared.judging.Verdict.the-variants.{Passed, Refused}
 use Rattle.model.specs.Inner.Stored.{Stored}
-use Rattle.model.specs.Inner.StepTest.{step?}
 use Rattle.lts.specs.TestsLaws.{T-eqb}
 use Rattle.model.specs.Laws.System.StepTestLaws.{decided-view}
 use Rattle.ranking.specs.Table.{Greatest}
@@ -57,8 +56,9 @@ module _ (m : Model) where
     pub bnid-of-no-leak : ((j d : ℕ) → ¬ (Leak m j d)) → BNID (view m)
     bnid-of-no-leak h p a q r t x =
         subst (λ (y : ℕ). Bisimilar (LowMove (view m)) y q) (x .source-is)
-        (subst (λ (y : ℕ). Bisimilar (LowMove (view m)) (source m j) y) (x .target-is) (pair (rank-of-states (source m j)
-        (target m j) (st .source-lt j (x .number-lt)) (st .target-lt j (x .number-lt)))))
+        (subst (λ (y : ℕ). Bisimilar (LowMove (view m)) (source m j) y) (x .target-is)
+        (pair
+        (rank-of-states (source m j) (target m j) (st .source-lt j (x .number-lt)) (st .target-lt j (x .number-lt)))))
       where
         j : ℕ
         j = x .number
