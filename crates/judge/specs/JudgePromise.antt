@@ -16,8 +16,8 @@ use Rattle.judge.specs.declared.judge.JudgeAnswer.the-variants as judge
 use Rattle.verdicts.specs.Verdicts.{Judged}
 use Rattle.verdicts.specs.JudgeFilled.{JudgeFilled}
 
--- "Answers *passed* with the greatest rank in the table, or *refused* with a step and a depth": one value, passed; two
--- values, refused.
+-- "Answers *passed* with the greatest rank in the table, or *refused* with a step and a depth". Which of the two an
+-- answer says is told by this definition alone (`verdictOutcome-injective`).
 unfoldable pub verdictOutcome : Verdict → Outcome
 verdictOutcome (Passed top) = answers (top ∷ [])
 verdictOutcome (Refused j depth) = answers (j .0 ∷ depth ∷ [])

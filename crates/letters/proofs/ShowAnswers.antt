@@ -3,11 +3,12 @@ use mathlib.Core.List.{List}
 use mathlib.Core.Option.{none}
 use mathlib.Core.Path.{_≡_, refl, sym, ap, subst}
 use Prim.Native.Nat.{ℕ}
-use native.Mathlib.Omega.{arith}
 use Rattle.lts.specs.AlikeLaws.{separated-of-rank}
 use Rattle.lts.specs.Run.{onward}
 use Rattle.text.specs.declared.Step.{Step}
 use Rattle.text.specs.Faults.{refuses}
+use Rattle.text.specs.Laws.FirstLaws.{first-unique}
+use Rattle.text.specs.First.{First}
 use Rattle.text.specs.Model.{Model}
 use Rattle.model.specs.System.{source, target, DeterministicModel, view}
 use Rattle.model.specs.Laws.Store.SystemLaws.{own-step}
@@ -20,7 +21,7 @@ use Rattle.letters.specs.declared.word.End.the-variants.{Source, Target}
 use Rattle.letters.specs.declared.word.Shown.the-variants.{Word, NotDeterministic, NoLeak}
 use Rattle.letters.specs.Words.{Branches, WordOf, WordShown}
 use Rattle.letters.specs.WordDone.{shownOutcome, WordDone}
-use Rattle.letters.specs.Inner.Letters.{First, Showable, WordLists, SeparatedPair}
+use Rattle.letters.specs.Inner.Letters.{Showable, WordLists, SeparatedPair}
 use Rattle.letters.specs.Inner.WordHead.{WordFrom, WordWritten}
 use Rattle.letters.specs.Laws.WordsLaws.{not-branches}
 use Rattle.lts.specs.Noninterference.{LowMove}
@@ -65,9 +66,7 @@ module _ {m : Model} where
       → WordDone m (shownOutcome (NotDeterministic j)) word word
   unfolding shownOutcome
   branching-done j word x = record {
-    branching = λ i y.
-        let e : j .0 ≡ i = omega (arith, x .first i (y .branches), y .first (j .0) (x .holds)) in
-        (ap (refuses 23) e, refl);
+    branching = λ i y. (ap (refuses 23) (first-unique x y), refl);
     passed = λ d _. absurd (not-branches d (j .0) (x .holds));
     refused = λ d. absurd (not-branches d (j .0) (x .holds));
   }
@@ -76,7 +75,7 @@ module _ {m : Model} where
     pub passed-done : {top : ℕ} (word : List ℕ) → PassedWith m top → WordDone m (shownOutcome NoLeak) word word
     unfolding shownOutcome
     passed-done {top} word x = record {
-      branching = λ i y. absurd (none i (y .branches));
+      branching = λ i y. absurd (none i (y .holds));
       passed = λ _ _. (refl, refl);
       refused = λ _ j d y. absurd (passed-not-refused m top j d x y);
     }
@@ -89,7 +88,7 @@ module _ {m : Model} where
         → WordWritten m p q d end entry exit → WordDone m (shownOutcome (Word d end)) entry exit
     unfolding shownOutcome
     shown-done {j} {d} {p} {q} end {entry} {exit} r e f x = record {
-      branching = λ i y. absurd (none i (y .branches));
+      branching = λ i y. absurd (none i (y .holds));
       passed = λ _ b. absurd (no-leak-of-bnid m b j d (r .leak));
       refused = λ _ i k y.
           let u = refusedAt-unique m j i d k r y in

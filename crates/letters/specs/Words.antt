@@ -2,10 +2,11 @@
 -- Document 01, operation 6, and "Refused because of the state", 23 and 24.
 use mathlib.Core.List.{List, [], _∷_, _++_}
 use mathlib.Core.Path.{_≡_}
-use Prim.Native.Nat.{ℕ, suc, _≤_, _<_}
+use Prim.Native.Nat.{ℕ, suc, _<_}
 use lib.ListN.{length, drop}
 use Rattle.lts.specs.Word.{OnlyFrom, FirstWord}
 use Rattle.text.specs.Faults.{Outcome, answers}
+use Rattle.text.specs.First.{First}
 use Rattle.text.specs.Model.{Model}
 use Rattle.model.specs.System.{source, action, target, ReachableIn, view}
 use Rattle.letters.specs.declared.word.End.{End}
@@ -21,9 +22,8 @@ pub record Branches (m : Model) (j : ℕ) : Type 0 where
   pub same-action : action m before ≡ action m j
 
 -- "the first" such step
-pub record FirstBranch (m : Model) (j : ℕ) : Type 0 where
-  pub branches : Branches m j
-  pub first : (i : ℕ) → Branches m i → j ≤ i
+abbrev pub FirstBranch : Model → ℕ → Type 0
+FirstBranch m j = First (Branches m) j
 
 -- "The two ends of a step are its source and its target." The numbers by which an answer names them are ours.
 unfoldable pub endNumber : End → ℕ

@@ -1,6 +1,5 @@
 // Whether a model is deterministic.
 use text::Step;
-use text::limits::UNREACHABLE;
 ghost use Prim.Native.Nat.{_≤_, _<_};
 ghost use lib.ListN.{length};
 ghost use Rattle.text.specs.Decides.{Decides};
@@ -35,8 +34,7 @@ fn branches(store: &[u16], distances: &[u16], j: Step) -> bool
     if a.0 != b.0 {
         return false;
     }
-    let at = q.0 as usize;
-    if distances[at] == UNREACHABLE {
+    if distances::distances::is_unreachable(distances, q) {
         return false;
     }
     true

@@ -3,10 +3,12 @@ use crate::branch::Found;
 use text::Action;
 use text::State;
 use text::Step;
-use text::limits::ROW;
+use text::limits::LOW;
+ghost use mathlib.Core.Path.{_≡_};
 ghost use Prim.Native.Nat.{_+_, _≤_, _<_};
-ghost use lib.ListN.{length};
+ghost use lib.ListN.{length, getD};
 ghost use Rattle.text.specs.Decides.{Decides};
+ghost use Rattle.text.specs.Model.{low};
 ghost use Rattle.model.specs.StoredModel.{modelAt};
 ghost use Rattle.model.specs.System.{ReachableIn, DeterministicModel};
 ghost use Rattle.text.specs.Limits.{indexLength};
@@ -15,13 +17,22 @@ ghost use Rattle.model.specs.Inner.Index.{Index};
 ghost use Rattle.letters.specs.Inner.Letters.{FoundFirst, StepOf, Unanswered, Alone, Answer, FirstLetter};
 ghost use Rattle.letters.specs.Inner.Letters.{StepLists, WordLists, SeparatedPair};
 
-// The role of a low action.
-const LOW: u16 = text::limits::LOW;
-
 // A step, and the other state's step with the same action.
 pub struct Letter {
     pub from: Step,
     pub to: Step,
+}
+
+// Whether an action is low, by its role.
+fn is_low(roles: &[u16], a: Action) -> bool
+    requires { ⌜ a .0 < length (now roles) ⌝ }
+    ensures { λ r. ⌜ Decides r (getD (now (roles .entry)) (a .0) 0 ≡ low) ⌝ }
+{
+    let of = a.0 as usize;
+    if roles[of] != LOW {
+        return false;
+    }
+    true
 }
 
 // The step of p with the action a.
@@ -52,8 +63,7 @@ fn unanswered(store: &[u16], begins: &[u16], roles: &[u16], q: State, j: Step) -
     ensures { λ r. ⌜ Decides r (Unanswered (modelAt (now (store .entry))) (q .0) (j .0)) ⌝ }
 {
     let a = model::store::action(store, j);
-    let of = a.0 as usize;
-    if roles[of] != LOW {
+    if !is_low(roles, a) {
         return false;
     }
     match find(store, begins, q, a) {
@@ -96,8 +106,7 @@ fn answer(
     ensures { λ r. ⌜ FoundFirst (Answer (modelAt (now (store .entry))) (q .0) k (j .0)) r ⌝ }
 {
     let a = model::store::action(store, j);
-    let of = a.0 as usize;
-    if roles[of] != LOW {
+    if !is_low(roles, a) {
         return Found::Nothing;
     }
     match find(store, begins, q, a) {
@@ -105,9 +114,7 @@ fn answer(
         Found::At(i) => {
             let x = model::store::target(store, j);
             let y = model::store::target(store, i);
-            let row = x.0 as usize;
-            let column = y.0 as usize;
-            if table[ROW * row + column] != k {
+            if ranking::table::rank_at(table, x, y) != k {
                 return Found::Nothing;
             }
             Found::At(i)

@@ -35,7 +35,7 @@ fn list_step(
 {
     let a = model::store::action(store, j);
     let of = a.0 as usize;
-    if LOW < roles[of] {
+    if roles[of] != LOW {
         return at;
     }
     let q = model::store::target(store, j);

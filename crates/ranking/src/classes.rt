@@ -1,6 +1,7 @@
 // Ranks by classes, over moves given as lists: entry p of a class list is the lowest state of the class of p, and each
 // round compares states by the classes of the round before.
 use crate::table::pair_place;
+use text::Action;
 use text::State;
 use text::limits::ACTION_LIMIT;
 use text::limits::INDEX_LENGTH;
@@ -12,13 +13,12 @@ ghost use Prim.Native.Nat.{ℕ, _+_, _≤_, _<_};
 ghost use lib.ListN.{length, getD};
 ghost use Rattle.lts.specs.Alike.{Answered, Answers};
 ghost use Rattle.text.specs.Decides.{Decides};
-ghost use Rattle.text.specs.Limits.{stateLimit};
-ghost use Rattle.text.specs.Limits.{tableLength};
+ghost use Rattle.text.specs.Limits.{stateLimit, actionLimit, tableLength};
 ghost use Rattle.text.specs.Inner.Clearing.{Cleared};
 ghost use Rattle.ranking.specs.Table.{Ranked};
 ghost use Rattle.ranking.specs.MoveList.{Listed, MoveList};
 ghost use Rattle.ranking.specs.Inner.ClassList.{Same, Refinable, Lowest, Refined, Joins, Moved};
-ghost use Rattle.ranking.specs.Inner.Marks.{marksLength, moveMark, StateClasses, MoveAt};
+ghost use Rattle.ranking.specs.Inner.Marks.{marksLength, markPlace, moveMark, StateClasses, MoveAt};
 ghost use Rattle.ranking.specs.Inner.Marks.{Reaches, Marked, AllMarked, Unmarked};
 ghost use Rattle.ranking.specs.Inner.TableWrites.{Written, PairWritten, RowWritten, RowsWritten};
 ghost use Rattle.ranking.specs.Inner.TableWrites.{RanksUpTo, Finished};
@@ -34,7 +34,7 @@ fn wide(x: u16) -> usize
 }
 
 // The lowest state of the class of p.
-fn class_of(class: &[u16; ROW], p: State) -> State
+fn class_at(class: &[u16; ROW], p: State) -> State
     requires { ⌜ p .0 < stateLimit ⌝ }
     ensures { λ r. ⌜ r .0 ≡ getD (now (class .entry)) (p .0) 0 ⌝ }
 {
@@ -60,7 +60,18 @@ fn moves_to(first: &[u16; INDEX_LENGTH], p: State) -> usize
     wide(first[at + 1])
 }
 
-// The mark of the move at place i: one for each action and class.
+// The place of the mark of an action and a class.
+fn mark_place(a: Action, class: State) -> usize
+    requires { ⌜ (a .0 < actionLimit) × (class .0 < stateLimit) ⌝ }
+    ensures { λ r. ⌜ r < marksLength ⌝ }
+    ensures { λ r. ⌜ r ≡ markPlace (a .0) (class .0) ⌝ }
+{
+    let row = a.0 as usize;
+    let column = class.0 as usize;
+    ROW * row + column
+}
+
+// The place of the mark of the move at place i.
 fn move_mark(
     actions: &[u16; MOVES_LENGTH],
     targets: &[u16; MOVES_LENGTH],
@@ -71,8 +82,8 @@ fn move_mark(
     ensures { λ r. ⌜ r < marksLength ⌝ }
     ensures { λ r. ⌜ r ≡ moveMark (now (actions .entry)) (now (targets .entry)) (now (class .entry)) i ⌝ }
 {
-    let c = class_of(class, State(targets[i]));
-    ROW * wide(actions[i]) + wide(c.0)
+    let c = class_at(class, State(targets[i]));
+    mark_place(Action(actions[i]), c)
 }
 
 // Gives the marks of the moves of p the value.
@@ -206,12 +217,12 @@ fn joins(
         (now (next .entry)) (p .0) (q .0)) ⌝ }
     ensures { λ r. ⌜ Unmarked (now (marks .exit)) ⌝ }
 {
-    let own = class_of(next, q);
+    let own = class_at(next, q);
     if own.0 != q.0 {
         return false;
     }
-    let a = class_of(class, p);
-    let b = class_of(class, q);
+    let a = class_at(class, p);
+    let b = class_at(class, q);
     if a.0 != b.0 {
         return false;
     }
@@ -238,7 +249,7 @@ fn lowest(
         (now (class .entry)) (p .0) (r .0) ⌝ }
     ensures { λ r. ⌜ Unmarked (now (marks .exit)) ⌝ }
 {
-    let c = class_of(class, p);
+    let c = class_at(class, p);
     let mut q = c.0;
     while q < p.0 {
         if joins(n, first, actions, targets, class, next, p, State(q), marks) {
@@ -291,13 +302,13 @@ fn write_pair(
         (now (next .entry)) round (now (table .entry)) (now (table .exit))) ⌝ }
     ensures { λ _. ⌜ PairWritten (now (class .entry)) (now (next .entry)) round (now (table .exit)) (p .0) (q .0) ⌝ }
 {
-    let a = class_of(class, p);
-    let b = class_of(class, q);
+    let a = class_at(class, p);
+    let b = class_at(class, q);
     if a.0 != b.0 {
         return;
     }
-    let c = class_of(next, p);
-    let d = class_of(next, q);
+    let c = class_at(next, p);
+    let d = class_at(next, q);
     if c.0 == d.0 {
         return;
     }
@@ -341,8 +352,8 @@ fn write_moved(
     ensures { λ r. ⌜ Decides r (Moved (now (class .entry)) (now (next .entry)) (p .0 + 1)) ⌝ }
     ensures { λ r. ⌜ RowsWritten (now (class .entry)) (now (next .entry)) round (now (table .exit)) (p .0 + 1) n ⌝ }
 {
-    let before = class_of(class, p);
-    let after = class_of(next, p);
+    let before = class_at(class, p);
+    let after = class_at(next, p);
     if before.0 == after.0 {
         return found;
     }

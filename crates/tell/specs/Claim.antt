@@ -21,6 +21,8 @@ use Rattle.text.specs.Model.{Model}
 use Rattle.model.specs.System.{source, target, HighStep, DeterministicModel, view}
 use Rattle.model.specs.Text.{textOf}
 use Rattle.model.specs.WellFormed.{WellFormed}
+use Rattle.verdicts.specs.declared.judging.Verdict.the-variants.{Passed, Refused}
+use Rattle.judge.specs.JudgePromise.{verdictOutcome}
 use Rattle.letters.specs.declared.word.End.{End}
 use Rattle.letters.specs.Words.{endNumber, endState, otherState}
 
@@ -36,10 +38,10 @@ NotShort outcome = (k : ℕ) → ¬ (outcome ≡ refuses 21 k)
 
 -- Judge's answers: passed with a rank; refused with a step and a depth.
 abbrev pub SaysPassed : Outcome → Type 0
-SaysPassed judge = (top : ℕ) × (judge ≡ answers (top ∷ []))
+SaysPassed judge = (top : ℕ) × (judge ≡ verdictOutcome (Passed top))
 
 abbrev pub SaysRefused : Outcome → ℕ → ℕ → Type 0
-SaysRefused judge j depth = judge ≡ answers (j ∷ depth ∷ [])
+SaysRefused judge j depth = judge ≡ verdictOutcome (Refused (record { 0 = j }) depth)
 
 -- What Judge tells of a deterministic model.
 pub record JudgeTells (m : Model) (judge : Outcome) : Type 0 where

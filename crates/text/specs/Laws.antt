@@ -15,6 +15,7 @@ pub mod ClearingLaws
 pub mod FirstShortLaws
 pub mod DecidesLaws
 pub mod AllLaws
+pub mod FirstLaws
 pub mod DigitsLaws
 pub mod JoinLaws
 pub mod OutcomeLaws

@@ -5,6 +5,7 @@ pub mod Inner
 pub mod Bytes
 pub mod Numbers
 pub mod All
+pub mod First
 pub mod Split
 pub mod Model
 pub mod Faults

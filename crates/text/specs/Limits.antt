@@ -41,14 +41,14 @@ stepPlace j = 900 + 3 * j
 
 -- "distances 128"
 abbrev pub distancesLength : ℕ
-distancesLength = 128
+distancesLength = stateLimit
 
 -- "table 16,384 bytes. Entry 128p + q is the rank of p and q"
 abbrev pub tableLength : ℕ
 tableLength = 16384
 
 abbrev pub pairPlace : ℕ → ℕ → ℕ
-pairPlace p q = 128 * p + q
+pairPlace p q = stateLimit * p + q
 
 -- "run 127"
 abbrev pub runLength : ℕ

@@ -8,6 +8,7 @@ use lib.ListN.{length}
 use Rattle.lts.specs.Alike.{Separated}
 use Rattle.text.specs.Limits.{actionLimit}
 use Rattle.text.specs.Limits.{tableLength, wordLength}
+use Rattle.text.specs.First.{First}
 use Rattle.text.specs.Model.{Model}
 use Rattle.model.specs.System.{source, action, target, ReachableIn, DeterministicModel, view}
 use Rattle.text.specs.Limits.{indexLength}
@@ -23,11 +24,6 @@ use Rattle.letters.specs.declared.branch.Found.the-variants.{At, Nothing
 use Rattle.lts.specs.Noninterference.{LowMove}
 
 -- ---- what is found
-
--- Step j is the first that P holds of.
-pub record First (P : ℕ → Type 0) (j : ℕ) : Type 0 where
-  pub holds : P j
-  pub first : (i : ℕ) → P i → j ≤ i
 
 -- The step found is the first that P holds of; nothing is found where P holds of none.
 abbrev pub FoundFirst : (ℕ → Type 0) → Found → Type 0

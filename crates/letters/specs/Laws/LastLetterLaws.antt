@@ -9,14 +9,15 @@ use lib.Dec.{T}
 use Rattle.lts.specs.FirstWordLaws.{first-word-one, letter-of-separated-one}
 use Rattle.lts.specs.Run.{Run}
 use Rattle.lts.specs.Word.{OnlyFrom, JustOne, FirstWord}
+use Rattle.text.specs.First.{First}
 use Rattle.text.specs.Model.{Model}
 use Rattle.model.specs.System.{action, target, Steps, view}
 use Rattle.model.specs.Laws.Store.SystemLaws.{own-step, deterministicModel→Deterministic}
 use Rattle.model.specs.Inner.Stored.{Stored}
 use Rattle.letters.specs.declared.word.End.the-variants.{Source, Target}
-use Rattle.letters.specs.Inner.Letters.{First, Alone, SeparatedPair}
+use Rattle.letters.specs.Inner.Letters.{Alone, SeparatedPair}
 use Rattle.letters.specs.Inner.WordHead.{WordFrom}
-use Rattle.letters.specs.Laws.LettersLaws.{low-step-game}
+use Rattle.model.specs.Laws.System.RankBoundLaws.{low-step-game}
 
 module _ {m : Model} {p q : ℕ} where
   pub alone→OnlyFrom : {j : ℕ} → Alone m p q j → OnlyFrom (view m .Step) p q (action m j ∷ [])

@@ -10,7 +10,6 @@ use lib.ListN.{length}
 use Rattle.lts.specs.TestsLaws.{T-eqb, lt-or-le}
 use Rattle.lts.specs.Alike.{Rank}
 use Rattle.lts.specs.AlikeLaws.{bisimilar-of-rank, separated-of-rank}
-use Rattle.lts.specs.Run.{Bounded}
 use Rattle.lts.specs.Noninterference.{Levelled, low, release, high, LevelledSteps, Low, BNID, INI}
 use Rattle.lts.specs.NoninterferenceLaws as theorem
 use Rattle.lts.specs.LowLaws.{bisimilar→SameLow}
@@ -23,7 +22,7 @@ use Rattle.verdicts.specs.Verdicts.{RefusedAt}
 use Rattle.model.specs.Inner.Stored.{Stored}
 use Rattle.model.specs.Laws.System.StepTestLaws.{decided-view, bounded-view}
 use Rattle.verdicts.specs.Laws.VerdictsLaws.{rank-of-states}
-use Rattle.letters.specs.Laws.LettersLaws.{low-step-game}
+use Rattle.model.specs.Laws.System.RankBoundLaws.{low-step-game}
 use Rattle.lts.specs.Noninterference.{LowMove}
 
 -- "An action is low (L), release (D) or high (H)."

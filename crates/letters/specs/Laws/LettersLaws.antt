@@ -10,38 +10,26 @@ use lib.Dec.{T}
 use lib.ListN.{length, getD}
 use Rattle.lts.specs.Alike.{Separated, Rank}
 use Rattle.lts.specs.AlikeLaws.{rank-unique, rank-of-separated, separated-of-rank}
-use Rattle.lts.specs.Checked.{lowRound}
-use Rattle.lts.specs.CheckedLaws.{low-game}
-use Rattle.lts.specs.Decided.{answers?}
 use Rattle.lts.specs.FirstWordLaws.{letter-of-separated}
-use Rattle.lts.specs.Game.{Game}
-use Rattle.lts.specs.RankLaws.{rank-lt}
 use Rattle.lts.specs.TestsLaws.{lt-or-le}
 use Rattle.text.specs.declared.Step.{Step}
+use Rattle.text.specs.First.{First}
 use Rattle.text.specs.Limits.{pairPlace}
 use Rattle.text.specs.Model.{Model, low}
 use Rattle.model.specs.System.{source, action, target, Steps, ReachableIn, DeterministicModel, view}
 use Rattle.model.specs.Laws.Store.SystemLaws.{deterministicModel→Deterministic}
 use Rattle.model.specs.Inner.Index.{Index}
 use Rattle.model.specs.Inner.Stored.{Stored}
-use Rattle.model.specs.Inner.StepTest.{step?}
 use Rattle.model.specs.Laws.System.RolesLaws.{low-of-role, role-of-low}
-use Rattle.model.specs.Inner.StepTest.{tests}
-use Rattle.model.specs.Laws.System.StepTestLaws.{decided-view}
-use Rattle.distances.specs.Laws.WavesLaws.{begins-source}
+use Rattle.model.specs.Laws.System.IndexLaws.{begins-source}
+use Rattle.model.specs.Laws.System.RankBoundLaws.{low-step-game}
 use Rattle.letters.specs.declared.branch.Found.{Found}
 use Rattle.letters.specs.declared.branch.Found.the-variants.{At, Nothing}
-use Rattle.letters.specs.Inner.Letters.{First, FoundFirst, StepOf, Unanswered, Answer, HasAnswer}
+use Rattle.letters.specs.Inner.Letters.{FoundFirst, StepOf, Unanswered, Answer, HasAnswer}
 use Rattle.letters.specs.Inner.Letters.{FirstLetter, StepLists, WordLists, SeparatedPair}
 use Rattle.lts.specs.Noninterference.{LowMove}
 
 -- ---- the first step
-
-pub first-found : {P : ℕ → Type 0} {j : ℕ} → ((i : ℕ) → i < j → ¬ (P i)) → P j → First P j
-first-found {j = j} none x = record {
-  holds = x;
-  first = λ i y. ⊎-elim (λ l. absurd (none i l y)) (λ l. l) (lt-or-le i j);
-}
 
 pub found-at : (P : ℕ → Type 0) {r : Found} {j : Step} → r ≡ At j → FoundFirst P r → First P (j .0)
 found-at P e x = subst (λ (y : Found). FoundFirst P y) e x
@@ -112,11 +100,6 @@ module _ {m : Model} {store begins roles table : List ℕ} (L : WordLists m stor
       subst (Rank (LowMove (view m)) (target m j) (target m i)) same
       (L .ranks .ranks (target m j) (target m i) (st .target-lt j l) (st .target-lt i n))
 
-  pub entry-fits : pairPlace x y < length table
-  entry-fits =
-      let st = L .step-lists .stored in
-      omega (arith, e, f, L .table-length, st .states-le, st .target-lt j l, st .target-lt i n)
-
   pub separated-of-entry : {k : ℕ} → 0 < k → getD table (pairPlace x y) 0 ≡ k
       → Separated (LowMove (view m)) (target m j) (target m i) k
   separated-of-entry {k} pos z = separated-of-rank (LowMove (view m)) (target m j) (target m i) k pos
@@ -159,18 +142,11 @@ module _ {m : Model} {p q k b x y : ℕ} where
   }
 
 module _ {s : List ℕ} {m : Model} (st : Stored s m) where
-  pub low-step-game : Game (LowMove (view m)) (m .head .states) (lowRound (view m) (tests m))
-  low-step-game = low-game (view m) (tests m) (decided-view st)
-
-  pub stored-rank-lt : {p q k : ℕ} → p < m .head .states → q < m .head .states → Rank (LowMove (view m)) p q k
-      → k < m .head .states
-  stored-rank-lt {p} {q} {k} = rank-lt (LowMove (view m)) (m .head .states) _ low-step-game p q k
-
   -- Of two states that the round k+1 separates, some low step has an answer.
   pub has-answer-some : (p q k : ℕ) → 0 < k → SeparatedPair m p q (k + 1) → (j : ℕ) × HasAnswer m p q k j
   has-answer-some p q zero pos x = absurd (omega arith)
   has-answer-some p q (suc k) pos x =
-      let (a, y, z, u, v, w) = letter-of-separated (view m) _ low-step-game
+      let (a, y, z, u, v, w) = letter-of-separated (view m) _ (low-step-game st)
       (deterministicModel→Deterministic m (x .deterministic)) k p q (x .second-reachable)
       (subst (Separated (LowMove (view m)) p q) (add-one (suc k)) (x .separated)) in
       (u .1 .number, has-answer-of u v w)

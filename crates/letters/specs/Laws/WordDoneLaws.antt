@@ -2,17 +2,18 @@
 -- Document 01, operation 6. Assumes nothing.
 use mathlib.Core.Bool.{cond}
 use mathlib.Core.List.{List, [], _∷_, _++_}
-use mathlib.Core.Logic.{_⊎_, inl, inr}
+use mathlib.Core.Logic.{_⊎_, inl, inr, ⊎-elim}
 use mathlib.Core.Path.{_≡_, refl, sym, ap, _∙_, subst}
 use Prim.Native.Nat.{ℕ, zero, suc, _-_, _≤_, _<_}
 use native.Mathlib.Omega.{arith}
 use lib.Dec.{eqb}
 use lib.ListN.{length, drop, getD}
 use Rattle.lts.specs.FirstWordLaws.{first-word-unique}
-use Rattle.lts.specs.TestsLaws.{lt-or-le, eq-or-not, lt-suc-cases}
+use Rattle.lts.specs.TestsLaws.{lt-or-le, eq-or-not}
 use Rattle.lts.specs.Word.{OnlyFrom}
 use Rattle.lts.specs.WordLaws.{only-from-unique}
 use Rattle.text.specs.Faults.{Outcome, answers, refuses}
+use Rattle.text.specs.Laws.FirstLaws.{first-cases}
 use Rattle.text.specs.Model.{Model}
 use Rattle.model.specs.System.{source, action, target, ReachableIn, DeterministicModel, view}
 use Rattle.verdicts.specs.declared.judging.Verdict.{Verdict}
@@ -56,22 +57,6 @@ endNumber-injective d e h = sym (endOf-endNumber d) ∙ ap endOf h ∙ endOf-end
 
 -- ---- a first branch, or a deterministic model
 
--- The first number below n that P holds of, or none.
-first-cases : (P : ℕ → Type 0) → ((i : ℕ) → P i ⊎ ¬ (P i)) → (n : ℕ)
-    → ((j : ℕ) × P j × ((i : ℕ) → i < j → ¬ (P i))) ⊎ ((i : ℕ) → i < n → ¬ (P i))
-first-cases P decide zero = inr (λ i l. absurd (omega arith))
-first-cases P decide (suc n) = go (first-cases P decide n) (decide n)
-  where
-    go : ((j : ℕ) × P j × ((i : ℕ) → i < j → ¬ (P i))) ⊎ ((i : ℕ) → i < n → ¬ (P i)) → P n ⊎ ¬ (P n)
-        → ((j : ℕ) × P j × ((i : ℕ) → i < j → ¬ (P i))) ⊎ ((i : ℕ) → i < suc n → ¬ (P i))
-    go (inl x) d = inl x
-    go (inr f) (inl y) = inl (n, y, f)
-    go (inr f) (inr y) = inr (λ i l. last i (lt-suc-cases l))
-      where
-        last : (i : ℕ) → (i ≡ n) ⊎ (i < n) → ¬ (P i)
-        last i (inl e) = λ x. y (subst P e x)
-        last i (inr l) = f i l
-
 module _ {s : List ℕ} {m : Model} (st : Stored s m) where
   branches-cases : (j : ℕ) → Branches m j ⊎ ¬ (Branches m j)
   branches-cases j = go (lt-or-le 0 j) (lt-or-le j (length (m .steps))) (eq-or-not (source m (j - 1)) (source m j))
@@ -89,16 +74,9 @@ module _ {s : List ℕ} {m : Model} (st : Stored s m) where
       go (inl k) (inl l) (inl e) (inl f) (inl r) = inl (branches-of refl refl refl k l e refl refl f r)
 
   pub branch-cases : ((j : ℕ) × FirstBranch m j) ⊎ DeterministicModel m
-  branch-cases = go (first-cases (Branches m) branches-cases (length (m .steps)))
-    where
-      go : ((j : ℕ) × Branches m j × ((i : ℕ) → i < j → ¬ (Branches m i)))
-          ⊎ ((i : ℕ) → i < length (m .steps) → ¬ (Branches m i)) → ((j : ℕ) × FirstBranch m j) ⊎ DeterministicModel m
-      go (inl (j, x, none)) = inl (j, record { branches = x; first = λ i y. least i y (lt-or-le i j) })
-        where
-          least : (i : ℕ) → Branches m i → (i < j) ⊎ (j ≤ i) → j ≤ i
-          least i y (inl l) = absurd (none i l y)
-          least i y (inr l) = l
-      go (inr none) = inr (deterministic-of-no-branch st (λ j x. none j (x .number-lt) x))
+  branch-cases =
+      ⊎-elim inl (λ none. inr (deterministic-of-no-branch st (λ j x. none j (x .number-lt) x)))
+      (first-cases (Branches m) branches-cases (length (m .steps)))
 
 -- ---- one word
 

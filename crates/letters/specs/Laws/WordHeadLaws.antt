@@ -23,7 +23,7 @@ use Rattle.letters.specs.declared.word.End.{End}
 use Rattle.letters.specs.declared.word.End.the-variants.{Source, Target}
 use Rattle.letters.specs.Inner.Letters.{FirstLetter, SeparatedPair}
 use Rattle.letters.specs.Inner.WordHead.{OnlyFromEnd, WordFrom, WordWritten, WordHead}
-use Rattle.letters.specs.Laws.LettersLaws.{low-step-game}
+use Rattle.model.specs.Laws.System.RankBoundLaws.{low-step-game}
 use Rattle.lts.specs.Noninterference.{LowMove}
 
 -- ---- a letter

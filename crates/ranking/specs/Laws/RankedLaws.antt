@@ -17,7 +17,7 @@ use Rattle.text.specs.Limits.{tableLength, pairPlace}
 use Rattle.text.specs.Lists.{Past}
 use Rattle.text.specs.Laws.ListsLaws.{past-getD}
 use Rattle.ranking.specs.MoveList.{Listed, MoveList, Lists}
-use Rattle.ranking.specs.Table.{SomePair, Ranks, LastRound, Greatest, Ranked}
+use Rattle.ranking.specs.Table.{Below, SomePair, Ranks, LastRound, Greatest, Ranked}
 
 -- ---- one table, one answer
 
@@ -25,20 +25,21 @@ use Rattle.ranking.specs.Table.{SomePair, Ranks, LastRound, Greatest, Ra
 place-pair : (i : ℕ) → i < tableLength → (p : ℕ) × (q : ℕ) × (p < stateLimit) × (q < stateLimit) × (i ≡ pairPlace p q)
 place-pair i l = (i / stateLimit, i % stateLimit, omega arith, omega arith, omega arith)
 
-module _ (Move : Moves) (n : ℕ) where
-  pub greatest-unique : (top top′ : ℕ) → Greatest Move n top → Greatest Move n top′ → top ≡ top′
-  greatest-unique top top′ g h =
-      let a = g .attained in
-      let b = h .attained in
-      let l = h .bound (a .one) (a .other) top (a .one-lt) (a .other-lt) (a .holds) in
-      let k = g .bound (b .one) (b .other) top′ (b .one-lt) (b .other-lt) (b .holds) in
-      omega arith
+pub greatest-unique : (Move : Moves) (Among : ℕ → Type 0) (top top′ : ℕ) → Greatest Move Among top
+    → Greatest Move Among top′ → top ≡ top′
+greatest-unique Move Among top top′ g h =
+    let a = g .attained in
+    let b = h .attained in
+    let l = h .bound (a .one) (a .other) top (a .one-among) (a .other-among) (a .holds) in
+    let k = g .bound (b .one) (b .other) top′ (b .one-among) (b .other-among) (b .holds) in
+    omega arith
 
+module _ (Move : Moves) (n : ℕ) where
   lastRound-le : (last last′ : ℕ) → LastRound Move n last → LastRound Move n last′ → last ≤ last′
   lastRound-le last last′ r s =
       ⊎-elim
       (λ e. omega arith)
-      (λ x. s .none-later (x .one) (x .other) last (x .one-lt) (x .other-lt) (x .holds))
+      (λ x. s .none-later (x .one) (x .other) last (x .one-among) (x .other-among) (x .holds))
       (r .separates)
 
   pub lastRound-unique : (last last′ : ℕ) → LastRound Move n last → LastRound Move n last′ → last ≡ last′
@@ -68,7 +69,7 @@ module _ (Move : Moves) (n : ℕ) where
   pub ranked-unique : (entry t u : List ℕ) (last last′ : ℕ) → Ranked Move n entry t last → Ranked Move n entry u last′
       → (last ≡ last′) × (t ≡ u)
   ranked-unique entry t u last last′ r s = (
-    greatest-unique last last′ (r .greatest) (s .greatest),
+    greatest-unique Move (Below n) last last′ (r .greatest) (s .greatest),
     ranks-unique entry t u (r .table) (r .past) (s .table) (s .past),
   )
 
@@ -84,12 +85,12 @@ module _ {Move : Moves} {n : ℕ} {first actions targets : List ℕ} (l : Lists 
   rank-back : (p q : ℕ) {k : ℕ} → Rank Move p q k → Rank Played p q k
   rank-back = rank-same (l .complete) (l .sound)
 
-  somePair-map : {P Q : ℕ → ℕ → Type 0} → ((p q : ℕ) → P p q → Q p q) → SomePair n P → SomePair n Q
+  somePair-map : {P Q : ℕ → ℕ → Type 0} → ((p q : ℕ) → P p q → Q p q) → SomePair (Below n) P → SomePair (Below n) Q
   somePair-map f x = record {
     one = x .one;
     other = x .other;
-    one-lt = x .one-lt;
-    other-lt = x .other-lt;
+    one-among = x .one-among;
+    other-among = x .other-among;
     holds = f (x .one) (x .other) (x .holds);
   }
 

@@ -19,7 +19,7 @@ use Rattle.text.specs.Limits.{tableLength, pairPlace}
 use Rattle.text.specs.Lists.{Past}
 use Rattle.text.specs.Inner.Clearing.{Cleared}
 use Rattle.text.specs.Laws.ListsLaws.{past-getD}
-use Rattle.ranking.specs.Table.{SomePair, Ranked}
+use Rattle.ranking.specs.Table.{Below, SomePair, Ranked}
 use Rattle.ranking.specs.Inner.ClassList.{Classes, Refined, Moved}
 use Rattle.ranking.specs.Laws.ClassListLaws.{classes-suc, separates-of-moved, settled-of-not-moved}
 use Rattle.ranking.specs.Inner.TableWrites.{entryOf, Written, RowsWritten, RankUpTo, RanksUpTo, Finished}
@@ -62,7 +62,7 @@ module _ {Move : Moves} {n : ℕ} {round : (ℕ → ℕ → Bool) → ℕ → �
     (same-length : length w ≡ length t) where
   -- A pair that round `last` separated, if there is such a round.
   LastPair : ℕ → Type 0
-  LastPair k = (k ≡ 0) ⊎ SomePair n (λ p q. Separated Move p q k)
+  LastPair k = (k ≡ 0) ⊎ SomePair (Below n) (λ p q. Separated Move p q k)
 
   last-pair : LastPair last
   unfolding LastPair
@@ -75,8 +75,8 @@ module _ {Move : Moves} {n : ℕ} {round : (ℕ → ℕ → Bool) → ℕ → �
           inr (record {
             one = s .one;
             other = s .other;
-            one-lt = s .one-lt;
-            other-lt = s .other-lt;
+            one-among = s .one-lt;
+            other-among = s .other-lt;
             holds = separated-of-separates Move n k s;
           })
 
@@ -90,20 +90,20 @@ module _ {Move : Moves} {n : ℕ} {round : (ℕ → ℕ → Bool) → ℕ → �
       subst (Rank Move p q) (sym z) (bisimilar b)
   rank-of-found p q v lp lq (inr (l, x)) = rank-of-separated Move p q v x
 
-  attained : LastPair last → SomePair n (λ p q. Rank Move p q last)
+  attained : LastPair last → SomePair (Below n) (λ p q. Rank Move p q last)
   unfolding LastPair
   attained (inl e) = record {
     one = 0;
     other = 0;
-    one-lt = some;
-    other-lt = some;
+    one-among = some;
+    other-among = some;
     holds = subst (Rank Move 0 0) (sym e) (bisimilar (bisimilar-refl Move 0));
   }
   attained (inr s) = record {
     one = s .one;
     other = s .other;
-    one-lt = s .one-lt;
-    other-lt = s .other-lt;
+    one-among = s .one-among;
+    other-among = s .other-among;
     holds = rank-of-separated Move (s .one) (s .other) last (s .holds);
   }
 

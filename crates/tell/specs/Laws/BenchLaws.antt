@@ -176,7 +176,7 @@ branching-not-deterministic det =
 
 branching-first : FirstBranch branching 1
 branching-first = record {
-  branches = record {
+  holds = record {
     before = 0;
     next-is = refl;
     number-lt = omega arith;

@@ -24,6 +24,7 @@ use Rattle.verdicts.specs.Laws.VerdictsLaws.{no-leak-of-bnid}
 use Rattle.verdicts.specs.Inner.VerdictTest.{verdictOf}
 use Rattle.verdicts.specs.Laws.VerdictTestLaws.{verdictOf-judged}
 use Rattle.judge.specs.JudgePromise.{verdictOutcome, judgeLists, JudgePromise}
+use Rattle.judge.specs.Laws.JudgeOutcomeLaws.{passed-or-refused, refused-same}
 use Rattle.letters.specs.declared.word.End.{End}
 use Rattle.letters.specs.Words.{endNumber, WordOf, WordShown}
 use Rattle.judge.specs.WordPromise.{wordLists, WordPromise}
@@ -36,14 +37,11 @@ use Rattle.tell.specs.Laws.ReadTextLaws.{read↔States}
 
 -- ---- one answer does not say two things
 
-passed-or-refused : {judge : Outcome} {j depth : ℕ} → SaysPassed judge → ¬ (SaysRefused judge j depth)
-passed-or-refused (top, e) h = let z : _≡_ {A = ℕ} 0 1 = cc in absurd (omega arith)
+says-one : {judge : Outcome} (j depth : ℕ) → SaysPassed judge → ¬ (SaysRefused judge j depth)
+says-one j depth (top, e) h = passed-or-refused top (record { 0 = j }) depth (sym e ∙ h)
 
-refused-same : {judge : Outcome} {i j d e : ℕ} → SaysRefused judge i d → SaysRefused judge j e → (i ≡ j) × (d ≡ e)
-refused-same {judge} {i} {j} {d} {e} x y =
-    let a : i ≡ j = cc in
-    let b : d ≡ e = cc in
-    (a, b)
+says-same : {judge : Outcome} (i j d e : ℕ) → SaysRefused judge i d → SaysRefused judge j e → (i ≡ j) × (d ≡ e)
+says-same i j d e x y = refused-same (record { 0 = i }) (record { 0 = j }) d e (sym x ∙ y)
 
 -- ---- the sequence
 
@@ -94,29 +92,27 @@ module _ {s : List ℕ} {m : Model} (st : Stored s m) where
     -- ---- Judge
 
     pub judge-tells : (v : Verdict) → judge ≡ verdictOutcome v → Judged m v → JudgeTells m judge
-    unfolding verdictOutcome
     judge-tells (Passed top) e x = record {
       answered = inl (top, e);
       passed-iff = (λ _. bnid↔INI st det .0 (x .bnid), λ _. (top, e));
-      step-told = λ j depth h. absurd (passed-or-refused (top, e) h);
+      step-told = λ j depth h. absurd (says-one j depth (top, e) h);
     }
     judge-tells (Refused j depth) e x = record {
       answered = inr (j .0, depth, e);
       passed-iff = (
-        λ p. absurd (passed-or-refused p e),
+        λ p. absurd (says-one (j .0) depth p e),
         λ ini. absurd (no-leak-of-bnid m (bnid↔INI st det .1 ini) (j .0) depth (x .leak)),
       );
-      step-told = λ i d h. subst (HighStep m) (refused-same e h .0) (x .leak .high-step);
+      step-told = λ i d h. subst (HighStep m) (says-same (j .0) i depth d e h .0) (x .leak .high-step);
     }
 
     -- ---- both
 
     pub both-tell : {word : Outcome} {entry exit : List ℕ} (v : Verdict) → judge ≡ verdictOutcome v → Judged m v
         → WordDone m word entry exit → BothTell m judge word exit
-    unfolding verdictOutcome
     both-tell (Passed top) e x w = record {
       passed-no-word = (λ _. w .passed det (x .bnid) .0, λ _. (top, e));
-      shown = λ j depth h. absurd (passed-or-refused (top, e) h);
+      shown = λ j depth h. absurd (says-one j depth (top, e) h);
     }
     both-tell {word} {exit = exit} (Refused j depth) e x w =
         let shown = w .refused det (j .0) depth x in
@@ -124,11 +120,11 @@ module _ {s : List ℕ} {m : Model} (st : Stored s m) where
         let answer = shown .outcome-is in
         record {
           passed-no-word = (
-            λ p. absurd (passed-or-refused p e),
+            λ p. absurd (says-one (j .0) depth p e),
             λ h. absurd (answers-not-refuses (sym answer ∙ h)),
           );
           shown = λ i d h.
-              let same = refused-same e h in
+              let same = says-same (j .0) i depth d e h in
               subst (λ (k : ℕ). Sequence m k d word exit) (same .0)
               (subst (λ (k : ℕ). Sequence m (j .0) k word exit) (same .1) sequence);
         }

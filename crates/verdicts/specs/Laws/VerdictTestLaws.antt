@@ -16,9 +16,8 @@ use Rattle.lts.specs.TestsLaws.{T-cases, T→true, and-intro, and-left, and-rig
 use Rattle.lts.specs.CheckedLaws.{lowRank→Rank}
 use Rattle.lts.specs.DistanceLaws.{Reachable→within?, within?→Reachable}
 use Rattle.text.specs.Model.{high, Model}
-use Rattle.model.specs.System.{source, action, target, level, ReachableIn, view}
+use Rattle.model.specs.System.{source, action, target, level, ReachableIn, IsState, view}
 use Rattle.model.specs.Inner.Stored.{Stored}
-use Rattle.model.specs.Inner.StepTest.{step?, start?}
 use Rattle.lts.specs.TestsLaws.{T-eqb}
 use Rattle.model.specs.Inner.StepTest.{tests}
 use Rattle.model.specs.Laws.System.StepTestLaws.{decided-view}
@@ -78,7 +77,7 @@ module _ {s : List ℕ} {m : Model} (st : Stored s m) where
   pub rankIn→Rank : (p q : ℕ) → p < m .head .states → q < m .head .states → Rank (LowMove (view m)) p q (rankIn m p q)
   rankIn→Rank = lowRank→Rank (view m) (tests m) (decided-view st)
 
-  pub greatestRank-greatest : Greatest (LowMove (view m)) (m .head .states) (greatestRank m)
+  pub greatestRank-greatest : Greatest (LowMove (view m)) (IsState m) (greatestRank m)
   greatestRank-greatest =
       let n = m .head .states in
       let x = attained n (λ p. greatestBelow n (rankIn m p)) (st .states-pos) in
@@ -87,8 +86,8 @@ module _ {s : List ℕ} {m : Model} (st : Stored s m) where
         attained = record {
           one = x .0;
           other = y .0;
-          one-lt = x .1;
-          other-lt = y .1;
+          one-among = x .1;
+          other-among = y .1;
           holds = subst (Rank (LowMove (view m)) (x .0) (y .0)) (y .2 ∙ x .2) (rankIn→Rank (x .0) (y .0) (x .1) (y .1));
         };
         bound = λ p q k lp lq r.

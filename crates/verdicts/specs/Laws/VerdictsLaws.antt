@@ -13,12 +13,11 @@ use Rattle.lts.specs.Noninterference.{BNID}
 use Rattle.lts.specs.Checked.{lowRank}
 use Rattle.lts.specs.CheckedLaws.{lowRank→Rank}
 use Rattle.text.specs.Model.{high, Model}
-use Rattle.model.specs.System.{source, action, target, level, HighStep, ReachableIn, view}
+use Rattle.model.specs.System.{source, action, target, level, HighStep, ReachableIn, IsState, view}
 use Rattle.model.specs.Laws.Store.SystemLaws.{own-step}
 use Rattle.verdicts.specs.declared.judging.Verdict.{Verdict}
 use Rattle.verdicts.specs.declared.judging.Verdict.the-variants.{Passed, Refused}
 use Rattle.model.specs.Inner.Stored.{Stored}
-use Rattle.model.specs.Inner.StepTest.{step?}
 use Rattle.lts.specs.TestsLaws.{T-eqb}
 use Rattle.model.specs.Laws.System.StepTestLaws.{decided-view}
 use Rattle.ranking.specs.Table.{Greatest}
@@ -77,7 +76,7 @@ module _ (m : Model) where
             (λ l. bisimilar-of-rank (LowMove (view m)) (source m j) (target m j) k (omega arith) w)
             (lt-or-le 0 k)
 
-    pub passed-of-no-leak : {top : ℕ} → ((j d : ℕ) → ¬ (Leak m j d)) → Greatest (LowMove (view m)) (m .head .states) top
+    pub passed-of-no-leak : {top : ℕ} → ((j d : ℕ) → ¬ (Leak m j d)) → Greatest (LowMove (view m)) (IsState m) top
         → PassedWith m top
     passed-of-no-leak h g = record { bnid = bnid-of-no-leak h; greatest = g }
 
@@ -97,7 +96,7 @@ module _ (m : Model) where
 
   pub judged-unique : (v w : Verdict) → Judged m v → Judged m w → v ≡ w
   judged-unique (Passed top) (Passed top′) x y =
-      ap Passed (greatest-unique (LowMove (view m)) (m .head .states) top top′ (x .greatest) (y .greatest))
+      ap Passed (greatest-unique (LowMove (view m)) (IsState m) top top′ (x .greatest) (y .greatest))
   judged-unique (Passed top) (Refused j d) x y = absurd (passed-not-refused top (j .0) d x y)
   judged-unique (Refused j d) (Passed top) x y = absurd (passed-not-refused top (j .0) d y x)
   judged-unique (Refused i d) (Refused j e) x y =

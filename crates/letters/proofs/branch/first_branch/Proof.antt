@@ -10,7 +10,7 @@ use Rattle.text.specs.Laws.DecidesLaws.{decides-true, decides-false}
 use Rattle.model.specs.Laws.System.StoredLaws.{stored-steps}
 use Rattle.letters.specs.Words.{Branches}
 use Rattle.letters.specs.Laws.WordsLaws.{not-first-branches}
-use Rattle.letters.specs.Laws.LettersLaws.{first-found}
+use Rattle.text.specs.Laws.FirstLaws.{first-found}
 use Rattle.letters.proofs.branch.first_branch.Statement.{statement}
 use Rattle.letters.proofs.branch.first_branch.Tie as tie
 

@@ -8,7 +8,8 @@ use borrow.Author.Needs.{needs}
 use Rattle.model.specs.StoredModel.{modelAt}
 use Rattle.text.specs.Laws.DecidesLaws.{decides-true, decides-false}
 use Rattle.letters.specs.Inner.Letters.{Alone}
-use Rattle.letters.specs.Laws.LettersLaws.{own-of-index, none-before, none-after, first-found}
+use Rattle.letters.specs.Laws.LettersLaws.{own-of-index, none-before, none-after}
+use Rattle.text.specs.Laws.FirstLaws.{first-found}
 use Rattle.letters.proofs.letters.alone.Statement.{statement}
 use Rattle.letters.proofs.letters.alone.Tie as tie
 

@@ -9,7 +9,8 @@ use Rattle.text.specs.declared.Action.{Action}
 use Rattle.model.specs.StoredModel.{modelAt}
 use Rattle.model.specs.Laws.System.StoredLaws.{stored-action}
 use Rattle.letters.specs.Inner.Letters.{StepOf}
-use Rattle.letters.specs.Laws.LettersLaws.{own-of-index, none-before, none-after, first-found}
+use Rattle.letters.specs.Laws.LettersLaws.{own-of-index, none-before, none-after}
+use Rattle.text.specs.Laws.FirstLaws.{first-found}
 use Rattle.letters.proofs.letters.find.Statement.{statement}
 use Rattle.letters.proofs.letters.find.Tie as tie
 

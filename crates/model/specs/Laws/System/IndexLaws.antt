@@ -26,6 +26,14 @@ begins-suc st p from to b top own end = record {
   above = λ j l k. omega (arith, end (omega arith), st .source-le to j l k);
 }
 
+pub begins-at : {m : Model} {p q from : ℕ} → p ≡ q → Begins m p from → Begins m q from
+begins-at {m} {from = from} e b = subst (λ (x : ℕ). Begins m x from) e b
+
+-- each step between is one of p
+pub begins-source : {m : Model} {p from to : ℕ} → Begins m p from → Begins m (p + 1) to → (i : ℕ) → from ≤ i → i < to
+    → source m i ≡ p
+begins-source b c i k l = omega (arith, b .above i k (omega (arith, c .from-le)), c .below i l)
+
 pub begins-le : {m : Model} {p from to : ℕ} → Begins m p from → Begins m (p + 1) to → from ≤ to
 begins-le {m} {p} {from} {to} b c =
     ⊎-elim

@@ -33,7 +33,7 @@ returns c =
     let pre = c .before .before .before .before .before .before .before .before .pre in
     let j = pre .1 .1 .0 .0 in
     let e = ap (λ (x : Action). x .0) (c .before .before .before .action .ensures) ∙ stored-action (pre .0) _ j in (
-      appended-not-low (λ t. omega (arith, c .if1 .taken, role-of-low (pre .1 .0 .1) e (pre .0 .action-lt _ j) t)),
+      appended-not-low (λ t. c .if1 .taken (role-of-low (pre .1 .0 .1) e (pre .0 .action-lt _ j) t)),
       omega arith,
     )
 
@@ -70,7 +70,7 @@ returns-2 c =
     let a = c .before .before .before .before .action in
     let e = ap (λ (x : Action). x .0) (a .ensures) ∙ stored-action (pre .0) _ j in
     let f = ap (λ (x : State). x .0) (c .target .ensures) ∙ stored-target (pre .0) _ j in
-    let low = low-of-role (pre .1 .0 .1) e (pre .0 .action-lt _ j) (omega (arith, c .before .if1 .left)) in (
+    let low = low-of-role (pre .1 .0 .1) e (pre .0 .action-lt _ j) (c .before .if1 .left) in (
       appended-low (omega (arith, pre .1 .1 .0 .1, pre .1 .1 .1 .0)) (omega (arith, pre .1 .1 .0 .1, pre .1 .1 .1 .1))
           (sym e) (sym f) low,
       omega arith,

@@ -6,22 +6,22 @@ use borrow.Author.Needs.{needs}
 use Rattle.ranking.proofs.classes.joins.Statement.{statement}
 use Rattle.ranking.proofs.classes.joins.Tie as tie
 
-class-of-requires : tie.Need-class-of-requires
-class-of-requires c κs = search needs
+class-at-requires : tie.Need-class-at-requires
+class-at-requires c κs = search needs
 
 returns : tie.Need-returns
 returns c = search needs
 
-class-of-requires-2 : tie.Need-class-of-requires-2
-class-of-requires-2 c κs = search needs
+class-at-requires-2 : tie.Need-class-at-requires-2
+class-at-requires-2 c κs = search needs
 
-class-of-requires-3 : tie.Need-class-of-requires-3
-class-of-requires-3 c κs = search needs
+class-at-requires-3 : tie.Need-class-at-requires-3
+class-at-requires-3 c κs = search needs
 
 returns-2 : tie.Need-returns-2
 returns-2 c =
-    let a = c .before .before .before .before .class-of2 .ensures in
-    let b = c .before .before .before .class-of3 .ensures in
+    let a = c .before .before .before .before .class-at2 .ensures in
+    let b = c .before .before .before .class-at3 .ensures in
     let start = c .before .before .before .before .before .before .before .before .before .before in
     let l = start .pre .1 .1 .0 in
     let same = start .pre .1 .0 .same-of-answers (start .args .p .0) (start .args .q .0) (l .0) (l .1) in
@@ -39,7 +39,7 @@ returns-3 : tie.Need-returns-3
 returns-3 c =
     let played = c .before .before .answers in
     let else = c .before .before .before .before .before .before .before .before .before in
-    let own = sym (else .before .before .before .class-of .ensures) ∙ else .if1 .left in
+    let own = sym (else .before .before .before .class-at .ensures) ∙ else .if1 .left in
     let outcome = played .ensures in (
       decides-iff (played .result) (λ h. record { represents = own; answers = h }) (λ h. h .answers) (outcome .0),
       outcome .1,
@@ -49,10 +49,10 @@ pub joins-spec : {M : Type 1} → statement M
 joins-spec =
     tie.close
     (tie.spec
-    class-of-requires
+    class-at-requires
     returns
-    class-of-requires-2
-    class-of-requires-3
+    class-at-requires-2
+    class-at-requires-3
     returns-2
     answers-requires
     same-length

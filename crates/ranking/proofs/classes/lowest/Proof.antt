@@ -21,8 +21,8 @@ Inv-loop n first actions targets class next p marks₀ q₀ marks q =
 abbrev μ-loop : tie.MeasureT-loop
 μ-loop n first actions targets class next p marks₀ q₀ marks q = p .0 - q
 
-class-of-requires : tie.Need-class-of-requires Inv-loop μ-loop
-class-of-requires c κs = search needs
+class-at-requires : tie.Need-class-at-requires Inv-loop μ-loop
+class-at-requires c κs = search needs
 
 loop-holds : tie.Need-loop-holds Inv-loop μ-loop
 loop-holds c =
@@ -30,7 +30,7 @@ loop-holds c =
     let R = start .pre .1 .0 in
     let lp = start .pre .1 .1 .1 .0 in
     let low = R .lowest-le (start .args .p .0) lp in
-    (omega (arith, c .class-of .ensures), none-below-class R lp (c .class-of .ensures), start .pre .1 .1 .1 .1, refl)
+    (omega (arith, c .class-at .ensures), none-below-class R lp (c .class-at .ensures), start .pre .1 .1 .1 .1, refl)
 
 joins-requires : tie.Need-joins-requires Inv-loop μ-loop
 joins-requires c κs =
@@ -90,7 +90,7 @@ lowest-spec =
     (tie.spec
     Inv-loop
     μ-loop
-    class-of-requires
+    class-at-requires
     loop-holds
     joins-requires
     same-length

@@ -7,19 +7,19 @@ use borrow.Author.Needs.{needs}
 use Rattle.ranking.proofs.classes.write_moved.Statement.{statement}
 use Rattle.ranking.proofs.classes.write_moved.Tie as tie
 
-class-of-requires : tie.Need-class-of-requires
-class-of-requires c κs = search needs
+class-at-requires : tie.Need-class-at-requires
+class-at-requires c κs = search needs
 
-class-of-requires-2 : tie.Need-class-of-requires-2
-class-of-requires-2 c κs = search needs
+class-at-requires-2 : tie.Need-class-at-requires-2
+class-at-requires-2 c κs = search needs
 
 returns : tie.Need-returns
 returns c =
     let start = c .before .before .before .before .before .before in
     let a = start .args in
     let P = start .pre .1 .1 in
-    let e = sym (c .before .before .before .before .class-of .ensures) ∙ c .if1 .taken in
-    let stays = e ∙ c .before .before .before .class-of2 .ensures in
+    let e = sym (c .before .before .before .before .class-at .ensures) ∙ c .if1 .taken in
+    let stays = e ∙ c .before .before .before .class-at2 .ensures in
     let moved = moved-add-one (a .class .now) (a .next .now) (a .p .0) (a .found) stays (P .0) in
     (written-refl _, (moved, rows-add-one (P .1) (λ d. absurd (d stays))))
 
@@ -33,8 +33,8 @@ returns-2 : tie.Need-returns-2
 returns-2 c =
     let m = c .before .before .write-row in
     let else = c .before .before .before .before in
-    let x = else .before .before .before .before .class-of .ensures in
-    let y = else .before .before .before .class-of2 .ensures in
+    let x = else .before .before .before .before .class-at .ensures in
+    let y = else .before .before .before .class-at2 .ensures in
     let start = else .before .before .before .before .before .before in (
       m .ensures .0,
       (
@@ -47,8 +47,8 @@ pub write-moved-spec : {M : Type 1} → statement M
 write-moved-spec =
     tie.close
     (tie.spec
-    class-of-requires
-    class-of-requires-2
+    class-at-requires
+    class-at-requires-2
     returns
     write-row-requires
     same-length

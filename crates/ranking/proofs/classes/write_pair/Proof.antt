@@ -8,28 +8,28 @@ use borrow.Author.Needs.{needs}
 use Rattle.ranking.proofs.classes.write_pair.Statement.{statement}
 use Rattle.ranking.proofs.classes.write_pair.Tie as tie
 
-class-of-requires : tie.Need-class-of-requires
-class-of-requires c κs = search needs
+class-at-requires : tie.Need-class-at-requires
+class-at-requires c κs = search needs
 
-class-of-requires-2 : tie.Need-class-of-requires-2
-class-of-requires-2 c κs = search needs
+class-at-requires-2 : tie.Need-class-at-requires-2
+class-at-requires-2 c κs = search needs
 
 returns : tie.Need-returns
 returns c =
-    let a = c .before .before .before .before .class-of .ensures in
-    let b = c .before .before .before .class-of2 .ensures in
+    let a = c .before .before .before .before .class-at .ensures in
+    let b = c .before .before .before .class-at2 .ensures in
     (λ n _ _ _. written-refl _, record { both = λ h. absurd (c .if1 .taken (a ∙ h .same-before ∙ sym b)) })
 
-class-of-requires-3 : tie.Need-class-of-requires-3
-class-of-requires-3 c κs = search needs
+class-at-requires-3 : tie.Need-class-at-requires-3
+class-at-requires-3 c κs = search needs
 
-class-of-requires-4 : tie.Need-class-of-requires-4
-class-of-requires-4 c κs = search needs
+class-at-requires-4 : tie.Need-class-at-requires-4
+class-at-requires-4 c κs = search needs
 
 returns-2 : tie.Need-returns-2
 returns-2 c =
-    let e = sym (c .before .before .before .before .class-of3 .ensures) ∙ c .if2 .taken in
-    let d = c .before .before .before .class-of4 .ensures in
+    let e = sym (c .before .before .before .before .class-at3 .ensures) ∙ c .if2 .taken in
+    let d = c .before .before .before .class-at4 .ensures in
     (λ n _ _ _. written-refl _, record { both = λ h. absurd (h .not-same-after (e ∙ d)) })
 
 pair-place-requires : tie.Need-pair-place-requires
@@ -51,11 +51,11 @@ returns-3 : tie.Need-returns-3
 returns-3 c =
     let placed = c .before in
     let after = placed .before in
-    let x = after .before .before .before .before .class-of3 .ensures in
-    let y = after .before .before .before .class-of4 .ensures in
+    let x = after .before .before .before .before .class-at3 .ensures in
+    let y = after .before .before .before .class-at4 .ensures in
     let before = after .before .before .before .before .before in
-    let u = before .before .before .before .before .class-of .ensures in
-    let v = before .before .before .before .class-of2 .ensures in
+    let u = before .before .before .before .before .class-at .ensures in
+    let v = before .before .before .before .class-at2 .ensures in
     let at-start = before .before .before .before .before .before .before in
     let a = at-start .args in
     let h : SeparatedBy (a .class .now) (a .next .now) (a .p .0) (a .q .0) = record {
@@ -69,11 +69,11 @@ pub write-pair-spec : {M : Type 1} → statement M
 write-pair-spec =
     tie.close
     (tie.spec
-    class-of-requires
-    class-of-requires-2
+    class-at-requires
+    class-at-requires-2
     returns
-    class-of-requires-3
-    class-of-requires-4
+    class-at-requires-3
+    class-at-requires-4
     returns-2
     pair-place-requires
     pair-place-requires-2
