@@ -40,6 +40,6 @@ workedPage =
     ∷ 69 ∷ 10
     ∷ []
 
-pub prints : pageBytes workedLines ≡ workedPage
+pub worked-bytes : pageBytes workedLines ≡ workedPage
 unfolding pageBytes lineText distanceText endText digits digitsUpTo workedLines workedPage
-prints = refl
+worked-bytes = refl

@@ -1,4 +1,4 @@
-// From a text to its page.
+// `print`, the path from a text to its page: what Read reads is printed as Page does.
 use crate::page::first_short;
 use crate::page::page_good;
 use lines::lines::PagePosition;
@@ -15,7 +15,7 @@ ghost use Rattle.page.specs.Claim.{PrintClaim};
 ghost use Rattle.page.specs.PrintPromise.{printOutcome, PrintPromise};
 ghost use Rattle.page.specs.Inner.Refusals.{Refuses, FaultWritten};
 
-// The bytes written.
+// What `print` answers: the bytes written.
 pub enum PrintAnswer {
     Printed(usize),
     ShortList(usize),

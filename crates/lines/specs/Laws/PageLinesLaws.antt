@@ -1,8 +1,9 @@
 -- The lengths of lines, and the distance in a list as a field.
 -- Document 01, "The page". Assumes nothing.
+use mathlib.Core.Bool.{Bool, cond}
 use mathlib.Core.List.{List, [], _∷_}
 use mathlib.Core.Option.{Option, none, some}
-use mathlib.Core.Path.{_≡_}
+use mathlib.Core.Path.{_≡_, ap}
 use Prim.Native.Nat.{ℕ, _+_, _≤_}
 use native.Mathlib.Omega.{arith}
 use lib.ListN.{length, getD, length-append}
@@ -100,10 +101,14 @@ fault-length-le number place = omega (
 -- ---- an entry of the distances
 
 module _ (distances : List ℕ) (p : ℕ) where
+  -- none where the test holds
+  shown : Bool → Option ℕ
+  shown unreached = cond unreached none (some (getD distances p 0))
+
   pub distanceOf-unreachable : getD distances p 0 ≡ unreachable → distanceOf distances p ≡ none
-  unfolding distanceOf
-  distanceOf-unreachable e = rw (eq-eqb (getD distances p 0) unreachable e)
+  unfolding distanceOf shown
+  distanceOf-unreachable e = ap shown (eq-eqb (getD distances p 0) unreachable e)
 
   pub distanceOf-reachable : ¬ (getD distances p 0 ≡ unreachable) → distanceOf distances p ≡ some (getD distances p 0)
-  unfolding distanceOf
-  distanceOf-reachable n = rw (ne-eqb (getD distances p 0) unreachable n)
+  unfolding distanceOf shown
+  distanceOf-reachable n = ap shown (ne-eqb (getD distances p 0) unreachable n)

@@ -26,7 +26,7 @@ use Rattle.tell.specs.Bench.{ReadsAndJudged, refusedAt}
 use Rattle.tell.specs.BenchModels.{worked, workedText, scannedOnce, released, closeLow, branching, noSteps, printLoop}
 use Rattle.tell.specs.BenchModels.{unreachedPrint}
 use Rattle.tell.specs.Laws.BenchLaws.{joint-fact}
-use Rattle.lines.specs.Examples.{workedLines, prints}
+use Rattle.lines.specs.Examples.{workedLines, worked-bytes}
 use Rattle.page.specs.Laws.PagePromiseLaws.{pagePrinted-unique}
 use Rattle.lines.specs.Page.{nameLine, by-word, by-branch, AfterStates}
 use Rattle.lines.specs.PageLines.{PageLine, verdict-line, allows-line, branch-line, last-line, pageBytes}
@@ -142,7 +142,7 @@ module _ {text : List ℕ} {m : Model} where
 
 pub pages-printed : PagesPrinted
 pages-printed = record {
-  worked = subst (PrintsPage workedText) prints (prints-word (joint-fact .worked-refused) refl
+  worked = subst (PrintsPage workedText) worked-bytes (prints-word (joint-fact .worked-refused) refl
       (joint-fact .worked-deterministic) (joint-fact .worked-word) refl (computed .worked));
   scanned-once = prints-passed (joint-fact .scanned-once-passed) (computed .scanned-once);
   released = prints-passed (joint-fact .released-passed) (computed .released);

@@ -4,7 +4,7 @@ use mathlib.Core.List.{List, [], _∷_, _++_, map}
 use mathlib.Core.Logic.{inl, inr, _↔_}
 use mathlib.Core.Option.{none}
 use mathlib.Core.Path.{_≡_, refl, sym, ap, subst, _∙_}
-use Prim.Native.Nat.{ℕ, _<_}
+use Prim.Native.Nat.{ℕ, _+_, _<_}
 use native.Mathlib.Omega.{arith}
 use lib.ListN.{length, getD, take}
 use Rattle.text.specs.All.{All}
@@ -12,7 +12,9 @@ use Rattle.text.specs.Bytes.{byteV, lineEnd}
 use Rattle.text.specs.Faults.{Outcome, answers, faultNumber}
 use Rattle.text.specs.Laws.OutcomeLaws.{answers-not-refuses}
 use Rattle.text.specs.Model.{Model}
+use Rattle.text.specs.Numbers.{numberOf}
 use Rattle.text.specs.Split.{split}
+use Rattle.text.specs.declared.number.Number.the-variants.{Value}
 use Rattle.read_write.specs.ReadPromise.{readingOutcome}
 use Rattle.model.specs.Reading.{Reading, done, tooLong, faulty, readText}
 use Rattle.model.specs.System.{DeterministicModel}
@@ -32,7 +34,7 @@ use Rattle.tell.specs.Laws.ClaimLaws.{shows-of-wordOf}
 use Rattle.letters.specs.Laws.LeastLeakLaws.{bnid↔INI}
 use Rattle.letters.specs.Laws.LettersLaws.{stored-rank-lt}
 use Rattle.tell.specs.Laws.ReadTextLaws.{lists-of-notShort, states→readText, readText→states}
-use Rattle.page.specs.Claim.{SaysPass, SaysRefuse, PassPage, LeakPage, PageTells, PrintClaim}
+use Rattle.page.specs.Claim.{SaysPass, SaysRefuse, lineFields, PassPage, LeakPage, PageTells, PrintClaim}
 use Rattle.lines.specs.Page.{nameLine, LeakShown, by-word, by-branch, LeakLines, AfterStates, StateLines}
 use Rattle.lines.specs.PageLines.{PageLine, verdict-line, run-line, allows-line, last-line, lineText, pageBytes}
 use Rattle.lines.specs.PageLines.{faultText, faultBytes}
@@ -107,7 +109,7 @@ module _ {s : List ℕ} {m : Model} (st : Stored s m) (det : DeterministicModel 
             run-to = x .run-to;
             run-fields =
                 run-fields bytes parted head (x .steps) rest (last-line ∷ []) lines-are
-                refl (small-run st (x .run-to));
+                (omega arith) (small-run st (x .run-to));
             sequence = w;
             end = end;
             shown = shows-of-wordOf st refused y l;
@@ -153,6 +155,15 @@ module _ {s : List ℕ} {m : Model} (st : Stored s m) (det : DeterministicModel 
         pass = λ p. absurd (pass-not-refuse bytes p says);
         leak = λ _. leak-page (j .0) depth states after state-lines judged x e;
       }
+
+-- the `R` lines, counted by the states: there are as many `C` lines
+pub run-fields-states : {m : Model} {bytes word : List ℕ} (x : LeakPage m bytes word) (i : ℕ) → i < length (x .run)
+    → numberOf (getD (lineFields bytes (1 + m .head .states + i)) 1 []) ≡ Value (getD (x .run) i 0)
+run-fields-states {bytes = bytes} x i l =
+    subst (λ (n : ℕ). numberOf (getD (lineFields bytes (1 + n + i)) 1 []) ≡ Value (getD (x .run) i 0))
+    (stateLines-length (x .state-lines)) (x .run-fields i l)
+
+-- ---- the bytes of a page
 
 pub same-number : {a b : ℕ} → answers (a ∷ []) ≡ answers (b ∷ []) → a ≡ b
 same-number h = cc
