@@ -1,17 +1,18 @@
 // Each operation's answer as numbers, for callers in C and Rust.
 use judge::judge::JudgeAnswer;
-use verdicts::judging::Verdict;
 use judge::rank::RankAnswer;
-use page::page::PageAnswer;
-use page::print::PrintAnswer;
 use judge::reach::ReachAnswer;
 use judge::run::RunAnswer;
+use judge::word::WordAnswer;
+use letters::word::End;
+use letters::word::Shown;
+use page::page::PageAnswer;
+use page::print::PrintAnswer;
 use read_write::read::ReadAnswer;
+use read_write::write::WriteAnswer;
 use tell::tell::TextAnswer;
 use text::Fault;
-use letters::word::End;
-use letters::word::WordAnswer;
-use read_write::write::WriteAnswer;
+use verdicts::judging::Verdict;
 ghost use mathlib.Core.List.{[], _∷_};
 ghost use Prim.Native.Nat.{_<_};
 ghost use Rattle.text.specs.Faults.{answers, refuses, faultNumber};
@@ -22,7 +23,8 @@ ghost use Rattle.judge.specs.RunPromise.{runOutcome};
 ghost use Rattle.judge.specs.RankPromise.{rankOutcome};
 ghost use Rattle.judge.specs.JudgePromise.{verdictOutcome, judgeOutcome};
 ghost use Rattle.letters.specs.Words.{endNumber};
-ghost use Rattle.letters.specs.WordDone.{wordOutcome};
+ghost use Rattle.letters.specs.WordDone.{shownOutcome};
+ghost use Rattle.judge.specs.WordPromise.{wordOutcome};
 ghost use Rattle.page.specs.PagePromise.{pageOutcome};
 ghost use Rattle.page.specs.PrintPromise.{printOutcome};
 ghost use Rattle.till_c.specs.Inner.Tells.{Tells, TellsThree, TellsText};
@@ -177,7 +179,7 @@ pub fn run_answer(answer: RunAnswer) -> TillAnswer
     ensures { λ r. ⌜ Tells r (runOutcome answer) ⌝ }
 {
     match answer {
-        RunAnswer::Filled(length) => value(length),
+        RunAnswer::Length(length) => value(length),
         RunAnswer::ShortList(place) => refusal(21, place),
         RunAnswer::NotGood => refusal(22, 0),
         RunAnswer::NoState(p) => refusal(25, p.0 as usize),
@@ -186,7 +188,7 @@ pub fn run_answer(answer: RunAnswer) -> TillAnswer
 }
 
 // The length of a word, and the end that allows it, 0 for the source and 1 for the target.
-fn shown_answer(length: usize, end: End) -> TillAnswer
+fn letters_answer(length: usize, end: End) -> TillAnswer
     ensures { λ r. ⌜ Tells r (answers (length ∷ endNumber end ∷ [])) ⌝ }
 {
     match end {
@@ -195,15 +197,23 @@ fn shown_answer(length: usize, end: End) -> TillAnswer
     }
 }
 
+fn shown_answer(shown: Shown) -> TillAnswer
+    ensures { λ r. ⌜ Tells r (shownOutcome shown) ⌝ }
+{
+    match shown {
+        Shown::Word(length, end) => letters_answer(length, end),
+        Shown::NotDeterministic(step) => refusal(23, step.0 as usize),
+        Shown::NoLeak => refusal(24, 0),
+    }
+}
+
 pub fn word_answer(answer: WordAnswer) -> TillAnswer
     ensures { λ r. ⌜ Tells r (wordOutcome answer) ⌝ }
 {
     match answer {
-        WordAnswer::Shown(length, end) => shown_answer(length, end),
+        WordAnswer::Shown(shown) => shown_answer(shown),
         WordAnswer::ShortList(place) => refusal(21, place),
         WordAnswer::NotGood => refusal(22, 0),
-        WordAnswer::NotDeterministic(step) => refusal(23, step.0 as usize),
-        WordAnswer::NoLeak => refusal(24, 0),
     }
 }
 

@@ -5,7 +5,7 @@ use mathlib.Core.Path.{_≡_}
 use Rattle.text.specs.Faults.{Outcome, answers}
 use Rattle.read_write.specs.ReadPromise.{readOutcome}
 use Rattle.judge.specs.JudgePromise.{judgeOutcome}
-use Rattle.letters.specs.WordDone.{wordOutcome}
+use Rattle.judge.specs.WordPromise.{wordOutcome}
 use Rattle.tell.specs.declared.tell.TextAnswer.{TextAnswer}
 use Rattle.tell.specs.declared.tell.TextAnswer.the-variants.{Unread, Judged}
 use Rattle.till_c.specs.declared.answer.TillAnswer.{TillAnswer}

@@ -1,6 +1,6 @@
 -- Each answer of Word is told by the same number, place and values.
 use borrow.Author.Needs.{needs}
-use Rattle.letters.specs.WordDone.{wordOutcome}
+use Rattle.judge.specs.WordPromise.{wordOutcome}
 use Rattle.till_c.specs.AnswerLaws.{tells-at}
 use Rattle.till_c.proofs.answer.word_answer.Statement.{statement}
 use Rattle.till_c.proofs.answer.word_answer.Tie as tie
@@ -16,13 +16,6 @@ word-answer-spec =
     (λ c κs. search needs)
     (λ c. search needs)
     (λ c κs. search needs)
-    (λ c. search needs)
-    (λ c. search needs)
-    (λ c κs. search needs)
-    (λ c. search needs)
-    (λ c κs. search needs)
     (λ c. tells-at wordOutcome (c .before .before .answer .given .1) (c .shown-answer .ensures))
     (λ c. tells-at wordOutcome (c .before .before .answer2 .given .1) (c .refusal .ensures))
-    (λ c. tells-at wordOutcome (c .before .enum-told .given .1) (c .refusal2 .ensures))
-    (λ c. tells-at wordOutcome (c .before .before .before .answer3 .given .1) (c .refusal3 .ensures))
-    (λ c. tells-at wordOutcome (c .before .enum-told2 .given .1) (c .refusal4 .ensures)))
+    (λ c. tells-at wordOutcome (c .before .enum-told .given .1) (c .refusal2 .ensures)))
