@@ -1,5 +1,5 @@
--- Each answer of Judge and Word on a store that is judged once for both keeps Judge's promise and then Word's: a list is
--- short, or all is done. Assumes nothing.
+-- Each answer on a store that is judged once for Judge and Word keeps Judge's promise and then Word's: a list is short,
+-- or all is done. Assumes nothing.
 use mathlib.Core.List.{List}
 use Prim.Native.Nat.{ℕ, _≤_, _<_}
 use lib.ListN.{length}
@@ -24,8 +24,8 @@ use Rattle.judge.proofs.WordAnswers.{short-distances-promised, short-ta
 use Rattle.judge.proofs.WordAnswers.{done-promised}
 
 -- filled lists are filled again by what they hold
-filled-again : {m : Model} {distances table distances′ table′ : List ℕ} → JudgeFilled m distances table distances′ table′
-    → JudgeFilled m distances′ table′ distances′ table′
+filled-again : {m : Model} {distances table distances′ table′ : List ℕ}
+    → JudgeFilled m distances table distances′ table′ → JudgeFilled m distances′ table′ distances′ table′
 filled-again f = record {
   distances-filled = record { list = f .distances-filled .list; past = past-refl _ };
   ranks = f .ranks;
@@ -34,8 +34,8 @@ filled-again f = record {
 
 module _ (store distances table word : List ℕ) (first-long : storeLength ≤ length store) where
   pub short-distances-answered : length distances < distancesLength
-      → JudgeWordPromise store distances table word (judgeOutcome (judge.ShortList 2)) (wordOutcome (word-answer.ShortList 2))
-      distances table word
+      → JudgeWordPromise store distances table word (judgeOutcome (judge.ShortList 2))
+      (wordOutcome (word-answer.ShortList 2)) distances table word
   short-distances-answered h = record {
     judge-promise = judge-second-short store distances table first-long h;
     word-promise = short-distances-promised store distances table word first-long h;
@@ -43,8 +43,8 @@ module _ (store distances table word : List ℕ) (first-long : storeLength ≤ l
 
   module _ (second-long : distancesLength ≤ length distances) where
     pub short-table-answered : length table < tableLength
-        → JudgeWordPromise store distances table word (judgeOutcome (judge.ShortList 3)) (wordOutcome (word-answer.ShortList 3))
-        distances table word
+        → JudgeWordPromise store distances table word (judgeOutcome (judge.ShortList 3))
+        (wordOutcome (word-answer.ShortList 3)) distances table word
     short-table-answered h = record {
       judge-promise = judge-third-short store distances table first-long second-long h;
       word-promise = short-table-promised store distances table word first-long second-long h;
@@ -55,8 +55,8 @@ module _ (store distances table word : List ℕ) (first-long : storeLength ≤ l
         {begins roles distances′ table′ : List ℕ}
         (x : Judging (modelAt store) v distances table begins roles distances′ table′) where
       pub short-word-answered : length word < wordLength
-          → JudgeWordPromise store distances table word (judgeOutcome (judge.Judged v)) (wordOutcome (word-answer.ShortList 4))
-          distances′ table′ word
+          → JudgeWordPromise store distances table word (judgeOutcome (judge.Judged v))
+          (wordOutcome (word-answer.ShortList 4)) distances′ table′ word
       short-word-answered h = record {
         judge-promise =
             judge-done store distances table first-long second-long third-long good v begins roles distances′ table′ x;

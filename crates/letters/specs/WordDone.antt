@@ -13,8 +13,9 @@ use Rattle.letters.specs.declared.word.Shown.{Shown}
 use Rattle.letters.specs.declared.word.Shown.the-variants.{Word, NotDeterministic, NoLeak}
 use Rattle.letters.specs.Words.{FirstBranch, endNumber, WordShown}
 
--- "Answers its length, which is the depth, and the end that allows it." "23 (Word): not deterministic; place: the first step with a reachable source that shares source and action with the
--- step before it." "24 (Word): deterministic and passed; place 0."
+-- "Answers its length, which is the depth, and the end that allows it." "23 (Word): not deterministic; place: the first
+-- step with a reachable source that shares source and action with the step before it." "24 (Word): deterministic and
+-- passed; place 0."
 unfoldable pub shownOutcome : Shown → Outcome
 shownOutcome (Word length end) = answers (length ∷ endNumber end ∷ [])
 shownOutcome (NotDeterministic j) = refuses 23 (j .0)

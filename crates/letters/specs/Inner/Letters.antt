@@ -65,7 +65,8 @@ pub record FirstLetter (m : Model) (p q k j i : ℕ) : Type 0 where
   pub number-lt : j < length (m .steps)
   pub source-is : source m j ≡ p
   pub answer : Answer m q k j i
-  pub first : (b x y : ℕ) → b < action m j → LowMove (view m) p b x → LowMove (view m) q b y → ¬ (Separated (LowMove (view m)) x y k)
+  pub first : (b x y : ℕ) → b < action m j → LowMove (view m) p b x → LowMove (view m) q b y
+      → ¬ (Separated (LowMove (view m)) x y k)
 
 -- ---- what is taken
 

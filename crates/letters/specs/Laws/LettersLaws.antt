@@ -107,7 +107,8 @@ module _ {m : Model} {store begins roles table : List ℕ} (L : WordLists m stor
 
   pub target-entry-of-separated : {k : ℕ} → Separated (LowMove (view m)) (target m j) (target m i) k
       → getD table (pairPlace x y) 0 ≡ k
-  target-entry-of-separated {k} s = rank-unique (LowMove (view m)) (target m j) (target m i) (getD table (pairPlace x y) 0) k
+  target-entry-of-separated {k} s =
+      rank-unique (LowMove (view m)) (target m j) (target m i) (getD table (pairPlace x y) 0) k
       target-rank (rank-of-separated (LowMove (view m)) (target m j) (target m i) k s)
 
   -- Step i is the one step of q with that action.

@@ -80,7 +80,8 @@ module _ {s : List ℕ} {m : Model} (st : Stored s m) where
 
 -- ---- one word
 
-end-unique : (m : Model) (j : ℕ) (w : List ℕ) (d e : End) → OnlyFrom (view m .Step) (endState m j d) (otherState m j d) w
+end-unique : (m : Model) (j : ℕ) (w : List ℕ) (d e : End)
+    → OnlyFrom (view m .Step) (endState m j d) (otherState m j d) w
     → OnlyFrom (view m .Step) (endState m j e) (otherState m j e) w → d ≡ e
 end-unique m j w Source Source x y = refl
 end-unique m j w Source Target x y = absurd (only-from-unique (view m .Step) (source m j) (target m j) w x y)

@@ -150,9 +150,11 @@ branching-same-words : SameLow (view branching) 0 1
 unfolding simulation? answered? all any step?
 branching-same-words w l = (
   simulation-allows (view branching) (λ x y. (x < 4) × (y < 4) × T (there x y))
-      (simulation?→Answered (LowMove (view branching)) 4 3 moved? decides there tt) w l 0 1 (omega arith, omega arith, tt),
+      (simulation?→Answered (LowMove (view branching)) 4 3 moved? decides there tt) w l 0 1
+      (omega arith, omega arith, tt),
   simulation-allows (view branching) (λ x y. (x < 4) × (y < 4) × T (back x y))
-      (simulation?→Answered (LowMove (view branching)) 4 3 moved? decides back tt) w l 1 0 (omega arith, omega arith, tt),
+      (simulation?→Answered (LowMove (view branching)) 4 3 moved? decides back tt) w l 1 0
+      (omega arith, omega arith, tt),
 )
   where
     moved? : ℕ → ℕ → ℕ → Bool

@@ -56,8 +56,9 @@ module _ (m : Model) where
     pub bnid-of-no-leak : ((j d : ℕ) → ¬ (Leak m j d)) → BNID (view m)
     bnid-of-no-leak h p a q r t x =
         subst (λ (y : ℕ). Bisimilar (LowMove (view m)) y q) (x .source-is)
-        (subst (λ (y : ℕ). Bisimilar (LowMove (view m)) (source m j) y) (x .target-is) (pair (rank-of-states (source m j)
-        (target m j) (st .source-lt j (x .number-lt)) (st .target-lt j (x .number-lt)))))
+        (subst (λ (y : ℕ). Bisimilar (LowMove (view m)) (source m j) y) (x .target-is)
+        (pair
+        (rank-of-states (source m j) (target m j) (st .source-lt j (x .number-lt)) (st .target-lt j (x .number-lt)))))
       where
         j : ℕ
         j = x .number
