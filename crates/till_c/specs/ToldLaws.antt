@@ -34,8 +34,8 @@ module _ {text store distances table word store′ distances′ table′ word′
     read-promise = rw (t .read-tells .outcome-is) (p .read-promise);
     not-read = λ e. absurd (e (t .read-tells .outcome-is));
     is-read = λ e. record {
-      judge-promise = rw (t .judge-tells .outcome-is) (p .judge-promise);
-      word-promise = rw (t .word-tells .outcome-is) (p .word-promise);
+      judge-promise = rw (t .judge-tells .outcome-is) (p .judge-word-promise .judge-promise);
+      word-promise = rw (t .word-tells .outcome-is) (p .judge-word-promise .word-promise);
     };
   }
 
