@@ -14,7 +14,7 @@ use Rattle.text.specs.Model.{Model}
 use Rattle.text.specs.Numbers.{numberOf}
 use Rattle.text.specs.Split.{split}
 use Rattle.text.specs.declared.number.Number.the-variants.{Value}
-use Rattle.model.specs.System.{source, HighStep, DeterministicModel, view}
+use Rattle.model.specs.System.{source, HighStep, DeterministicModel, IsState, view}
 use Rattle.model.specs.Text.{field}
 use Rattle.ranking.specs.Table.{Greatest}
 use Rattle.verdicts.specs.declared.judging.Verdict.the-variants.{Refused}
@@ -56,7 +56,7 @@ pub record RefuseFields (bytes : List ℕ) (step depth : ℕ) : Type 0 where
 pub record PassPage (m : Model) (bytes : List ℕ) : Type 0 where
   pub rank : ℕ
   pub verdict-fields : PassFields bytes rank
-  pub greatest : Greatest (LowMove (view m)) (m .head .states) rank
+  pub greatest : Greatest (LowMove (view m)) (IsState m) rank
 
 -- What the page of a refused deterministic model tells, line by line. `word` is the list that Page filled.
 pub record LeakPage (m : Model) (bytes word : List ℕ) : Type 0 where

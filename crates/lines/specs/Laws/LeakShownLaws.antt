@@ -14,6 +14,7 @@ use Rattle.model.specs.System.{source, DeterministicModel, view}
 use Rattle.text.specs.Laws.ListsLaws.{take-filled}
 use Rattle.model.specs.Laws.Store.SystemLaws.{low-lt}
 use Rattle.model.specs.Inner.Stored.{Stored}
+use Rattle.model.specs.Laws.System.RankBoundLaws.{stored-rank-lt}
 use Rattle.distances.specs.Inner.RunTail.{RunWritten}
 use Rattle.distances.specs.Runs.{RunTo}
 use Rattle.distances.specs.Laws.RunsLaws.{runTo-length}
@@ -26,7 +27,6 @@ use Rattle.letters.specs.declared.word.Shown.{Shown}
 use Rattle.letters.specs.declared.word.Shown.the-variants.{Word, NotDeterministic, NoLeak}
 use Rattle.letters.specs.Words.{endNumber, WordShown}
 use Rattle.letters.specs.WordDone.{shownOutcome, WordDone}
-use Rattle.letters.specs.Laws.LettersLaws.{stored-rank-lt}
 use Rattle.letters.specs.Laws.WordDoneLaws.{branch-cases, endNumber-injective}
 use Rattle.lines.specs.Page.{nameLine, LeakShown, by-word, by-branch, LeakLines, AfterStates}
 use Rattle.lines.specs.PageLines.{PageLine, run-line, allows-line, branch-line}
@@ -37,7 +37,8 @@ use Rattle.lines.specs.Laws.LinesWrittenLaws.{written-append, written-of
 
 -- ---- the letters of a low word are actions
 
-letters-lt : (m : Model) (w : List ℕ) → Low (view m .levels) w → (i : ℕ) → i < length w → getD w i 0 < length (m .actions)
+letters-lt : (m : Model) (w : List ℕ) → Low (view m .levels) w → (i : ℕ) → i < length w
+    → getD w i 0 < length (m .actions)
 unfolding Low
 letters-lt m [] x i l = absurd (omega arith)
 letters-lt m (a ∷ w) x zero l = low-lt m a (x .0)

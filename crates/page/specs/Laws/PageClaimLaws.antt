@@ -24,6 +24,7 @@ use Rattle.text.specs.Laws.AllLaws.{all-of-all}
 use Rattle.verdicts.specs.declared.judging.Verdict.{Verdict}
 use Rattle.verdicts.specs.declared.judging.Verdict.the-variants.{Passed, Refused}
 use Rattle.model.specs.Inner.Stored.{Stored}
+use Rattle.model.specs.Laws.System.RankBoundLaws.{stored-rank-lt}
 use Rattle.distances.specs.Runs.{RunTo}
 use Rattle.verdicts.specs.Verdicts.{PassedWith, RefusedAt, Judged}
 use Rattle.model.specs.Laws.System.GoodStoredLaws.{well-formed-stored}
@@ -32,7 +33,6 @@ use Rattle.verdicts.specs.Laws.VerdictsLaws.{no-leak-of-bnid}
 use Rattle.tell.specs.Claim.{States}
 use Rattle.tell.specs.Laws.ClaimLaws.{shows-of-wordOf}
 use Rattle.letters.specs.Laws.LeastLeakLaws.{bnid↔INI}
-use Rattle.letters.specs.Laws.LettersLaws.{stored-rank-lt}
 use Rattle.tell.specs.Laws.ReadTextLaws.{lists-of-notShort, states→readText, readText→states}
 use Rattle.page.specs.Claim.{SaysPass, SaysRefuse, lineFields, PassPage, LeakPage, PageTells, PrintClaim}
 use Rattle.lines.specs.Page.{nameLine, LeakShown, by-word, by-branch, LeakLines, AfterStates, StateLines}
@@ -127,7 +127,7 @@ module _ {s : List ℕ} {m : Model} (st : Stored s m) (det : DeterministicModel 
       record {
         rank = rank;
         verdict-fields = pass-fields bytes parted rank rest (omega
-            (arith, stored-rank-lt st (top .one-lt) (top .other-lt) (top .holds), st .states-le)) e;
+            (arith, stored-rank-lt st (top .one-among) (top .other-among) (top .holds), st .states-le)) e;
         greatest = passed .greatest;
       }
 

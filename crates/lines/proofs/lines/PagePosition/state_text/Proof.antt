@@ -12,23 +12,27 @@ use Rattle.lines.proofs.lines.PagePosition.state_text.Tie as tie
 byte-requires : tie.Need-byte-requires
 byte-requires c κs =
     let s = c .before .before .before in
-    omega (arith, s .pre .1, state-length (s .args .p .0) (distanceOf (now (s .args .distances)) (s .args .p .0)) (s .args .class .0))
+    let p = s .args .p .0 in
+    omega (arith, s .pre .1, state-length p (distanceOf (now (s .args .distances)) p) (s .args .class .0))
 
 field-requires : tie.Need-field-requires
 field-requires c κs =
     let s = c .before .before .before .before .before .before .before in
-    omega (arith, s .pre .1, state-length (s .args .p .0) (distanceOf (now (s .args .distances)) (s .args .p .0)) (s .args .class .0))
+    let p = s .args .p .0 in
+    omega (arith, s .pre .1, state-length p (distanceOf (now (s .args .distances)) p) (s .args .class .0))
 
 distance-field-requires : tie.Need-distance-field-requires
 distance-field-requires c κs =
     let s = c .before .before .before .before .before .before .before .before .before .before .before in
-    (s .pre .0, omega (arith, s .pre .1, state-length (s .args .p .0) (distanceOf (now (s .args .distances)) (s .args .p .0)) (s .args .class .0)))
+    let p = s .args .p .0 in
+    (s .pre .0, omega (arith, s .pre .1, state-length p (distanceOf (now (s .args .distances)) p) (s .args .class .0)))
 
 field-requires-2 : tie.Need-field-requires-2
 field-requires-2 c κs =
     let s = c .before .before .before .before .before .before .before .before .before .before .before .before .before
     .before .before in
-    omega (arith, s .pre .1, state-length (s .args .p .0) (distanceOf (now (s .args .distances)) (s .args .p .0)) (s .args .class .0))
+    let p = s .args .p .0 in
+    omega (arith, s .pre .1, state-length p (distanceOf (now (s .args .distances)) p) (s .args .class .0))
 
 same-length : tie.Need-same-length
 same-length c = search needs
