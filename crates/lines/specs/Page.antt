@@ -14,8 +14,8 @@ use Rattle.distances.specs.Runs.{RunTo}
 use Rattle.verdicts.specs.Verdicts.{Judged}
 use Rattle.letters.specs.declared.word.End.{End}
 use Rattle.letters.specs.Words.{WordOf}
-use Rattle.lines.specs.PageLines.{PageLine, verdict-line, state-line, run-line, word-line, allows-line, branch-line}
-use Rattle.lines.specs.PageLines.{last-line}
+use Rattle.lines.specs.PageLines.{PageLine, verdict-line, state-line, run-line, word-line, allows-line}
+use Rattle.lines.specs.PageLines.{branch-line, last-line}
 use Rattle.lts.specs.Noninterference.{LowMove}
 
 -- What stands in a `C` line as the distance of state p: "distance `-` if unreachable".
@@ -52,7 +52,8 @@ nameLine m a = word-line (nameOf m a)
 -- `N`". "Page fills [..] word if it prints a `B` line (as Word does)." The word has as many letters as the depth says.
 pub data LeakShown (m : Model) (j depth : ℕ) (word word′ : List ℕ) : List PageLine → Type 0 where
   by-word : {w : List ℕ} {end : End} → DeterministicModel m → WordOf m j w end → length w ≡ depth
-      → word′ ≡ w ++ drop (length w) word → LeakShown m j depth word word′ (map (nameLine m) w ++ (allows-line end ∷ []))
+      → word′ ≡ w ++ drop (length w) word
+      → LeakShown m j depth word word′ (map (nameLine m) w ++ (allows-line end ∷ []))
   by-branch : ¬ (DeterministicModel m) → word′ ≡ word → LeakShown m j depth word word′ (branch-line ∷ [])
 
 -- "If refused: `R,step` per step of the run to the source of Judge's step"; then what shows the leak. "Page fills run

@@ -37,7 +37,8 @@ use Rattle.lines.specs.Laws.LinesWrittenLaws.{written-append, written-of
 
 -- ---- the letters of a low word are actions
 
-letters-lt : (m : Model) (w : List ℕ) → Low (view m .levels) w → (i : ℕ) → i < length w → getD w i 0 < length (m .actions)
+letters-lt : (m : Model) (w : List ℕ) → Low (view m .levels) w → (i : ℕ) → i < length w
+    → getD w i 0 < length (m .actions)
 unfolding Low
 letters-lt m [] x i l = absurd (omega arith)
 letters-lt m (a ∷ w) x zero l = low-lt m a (x .0)

@@ -12,7 +12,7 @@ use Rattle.writer.specs.Wrote.{Wrote}
 use Rattle.writer.specs.Laws.WroteLaws.{wrote-length}
 use Rattle.verdicts.specs.declared.judging.Verdict.{Verdict}
 use Rattle.verdicts.specs.Verdicts.{Judged}
-use Rattle.lines.specs.PageLines.{PageLine, verdict-line, last-line, lineBytes}
+use Rattle.lines.specs.PageLines.{verdict-line, last-line, lineBytes}
 use Rattle.lines.specs.Page.{StateLines, AfterStates, PageOf}
 use Rattle.lines.specs.Inner.LinesWritten.{LinesWritten}
 use Rattle.lines.specs.Inner.Room.{stateRoom, leakRoom, letterRoom}
@@ -20,11 +20,11 @@ use Rattle.lines.specs.Laws.PageLinesLaws.{verdict-length-le, last-lengt
 use Rattle.lines.specs.Laws.LinesWrittenLaws.{written-line, written-exact, written-both, written-of}
 
 -- where the last line begins there is room for it
-pub last-room : (v : Verdict) {n a b c d : ℕ} {out out₁ out₂ out₃ : List ℕ} {P Q : List PageLine → Type 0}
+pub last-room : (v : Verdict) {n a b c d : ℕ} {out out₁ out₂ out₃ states after : List ℕ}
     → n ≤ stateLimit → pageLength ≤ length out → a ≡ 0 → Wrote out a (lineBytes (verdict-line v)) out₁ b
-    → LinesWritten P (stateRoom * n) out₁ b out₂ c → LinesWritten Q leakRoom out₂ c out₃ d
-    → d + letterRoom ≤ length out₃
-last-room v few long start first states after = omega (
+    → Wrote out₁ b states out₂ c → length states ≤ stateRoom * n
+    → Wrote out₂ c after out₃ d → length after ≤ leakRoom → d + letterRoom ≤ length out₃
+last-room v few long start first w k x l = omega (
   arith,
   few,
   long,
@@ -32,12 +32,12 @@ last-room v few long start first states after = omega (
   verdict-length-le v,
   first .place,
   wrote-length first,
-  states .wrote .place,
-  states .length-le,
-  wrote-length (states .wrote),
-  after .wrote .place,
-  after .length-le,
-  wrote-length (after .wrote),
+  w .place,
+  wrote-length w,
+  k,
+  x .place,
+  wrote-length x,
+  l,
 )
 
 module _ {m : Model} {run word run′ word′ : List ℕ} where

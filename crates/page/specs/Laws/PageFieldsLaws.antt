@@ -34,7 +34,8 @@ refused-fields : (j depth : ℕ)
     → split comma (lineText (verdict-line (Refused (record { 0 = j }) depth)))
     ≡ (byteV ∷ []) ∷ refuseText ∷ digits j ∷ digits depth ∷ []
 unfolding lineText join without? kindOf
-refused-fields j depth = split-join comma byteComma refl ((byteV ∷ []) ∷ refuseText ∷ digits j ∷ digits depth ∷ []) (omega arith)
+refused-fields j depth =
+    split-join comma byteComma refl ((byteV ∷ []) ∷ refuseText ∷ digits j ∷ digits depth ∷ []) (omega arith)
     (without-test comma (byteV ∷ []) tt, (without-test comma refuseText tt, no-commas (j ∷ depth ∷ [])))
 
 run-line-number : (j : ℕ) → j < 100000 → numberOf (getD (split comma (lineText (run-line j))) 1 []) ≡ Value j

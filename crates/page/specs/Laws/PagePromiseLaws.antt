@@ -41,7 +41,8 @@ distanceField-unique {m} {p} (reached {d = d} x) (reached {d = e} y) =
 
 classOf-unique : {m : Model} {p c d : ℕ} → ClassOf m p c → ClassOf m p d → c ≡ d
 classOf-unique {c = c} {d} x y =
-    eq-of-not-lt c d (λ l. y .lowest c l (x .class-among) (x .rank-zero)) (λ l. x .lowest d l (y .class-among) (y .rank-zero))
+    eq-of-not-lt c d (λ l. y .lowest c l (x .class-among) (x .rank-zero))
+    (λ l. x .lowest d l (y .class-among) (y .rank-zero))
 
 stateLines-unique : {m : Model} (n : ℕ) {xs ys : List PageLine} → StateLines m n xs → StateLines m n ys → xs ≡ ys
 stateLines-unique zero no-state no-state = refl

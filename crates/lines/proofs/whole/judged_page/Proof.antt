@@ -80,8 +80,11 @@ last-text-requires c κs =
     let s = text .before .before .before .before .before .before .before .before .before .before .before in
     let v = s .args .v in
     let first = wrote-line (verdict-line v) (text .verdict-text .ensures) (end .line-end .ensures) in
-    let fits = last-room v (s .pre .0 .showable .lists .stored .states-le) (s .pre .1) (text .before .before .start .ensures)
-    first (states .state-lines .ensures) (leak .leak-lines .ensures) in
+    let st = s .pre .0 .showable .lists .stored in
+    let few = states .state-lines .ensures in
+    let more = leak .leak-lines .ensures in
+    let fits = last-room v (st .states-le) (s .pre .1) (text .before .before .start .ensures) first (few .wrote)
+    (few .length-le) (more .wrote) (more .length-le) in
     omega (arith, fits, lineBytes-length last-line, last-length-le)
 
 line-end-requires-2 : tie.Need-line-end-requires-2
@@ -94,8 +97,11 @@ line-end-requires-2 c κs =
     let s = text .before .before .before .before .before .before .before .before .before .before .before in
     let v = s .args .v in
     let first = wrote-line (verdict-line v) (text .verdict-text .ensures) (end .line-end .ensures) in
-    let fits = last-room v (s .pre .0 .showable .lists .stored .states-le) (s .pre .1) (text .before .before .start .ensures)
-    first (states .state-lines .ensures) (leak .leak-lines .ensures) in
+    let st = s .pre .0 .showable .lists .stored in
+    let few = states .state-lines .ensures in
+    let more = leak .leak-lines .ensures in
+    let fits = last-room v (st .states-le) (s .pre .1) (text .before .before .start .ensures) first (few .wrote)
+    (few .length-le) (more .wrote) (more .length-le) in
     end-room last-line last-length-le fits (last .last-text .ensures)
 
 same-length : tie.Need-same-length

@@ -51,7 +51,8 @@ state-text-requires c κs =
     let l : loop .i < modelAt (s .args .store .now) .head .states =
     omega (arith, loop .inv .0, in-loop .loop-test .taken) in
     let class = c .before .class-of in
-    let fits = state-length-le L (loop .i) _ (class .result .0) l (distance-field L (loop .i) l) (class .ensures .le) in (
+    let distance = distance-field L (loop .i) l in
+    let fits = state-length-le L (loop .i) _ (class .result .0) l distance (class .ensures .le) in (
       (omega (arith, l, L .stored .states-le), L .distances-length),
       omega (
         arith,
@@ -74,7 +75,8 @@ line-end-requires c κs =
     let l : loop .i < modelAt (s .args .store .now) .head .states =
     omega (arith, loop .inv .0, in-loop .loop-test .taken) in
     let class = text .before .before .class-of in
-    let fits = state-length-le L (loop .i) _ (class .result .0) l (distance-field L (loop .i) l) (class .ensures .le) in
+    let distance = distance-field L (loop .i) l in
+    let fits = state-length-le L (loop .i) _ (class .result .0) l distance (class .ensures .le) in
     end-room _ fits (omega (arith, l, s .pre .1, loop .inv .2, written-next-le (loop .inv .3)))
     (text .state-text .ensures)
 
