@@ -1,5 +1,5 @@
--- A model as one check sees it. What is said of runs, reachable states, distances, BNID, NID, INI and words is said of a
--- view, so that other starts and the levels of one domain are other views (document 02, (iii) and (xiv)).
+-- A model as one check sees it. What is said of runs, reachable states, distances, BNID, NID, INI and words is said of
+-- a view, so that other starts and the levels of one domain are other views (document 02, (iii) and (xiv)).
 -- Document 01, "The meaning". Assumes nothing.
 use mathlib.Core.Bool.{Bool}
 use Prim.Native.Nat.{ℕ}

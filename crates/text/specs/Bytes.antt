@@ -14,7 +14,8 @@ byteComma = 44
 abbrev pub byteLineEnd : ℕ
 byteLineEnd = 10
 
--- the first and the last of the digits, of the small letters, and of the capitals: `0` and `9`, `a` and `z`, `A` and `Z`
+-- the first and the last of the digits, of the small letters and of the capitals: `0` and `9`, `a` and `z`, `A` and
+-- `Z`
 abbrev pub byteZero : ℕ
 byteZero = 48
 

@@ -15,5 +15,6 @@ pub rankPromise-unique : (store table : List ℕ) (outcome outcome′ : Outcome)
     → (outcome ≡ outcome′) × (exit ≡ exit′)
 rankPromise-unique store table outcome outcome′ exit exit′ =
     onStore-unique (λ a b. a ∙ sym b) (λ g a b.
-    let e = ranked-unique (LowMove (view (g .model))) (g .model .head .states) table exit exit′ (a .0) (b .0) (a .2) (b .2) in
+    let e = ranked-unique (LowMove (view (g .model))) (g .model .head .states) table exit exit′ (a .0) (b .0) (a .2)
+    (b .2) in
     (a .1 ∙ ap (λ (k : ℕ). answers (k ∷ [])) (e .0) ∙ sym (b .1), e .1))

@@ -29,7 +29,8 @@ use Rattle.letters.specs.declared.word.Shown.{Shown}
 use Rattle.letters.specs.declared.word.Shown.the-variants.{Word, NotDeterministic, NoLeak}
 use Rattle.letters.specs.Words.{Branches, FirstBranch, endNumber, endState, otherState, WordOf, WordShown}
 use Rattle.letters.specs.WordDone.{shownOutcome, WordDone}
-use Rattle.letters.specs.Laws.WordsLaws.{branches-source, branches-action, branches-of, deterministic-of-no-branch}
+use Rattle.letters.specs.Laws.WordsLaws.{branches-source, branches-action, branches-of}
+use Rattle.letters.specs.Laws.WordsLaws.{deterministic-of-no-branch}
 
 -- ---- outcomes tell what is shown apart
 

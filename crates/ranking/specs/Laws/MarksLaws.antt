@@ -18,7 +18,8 @@ use Rattle.ranking.specs.MoveList.{Listed, MoveList}
 use Rattle.ranking.specs.Laws.MoveListLaws.{place-lt-last}
 use Rattle.ranking.specs.Inner.ClassList.{Same, Refinable}
 use Rattle.lts.specs.TestsLaws.{eq-or-not}
-use Rattle.ranking.specs.Inner.Marks.{marksLength, markPlace, moveMark, Reaches, ReachesFrom, Marked, AllMarked, Unmarked, StateClasses, MoveAt}
+use Rattle.ranking.specs.Inner.Marks.{marksLength, markPlace, moveMark, Reaches, ReachesFrom}
+use Rattle.ranking.specs.Inner.Marks.{Marked, AllMarked, Unmarked, StateClasses, MoveAt}
 
 -- ---- what the places say
 

@@ -15,7 +15,8 @@ use Rattle.text.specs.Limits.{tableLength, pairPlace}
 use Rattle.ranking.specs.Inner.ClassList.{Same, Classes}
 use Rattle.lts.specs.TestsLaws.{eq-or-not}
 use Rattle.ranking.specs.Laws.ClassListLaws.{same-of-alike, alike-of-same}
-use Rattle.ranking.specs.Inner.TableWrites.{entryOf, SeparatedBy, Outside, Written, PairWritten, RowWritten, RowsWritten, RankUpTo, RanksUpTo}
+use Rattle.ranking.specs.Inner.TableWrites.{entryOf, SeparatedBy, Outside, Written, PairWritten}
+use Rattle.ranking.specs.Inner.TableWrites.{RowWritten, RowsWritten, RankUpTo, RanksUpTo}
 
 -- ---- writes one after another
 

@@ -122,7 +122,8 @@ module _ {s : List ℕ} {m : Model} (st : Stored s m) where
     abbrev q : ℕ
     q = target m j
 
-    just-one : (end : End) → OnlyFrom (view m .Step) (endState m j end) (otherState m j end) w → JustOne (view m .Step) p q w
+    just-one : (end : End) → OnlyFrom (view m .Step) (endState m j end) (otherState m j end) w
+        → JustOne (view m .Step) p q w
     just-one Source x = inl x
     just-one Target x = inr x
 
