@@ -17,7 +17,7 @@ ghost use Rattle.page.specs.Prints.{Prints};
 
 // Puts what is printed of the first n bytes of the input at the front of `out`, and answers how many bytes that is. The
 // caller owes an input list that holds a byte more than the longest text, and room for any page.
-fn print(input: &[u8], n: usize, out: &mut [u8]) -> usize
+fn page_of_input(input: &[u8], n: usize, out: &mut [u8]) -> usize
     requires { ⌜ (textLimit < length (now input)) × Counts n (now input) ⌝ }
     requires { ⌜ pageLength ≤ length (now out) ⌝ }
     ensures { λ r. ⌜ Counts r (now (out .exit)) ⌝ }
@@ -48,6 +48,6 @@ fn main() {
     let mut input = [0u8; INPUT_LENGTH];
     let mut out = [0u8; PAGE_LENGTH];
     let n = io::read_full(STDIN_FILENO, &mut input);
-    let length = print(&input, n, &mut out);
+    let length = page_of_input(&input, n, &mut out);
     io::write_all(STDOUT_FILENO, &out[..length]);
 }

@@ -3,8 +3,8 @@
 use native.Mathlib.Omega.{arith}
 use borrow.Author.Needs.{needs}
 use Rattle.page.specs.Laws.PrintsLaws.{printed-prints, shortList-not-long}
-use Rattle.till.proofs.print.Statement.{statement}
-use Rattle.till.proofs.print.Tie as tie
+use Rattle.till.proofs.page_of_input.Statement.{statement}
+use Rattle.till.proofs.page_of_input.Tie as tie
 
 slice-aggregate-print : tie.Need-slice-aggregate-print
 slice-aggregate-print c = search needs
@@ -59,8 +59,8 @@ returns-2 c =
       out-length = start .pre .1;
     }))
 
-pub print-spec : {M : Type 1} → statement M
-print-spec =
+pub page-of-input-spec : {M : Type 1} → statement M
+page-of-input-spec =
     tie.close
     (tie.spec
     slice-aggregate-print
