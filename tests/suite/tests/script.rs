@@ -1,4 +1,4 @@
-//! The script `till`: what it prints, its statuses, and when it makes the program.
+//! The script `till`: what it prints, its statuses, and when it makes the program. And `tests/run` where it fails.
 use std::fs::{self, File};
 use std::os::fd::OwnedFd;
 use std::os::unix::fs::{symlink, PermissionsExt};
@@ -403,6 +403,29 @@ fn without_the_kit() {
     }
     checkout.write("crates/a/src/lib.rt", "2\n");
     fails(without(), "the Rattle kit is missing");
+}
+
+/// Where the archive cannot be built, the tests that run meanwhile are stopped, with the processes that they started.
+#[test]
+fn tests_without_the_archive() {
+    let checkout = Checkout::new("tests_without_the_archive");
+    fs::create_dir(checkout.file("tests")).expect("a folder");
+    fs::copy(root().join("tests/run"), checkout.file("tests/run")).expect("a copy");
+    checkout.write_executable(
+        "kit/rt",
+        "#!/bin/sh\nsleep 0.5\necho rt: FAILED: a\nexit 1\n",
+    );
+    let cargo = "#!/bin/sh\nsh -c 'sleep 20; : >\"$0\"' \"$(dirname \"$0\")/went_on\" || exit 1\n";
+    checkout.write_executable("kit/cargo", cargo);
+    // This waits for all that could still write to its pipes.
+    let output = run(&mut checkout.script("tests/run"), b"");
+    assert_eq!(output.status.code(), Some(1), "{output:?}");
+    let said = String::from_utf8_lossy(&output.stderr);
+    assert!(
+        said.contains("rt: FAILED: a\ntests: the archive could not"),
+        "{said}"
+    );
+    assert!(!checkout.file("kit/went_on").exists(), "the tests went on");
 }
 
 /// A page that is cut short, or that comes with a failure, is no verdict.
