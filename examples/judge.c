@@ -38,6 +38,6 @@ int main(void) {
         status = judge();
     else
         printf("not read: number %d, place %d\n", (int)read.number, (int)read.place);
-    if (fflush(stdout) != 0) return failed("the answer could not be written");
+    if (fflush(stdout) != 0 || ferror(stdout)) return failed("the answer could not be written");
     return status;
 }

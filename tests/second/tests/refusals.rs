@@ -4,9 +4,9 @@ mod common;
 
 use std::collections::BTreeMap;
 
-use common::{store_of, till, Lists, CLOSE, EXAMPLE, PRINT, SCAN};
+use common::{store_of, till, Lists, CLOSE, EXAMPLE, LONGER, PRINT, SCAN};
 use second::gen;
-use second::store::{DISTANCES, PAGE, RUN, STORE, TABLE, WORD, WRITTEN};
+use second::store::{DISTANCES, STORE};
 use second::text::{parse_or_cause, Cause};
 use second::{judge, page, program, rank, reach, read, run, word, write, Refusal, Verdict};
 
@@ -168,21 +168,53 @@ fn faults_in_many_texts() {
     assert!(Cause::ALL.iter().all(often), "{causes:?}");
 }
 
-/// The least lengths of all lists, in the order of each operation.
-const LEAST: [(&str, &[usize]); 7] = [
-    ("reach", &[STORE, DISTANCES]),
-    ("rank", &[STORE, TABLE]),
-    ("judge", &[STORE, DISTANCES, TABLE]),
-    ("run", &[STORE, DISTANCES, RUN]),
-    ("word", &[STORE, DISTANCES, TABLE, WORD]),
-    ("page", &[STORE, DISTANCES, TABLE, RUN, WORD, PAGE]),
-    ("write", &[STORE, WRITTEN]),
-];
+/// An operation on a store. The lists that it is lent are fields of `Lists`.
+struct OnStore {
+    name: &'static str,
+    /// Its refusal, if it refuses.
+    refusal: fn(&[u16], &mut Lists) -> Option<Refusal>,
+    /// The least lengths of the store and of each list.
+    least: fn() -> Vec<usize>,
+    /// Makes each list as long as these lengths say, of which the first is the store's.
+    shorten: fn(&mut Lists, &[usize]),
+    /// The state that it is called with, which no model has.
+    states: &'static [u64],
+}
 
+/// `operation(lists);` or `operation(lists; a state that no model has);`
+macro_rules! on_stores {
+    ($($name:ident($($list:ident),+ $(; $state:literal)?);)*) => {
+        const ON_STORES: &[OnStore] = &[$(OnStore {
+            name: stringify!($name),
+            refusal: |store, lists| $name(store, $(&mut lists.$list,)+ $($state)?).err(),
+            least: || {
+                let lists = Lists::new();
+                vec![STORE, $(lists.$list.len() - LONGER),+]
+            },
+            shorten: |lists, lengths| {
+                let mut lengths = lengths.iter().skip(1);
+                $(lists.$list.truncate(*lengths.next().expect("a length"));)+
+            },
+            states: &[$($state)?],
+        }),*];
+    };
+}
+
+on_stores! {
+    reach(distances);
+    rank(table);
+    judge(distances, table);
+    run(distances, run; 9_999);
+    word(distances, table, word);
+    page(distances, table, run, word, out);
+    write(written);
+}
+
+/// Lists of which some are one element short, or empty. 21 comes before 22, and 22 before 25.
 #[test]
 fn short_lists() {
-    let (good, bad) = (store_of(EXAMPLE), vec![0; STORE]);
-    for (name, least) in LEAST {
+    for operation in ON_STORES {
+        let least = (operation.least)();
         for short in 0..1_usize << least.len() {
             for take in [1, usize::MAX] {
                 let length = |list: usize| match short >> list & 1 {
@@ -190,53 +222,32 @@ fn short_lists() {
                     _ => least[list],
                 };
                 let lengths: Vec<usize> = (0..least.len()).map(length).collect();
-                // 21 comes before 22, and 22 before 25.
-                let expected = |else_refusal| match short {
-                    0 => else_refusal,
-                    _ => Some(Refusal::new(21, u64::from(short.trailing_zeros()) + 1)),
-                };
-                let no_state = (name == "run").then_some(Refusal::new(25, 9_999));
-                let answer = with_lists(name, &good, &lengths);
-                assert_eq!(answer, expected(no_state), "{name} {short:b}");
-                let answer = with_lists(name, &bad, &lengths);
-                let not_good = Some(Refusal::new(22, 0));
-                assert_eq!(answer, expected(not_good), "{name} {short:b}");
+                refuses_short_lists(operation, short, &lengths);
             }
         }
     }
 }
 
-/// The refusal of an operation on lists of these lengths, of which the first
-/// is the store's; it changes none of them.
-fn with_lists(name: &str, store: &[u16], lengths: &[usize]) -> Option<Refusal> {
-    let mut words: Vec<Vec<u16>> = lengths.iter().map(|&n| vec![4_444; n]).collect();
-    let mut bytes: Vec<Vec<u8>> = lengths.iter().map(|&n| vec![44; n]).collect();
-    let before = (words.clone(), bytes.clone());
-    let store = &store[..lengths[0]];
-    let [_, w1, w2, w3, w4, ..] = &mut padded(&mut words)[..] else {
-        unreachable!()
-    };
-    let [_, b1, b2, _, _, b5] = &mut padded(&mut bytes)[..] else {
-        unreachable!()
-    };
-    let refusal = match name {
-        "reach" => reach(store, w1).err(),
-        "rank" => rank(store, b1).err(),
-        "judge" => judge(store, w1, b2).err(),
-        "run" => run(store, w1, w2, 9_999).err(),
-        "word" => word(store, w1, b2, w3).err(),
-        "page" => page(store, w1, b2, w3, w4, b5).err(),
-        _ => write(store, b1).err(),
-    };
-    assert!(refusal.is_none() || (words, bytes) == before, "{name}");
-    refusal
-}
-
-/// Six lists to borrow from, empty ones at the end if there are fewer.
-fn padded<T>(lists: &mut [Vec<T>]) -> Vec<&mut [T]> {
-    let mut padded: Vec<&mut [T]> = lists.iter_mut().map(|list| &mut list[..]).collect();
-    padded.resize_with(6, Default::default);
-    padded
+/// The operation on a good store and on a bad one, with lists of these lengths. `short` has a bit for each short one.
+fn refuses_short_lists(operation: &OnStore, short: usize, lengths: &[usize]) {
+    let no_state = operation
+        .states
+        .first()
+        .map(|&state| Refusal::new(25, state));
+    let not_good = Some(Refusal::new(22, 0));
+    for (store, enough) in [(store_of(EXAMPLE), no_state), (vec![0; STORE], not_good)] {
+        let expected = match short {
+            0 => enough,
+            _ => Some(Refusal::new(21, u64::from(short.trailing_zeros()) + 1)),
+        };
+        let mut lists = Lists::new();
+        (operation.shorten)(&mut lists, lengths);
+        let before = lists.clone();
+        let refusal = (operation.refusal)(&store[..lengths[0]], &mut lists);
+        let name = operation.name;
+        assert_eq!(refusal, expected, "{name} {short:b}");
+        assert!(refusal.is_none() || lists == before, "{name} {short:b}");
+    }
 }
 
 #[test]
@@ -252,21 +263,10 @@ fn bad_stores_change_nothing() {
             let _case = gen::case(|| gen::shown_store(model, &store));
             let old = Lists::new();
             let mut lists = old.clone();
-            let Lists {
-                distances,
-                table,
-                run: steps,
-                word: letters,
-                written,
-                ..
-            } = &mut lists;
-            assert_eq!(reach(&store, distances).err(), bad, "{what}");
-            assert_eq!(rank(&store, table).err(), bad, "{what}");
-            assert_eq!(judge(&store, distances, table).err(), bad, "{what}");
-            assert_eq!(run(&store, distances, steps, 60_000).err(), bad, "{what}");
-            assert_eq!(word(&store, distances, table, letters).err(), bad, "{what}");
-            assert_eq!(write(&store, written).err(), bad, "{what}");
-            assert_eq!(lists.page(&store).err(), bad, "{what}");
+            for operation in ON_STORES {
+                let refusal = (operation.refusal)(&store, &mut lists);
+                assert_eq!(refusal, bad, "{}: {what}", operation.name);
+            }
             assert!(lists == old, "{what}");
         }
     }

@@ -2,6 +2,7 @@
 use second::gen::Rng;
 use second::store::{DISTANCES, PAGE, RUN, STORE, TABLE, WORD, WRITTEN};
 use std::fmt;
+use std::mem::size_of;
 use std::ops::{Deref, DerefMut};
 
 /// How many elements before and after a list are watched.
@@ -139,6 +140,15 @@ macro_rules! lists {
 
         /// A length of each list, in this order.
         pub type Lengths = [usize; [$(List::$list,)*].len()];
+
+        /// Every list with its length, as C declares them.
+        pub fn declared() -> String {
+            let lists = [$((stringify!($list), size_of::<$element>(), $least),)*];
+            let declared = |(list, bytes, least)| {
+                format!("static uint{}_t {list}[{least}];\nenum {{ {list}_len = {least} }};\n", 8 * bytes)
+            };
+            lists.map(declared).concat()
+        }
 
         impl Lists {
             pub fn anything(rng: &mut Rng, lengths: Lengths) -> Lists {

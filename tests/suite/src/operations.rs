@@ -25,6 +25,12 @@ macro_rules! operations {
 
         $(pub const $constant: Operation<$answer> = Operation {
             name: $name,
+            function: stringify!($function),
+            arguments: &[
+                $(concat!(stringify!($read), ", ", stringify!($read), "_len"),)+
+                $(concat!(stringify!($list), ", ", stringify!($list), "_len"),)*
+                $(stringify!($number),)?
+            ],
             reads: &[$(stringify!($read)),+],
             lent: &[$(List::$list),*],
             proved: |input, lists| unsafe {
@@ -81,6 +87,10 @@ fn number<T>(name: &str) -> String {
 /// An operation with its answer's type.
 pub struct Operation<A: Answer> {
     pub name: &'static str,
+    /// The archive's function.
+    function: &'static str,
+    /// Its arguments in C: each list with its length, and the numbers.
+    arguments: &'static [&'static str],
     reads: &'static [&'static str],
     /// The lists that it is lent after what it reads.
     pub lent: &'static [List],
@@ -137,8 +147,14 @@ pub trait AnyOperation: Sync {
     /// The lists that it is lent after that.
     fn lent(&self) -> &'static [List];
 
+    /// The name of the archive's function.
+    fn function(&self) -> &'static str;
+
     /// The archive's function as C declares it.
     fn declared(&self) -> String;
+
+    /// A call of it in C.
+    fn called(&self) -> String;
 
     /// The archive's function alone.
     fn call_proved(&self, input: &Input, lists: &mut Lists);
@@ -163,10 +179,18 @@ impl<A: Answer> AnyOperation for Operation<A> {
         self.lent
     }
 
+    fn function(&self) -> &'static str {
+        self.function
+    }
+
     fn declared(&self) -> String {
         let path = type_name::<A::Raw>();
         let answer = path.rsplit("::").next().unwrap_or(path);
         format!("{answer} {}", (self.declared)())
+    }
+
+    fn called(&self) -> String {
+        format!("{}({});", self.function, self.arguments.join(", "))
     }
 
     fn call_proved(&self, input: &Input, lists: &mut Lists) {

@@ -1,11 +1,14 @@
 //! Callers in C and Rust: the header compiles without a warning, and the README's lines make whole programs.
 use std::fs;
 use std::fs::File;
+use std::io::{self, Write};
 use std::os::unix::fs::symlink;
 use std::path::Path;
 use std::process::{Command, Output, Stdio};
 
-use suite::bench::{examples, root, Folder, WORKED_PAGE};
+use suite::bench::{examples, root, Folder, WORKED, WORKED_PAGE};
+use suite::lists;
+use suite::operations::ALL;
 
 /// A folder with what the README's lines name, and a target folder of its own.
 fn folder(name: &str) -> Folder {
@@ -100,11 +103,28 @@ fn the_caller_in_c() {
     );
 }
 
+/// On a terminal the caller in C writes at the end of the line: what fails there fails the answer too.
+#[test]
+fn the_caller_in_c_line_by_line() {
+    let folder = folder("caller_c_lines");
+    let lines = "#include <stdio.h>\n\
+        __attribute__((constructor)) static void by_line(void) { setvbuf(stdout, NULL, _IOLBF, 4096); }\n";
+    fs::write(folder.0.join("lines.c"), lines).expect("a file");
+    let line = readme_line("cc examples/judge.c ");
+    make(&format!("{line} lines.c"), &folder.0);
+    let full = File::options().write(true).open("/dev/full");
+    let worked = root().join("examples/worked.txt");
+    let (_, status) = judged(&folder, &worked, full.expect("a device").into());
+    assert_eq!(status, Some(3));
+}
+
 /// The header and the caller are C++ too. A machine need not have a compiler for it.
 #[test]
 fn the_caller_in_cpp() {
     if Command::new("c++").arg("--version").output().is_err() {
-        println!("no compiler for C++");
+        // Shown although the test passes, as a line that is printed is not.
+        let line = b"callers::the_caller_in_cpp: skipped, for there is no command 'c++'\n";
+        io::stderr().write_all(line).expect("the skip is shown");
         return;
     }
     let folder = folder("caller_cpp");
@@ -127,19 +147,20 @@ fn the_caller_in_rust() {
     readme_caller("caller_rust", "rustc examples/judge.rs ", "-D warnings");
 }
 
-/// Every function of the header, on the worked example.
+/// The worked example by the header's names. That C can call every function, `the_needs` shows.
 #[test]
 fn the_header() {
-    let printed = printed("worked");
+    let printed = printed("worked", "");
     assert_eq!(
         String::from_utf8_lossy(&printed),
         String::from_utf8_lossy(WORKED_PAGE)
     );
 }
 
-/// What the program of this name in C prints.
-fn printed(name: &str) -> Vec<u8> {
+/// What the program of this name in C prints, with these lines in the file `calls.h` beside it.
+fn printed(name: &str, calls: &str) -> Vec<u8> {
     let folder = folder(name);
+    fs::write(folder.0.join("calls.h"), calls).expect("a file");
     let program = format!("{name}.c");
     let file = root().join("tests/suite/tests").join(&program);
     fs::copy(file, folder.0.join(&program)).expect("a copy");
@@ -149,6 +170,29 @@ fn printed(name: &str) -> Vec<u8> {
     let printed = output("./a.out", &folder.0);
     assert!(printed.status.success(), "{printed:?}");
     printed.stdout
+}
+
+/// In C: the worked text, every list, and a function for each operation that calls it.
+fn calls() -> String {
+    let text: Vec<String> = WORKED.iter().map(u8::to_string).collect();
+    let text = text.join(", ");
+    let functions = ALL.iter().map(|operation| {
+        let (name, call) = (operation.function(), operation.called());
+        format!("static void call_{name}(void) {{ {call} }}\n")
+    });
+    let rows = ALL.iter().map(|operation| {
+        let name = operation.function();
+        format!("    {{\"{name}\", call_{name}}},\n")
+    });
+    [
+        &format!("static const uint8_t text[] = {{{text}}};\nenum {{ text_len = sizeof text }};\n"),
+        &lists::declared(),
+        &functions.collect::<String>(),
+        "static const struct {\n    const char *name;\n    void (*call)(void);\n} calls[] = {\n",
+        &rows.collect::<String>(),
+        "};\n",
+    ]
+    .concat()
 }
 
 /// What the header says for firmware: the symbols that the archive needs, its writable data, and the stack.
@@ -164,10 +208,11 @@ fn the_needs() {
     };
     assert_eq!(of_kind("U"), ["memcpy", "memset"]);
     assert_eq!(of_kind("BbCDdGgSsVvWw"), [""; 0]);
-    let stack = String::from_utf8(printed("stack")).expect("lines");
-    assert_eq!(stack.lines().count(), 10, "{stack}");
+    let stack = String::from_utf8(printed("stack", &calls())).expect("lines");
+    let mut measured = Vec::new();
     for line in stack.lines() {
         let (name, bytes) = line.split_once(' ').expect("a name and a number");
+        measured.push(name);
         let most = match name {
             "till_reach" | "till_run" | "till_write" => 1 << 10,
             "till_read" => 9 << 10,
@@ -176,4 +221,6 @@ fn the_needs() {
         let bytes: usize = bytes.parse().expect("a number");
         assert!(0 < bytes && bytes < most, "{line}");
     }
+    let functions: Vec<&str> = ALL.iter().map(|operation| operation.function()).collect();
+    assert_eq!(measured, functions);
 }

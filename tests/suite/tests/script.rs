@@ -1,10 +1,13 @@
-//! The script `till`: what it prints, its statuses, and when it makes the program.
+//! The script `till`: what it prints, its statuses, and when it makes the program. And `tests/run` where it fails.
 use std::fs::{self, File};
+use std::os::fd::OwnedFd;
 use std::os::unix::fs::{symlink, PermissionsExt};
-use std::os::unix::net::UnixListener;
+use std::os::unix::net::{UnixListener, UnixStream};
+use std::os::unix::process::ExitStatusExt;
 use std::path::{Path, PathBuf};
-use std::process::{Command, Output};
-use std::thread;
+use std::process::{Child, Command, Output, Stdio};
+use std::thread::sleep;
+use std::time::{Duration, Instant};
 
 use suite::bench::{examples, root, Folder};
 use suite::command::run;
@@ -94,11 +97,14 @@ fn words_and_options() {
         fails(run(script().arg(option), b""), &why);
     }
     let folder = Folder::new("words");
-    fs::copy(example("released.txt"), folder.0.join("-x")).expect("a copy");
     let page = fs::read_to_string(example("released.page")).expect("a page");
-    let mut named = script();
-    named.args(["--", "-x"]).current_dir(&folder.0);
-    prints(run(&mut named, b""), 0, &page);
+    let refused = fs::read(example("worked.txt")).expect("a text");
+    for name in ["-x", "-"] {
+        fs::copy(example("released.txt"), folder.0.join(name)).expect("a copy");
+        let mut named = script();
+        named.args(["--", name]).current_dir(&folder.0);
+        prints(run(&mut named, &refused), 0, &page);
+    }
 }
 
 /// What cannot be read is no empty text and not the text on standard input: there is no verdict.
@@ -143,6 +149,29 @@ fn no_place_to_print() {
     }
 }
 
+/// A reader that leaves after the first line has no part in the status. Where no one reads, the script ends by the
+/// signal, as `cat` does, and says nothing.
+#[test]
+fn readers_that_leave() {
+    let lines = |line: &str| {
+        let mut shell = Command::new("bash");
+        shell.args(["-o", "pipefail", "-c", line]);
+        shell.arg(root().join("till")).arg(example("worked.txt"));
+        run(&mut shell, b"")
+    };
+    prints(lines("\"$0\" \"$1\" | head -n 1"), 1, "V,refuse,1,2\n");
+    prints(lines("\"$0\" -h | head -n 1 | cut -c 1-6"), 0, "usage:\n");
+    for word in ["examples/worked.txt", "--help"] {
+        let (reader, writer) = UnixStream::pair().expect("two ends");
+        drop(reader);
+        let mut unread = script();
+        unread.stdout(OwnedFd::from(writer)).current_dir(root());
+        let output = unread.arg(word).output().expect("the script starts");
+        assert_eq!(output.status.signal(), Some(13), "{output:?}");
+        assert!(output.stderr.is_empty(), "{output:?}");
+    }
+}
+
 /// However the script is started.
 #[test]
 fn ways_to_start() {
@@ -179,7 +208,7 @@ version) cat "$kit/version" ;;
 check)
     echo making >>"$kit/makings"
     rank=$(cat crates/a/src/lib.rt)
-    sleep "$(cat "$kit/pause")"
+    while [ -f "$kit/hold" ]; do sleep 0.01; done
     [ ! -f "$kit/broken" ] || { echo "rt: FAILED: a" && exit 1; }
     printf '#!/bin/sh\ncat >/dev/null\necho V,pass,%s\necho E\n' "$rank" >target/bin/till
     chmod +x target/bin/till
@@ -201,15 +230,12 @@ impl Checkout {
         let files = [
             ("crates.txt", "a:\n"),
             ("crates/a/src/lib.rt", "1\n"),
-            ("kit/rt", KIT),
+            ("kit/version", "first\n"),
         ];
         for (name, contents) in files {
             checkout.write(name, contents);
         }
-        checkout.write("kit/version", "first\n");
-        checkout.write("kit/pause", "0\n");
-        let executable = fs::Permissions::from_mode(0o755);
-        fs::set_permissions(checkout.file("kit/rt"), executable).expect("the kit");
+        checkout.write_executable("kit/rt", KIT);
         checkout
     }
 
@@ -219,6 +245,12 @@ impl Checkout {
 
     fn write(&self, name: &str, contents: &str) {
         fs::write(self.file(name), contents).expect("a file");
+    }
+
+    fn write_executable(&self, name: &str, contents: &str) {
+        self.write(name, contents);
+        let executable = fs::Permissions::from_mode(0o755);
+        fs::set_permissions(self.file(name), executable).expect("a file");
     }
 
     /// As if the file had been written long ago.
@@ -231,16 +263,18 @@ impl Checkout {
         file.set_modified(std::time::UNIX_EPOCH).expect("a time");
     }
 
-    /// The script's output on a text that the program does not look at.
-    fn run(&self) -> Output {
+    /// A script of the checkout, which finds that kit.
+    fn script(&self, name: &str) -> Command {
         let path = std::env::var("PATH").expect("a PATH");
         let path = format!("{}:{path}", self.file("kit").display());
-        run(
-            Command::new("bash")
-                .arg(self.file("till"))
-                .env("PATH", path),
-            b"",
-        )
+        let mut script = Command::new("bash");
+        script.arg(self.file(name)).env("PATH", path);
+        script
+    }
+
+    /// The script's output on a text that the program does not look at.
+    fn run(&self) -> Output {
+        run(&mut self.script("till"), b"")
     }
 
     fn makings(&self) -> usize {
@@ -288,23 +322,34 @@ fn edited_meanwhile() {
     checkout.passes(1, 3);
 }
 
-/// One of several first runs makes the program. The others wait for it, and say so.
+/// One of several first runs makes the program. The others wait for it, and say so: it is not made before they do.
 #[test]
 fn four_first_runs() {
     let checkout = Checkout::new("four_first_runs");
-    checkout.write("kit/pause", "2\n");
-    let outputs = thread::scope(|scope| {
-        let runs = [(); 4].map(|()| scope.spawn(|| checkout.run()));
-        runs.map(|run| run.join().expect("a run"))
-    });
-    assert_eq!(checkout.makings(), 1);
-    let mut waited = 0;
-    for output in outputs {
-        assert_eq!(output.stdout, b"V,pass,1\nE\n", "{output:?}");
-        let said = String::from_utf8_lossy(&output.stderr);
-        waited += usize::from(said.starts_with("till: waiting for another run"));
+    checkout.write("kit/hold", "");
+    let said = [0, 1, 2, 3].map(|run| checkout.file(&format!("said{run}")));
+    let start = |said: &PathBuf| -> Child {
+        let mut script = checkout.script("till");
+        script.stdin(Stdio::null()).stdout(Stdio::piped());
+        script.stderr(File::create(said).expect("a file"));
+        script.spawn().expect("the script starts")
+    };
+    let runs = said.each_ref().map(start);
+    let waits = |said: &&PathBuf| {
+        let said = fs::read_to_string(said).expect("a file");
+        said.starts_with("till: waiting for another run")
+    };
+    let started = Instant::now();
+    while said.iter().filter(waits).count() < 3 {
+        assert!(started.elapsed() < Duration::from_secs(120), "none waits");
+        sleep(Duration::from_millis(10));
     }
-    assert!(waited > 0, "no run says that it waits");
+    fs::remove_file(checkout.file("kit/hold")).expect("a file");
+    for run in runs {
+        let output = run.wait_with_output().expect("the script ends");
+        assert_eq!(output.stdout, b"V,pass,1\nE\n", "{output:?}");
+    }
+    assert_eq!(checkout.makings(), 1);
 }
 
 #[test]
@@ -318,29 +363,25 @@ fn not_made() {
     fs::remove_dir_all(checkout.file("target")).expect("a folder");
     checkout.write("target", "");
     fails(checkout.run(), "nothing can be written to");
+    // As it is said of a source that cannot be read; root can read every one.
+    let why = "crates/a/src/lib.rt: Permission denied";
+    let tool = format!("#!/bin/sh\necho 'sha256sum: {why}' >&2\nexit 1\n");
+    checkout.write_executable("kit/sha256sum", &tool);
+    let why = format!("the sources cannot be read: {why}");
+    fails(checkout.run(), &why);
     fs::remove_file(checkout.file("crates.txt")).expect("a file");
-    fails(checkout.run(), "the sources cannot be read");
+    fails(checkout.run(), "the script belongs beside crates.txt");
 }
 
-/// A program that is made needs no kit. Where it is to be made, the script says what is missing.
+/// A program that is made needs no kit. Where it is to be made, or a tool is gone, the script says what is missing.
 #[test]
 fn without_the_kit() {
     let checkout = Checkout::new("without_the_kit");
-    checkout.passes(1, 1);
     let tools = checkout.file("tools");
     fs::create_dir(&tools).expect("a folder");
     let path = std::env::var("PATH").expect("a PATH");
-    for name in [
-        "bash",
-        "cat",
-        "dirname",
-        "find",
-        "head",
-        "readlink",
-        "sed",
-        "sha256sum",
-        "sort",
-    ] {
+    let names = "cat dirname find head readlink sed sha256sum sort bash";
+    for name in names.split(' ') {
         let mut files = path.split(':').map(|folder| Path::new(folder).join(name));
         let file = files.find(|file| file.exists());
         symlink(file.expect(name), tools.join(name)).expect("a link");
@@ -350,9 +391,41 @@ fn without_the_kit() {
         command.arg(checkout.file("till")).env("PATH", &tools);
         run(&mut command, b"")
     };
+    fails(without(), "the Rattle kit is missing");
+    checkout.passes(1, 1);
     prints(without(), 0, "V,pass,1\nE\n");
+    for name in names.split(' ').filter(|&name| name != "bash") {
+        let (tool, away) = (tools.join(name), checkout.file("away"));
+        fs::rename(&tool, &away).expect("a tool");
+        let why = format!("a tool is missing: no command '{name}'");
+        fails(without(), &why);
+        fs::rename(&away, &tool).expect("a tool");
+    }
     checkout.write("crates/a/src/lib.rt", "2\n");
     fails(without(), "the Rattle kit is missing");
+}
+
+/// Where the archive cannot be built, the tests that run meanwhile are stopped, with the processes that they started.
+#[test]
+fn tests_without_the_archive() {
+    let checkout = Checkout::new("tests_without_the_archive");
+    fs::create_dir(checkout.file("tests")).expect("a folder");
+    fs::copy(root().join("tests/run"), checkout.file("tests/run")).expect("a copy");
+    checkout.write_executable(
+        "kit/rt",
+        "#!/bin/sh\nsleep 0.5\necho rt: FAILED: a\nexit 1\n",
+    );
+    let cargo = "#!/bin/sh\nsh -c 'sleep 20; : >\"$0\"' \"$(dirname \"$0\")/went_on\" || exit 1\n";
+    checkout.write_executable("kit/cargo", cargo);
+    // This waits for all that could still write to its pipes.
+    let output = run(&mut checkout.script("tests/run"), b"");
+    assert_eq!(output.status.code(), Some(1), "{output:?}");
+    let said = String::from_utf8_lossy(&output.stderr);
+    assert!(
+        said.contains("rt: FAILED: a\ntests: the archive could not"),
+        "{said}"
+    );
+    assert!(!checkout.file("kit/went_on").exists(), "the tests went on");
 }
 
 /// A page that is cut short, or that comes with a failure, is no verdict.

@@ -1,4 +1,5 @@
-/* How many bytes of the stack each call takes, measured on a painted stack. */
+/* How many bytes of the stack each call takes, measured on a painted stack. The test writes `calls.h` from the table of
+   operations: the lists, a function `call_NAME` for each operation, and `calls`, which has them all. */
 #define _GNU_SOURCE
 #include <stdio.h>
 #include <string.h>
@@ -8,31 +9,13 @@
 
 #define PAINT 0xa5
 
-static const char text[] = "M,4,3,4,0\nA,L,scan\nA,H,print\nA,D,close\n"
-                           "S,0,0,1\nS,0,1,2\nS,1,0,1\nS,2,0,3\nE\n";
-static uint16_t store[TILL_STORE], distances[TILL_DISTANCES], run[TILL_RUN], word[TILL_WORD];
-static uint8_t table[TILL_TABLE], out[TILL_WRITTEN];
+static const uint16_t state = 3;
+#include "calls.h"
+
 static unsigned char stack[1 << 17];
 static ucontext_t caller, callee;
 
-#define TEXT (const uint8_t *)text, sizeof text - 1
-#define LIST(list) list, sizeof list / sizeof *list
-
 static void nothing(void) {}
-static void call_read(void) { till_read(TEXT, LIST(store)); }
-static void call_reach(void) { till_reach(LIST(store), LIST(distances)); }
-static void call_rank(void) { till_rank(LIST(store), LIST(table)); }
-static void call_judge(void) { till_judge(LIST(store), LIST(distances), LIST(table)); }
-static void call_run(void) { till_run(LIST(store), LIST(distances), LIST(run), 3); }
-static void call_word(void) { till_word(LIST(store), LIST(distances), LIST(table), LIST(word)); }
-static void call_page(void) {
-    till_page(LIST(store), LIST(distances), LIST(table), LIST(run), LIST(word), LIST(out));
-}
-static void call_print(void) {
-    till_print(TEXT, LIST(store), LIST(distances), LIST(table), LIST(run), LIST(word), LIST(out));
-}
-static void call_tell(void) { till_tell(TEXT, LIST(store), LIST(distances), LIST(table), LIST(word)); }
-static void call_write(void) { till_write(LIST(store), LIST(out)); }
 
 static size_t used(void (*call)(void)) {
     memset(stack, PAINT, sizeof stack);
@@ -48,17 +31,9 @@ static size_t used(void (*call)(void)) {
 }
 
 int main(void) {
-    static const struct {
-        const char *name;
-        void (*call)(void);
-    } calls[] = {
-        {"till_read", call_read}, {"till_reach", call_reach}, {"till_rank", call_rank},   {"till_judge", call_judge},
-        {"till_run", call_run},   {"till_word", call_word},   {"till_page", call_page},   {"till_print", call_print},
-        {"till_tell", call_tell}, {"till_write", call_write},
-    };
-    /* The first call also finds memcpy and memset, which takes stack of its own. */
-    used(call_print);
-    for (size_t i = 0; i < sizeof calls / sizeof *calls; i++)
-        printf("%s %zu\n", calls[i].name, used(calls[i].call) - used(nothing));
+    size_t count = sizeof calls / sizeof *calls;
+    /* The first calls also find memcpy and memset, which takes stack of its own. */
+    for (size_t i = 0; i < count; i++) used(calls[i].call);
+    for (size_t i = 0; i < count; i++) printf("%s %zu\n", calls[i].name, used(calls[i].call) - used(nothing));
     return 0;
 }

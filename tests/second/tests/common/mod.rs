@@ -4,6 +4,9 @@
 use second::store::{DISTANCES, PAGE, RUN, STORE, TABLE, WORD, WRITTEN};
 use second::{page, read, Model};
 
+/// How many elements more than need be each list has.
+pub const LONGER: usize = 3;
+
 /// All lists besides the store, longer than need be and full of old contents.
 #[derive(Debug, Clone, PartialEq, Eq)]
 pub struct Lists {
@@ -18,12 +21,12 @@ pub struct Lists {
 impl Lists {
     pub fn new() -> Lists {
         Lists {
-            distances: vec![7_777; DISTANCES + 3],
-            table: vec![77; TABLE + 3],
-            run: vec![7_778; RUN + 3],
-            word: vec![7_779; WORD + 3],
-            out: vec![b'~'; PAGE + 3],
-            written: vec![b'!'; WRITTEN + 3],
+            distances: vec![7_777; DISTANCES + LONGER],
+            table: vec![77; TABLE + LONGER],
+            run: vec![7_778; RUN + LONGER],
+            word: vec![7_779; WORD + LONGER],
+            out: vec![b'~'; PAGE + LONGER],
+            written: vec![b'!'; WRITTEN + LONGER],
         }
     }
 
