@@ -1,4 +1,4 @@
--- Limits of texts, layout of the model store and least lengths of lent lists, each named once.
+-- Limits of texts, layout of the model store and least lengths of all lists, each named once.
 -- Document 01, "The text", "The model store" and "The operations, in the order of the work".
 use Prim.Native.Nat.{ℕ, _+_, _*_}
 
@@ -133,6 +133,8 @@ pageLength = 5000
 abbrev pub unreachable : ℕ
 unreachable = 65535
 
--- The places of `first`: one for each state, and one more.
+-- ---- lists that functions keep for themselves
+
+-- Where the steps or moves of each state begin, and where the last one's end.
 abbrev pub indexLength : ℕ
 indexLength = stateLimit + 1
