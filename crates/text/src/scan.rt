@@ -3,13 +3,13 @@
 use crate::Fault;
 use crate::Head;
 use crate::StepLine;
-use crate::bytes::CAPITAL;
 use crate::bytes::COMMA;
 use crate::bytes::DIGIT;
 use crate::bytes::LINE_END;
 use crate::bytes::kind;
 use crate::line::StepRead;
 use crate::line::find;
+use crate::line::is_letter;
 use crate::line::step_line;
 use crate::line::step_of;
 ghost use mathlib.Core.Bool.{true};
@@ -99,11 +99,7 @@ fn begins(kinds: &[u8; 256], text: &[u8], at: usize) -> bool
     if text.len() - at < 2 {
         return false;
     }
-    let letter = text[at];
-    if kind(kinds, letter) != CAPITAL {
-        return false;
-    }
-    if letter != b'S' {
+    if !is_letter(kinds, text[at], b'S') {
         return false;
     }
     if kind(kinds, text[at + 1]) != COMMA {
