@@ -12,6 +12,10 @@ actionLimit = 64
 abbrev pub stepLimit : ℕ
 stepLimit = 1024
 
+-- "Numbers have 1 to 5 digits"
+abbrev pub digitLimit : ℕ
+digitLimit = 5
+
 -- "A name is 1 to 12 bytes"
 abbrev pub nameLimit : ℕ
 nameLimit = 12

@@ -7,6 +7,7 @@ use crate::bytes::COMMA;
 use crate::bytes::DIGIT;
 use crate::bytes::LINE_END;
 use crate::bytes::kind;
+use crate::limits::DIGIT_LIMIT;
 use crate::line::StepRead;
 use crate::line::find;
 use crate::line::is_letter;
@@ -62,7 +63,7 @@ fn digits_at(kinds: &[u8; 256], s: &[u8], at: usize, k: u8) -> Scan
             }
             return Scan::Number { value: v, end: i };
         }
-        if 4 < i - at {
+        if DIGIT_LIMIT <= i - at {
             return Scan::Other;
         }
         v = v * 10 + (b as u32 - b'0' as u32);
