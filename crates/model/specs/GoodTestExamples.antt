@@ -9,7 +9,7 @@ use Rattle.text.specs.Bytes.{kindOf}
 use Rattle.text.specs.Split.{same?}
 use Rattle.text.specs.Model.{low, release, high, Model, above?, aboveLast?}
 use Rattle.text.specs.Lines.{headFits?, allOf, nameByte?, name?, used?, stepFits?}
-use Rattle.model.specs.Store.{padded, actionNumbers, actionsNumbers, stepsNumbers, headPlaces, storeOf}
+use Rattle.model.specs.Store.{padded, actionNumbers, actionsNumbers, stepsNumbers, headRow, storeOf}
 use Rattle.model.specs.StoredModel.{listed, modelAt}
 use Rattle.model.specs.GoodTest.{eachAfter?, actionFits?, stepRises?, wellFormed?, holds?, good?}
 
@@ -27,21 +27,21 @@ one-state = record {
 
 good : good? (storeOf one-state) ≡ true
 unfolding good? holds? wellFormed? eachAfter? actionFits? stepRises? modelAt listed storeOf padded actionNumbers
-    actionsNumbers stepsNumbers headPlaces stepFits? used? name? nameByte? allOf headFits? above? aboveLast? same?
+    actionsNumbers stepsNumbers headRow stepFits? used? name? nameByte? allOf headFits? above? aboveLast? same?
     kindOf one-state
 good = refl
 
 -- "Unused places are 0."
 unused-not-zero : good? (set (storeOf one-state) (storeLength - 1) 1) ≡ false
 unfolding good? holds? wellFormed? eachAfter? actionFits? stepRises? modelAt listed storeOf padded actionNumbers
-    actionsNumbers stepsNumbers headPlaces stepFits? used? name? nameByte? allOf headFits? above? aboveLast? same?
+    actionsNumbers stepsNumbers headRow stepFits? used? name? nameByte? allOf headFits? above? aboveLast? same?
     kindOf one-state
 unused-not-zero = refl
 
 -- a target that is no state
 target-out-of-range : good? (set (storeOf one-state) (targetPlace 0) 1) ≡ false
 unfolding good? holds? wellFormed? eachAfter? actionFits? stepRises? modelAt listed storeOf padded actionNumbers
-    actionsNumbers stepsNumbers headPlaces stepFits? used? name? nameByte? allOf headFits? above? aboveLast? same?
+    actionsNumbers stepsNumbers headRow stepFits? used? name? nameByte? allOf headFits? above? aboveLast? same?
     kindOf one-state
 target-out-of-range = refl
 

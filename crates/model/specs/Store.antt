@@ -23,21 +23,21 @@ actionsNumbers [] = []
 actionsNumbers (a ∷ rest) = actionNumbers a ++ actionsNumbers rest
 
 -- "source, action, target"
-abbrev pub stepPlaces : StepLine → List ℕ
-stepPlaces s = s .source .0 ∷ s .action .0 ∷ s .target .0 ∷ []
+abbrev pub stepRow : StepLine → List ℕ
+stepRow s = s .source .0 ∷ s .action .0 ∷ s .target .0 ∷ []
 
 unfoldable pub stepsNumbers : List StepLine → List ℕ
 stepsNumbers [] = []
-stepsNumbers (s ∷ ss) = s .source .0 ∷ s .action .0 ∷ s .target .0 ∷ stepsNumbers ss
+stepsNumbers (s ∷ rest) = stepRow s ++ stepsNumbers rest
 
 -- "Places 0 to 3: states, actions, steps, start."
-unfoldable pub headPlaces : Head → List ℕ
-headPlaces h = h .states ∷ h .actions ∷ h .steps ∷ h .start .0 ∷ []
+unfoldable pub headRow : Head → List ℕ
+headRow h = h .states ∷ h .actions ∷ h .steps ∷ h .start .0 ∷ []
 
 -- the store of a model: its sections, one behind the other
 unfoldable pub storeOf : Model → List ℕ
 storeOf m =
-    headPlaces (m .head)
+    headRow (m .head)
     ++ padded actionsLength (actionsNumbers (m .actions))
     ++ padded stepsLength (stepsNumbers (m .steps))
 

@@ -2,7 +2,7 @@
 -- Document 01, "The model store".
 use mathlib.Core.List.{List, [], _∷_, _++_}
 use mathlib.Core.Path.{_≡_}
-use Prim.Native.Nat.{ℕ, zero, suc, _+_}
+use Prim.Native.Nat.{ℕ, zero, suc}
 use lib.ListN.{getD, take, drop}
 use Rattle.text.specs.declared.Head.{Head}
 use Rattle.text.specs.declared.StepLine.{StepLine}

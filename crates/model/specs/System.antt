@@ -7,12 +7,11 @@ use lib.ListN.{length, getD}
 use Rattle.lts.specs.View.{View}
 use Rattle.lts.specs.Run.{Reachable, Distance}
 use Rattle.text.specs.declared.StepLine.{StepLine}
-use Rattle.text.specs.Model.{low, release, high, Model, noAction}
+use Rattle.text.specs.Model.{low, release, high, Model, noAction, noStep}
 
 -- What step j states. Past the last step it says nothing of the model: `Steps` counts the steps alone.
 abbrev pub step : Model → ℕ → StepLine
-step m j =
-    getD (m .steps) j (record { source = record { 0 = 0 }; action = record { 0 = 0 }; target = record { 0 = 0 } })
+step m j = getD (m .steps) j noStep
 
 abbrev pub source : Model → ℕ → ℕ
 source m j = step m j .source .0

@@ -2,7 +2,7 @@
 use text::Action;
 use text::State;
 use text::Step;
-ghost use Prim.Native.Nat.{_+_, _≤_, _<_};
+ghost use Prim.Native.Nat.{_+_, _≤_};
 ghost use lib.ListN.{length};
 ghost use Rattle.text.specs.Limits.{actionLimit};
 ghost use Rattle.model.specs.StoredModel.{modelAt};

@@ -19,12 +19,12 @@ ghost use Prim.Native.Nat.{_+_, _≤_, _<_};
 ghost use lib.ListN.{length, drop};
 ghost use lib.Seq.{sets};
 ghost use Rattle.text.specs.Limits.{nameLimit, actionLimit, stepLimit, storeLength, actionPlace, stepPlace};
-ghost use Rattle.model.specs.Store.{headPlaces, stepPlaces};
+ghost use Rattle.model.specs.Store.{headRow, stepRow};
 
 // Stores what line 1 states.
 pub fn put_head(out: &mut [u16], head: Head)
     requires { ⌜ storeLength ≤ length (now out) ⌝ }
-    ensures { λ _. ⌜ now (out .exit) ≡ sets (now (out .entry)) 0 (headPlaces head) ⌝ }
+    ensures { λ _. ⌜ now (out .exit) ≡ sets (now (out .entry)) 0 (headRow head) ⌝ }
 {
     out[STATE_COUNT_PLACE] = head.states;
     out[ACTION_COUNT_PLACE] = head.actions;
@@ -59,7 +59,7 @@ pub fn put_action(out: &mut [u16], a: Action, level: u16, name: &[u8])
 // Stores a step.
 pub fn put_step(out: &mut [u16], j: Step, s: StepLine)
     requires { ⌜ (storeLength ≤ length (now out)) × (j .0 < stepLimit) ⌝ }
-    ensures { λ _. ⌜ now (out .exit) ≡ sets (now (out .entry)) (stepPlace (j .0)) (stepPlaces s) ⌝ }
+    ensures { λ _. ⌜ now (out .exit) ≡ sets (now (out .entry)) (stepPlace (j .0)) (stepRow s) ⌝ }
 {
     let at = step_place(j);
     out[at] = s.source.0;

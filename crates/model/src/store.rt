@@ -74,7 +74,7 @@ pub fn action_place(a: Action) -> usize
 pub fn name_place(a: Action) -> usize
     ensures { λ r. ⌜ r ≡ namePlace (a .0) ⌝ }
 {
-    ACTIONS_BEGIN + ACTION_SIZE * a.0 as usize + NAME_COLUMN
+    action_place(a) + NAME_COLUMN
 }
 
 pub fn level(store: &[u16], a: Action) -> u16

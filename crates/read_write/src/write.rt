@@ -4,7 +4,6 @@ use model::store;
 use text::limits::OUT_LENGTH;
 use text::limits::STORE_LENGTH;
 use writer::position::Position;
-ghost use Prim.Native.Nat.{_<_};
 ghost use Rattle.read_write.specs.WritePromise.{writeOutcome, WritePromise};
 
 // What Write answers.

@@ -58,7 +58,7 @@ pub fn after_line(text: &[u8], at: usize) -> usize
 }
 
 // The last line, and nothing after it.
-fn end(kinds: &[u8; 256], text: &[u8], start: LineStart, out: &[u16]) -> TextRead
+fn last_line(kinds: &[u8; 256], text: &[u8], start: LineStart, out: &[u16]) -> TextRead
     requires { ⌜ AfterSteps (now text) start (now out) × KindTable (now kinds) ⌝ }
     ensures { λ r. ⌜ Through (now (text .entry)) (now (out .entry)) r ⌝ }
 {
@@ -104,7 +104,7 @@ fn lines(kinds: &[u8; 256], text: &[u8], start: LineStart, head: Head, out: &mut
             let stepped = steps(kinds, text, a, head, out);
             match stepped {
                 LinesRead::Faulty { fault, line } => TextRead::Faulty { fault, line },
-                LinesRead::Next(b) => end(kinds, text, b, out),
+                LinesRead::Next(b) => last_line(kinds, text, b, out),
             }
         }
     }

@@ -34,19 +34,17 @@ pub fn steps(
     let mut j = 0;
     while j < count {
         let read = step_at(kinds, text, from.at, head, j, last);
+        let line = from.line;
         match read {
             StepAt::Bad(fault) => {
-                return LinesRead::Faulty {
-                    fault,
-                    line: from.line,
-                };
+                return LinesRead::Faulty { fault, line };
             }
             StepAt::Good { step, next } => {
                 put_step(out, Step(j as u16), step);
                 last = step;
                 from = LineStart {
                     at: next,
-                    line: from.line + 1,
+                    line: line + 1,
                 };
             }
         }

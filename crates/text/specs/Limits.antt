@@ -1,4 +1,4 @@
--- Limits of texts, layout of the model store and least lengths of lent lists, each named once.
+-- Limits of texts, layout of the model store and least lengths of all lists, each named once.
 -- Document 01, "The text", "The model store" and "The operations, in the order of the work".
 use Prim.Native.Nat.{ℕ, _+_, _*_}
 
@@ -11,6 +11,10 @@ actionLimit = 64
 
 abbrev pub stepLimit : ℕ
 stepLimit = 1024
+
+-- "Numbers have 1 to 5 digits"
+abbrev pub digitLimit : ℕ
+digitLimit = 5
 
 -- "A name is 1 to 12 bytes"
 abbrev pub nameLimit : ℕ
@@ -133,6 +137,8 @@ pageLength = 5000
 abbrev pub unreachable : ℕ
 unreachable = 65535
 
--- The places of `first`: one for each state, and one more.
+-- ---- lists that functions keep for themselves
+
+-- Where the steps or moves of each state begin, and where the last one's end.
 abbrev pub indexLength : ℕ
 indexLength = stateLimit + 1

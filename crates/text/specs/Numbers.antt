@@ -7,6 +7,7 @@ use lib.Dec.{leb, ltb, eqb}
 use lib.ListN.{length}
 use Rattle.text.specs.declared.number.Number.{Number}
 use Rattle.text.specs.declared.number.Number.the-variants.{Value, Bad}
+use Rattle.text.specs.Limits.{digitLimit}
 use Rattle.text.specs.Bytes.{byteZero, digit, kindOf}
 
 -- the value of digits that follow those of the value v; Bad where one is no digit
@@ -18,7 +19,7 @@ digitsValue v (b ∷ bs) = cond (eqb (kindOf b) digit) (digitsValue (v * 10 + (b
 unfoldable pub numberShape? : List ℕ → Bool
 numberShape? [] = false
 numberShape? (b ∷ []) = true
-numberShape? (b ∷ c ∷ bs) = leb (length bs) 3 && not (eqb b byteZero)
+numberShape? (b ∷ c ∷ bs) = leb (length (b ∷ c ∷ bs)) digitLimit && not (eqb b byteZero)
 
 -- the number that a field holds
 unfoldable pub numberOf : List ℕ → Number
@@ -31,4 +32,4 @@ digitsUpTo (suc k) n = cond (ltb n 10) ((byteZero + n) ∷ []) (digitsUpTo k (n 
 
 -- the field of a number below 100,000
 unfoldable pub digits : ℕ → List ℕ
-digits n = digitsUpTo 5 n
+digits n = digitsUpTo digitLimit n

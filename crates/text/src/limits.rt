@@ -1,6 +1,6 @@
 // The limits of texts, the layout of the model store and the least lengths of all lists, each named once.
 
-// The limits of line 1, and of a name.
+// The limits of line 1, of a name, and of the digits of a number.
 pub const STATE_LIMIT: u16 = 128;
 
 pub const ACTION_LIMIT: u16 = 64;
@@ -8,6 +8,8 @@ pub const ACTION_LIMIT: u16 = 64;
 pub const STEP_LIMIT: u16 = 1024;
 
 pub const NAME_LIMIT: u16 = 12;
+
+pub const DIGIT_LIMIT: usize = 5;
 
 // A text has at most so many bytes.
 pub const TEXT_LIMIT: usize = 16384;

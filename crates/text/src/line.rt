@@ -119,11 +119,7 @@ fn fields(kinds: &[u8; 256], line: &[u8], letter: u8, n: usize) -> bool
     if find(kinds, line, 0, COMMA) != 1 {
         return false;
     }
-    let b = line[0];
-    if kind(kinds, b) != CAPITAL {
-        return false;
-    }
-    if b != letter {
+    if !is_letter(kinds, line[0], letter) {
         return false;
     }
     true

@@ -1,9 +1,11 @@
 // Number fields.
 use crate::bytes::DIGIT;
 use crate::bytes::kind;
+use crate::limits::DIGIT_LIMIT;
 ghost use mathlib.Core.Path.{_≡_};
 ghost use Prim.Native.Nat.{_≤_};
 ghost use lib.ListN.{length};
+ghost use Rattle.text.specs.Limits.{digitLimit};
 ghost use Rattle.text.specs.Inner.Table.{KindTable};
 ghost use Rattle.text.specs.Numbers.{digitsValue, numberOf};
 
@@ -13,9 +15,9 @@ pub enum Number {
     Bad,
 }
 
-// The value of digits, of which there are 5 at most.
+// The value of digits, as many as a number has at most.
 fn digits_value(kinds: &[u8; 256], f: &[u8]) -> Number
-    requires { ⌜ (length (now f) ≤ 5) × KindTable (now kinds) ⌝ }
+    requires { ⌜ (length (now f) ≤ digitLimit) × KindTable (now kinds) ⌝ }
     ensures { λ r. ⌜ r ≡ digitsValue 0 (now (f .entry)) ⌝ }
 {
     let mut v: u32 = 0;
@@ -40,7 +42,7 @@ pub fn parse_number(kinds: &[u8; 256], f: &[u8]) -> Number
     if n == 0 {
         return Number::Bad;
     }
-    if 5 < n {
+    if DIGIT_LIMIT < n {
         return Number::Bad;
     }
     if n == 1 {

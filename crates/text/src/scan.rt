@@ -3,13 +3,14 @@
 use crate::Fault;
 use crate::Head;
 use crate::StepLine;
-use crate::bytes::CAPITAL;
 use crate::bytes::COMMA;
 use crate::bytes::DIGIT;
 use crate::bytes::LINE_END;
 use crate::bytes::kind;
+use crate::limits::DIGIT_LIMIT;
 use crate::line::StepRead;
 use crate::line::find;
+use crate::line::is_letter;
 use crate::line::step_line;
 use crate::line::step_of;
 ghost use mathlib.Core.Bool.{true};
@@ -62,7 +63,7 @@ fn digits_at(kinds: &[u8; 256], s: &[u8], at: usize, k: u8) -> Scan
             }
             return Scan::Number { value: v, end: i };
         }
-        if 4 < i - at {
+        if DIGIT_LIMIT <= i - at {
             return Scan::Other;
         }
         v = v * 10 + (b as u32 - b'0' as u32);
@@ -99,11 +100,7 @@ fn begins(kinds: &[u8; 256], text: &[u8], at: usize) -> bool
     if text.len() - at < 2 {
         return false;
     }
-    let letter = text[at];
-    if kind(kinds, letter) != CAPITAL {
-        return false;
-    }
-    if letter != b'S' {
+    if !is_letter(kinds, text[at], b'S') {
         return false;
     }
     if kind(kinds, text[at + 1]) != COMMA {

@@ -11,20 +11,20 @@ use Rattle.text.specs.Numbers.{digits}
 use Rattle.text.specs.Join.{join}
 use Rattle.text.specs.Model.{ActionLine, Model}
 use Rattle.model.specs.Text.{levelByte}
-use Rattle.model.specs.Store.{headPlaces, stepPlaces}
+use Rattle.model.specs.Store.{headRow, stepRow}
 
 -- a letter and fields
 abbrev pub lineOf : ℕ → List (List ℕ) → List ℕ
 lineOf letter fields = join byteComma ((letter ∷ []) ∷ fields)
 
 abbrev pub lineOfHead : Head → List ℕ
-lineOfHead h = lineOf byteM (map digits (headPlaces h))
+lineOfHead h = lineOf byteM (map digits (headRow h))
 
 abbrev pub lineOfAction : ActionLine → List ℕ
 lineOfAction a = lineOf byteA ((levelByte (a .level) ∷ []) ∷ a .name ∷ [])
 
 abbrev pub lineOfStep : StepLine → List ℕ
-lineOfStep s = lineOf byteS (map digits (stepPlaces s))
+lineOfStep s = lineOf byteS (map digits (stepRow s))
 
 -- the parts of a model's text between its line ends: its lines, and nothing after the last line end
 abbrev pub partsOf : Model → List (List ℕ)

@@ -1,4 +1,4 @@
--- The role of each action, found once and handed down: 0 low, 1 release, 2 high, as the view of .levels the store.
+-- The role of each action, found once and handed down: 0 low, 1 release, 2 high, as the levels in the store.
 -- Only the contracts of inner functions cite it.
 use mathlib.Core.List.{List}
 use mathlib.Core.Path.{_≡_}

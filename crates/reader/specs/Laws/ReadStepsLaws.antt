@@ -26,7 +26,7 @@ use Rattle.text.specs.declared.line.StepRead.the-variants as step-read
 use Rattle.text.specs.Inner.Scan.{NoLineAt, StepLineAt}
 use Rattle.reader.specs.declared.answers.LineStart.{LineStart}
 use Rattle.reader.specs.Inner.ReadSoFar.{whole, AfterActions, AfterStep, AfterSteps, AfterEnd}
-use Rattle.model.specs.Store.{stepPlaces}
+use Rattle.model.specs.Store.{stepRow}
 use Rattle.model.specs.Laws.Store.StoreLaws.{storeOf-length-of-places}
 use Rattle.model.specs.Laws.Store.PutLaws.{actionsNumbers-length-of-short, storeOf-withStep}
 use Rattle.reader.specs.Laws.ReadLaws.{onLine-absent, onLine-line, orFault-bad, orFault-good, inText-next}
@@ -88,7 +88,7 @@ module _ (h : Head) (text : List ℕ) (start : LineStart) (j : ℕ) (last : Step
 
       step-next : (s : StepLine) → stepOf h (b .steps) (take (e - start .at) (drop (start .at) text)) ≡ good s
           → AfterStep h text (record { at = e + 1; line = start .line + 1 }) (j + 1) s
-          (sets store (stepPlace j) (stepPlaces s))
+          (sets store (stepPlace j) (stepRow s))
       unfolding readSteps
       step-next s r =
           let c : suc (start .line) ≡ start .line + 1 = omega arith in
@@ -121,7 +121,7 @@ module _ (h : Head) (text : List ℕ) (start : LineStart) (j : ℕ) (last : Step
   pub step-taken : (s : StepLine) (next : ℕ)
       → (e : ℕ) × (next ≡ e + 1) × StepLineAt h text (start .at) j last (step-read.Good s) e
       → AfterStep h text (record { at = next; line = start .line + 1 }) (j + 1) s
-      (sets store (stepPlace j) (stepPlaces s))
+      (sets store (stepPlace j) (stepRow s))
   unfolding stepRead
   step-taken s next (e, n, l) =
       rw n (step-next e (l .found) (l .inside) s (l .reads (b .steps) (b .last-step)))

@@ -14,7 +14,7 @@ prepend ns (good ms) = good (ns ++ ms)
 prepend ns (bad fault) = bad fault
 
 -- i numbers of the fields from place `from` on are stored, and the next field begins at place `at`
-pub record Stored (line : List ℕ) (from : ℕ) (out : List ℕ) (at i : ℕ) : Type 0 where
+pub record NumbersStored (line : List ℕ) (from : ℕ) (out : List ℕ) (at i : ℕ) : Type 0 where
   pub at-le : at ≤ length line
   pub count : i + length (split comma (drop at line)) ≡ length out
   pub numbers : numbersOf (split comma (drop from line)) ≡ prepend (take i out) (numbersOf (split comma (drop at line)))

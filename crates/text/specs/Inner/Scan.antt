@@ -6,6 +6,7 @@ use mathlib.Core.Logic.{_⊎_}
 use mathlib.Core.Path.{_≡_}
 use Prim.Native.Nat.{ℕ, _+_, _-_, _≤_, _<_}
 use lib.ListN.{length, take, drop, getD}
+use Rattle.text.specs.Limits.{digitLimit}
 use Rattle.text.specs.declared.Fault.{Fault}
 use Rattle.text.specs.declared.Fault.the-variants.{Absent}
 use Rattle.text.specs.declared.Head.{Head}
@@ -41,7 +42,7 @@ pub record DigitsTo (s : List ℕ) (at e v : ℕ) : Type 0 where
 -- at most five, and a byte of the kind k follows
 pub record DigitsAt (k : ℕ) (s : List ℕ) (at v e : ℕ) : Type 0 where
   pub run : DigitsTo s at e v
-  pub short : e ≤ at + 5
+  pub short : e ≤ at + digitLimit
   pub inside : e < length s
   pub follows : kindOf (getD s e 0) ≡ k
 

@@ -11,6 +11,7 @@ use lib.Dec.{leb, eqb, lit<}
 use lib.ListN.{length, getD, length-append, List·getD-append}
 use borrow.Author.Tests.{leb-true, eqb-true, eqb-false, lt-ltb, le-ltb, ne-eqb}
 use Rattle.lts.specs.TestsLaws.{lt-or-le}
+use Rattle.text.specs.Limits.{digitLimit}
 use Rattle.text.specs.declared.number.Number.the-variants.{Value, Bad}
 use Rattle.text.specs.Bytes.{byteZero, digit, kindOf}
 use Rattle.text.specs.Laws.BytesLaws.{digit-within, digit-kind}
@@ -128,9 +129,9 @@ digitsUpTo-suc (suc k) n h p = go (digitsUpTo-suc k) (lt-or-le n 10)
         let b = before-last k n g h in
         rw (digitsUpTo-le (suc k) n g, digitsUpTo-le k n g, ih (n / 10) (b .0) (b .1))
 
-pub digits-digitsUpTo : (j k n : ℕ) → n < 10 ^ k → 0 < k → j + k ≡ 5 → digits n ≡ digitsUpTo k n
+pub digits-digitsUpTo : (j k n : ℕ) → n < 10 ^ k → 0 < k → j + k ≡ digitLimit → digits n ≡ digitsUpTo k n
 unfolding digits
-digits-digitsUpTo zero k n h p e = let q : k ≡ 5 = omega arith in rw q
+digits-digitsUpTo zero k n h p e = let q : k ≡ digitLimit = omega arith in rw q
 digits-digitsUpTo (suc j) k n h p e =
     let q = pow-suc 10 k in
     digits-digitsUpTo j (suc k) n (omega arith) (omega arith) (omega arith) ∙ digitsUpTo-suc k n h p
@@ -139,11 +140,11 @@ digits-digitsUpTo (suc j) k n h p e =
 
 pub digits-digit : (n : ℕ) → All (λ b. kindOf b ≡ digit) (digits n)
 unfolding digits
-digits-digit n = digitsUpTo-digit 5 n
+digits-digit n = digitsUpTo-digit digitLimit n
 
 -- a number below 10 to the k has at most k digits
-pub digits-length-le : (k n : ℕ) → n < 10 ^ k → 0 < k → k ≤ 5 → length (digits n) ≤ k
-digits-length-le k n h p l = rw (digits-digitsUpTo (5 - k) k n h p (omega arith)) (digitsUpTo-length-le k n)
+pub digits-length-le : (k n : ℕ) → n < 10 ^ k → 0 < k → k ≤ digitLimit → length (digits n) ≤ k
+digits-length-le k n h p l = rw (digits-digitsUpTo (digitLimit - k) k n h p (omega arith)) (digitsUpTo-length-le k n)
 
 -- what is written reads back
 pub numberOf-digits : (n : ℕ) → n < 100000 → numberOf (digits n) ≡ Value n
@@ -205,8 +206,8 @@ digits-of-value b (d ∷ ds) n l z h =
     let m : byteZero + v ≡ b = omega arith in
     let k : ℕ = 1 + suc (length ds) in
     let w = digitsUpTo-of-value (d ∷ ds) v 1 n (omega arith) (omega arith) u in
-    let five : k ≤ 5 = omega arith in
-    let p : 10 ^ k ≤ 10 ^ 5 = pow-le-pow-right (lit< tt) five in
+    let most : k ≤ digitLimit = omega arith in
+    let p : 10 ^ k ≤ 10 ^ digitLimit = pow-le-pow-right (lit< tt) most in
     let c = digits-digitsUpTo (3 - length ds) k n (w .1) (omega arith) (omega arith) in
     let one = digitsUpTo-lt 0 v (omega arith) ∙ ap (λ (x : ℕ). x ∷ []) m in
     (sym (c ∙ w .0 ∙ ap (λ (x : List ℕ). x ++ (d ∷ ds)) one), lt-of-lt-of-le (w .1) p)
@@ -215,12 +216,12 @@ pub digits-of-numberOf : (f : List ℕ) (n : ℕ) → numberOf f ≡ Value n →
 unfolding numberOf numberShape?
 digits-of-numberOf [] n h = let z : _≡_ {A = ℕ} 0 1 = cc in absurd (omega arith)
 digits-of-numberOf (b ∷ []) n h = digits-of-value b [] n (omega arith) (λ z. absurd (omega arith)) h
-digits-of-numberOf (b ∷ c ∷ bs) n h = by-test (leb (length bs) 3) refl (eqb b byteZero) refl h
+digits-of-numberOf (b ∷ c ∷ bs) n h = by-test (leb (length (b ∷ c ∷ bs)) digitLimit) refl (eqb b byteZero) refl h
   where
-    by-test : (s : Bool) → leb (length bs) 3 ≡ s → (t : Bool) → eqb b byteZero ≡ t
+    by-test : (s : Bool) → leb (length (b ∷ c ∷ bs)) digitLimit ≡ s → (t : Bool) → eqb b byteZero ≡ t
         → cond (s && not t) (digitsValue 0 (b ∷ c ∷ bs)) Bad ≡ Value n → (b ∷ c ∷ bs ≡ digits n) × (n < 100000)
     by-test false d t e q = let z : _≡_ {A = ℕ} 0 1 = cc in absurd (omega arith)
     by-test true d true e q = let z : _≡_ {A = ℕ} 0 1 = cc in absurd (omega arith)
     by-test true d false e q =
-        let l = leb-true (length bs) 3 d in
+        let l = leb-true (length (b ∷ c ∷ bs)) digitLimit d in
         digits-of-value b (c ∷ bs) n (omega arith) (λ z. eqb-false b byteZero e) q

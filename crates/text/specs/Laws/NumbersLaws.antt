@@ -9,6 +9,7 @@ use native.Mathlib.Omega.{arith}
 use lib.Dec.{leb}
 use lib.ListN.{length, getD}
 use borrow.Author.Tests.{le-leb, lt-leb, eq-eqb, ne-eqb}
+use Rattle.text.specs.Limits.{digitLimit}
 use Rattle.text.specs.declared.number.Number.the-variants.{Value, Bad}
 use Rattle.text.specs.Bytes.{byteZero, digit, kindOf}
 use Rattle.text.specs.Numbers.{digitsValue, numberShape?, numberOf}
@@ -35,11 +36,11 @@ unfolding numberOf numberShape?
 numberOf-nil [] h = refl
 numberOf-nil (b ∷ bs) h = absurd (omega arith)
 
-pub numberOf-long : (f : List ℕ) → 5 < length f → numberOf f ≡ Bad
+pub numberOf-long : (f : List ℕ) → digitLimit < length f → numberOf f ≡ Bad
 unfolding numberOf numberShape?
 numberOf-long [] h = absurd (omega arith)
 numberOf-long (b ∷ []) h = absurd (omega arith)
-numberOf-long (b ∷ c ∷ bs) h = let l : 3 < length bs = omega arith in rw (lt-leb (length bs) 3 l)
+numberOf-long (b ∷ c ∷ bs) h = rw (lt-leb (length (b ∷ c ∷ bs)) digitLimit h)
 
 pub numberOf-one : (f : List ℕ) → length f ≡ 1 → numberOf f ≡ digitsValue 0 f
 unfolding numberOf numberShape?
@@ -52,13 +53,11 @@ pub numberOf-zero : (f : List ℕ) → 1 < length f → getD f 0 0 ≡ byteZero 
 unfolding numberOf numberShape?
 numberOf-zero [] h z = absurd (omega arith)
 numberOf-zero (b ∷ []) h z = absurd (omega arith)
-numberOf-zero (b ∷ c ∷ bs) h z = rw (eq-eqb b byteZero z, and-false (leb (length bs) 3))
+numberOf-zero (b ∷ c ∷ bs) h z = rw (eq-eqb b byteZero z, and-false (leb (length (b ∷ c ∷ bs)) digitLimit))
 
-pub numberOf-some : (f : List ℕ) → 1 < length f → length f ≤ 5 → (getD f 0 0 ≡ byteZero → ⊥)
+pub numberOf-some : (f : List ℕ) → 1 < length f → length f ≤ digitLimit → (getD f 0 0 ≡ byteZero → ⊥)
     → numberOf f ≡ digitsValue 0 f
 unfolding numberOf numberShape?
 numberOf-some [] h l z = absurd (omega arith)
 numberOf-some (b ∷ []) h l z = absurd (omega arith)
-numberOf-some (b ∷ c ∷ bs) h l z =
-    let m : length bs ≤ 3 = omega arith in
-    rw (le-leb (length bs) 3 m, ne-eqb b byteZero z)
+numberOf-some (b ∷ c ∷ bs) h l z = rw (le-leb (length (b ∷ c ∷ bs)) digitLimit l, ne-eqb b byteZero z)

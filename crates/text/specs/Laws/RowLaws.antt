@@ -19,7 +19,7 @@ use Rattle.text.specs.Laws.SplitLaws.{split-first, split-part, split-las
 use Rattle.text.specs.Laws.FieldsLaws.{split-take}
 use Rattle.text.specs.Lines.{Line, good, bad, consNumber, numbersOf}
 use Rattle.text.specs.Inner.PartAnswers.{rowRead}
-use Rattle.text.specs.Inner.Row.{prepend, Stored}
+use Rattle.text.specs.Inner.Row.{prepend, NumbersStored}
 
 prepend-nil : (l : Line (List ℕ)) → prepend [] l ≡ l
 prepend-nil (good ms) = refl
@@ -45,11 +45,11 @@ unfolding numbersOf consNumber
 numbersOf-bad f fs h = rw h
 
 pub stored-first : (line : List ℕ) (from : ℕ) (out : List ℕ) → from ≤ length line
-    → length (split comma (drop from line)) ≡ length out → Stored line from out from 0
+    → length (split comma (drop from line)) ≡ length out → NumbersStored line from out from 0
 stored-first line from out le n =
     record { at-le = le; count = omega arith; numbers = sym (prepend-nil (numbersOf (split comma (drop from line)))) }
 
-module _ (line : List ℕ) (from : ℕ) (out : List ℕ) (at i : ℕ) (s : Stored line from out at i) where
+module _ (line : List ℕ) (from : ℕ) (out : List ℕ) (at i : ℕ) (s : NumbersStored line from out at i) where
   -- there is always a field left
   pub stored-lt : i < length out
   stored-lt =
@@ -79,7 +79,7 @@ module _ (line : List ℕ) (from : ℕ) (out : List ℕ) (at i : ℕ) (s : Store
           ∙ prepend-cons (take i out) v (numbersOf fs)
           ∙ rw (add-one, take-suc-set out i v l)
 
-      pub stored-next : e < length line → Stored line from (set out i v) (e + 1) (i + 1)
+      pub stored-next : e < length line → NumbersStored line from (set out i v) (e + 1) (i + 1)
       stored-next h =
           let p = split-part comma line at e (s .at-le) found h in
           let k = ap length p in

@@ -1,4 +1,4 @@
--- The list has the view of .levels the actions up to a.
+-- The list has the levels of the actions up to a.
 use mathlib.Core.Path.{_≡_, refl, _∙_}
 use Prim.Native.Nat.{ℕ, _≤_, _<_, _-_}
 use native.Mathlib.Omega.{arith}

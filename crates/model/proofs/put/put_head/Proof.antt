@@ -3,7 +3,7 @@ use borrow.Author.Needs.{needs}
 use native.Mathlib.Omega.{arith}
 use mathlib.Core.Path.{refl}
 use lib.ListN.{length-set}
-use Rattle.model.specs.Store.{headPlaces}
+use Rattle.model.specs.Store.{headRow}
 use Rattle.model.proofs.put.put_head.Statement.{statement}
 use Rattle.model.proofs.put.put_head.Tie as tie
 
@@ -23,7 +23,7 @@ same-length : tie.Need-same-length
 same-length c = simp length-set
 
 returns : tie.Need-returns
-unfolding headPlaces
+unfolding headRow
 returns c = refl
 
 pub put-head-spec : {M : Type 1} → statement M

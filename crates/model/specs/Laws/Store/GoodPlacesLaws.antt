@@ -5,7 +5,7 @@ use mathlib.Core.Path.{_≡_, refl, sym, ap, _∙_}
 use Prim.Native.Nat.{ℕ, zero, suc, _+_, _-_, _*_, _≤_, _<_}
 use native.Mathlib.Omega.{arith}
 use lib.Dec.{not-T}
-use lib.ListN.{length, getD, take, drop}
+use lib.ListN.{length, take, drop}
 use lib.Seq.{take-add}
 use Rattle.lts.specs.TestsLaws.{and-intro}
 use Rattle.text.specs.Limits.{nameLimit, stateCountPlace, actionCountPlace, stepCountPlace, startPlace, headEnd}
@@ -15,7 +15,7 @@ use Rattle.text.specs.Limits.{actionPlace, nameLengthPlace, namePlace, stepPlac
 use Rattle.text.specs.Bytes.{between?}
 use Rattle.text.specs.Model.{aboveLast?}
 use Rattle.text.specs.Lines.{allOf, nameByte?, name?, used?}
-use Rattle.model.specs.Store.{padded, actionNumbers, actionsNumbers, stepPlaces, stepsNumbers, headPlaces}
+use Rattle.model.specs.Store.{padded, actionNumbers, actionsNumbers, stepRow, stepsNumbers, headRow}
 use Rattle.model.specs.Store.{storeOf}
 use Rattle.model.specs.WellFormed.{ActionFits, StepFits, WellFormed}
 use Rattle.model.specs.StoredModel.{headAt, actionAt, stepAt, listed, modelAt, Holds}
@@ -94,7 +94,7 @@ module _ (s : List ℕ) (fits : storeLength ≤ length s) where
         let d = part-cons s (nameLengthPlace i) (namePlace i) nameLimit (omega arith) (omega arith) in
         rw (l, p, c, d)
 
-    step-numbers : (j : ℕ) → j < headAt s .steps → stepPlaces (stepAt s j) ≡ take stepSize (drop (stepPlace j) s)
+    step-numbers : (j : ℕ) → j < headAt s .steps → stepRow (stepAt s j) ≡ take stepSize (drop (stepPlace j) s)
     step-numbers j h =
         let r = ranges .steps in
         let c = part-cons s (stepPlace j) (actionOfStepPlace j) (stepSize - actionColumn) (omega arith) refl in
@@ -105,8 +105,8 @@ module _ (s : List ℕ) (fits : storeLength ≤ length s) where
 
     -- ---- section by section
 
-    head-section : headPlaces (headAt s) ≡ take headEnd s
-    unfolding headPlaces
+    head-section : headRow (headAt s) ≡ take headEnd s
+    unfolding headRow
     head-section =
         let r = ranges in
         let a = part-cons s stateCountPlace actionCountPlace (headEnd - actionCountPlace) (omega arith) refl in
@@ -137,7 +137,7 @@ module _ (s : List ℕ) (fits : storeLength ≤ length s) where
         let r = ranges in
         let n : ℕ = headAt s .steps in
         let blocks =
-        blocks-listed stepPlaces stepsNumbers stepSize refl (λ t ts. refl) s stepsBegin (stepAt s) n step-numbers in
+        blocks-listed stepRow stepsNumbers stepSize refl (λ t ts. refl) s stepsBegin (stepAt s) n step-numbers in
         ap (padded stepsLength) blocks
         ∙ padded-part s stepsBegin (stepSize * n) stepsLength (omega arith) (omega arith) (g .unused-steps)
 

@@ -14,7 +14,7 @@ use Rattle.text.specs.Limits.{stepsBegin, stepsLength, stepsEnd, storeLength, a
 use Rattle.text.specs.Bytes.{between?}
 use Rattle.text.specs.Model.{ActionLine, above?, aboveLast?}
 use Rattle.text.specs.Lines.{allOf, nameByte?, name?, used?}
-use Rattle.model.specs.Store.{padded, actionNumbers, actionsNumbers, stepsNumbers, headPlaces, storeOf}
+use Rattle.model.specs.Store.{padded, actionNumbers, actionsNumbers, stepsNumbers, headRow, storeOf}
 use Rattle.model.specs.WellFormed.{ActionFits, StepFits}
 use Rattle.model.specs.StoredModel.{headAt, actionAt, stepAt, listed, modelAt, Holds}
 use Rattle.text.specs.Inner.Ranges.{HeadRanges}
@@ -128,14 +128,14 @@ module _ (s : List ℕ) (fits : storeLength ≤ length s) where
             rw e (subst T (aboveLast?-append (listed k (stepAt s)) (stepAt s k) [] (stepAt s (suc k))) t)
 
     -- the store by its parts, each with what follows it
-    by-parts : s ≡ headPlaces (headAt s)
+    by-parts : s ≡ headRow (headAt s)
         ++ (padded actionsLength (storedActions s)
         ++ (padded stepsLength (storedSteps s) ++ drop storeLength s))
     unfolding modelAt storeOf
     by-parts = holds-store s (modelAt s) holds ∙ simp append-assoc
 
     action-zeros : (k : ℕ) → actionPlace (headAt s .actions) ≤ k → k < actionsEnd → getD s k 0 ≡ 0
-    unfolding modelAt headPlaces
+    unfolding modelAt headRow
     action-zeros k h l =
         let n = actionsNumbers-length [] (listed (headAt s .actions) (actionAt s)) (holds .well-formed .actions) in
         let c = listed-length (headAt s .actions) (actionAt s) in
@@ -143,12 +143,12 @@ module _ (s : List ℕ) (fits : storeLength ≤ length s) where
         let m : length (storedActions s) ≤ k - actionsBegin = omega arith in
         ap (λ (x : ℕ). getD s x 0) e
         ∙ ap (λ (x : List ℕ). getD x (actionsBegin + (k - actionsBegin)) 0) by-parts
-        ∙ padded-zero (headPlaces (headAt s)) (storedActions s) _ actionsLength (k - actionsBegin) m (omega arith)
+        ∙ padded-zero (headRow (headAt s)) (storedActions s) _ actionsLength (k - actionsBegin) m (omega arith)
 
     step-zeros : (k : ℕ) → stepPlace (headAt s .steps) ≤ k → k < stepsEnd → getD s k 0 ≡ 0
-    unfolding modelAt headPlaces
+    unfolding modelAt headRow
     step-zeros k h l =
-        let before : List ℕ = headPlaces (headAt s) ++ padded actionsLength (storedActions s) in
+        let before : List ℕ = headRow (headAt s) ++ padded actionsLength (storedActions s) in
         let a = actions-padded-length (modelAt s) (holds .well-formed) in
         let b : length before ≡ stepsBegin = simp length-append (omega arith) in
         let n = stepsNumbers-length (listed (headAt s .steps) (stepAt s)) in

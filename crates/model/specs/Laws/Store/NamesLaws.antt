@@ -18,7 +18,7 @@ use Rattle.text.specs.Split.{same?}
 use Rattle.text.specs.Laws.SameLaws.{same?→eq, same?-refl, same?-length}
 use Rattle.text.specs.Model.{ActionLine, noAction}
 use Rattle.text.specs.Lines.{used?}
-use Rattle.model.specs.Store.{padded, actionNumbers, actionsNumbers, stepsNumbers, storeOf, headPlaces}
+use Rattle.model.specs.Store.{padded, actionNumbers, actionsNumbers, stepsNumbers, storeOf, headRow}
 use Rattle.model.specs.Inner.StoredActions.{ActionStored, ActionsStored, Short}
 use Rattle.model.specs.Laws.Store.StoreLaws.{actionNumbers-length}
 
@@ -118,7 +118,7 @@ used?-none name before i e = rw (e, drop-length before)
 -- the actions of a model stand in its store
 pub actionsStored-storeOf : (h : Head) (actions : List ActionLine) (steps : List StepLine) → Short actions
     → ActionsStored (storeOf (record { head = h; actions = actions; steps = steps })) actionsBegin actions
-unfolding storeOf padded headPlaces
+unfolding storeOf padded headRow
 actionsStored-storeOf h actions steps short =
     let n : List ℕ = actionsNumbers actions in
     let z : List ℕ = replicate (actionsLength - length n) 0 in

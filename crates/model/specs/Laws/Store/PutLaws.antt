@@ -13,7 +13,7 @@ use Rattle.text.specs.Limits.{actionLimit, stepLimit, nameLimit, headEnd, actio
 use Rattle.text.specs.Limits.{storeLength, actionPlace, stepPlace}
 use Rattle.text.specs.Model.{ActionLine}
 use Rattle.model.specs.Reading.{headModel}
-use Rattle.model.specs.Store.{padded, actionNumbers, actionsNumbers, stepPlaces, stepsNumbers, headPlaces}
+use Rattle.model.specs.Store.{padded, actionNumbers, actionsNumbers, stepRow, stepsNumbers, headRow}
 use Rattle.model.specs.Store.{storeOf}
 use Rattle.model.specs.Inner.StoredActions.{Short}
 use Rattle.model.specs.Laws.Store.BlocksLaws.{padded-length, blocks-snoc}
@@ -80,10 +80,10 @@ copy-suc from to i h l =
 
 -- ---- the first line
 
-pub storeOf-head : (h : Head) → sets (replicate storeLength 0) 0 (headPlaces h) ≡ storeOf (headModel h)
-unfolding headPlaces storeOf padded actionsNumbers stepsNumbers
+pub storeOf-head : (h : Head) → sets (replicate storeLength 0) 0 (headRow h) ≡ storeOf (headModel h)
+unfolding headRow storeOf padded actionsNumbers stepsNumbers
 storeOf-head h =
-    let hp : List ℕ = headPlaces h in
+    let hp : List ℕ = headRow h in
     ap (λ (s : List ℕ). sets s 0 hp) (sym (append-nil (zeros storeLength)))
     ∙ sets-zeros [] hp [] storeLength 0 refl (omega arith)
     ∙ ap (λ (s : List ℕ). hp ++ (s ++ [])) (zeros-split actionsLength stepsLength (storeLength - headEnd) refl)
@@ -132,32 +132,32 @@ pub storeOf-withAction : (h : Head) (actions : List ActionLine) (steps : List St
     → sets (storeOf (record { head = h; actions = actions; steps = steps })) (actionPlace i)
     (a .level ∷ length (a .name) ∷ a .name)
     ≡ storeOf (record { head = h; actions = actions ++ (a ∷ []); steps = steps })
-unfolding storeOf headPlaces
+unfolding storeOf headRow
 storeOf-withAction h actions steps a i c l s n =
     let A : List ℕ = actionsNumbers actions in
     let vs : List ℕ = a .level ∷ length (a .name) ∷ a .name in
     let la = actionsNumbers-length-of-short actions s in
-    let m : length (headPlaces h ++ A) ≡ actionPlace i = length-append (headPlaces h) A ∙ omega arith in
+    let m : length (headRow h ++ A) ≡ actionPlace i = length-append (headRow h) A ∙ omega arith in
     let more = actions-padded-snoc actions a (omega arith) s n in
-    sets-padded actionsLength (headPlaces h) A _ vs (actionPlace i) m (omega arith) ∙ rw more
+    sets-padded actionsLength (headRow h) A _ vs (actionPlace i) m (omega arith) ∙ rw more
 
 -- ---- one more step
 
 stepsNumbers-snoc : (steps : List StepLine) (s : StepLine)
-    → stepsNumbers (steps ++ (s ∷ [])) ≡ stepsNumbers steps ++ stepPlaces s
+    → stepsNumbers (steps ++ (s ∷ [])) ≡ stepsNumbers steps ++ stepRow s
 unfolding stepsNumbers
-stepsNumbers-snoc = blocks-snoc stepPlaces stepsNumbers refl (λ s rest. refl)
+stepsNumbers-snoc = blocks-snoc stepRow stepsNumbers refl (λ s rest. refl)
 
 pub storeOf-withStep : (h : Head) (actions : List ActionLine) (steps : List StepLine) (s : StepLine) (j : ℕ)
     → length (actionsNumbers actions) ≤ actionsLength → length steps ≡ j → j < stepLimit
-    → sets (storeOf (record { head = h; actions = actions; steps = steps })) (stepPlace j) (stepPlaces s)
+    → sets (storeOf (record { head = h; actions = actions; steps = steps })) (stepPlace j) (stepRow s)
     ≡ storeOf (record { head = h; actions = actions; steps = steps ++ (s ∷ []) })
-unfolding storeOf headPlaces
+unfolding storeOf headRow
 storeOf-withStep h actions steps s j f c l =
-    let P : List ℕ = headPlaces h ++ padded actionsLength (actionsNumbers actions) in
+    let P : List ℕ = headRow h ++ padded actionsLength (actionsNumbers actions) in
     let S : List ℕ = stepsNumbers steps in
     let la = padded-length actionsLength (actionsNumbers actions) f in
     let ls = stepsNumbers-length steps in
-    let lp = length-append (headPlaces h) (padded actionsLength (actionsNumbers actions)) in
-    sets-padded-last stepsLength P S (stepPlaces s) (stepPlace j) (length-append P S ∙ omega arith) (omega arith)
+    let lp = length-append (headRow h) (padded actionsLength (actionsNumbers actions)) in
+    sets-padded-last stepsLength P S (stepRow s) (stepPlace j) (length-append P S ∙ omega arith) (omega arith)
     ∙ rw (stepsNumbers-snoc steps s)

@@ -13,7 +13,7 @@ use Rattle.text.specs.Limits.{storeLength, actionPlace, stepPlace}
 use Rattle.text.specs.All.{All}
 use Rattle.text.specs.Laws.AllLaws.{all-intro, all-of-all, all-append}
 use Rattle.text.specs.Model.{ActionLine, Model}
-use Rattle.model.specs.Store.{padded, actionNumbers, actionsNumbers, stepPlaces, stepsNumbers, headPlaces}
+use Rattle.model.specs.Store.{padded, actionNumbers, actionsNumbers, stepRow, stepsNumbers, headRow}
 use Rattle.model.specs.Store.{storeOf}
 use Rattle.model.specs.WellFormed.{EachAfter, ActionFits, StepFits, WellFormed}
 use Rattle.model.specs.Laws.Store.EachLaws.{all-of-each}
@@ -36,8 +36,8 @@ actions-width =
     all-of-each ActionFits (λ a. length (actionNumbers a) ≡ actionSize)
     (λ b a f. actionNumbers-length a (name-length (a .name) (f .name) .1))
 
-steps-width : (ss : List StepLine) → All (λ s. length (stepPlaces s) ≡ stepSize) ss
-steps-width = all-intro (λ s. length (stepPlaces s) ≡ stepSize) (λ s. refl)
+steps-width : (ss : List StepLine) → All (λ s. length (stepRow s) ≡ stepSize) ss
+steps-width = all-intro (λ s. length (stepRow s) ≡ stepSize) (λ s. refl)
 
 pub actionsNumbers-length : (before acts : List ActionLine) → EachAfter ActionFits before acts
     → length (actionsNumbers acts) ≡ actionSize * length acts
@@ -47,11 +47,11 @@ actionsNumbers-length before acts e =
 
 pub stepsNumbers-length : (ss : List StepLine) → length (stepsNumbers ss) ≡ stepSize * length ss
 unfolding stepsNumbers
-stepsNumbers-length ss = blocks-length stepPlaces stepsNumbers stepSize refl (λ s rest. refl) ss (steps-width ss)
+stepsNumbers-length ss = blocks-length stepRow stepsNumbers stepSize refl (λ s rest. refl) ss (steps-width ss)
 
 pub storeOf-length-of-places : (m : Model) → length (actionsNumbers (m .actions)) ≤ actionsLength
     → length (m .steps) ≤ stepLimit → length (storeOf m) ≡ storeLength
-unfolding storeOf headPlaces
+unfolding storeOf headRow
 storeOf-length-of-places m a s =
     let la = padded-length actionsLength (actionsNumbers (m .actions)) a in
     let ls = stepsNumbers-length (m .steps) in
@@ -90,8 +90,8 @@ actionNumbers-storable before a f =
     (omega arith, (omega arith, padded-all Storable (lit< tt) nameLimit (a .name) b))
 
 module _ (m : Model) (w : WellFormed m) where
-  head-storable : All Storable (headPlaces (m .head))
-  unfolding headPlaces
+  head-storable : All Storable (headRow (m .head))
+  unfolding headRow
   head-storable =
       let r = headFits?→HeadRanges (m .head) (w .head) in
       (omega arith, (omega arith, (omega arith, (omega arith, tt))))
@@ -104,7 +104,7 @@ module _ (m : Model) (w : WellFormed m) where
       padded-all Storable (lit< tt) actionsLength (actionsNumbers (m .actions))
       (blocks-all actionNumbers actionsNumbers actionSize refl (λ a rest. refl) Storable (m .actions) each)
 
-  step-storable : (before : List StepLine) (s : StepLine) → StepFits (m .head) before s → All Storable (stepPlaces s)
+  step-storable : (before : List StepLine) (s : StepLine) → StepFits (m .head) before s → All Storable (stepRow s)
   step-storable before s f =
       let r = headFits?→HeadRanges (m .head) (w .head) in
       let u = stepFits?→StepRanges (m .head) s (f .in-range) in
@@ -114,42 +114,42 @@ module _ (m : Model) (w : WellFormed m) where
   unfolding stepsNumbers
   steps-storable =
       let fits = StepFits (m .head) in
-      let each = all-of-each fits (λ s. All Storable (stepPlaces s)) step-storable [] (m .steps) (w .steps) in
+      let each = all-of-each fits (λ s. All Storable (stepRow s)) step-storable [] (m .steps) (w .steps) in
       padded-all Storable (lit< tt) stepsLength (stepsNumbers (m .steps))
-      (blocks-all stepPlaces stepsNumbers stepSize refl (λ s rest. refl) Storable (m .steps) each)
+      (blocks-all stepRow stepsNumbers stepSize refl (λ s rest. refl) Storable (m .steps) each)
 
   pub storeOf-storable : All Storable (storeOf m)
   unfolding storeOf
   storeOf-storable =
       let actions-part : List ℕ = padded actionsLength (actionsNumbers (m .actions)) in
       let steps-part : List ℕ = padded stepsLength (stepsNumbers (m .steps)) in
-      let front = all-append Storable (headPlaces (m .head)) actions-part head-storable actions-storable in
-      all-append Storable (headPlaces (m .head) ++ actions-part) steps-part front steps-storable
+      let front = all-append Storable (headRow (m .head)) actions-part head-storable actions-storable in
+      all-append Storable (headRow (m .head) ++ actions-part) steps-part front steps-storable
 
 -- ---- where each action and each step stands, whatever follows the store
 
 module _ (m : Model) (w : WellFormed m) (rest : List ℕ) where
   pub storeOf-action : (i : ℕ) (d : ActionLine) → i < length (m .actions)
       → (more : List ℕ) × (drop (actionPlace i) (storeOf m ++ rest) ≡ actionNumbers (getD (m .actions) i d) ++ more)
-  unfolding storeOf headPlaces actionsNumbers
+  unfolding storeOf headRow actionsNumbers
   storeOf-action i d h =
       let steps : List ℕ = padded stepsLength (stepsNumbers (m .steps)) ++ rest in
       let zeros : List ℕ = replicate (actionsLength - length (actionsNumbers (m .actions))) 0 in
       let wide = actions-width [] (m .actions) (w .actions) in
       let after : List ℕ = zeros ++ steps in
       let b = blocks-drop actionNumbers actionsNumbers actionSize refl (λ a acts. refl) (m .actions) i d after wide h in
-      let all : List ℕ = headPlaces (m .head) ++ (actionsNumbers (m .actions) ++ (zeros ++ steps)) in
+      let all : List ℕ = headRow (m .head) ++ (actionsNumbers (m .actions) ++ (zeros ++ steps)) in
       let e : storeOf m ++ rest ≡ all = simp (append-assoc, padded-append) in
-      (b .0, ap (drop (actionPlace i)) e ∙ drop-append-add (headPlaces (m .head)) _ (actionSize * i) ∙ b .1)
+      (b .0, ap (drop (actionPlace i)) e ∙ drop-append-add (headRow (m .head)) _ (actionSize * i) ∙ b .1)
 
   pub storeOf-step : (j : ℕ) (d : StepLine) → j < length (m .steps)
-      → (more : List ℕ) × (drop (stepPlace j) (storeOf m ++ rest) ≡ stepPlaces (getD (m .steps) j d) ++ more)
-  unfolding storeOf headPlaces stepsNumbers
+      → (more : List ℕ) × (drop (stepPlace j) (storeOf m ++ rest) ≡ stepRow (getD (m .steps) j d) ++ more)
+  unfolding storeOf headRow stepsNumbers
   storeOf-step j d h =
-      let before : List ℕ = headPlaces (m .head) ++ padded actionsLength (actionsNumbers (m .actions)) in
+      let before : List ℕ = headRow (m .head) ++ padded actionsLength (actionsNumbers (m .actions)) in
       let zeros : List ℕ = replicate (stepsLength - length (stepsNumbers (m .steps))) 0 in
       let wide = steps-width (m .steps) in
-      let b = blocks-drop stepPlaces stepsNumbers stepSize refl (λ s ss. refl) (m .steps) j d (zeros ++ rest) wide h in
+      let b = blocks-drop stepRow stepsNumbers stepSize refl (λ s ss. refl) (m .steps) j d (zeros ++ rest) wide h in
       let all : List ℕ = before ++ (stepsNumbers (m .steps) ++ (zeros ++ rest)) in
       let e : storeOf m ++ rest ≡ all = simp (append-assoc, padded-append) in
       let l = actions-padded-length m w in

@@ -16,7 +16,7 @@ use Rattle.text.specs.Model.{ActionLine, Model, noAction, noStep}
 use Rattle.model.specs.Laws.Text.ReadingLaws.{readText-modelText, readText-well-formed, states-of-readText}
 use Rattle.model.specs.Laws.Text.ReadingLaws.{states-m-text, m-text-unique}
 use Rattle.model.specs.Text.{modelText}
-use Rattle.model.specs.Store.{actionNumbers, stepPlaces, headPlaces, storeOf, Good}
+use Rattle.model.specs.Store.{actionNumbers, stepRow, headRow, storeOf, Good}
 use Rattle.model.specs.Laws.Store.StoreLaws.{storeOf-length, storeOf-action, storeOf-step}
 use Rattle.model.specs.StoredModel.{headAt, actionAt, stepAt, listed, modelAt, Holds}
 use Rattle.model.specs.System.{source, action, target, level}
@@ -63,10 +63,10 @@ action-at s i a more e =
     sym (drop-drop nameColumn (actionPlace i) s) ∙ ap (drop nameColumn) e in
     rw (level, n, d, padded-append nameLimit (a .name) more, take-at (a .name) _ (length (a .name)) refl)
 
-step-at : (s : List ℕ) (j : ℕ) (t : StepLine) (more : List ℕ) → drop (stepPlace j) s ≡ stepPlaces t ++ more
+step-at : (s : List ℕ) (j : ℕ) (t : StepLine) (more : List ℕ) → drop (stepPlace j) s ≡ stepRow t ++ more
     → stepAt s j ≡ t
 step-at s j t more e =
-    let all : List ℕ = stepPlaces t ++ more in
+    let all : List ℕ = stepRow t ++ more in
     let source : getD s (stepPlace j) 0 ≡ t .source .0 = first-of-drop s all (stepPlace j) e in
     let action : getD s (actionOfStepPlace j) 0 ≡ t .action .0 = getD-of-drop s all (stepPlace j) actionColumn e in
     let target : getD s (targetPlace j) 0 ≡ t .target .0 = getD-of-drop s all (stepPlace j) targetColumn e in
@@ -81,7 +81,7 @@ module _ (s : List ℕ) (m : Model) (h : Holds s m) where
   holds-store = sym (take-append-drop storeLength s) ∙ ap (λ (l : List ℕ). l ++ drop storeLength s) (sym (h .stored))
 
   pub headAt-holds : headAt s ≡ m .head
-  unfolding storeOf headPlaces
+  unfolding storeOf headRow
   headAt-holds = ap headAt holds-store
 
   pub actionAt-holds : (i : ℕ) (d : ActionLine) → i < length (m .actions) → actionAt s i ≡ getD (m .actions) i d

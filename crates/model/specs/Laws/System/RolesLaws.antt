@@ -15,7 +15,7 @@ use Rattle.model.specs.System.{level, view}
 use Rattle.model.specs.Inner.Roles.{Roles}
 use Rattle.lts.specs.View.{Levels}
 
--- a list of view is .levels a list of roles
+-- a list of levels is a list of roles
 pub roles-of-levels : (m : Model) (n : ℕ) (roles : List ℕ) → ((a : ℕ) → a < n → getD roles a 0 ≡ level m a)
     → Roles (view m .levels) n roles
 roles-of-levels m n roles h = record {

@@ -15,7 +15,7 @@ use Rattle.text.specs.Numbers.{digits}
 use Rattle.text.specs.Model.{aboveLast?}
 use Rattle.text.specs.Lines.{Line, good, bad, checked, numbersLine, headFits?, headNumbers, headFrom, headOf}
 use Rattle.text.specs.Lines.{stepFits?, stepNumbers, rising, stepFrom, stepOf}
-use Rattle.model.specs.Store.{headPlaces, stepPlaces}
+use Rattle.model.specs.Store.{headRow, stepRow}
 use Rattle.text.specs.Inner.Ranges.{HeadRanges, Small}
 use Rattle.text.specs.Laws.RangesLaws.{headFits?→HeadRanges, stepFits?→StepRanges}
 use Rattle.model.specs.WellFormed.{StepFits}
@@ -25,24 +25,24 @@ use Rattle.model.specs.Laws.Text.JoinedFieldsLaws.{line-of-numbersLine}
 
 -- ---- `M,states,actions,steps,start`
 
-headPlaces-small : (h : Head) → HeadRanges h → Small (headPlaces h)
-unfolding headPlaces
-headPlaces-small h r = (omega arith, (omega arith, (omega arith, (omega arith, tt))))
+headRow-small : (h : Head) → HeadRanges h → Small (headRow h)
+unfolding headRow
+headRow-small h r = (omega arith, (omega arith, (omega arith, (omega arith, tt))))
 
-headPlaces-headNumbers : (ns : List ℕ) → length ns ≡ 4 → headPlaces (headNumbers ns) ≡ ns
-unfolding headPlaces
-headPlaces-headNumbers [] h = absurd (omega arith)
-headPlaces-headNumbers (a ∷ []) h = absurd (omega arith)
-headPlaces-headNumbers (a ∷ b ∷ []) h = absurd (omega arith)
-headPlaces-headNumbers (a ∷ b ∷ c ∷ []) h = absurd (omega arith)
-headPlaces-headNumbers (a ∷ b ∷ c ∷ d ∷ []) h = refl
-headPlaces-headNumbers (a ∷ b ∷ c ∷ d ∷ e ∷ ns) h = absurd (omega arith)
+headRow-headNumbers : (ns : List ℕ) → length ns ≡ 4 → headRow (headNumbers ns) ≡ ns
+unfolding headRow
+headRow-headNumbers [] h = absurd (omega arith)
+headRow-headNumbers (a ∷ []) h = absurd (omega arith)
+headRow-headNumbers (a ∷ b ∷ []) h = absurd (omega arith)
+headRow-headNumbers (a ∷ b ∷ c ∷ []) h = absurd (omega arith)
+headRow-headNumbers (a ∷ b ∷ c ∷ d ∷ []) h = refl
+headRow-headNumbers (a ∷ b ∷ c ∷ d ∷ e ∷ ns) h = absurd (omega arith)
 
 pub headOf-line : (h : Head) → T (headFits? h) → headOf (lineOfHead h) ≡ good h
-unfolding headOf headFrom headPlaces kindOf
+unfolding headOf headFrom headRow kindOf
 headOf-line h t =
-    let s = headPlaces-small h (headFits?→HeadRanges h t) in
-    let e = numbersLine-line byteM (headPlaces h) (λ z. eqb-false 3 4 refl z) s in
+    let s = headRow-small h (headFits?→HeadRanges h t) in
+    let e = numbersLine-line byteM (headRow h) (λ z. eqb-false 3 4 refl z) s in
     rw (e, headFrom) (checked-good Range (headFits? h) h t)
 
 pub line-of-headOf : (line : List ℕ) (h : Head) → headOf line ≡ good h → (line ≡ lineOfHead h) × T (headFits? h)
@@ -54,26 +54,26 @@ line-of-headOf line h q = by-numbers (numbersLine byteM 4 line) refl q
     by-numbers (good ns) e g =
         let c = good-checked Range (headFits? (headNumbers ns)) (headNumbers ns) h g in
         let w = line-of-numbersLine byteM ns 4 line e in
-        let p = sym (headPlaces-headNumbers ns (w .1)) ∙ ap headPlaces (c .1) in
+        let p = sym (headRow-headNumbers ns (w .1)) ∙ ap headRow (c .1) in
         (w .0 ∙ ap (λ (x : List ℕ). lineOf byteM (map digits x)) p, subst (λ (x : Head). T (headFits? x)) (c .1) (c .0))
     by-numbers (bad fault) e g = let z : _≡_ {A = ℕ} 0 1 = cc in absurd (omega arith)
 
 -- ---- `S,source,action,target`
 
-stepPlaces-stepNumbers : (ns : List ℕ) → length ns ≡ 3 → stepPlaces (stepNumbers ns) ≡ ns
-stepPlaces-stepNumbers [] h = absurd (omega arith)
-stepPlaces-stepNumbers (a ∷ []) h = absurd (omega arith)
-stepPlaces-stepNumbers (a ∷ b ∷ []) h = absurd (omega arith)
-stepPlaces-stepNumbers (a ∷ b ∷ c ∷ []) h = refl
-stepPlaces-stepNumbers (a ∷ b ∷ c ∷ d ∷ ns) h = absurd (omega arith)
+stepRow-stepNumbers : (ns : List ℕ) → length ns ≡ 3 → stepRow (stepNumbers ns) ≡ ns
+stepRow-stepNumbers [] h = absurd (omega arith)
+stepRow-stepNumbers (a ∷ []) h = absurd (omega arith)
+stepRow-stepNumbers (a ∷ b ∷ []) h = absurd (omega arith)
+stepRow-stepNumbers (a ∷ b ∷ c ∷ []) h = refl
+stepRow-stepNumbers (a ∷ b ∷ c ∷ d ∷ ns) h = absurd (omega arith)
 
 module _ (h : Head) (before : List StepLine) where
   pub stepOf-line : (s : StepLine) → HeadRanges h → StepFits h before s → stepOf h before (lineOfStep s) ≡ good s
   unfolding stepOf stepFrom rising kindOf
   stepOf-line s r f =
       let u = stepFits?→StepRanges h s (f .in-range) in
-      let small : Small (stepPlaces s) = (omega arith, (omega arith, (omega arith, tt))) in
-      let e = numbersLine-line byteS (stepPlaces s) (λ z. eqb-false 3 4 refl z) small in
+      let small : Small (stepRow s) = (omega arith, (omega arith, (omega arith, tt))) in
+      let e = numbersLine-line byteS (stepRow s) (λ z. eqb-false 3 4 refl z) small in
       rw (e, stepFrom, checked-good Range (stepFits? h s) s (f .in-range), rising)
       (checked-good Order (aboveLast? before s) s (f .rising))
 
@@ -101,6 +101,6 @@ module _ (h : Head) (before : List StepLine) where
       by-numbers (good ns) e g =
           let c = by-range ns (checked Range (stepFits? h (stepNumbers ns)) (stepNumbers ns)) refl g in
           let w = line-of-numbersLine byteS ns 3 line e in
-          let p = sym (stepPlaces-stepNumbers ns (w .1)) ∙ ap stepPlaces (c .0) in
+          let p = sym (stepRow-stepNumbers ns (w .1)) ∙ ap stepRow (c .0) in
           (w .0 ∙ ap (λ (x : List ℕ). lineOf byteS (map digits x)) p, c .1)
       by-numbers (bad fault) e g = let z : _≡_ {A = ℕ} 0 1 = cc in absurd (omega arith)

@@ -3,7 +3,7 @@
 use mathlib.Core.Bool.{Bool, true, false, cond}
 use mathlib.Core.List.{List, [], _∷_, _++_, map, append-assoc, append-nil}
 use mathlib.Core.Path.{_≡_, refl, sym, ap, _∙_, subst}
-use Prim.Native.Nat.{ℕ, zero, suc, _+_, _<_}
+use Prim.Native.Nat.{ℕ, zero, suc, _<_}
 use native.Mathlib.Omega.{arith}
 use lib.Dec.{T}
 use lib.ListN.{length, length-append}
@@ -65,31 +65,30 @@ module _ {A : Type 0} (line : A → List ℕ) (Fits : List A → A → Type 0) (
     ≡ onLine k parts (λ l rest. orFault k (of before l) (λ x. read n (suc k) (before ++ (x ∷ [])) rest))) where
   lines-read : ((before : List A) (x : A) → Fits before x → of before (line x) ≡ good x)
       → (xs : List A) (k : ℕ) (before : List A) (parts : List (List ℕ)) → 0 < length parts → EachAfter Fits before xs
-      → read (length xs) k before (map line xs ++ parts) ≡ read 0 (k + length xs) (before ++ xs) parts
+      → (next : ℕ) × (read (length xs) k before (map line xs ++ parts) ≡ read 0 next (before ++ xs) parts)
   unfolding EachAfter orFault
-  lines-read reads [] k before parts l e = let z : k + 0 ≡ k = omega arith in rw (append-nil, z)
+  lines-read reads [] k before parts l e = (k, rw append-nil)
   lines-read reads (x ∷ xs) k before parts l e =
       let n : 0 < length (map line xs ++ parts) = simp length-append (omega arith) in
-      let z : suc k + length xs ≡ k + suc (length xs) = omega arith in
       let i = lines-read reads xs (suc k) (before ++ (x ∷ [])) parts l (e .1) in
-      read-suc (length xs) k before (line x ∷ (map line xs ++ parts))
-      ∙ onLine-cons k (line x) (map line xs ++ parts) _ n
-      ∙ rw (reads before x (e .0), orFault, i, z, append-assoc)
+      let q = i .1 in (
+        i .0,
+        read-suc (length xs) k before (line x ∷ (map line xs ++ parts))
+            ∙ onLine-cons k (line x) (map line xs ++ parts) _ n
+            ∙ rw (reads before x (e .0), orFault, q, append-assoc),
+      )
 
-  regroup : (k n : ℕ) (before : List A) (x : A) (xs : List A) (rest : List (List ℕ)) (m : Model)
-      → read 0 (suc k + n) (before ++ (x ∷ []) ++ xs) rest ≡ done m
-      → read 0 (k + suc n) (before ++ (x ∷ xs)) rest ≡ done m
-  regroup k n before x xs rest m h =
-      let z : suc k + n ≡ k + suc n = omega arith in
-      rw (append-assoc, z) at h
+  regroup : (next : ℕ) (before : List A) (x : A) (xs : List A) (rest : List (List ℕ)) (m : Model)
+      → read 0 next (before ++ (x ∷ []) ++ xs) rest ≡ done m
+      → read 0 next (before ++ (x ∷ xs)) rest ≡ done m
+  regroup next before x xs rest m h = rw append-assoc at h
 
   lines-of-done : ((before : List A) (l : List ℕ) (x : A) → of before l ≡ good x → (l ≡ line x) × Fits before x)
       → (n k : ℕ) (before : List A) (parts : List (List ℕ)) (m : Model) → read n k before parts ≡ done m
-      → Stated line Fits n before parts (λ xs rest. read 0 (k + n) (before ++ xs) rest ≡ done m)
+      → Stated line Fits n before parts (λ xs rest. (next : ℕ) × (read 0 next (before ++ xs) rest ≡ done m))
   unfolding EachAfter
   lines-of-done states zero k before parts m h =
-      let z : k + 0 ≡ k = omega arith in
-      record { stated = []; rest = parts; count = refl; lines = refl; fit = tt; after = rw (append-nil, z) h }
+      record { stated = []; rest = parts; count = refl; lines = refl; fit = tt; after = (k, rw append-nil h) }
   lines-of-done states (suc n) k before parts m h =
       let o = onLine-done k parts _ m (sym (read-suc n k before parts) ∙ h) in
       let f = orFault-done k (of before (o .0)) _ m (o .4) in
@@ -101,7 +100,7 @@ module _ {A : Type 0} (line : A → List ℕ) (Fits : List A → A → Type 0) (
         count = ap suc (i .count);
         lines = cc;
         fit = (s .1, i .fit);
-        after = regroup k n before (f .0) (i .stated) (i .rest) m (i .after);
+        after = (i .after .0, regroup (i .after .0) before (f .0) (i .stated) (i .rest) m (i .after .1));
       }
 
 -- ---- the end
@@ -150,9 +149,10 @@ module _ (h : Head) (actions : List ActionLine) where
       → readSteps (length steps) k (model h actions []) (map lineOfStep steps ++ last) ≡ done (model h actions steps)
   unfolding readSteps
   readSteps-lines k steps r e =
+      let s =
       lines-read lineOfStep (StepFits h) (stepOf h) stepsRead (λ n j b p. refl)
-      (λ b s. stepOf-line h b s r) steps k [] last (omega arith) e
-      ∙ readEnd-last (k + length steps) (model h actions steps)
+      (λ b s. stepOf-line h b s r) steps k [] last (omega arith) e in
+      s .1 ∙ readEnd-last (s .0) (model h actions steps)
 
   readSteps-done : (n k : ℕ) (parts : List (List ℕ)) (m : Model) → readSteps n k (model h actions []) parts ≡ done m
       → Stated lineOfStep (StepFits h) n [] parts (λ steps rest. (rest ≡ last) × (model h actions steps ≡ m))
@@ -162,7 +162,7 @@ module _ (h : Head) (actions : List ActionLine) where
       n k [] parts m q)
     where
       ended : Stated lineOfStep (StepFits h) n [] parts
-          (λ steps rest. readSteps 0 (k + n) (model h actions steps) rest ≡ done m)
+          (λ steps rest. (next : ℕ) × (readSteps 0 next (model h actions steps) rest ≡ done m))
           → Stated lineOfStep (StepFits h) n [] parts (λ steps rest. (rest ≡ last) × (model h actions steps ≡ m))
       ended s =
           record {
@@ -171,7 +171,7 @@ module _ (h : Head) (actions : List ActionLine) where
             count = s .count;
             lines = s .lines;
             fit = s .fit;
-            after = readEnd-done (k + n) (model h actions (s .stated)) m (s .rest) (s .after);
+            after = readEnd-done (s .after .0) (model h actions (s .stated)) m (s .rest) (s .after .1);
           }
 
 abbrev actionsRead : Head → ℕ → ℕ → List ActionLine → List (List ℕ) → Reading
@@ -184,13 +184,15 @@ readModel-parts m w =
     let from-steps : List (List ℕ) = map lineOfStep (m .steps) ++ last in
     let k : 0 < length from-steps = simp length-append (omega arith) in
     let l : 0 < length (map lineOfAction (m .actions) ++ from-steps) = simp length-append (omega arith) in
+    let a =
+    lines-read lineOfAction ActionFits actionOf (actionsRead h) (λ n j b p. refl) actionOf-line
+    (m .actions) 2 [] from-steps k (w .actions) in
     onLine-cons 1 (lineOfHead h) (map lineOfAction (m .actions) ++ from-steps) _ l
     ∙ rw (headOf-line h (w .head), orFault)
     (ap (λ (n : ℕ). actionsRead h n 2 [] (map lineOfAction (m .actions) ++ from-steps)) (sym (w .action-count))
-    ∙ lines-read lineOfAction ActionFits actionOf (actionsRead h) (λ n j b p. refl) actionOf-line
-    (m .actions) 2 [] from-steps k (w .actions)
-    ∙ ap (λ (n : ℕ). readSteps n (2 + length (m .actions)) (model h (m .actions) []) from-steps) (sym (w .step-count))
-    ∙ readSteps-lines h (m .actions) (2 + length (m .actions)) (m .steps) (headFits?→HeadRanges h (w .head)) (w .steps))
+    ∙ a .1
+    ∙ ap (λ (n : ℕ). readSteps n (a .0) (model h (m .actions) []) from-steps) (sym (w .step-count))
+    ∙ readSteps-lines h (m .actions) (a .0) (m .steps) (headFits?→HeadRanges h (w .head)) (w .steps))
 
 joined : (parts : List (List ℕ)) (h : Head) (actions : List ActionLine) (steps : List StepLine)
     (line : List ℕ) (from-actions from-steps end : List (List ℕ)) → parts ≡ line ∷ from-actions → line ≡ lineOfHead h
@@ -206,10 +208,10 @@ partsOf-of-readModel parts m q = first (onLine-done 1 parts _ m q)
     whole : (line : List ℕ) (rest : List (List ℕ)) (h : Head) → parts ≡ line ∷ rest
         → (line ≡ lineOfHead h) × T (headFits? h)
         → Stated lineOfAction ActionFits (h .actions) [] rest
-        (λ actions after. readSteps (h .steps) (2 + h .actions) (model h actions []) after ≡ done m)
+        (λ actions after. (next : ℕ) × (readSteps (h .steps) next (model h actions []) after ≡ done m))
         → WellFormed m × (parts ≡ partsOf m)
     whole line rest h p l a =
-        let s = readSteps-done h (a .stated) (h .steps) (2 + h .actions) (a .rest) m (a .after) in
+        let s = readSteps-done h (a .stated) (h .steps) (a .after .0) (a .rest) m (a .after .1) in
         subst (λ (n : Model). WellFormed n × (parts ≡ partsOf n)) (s .after .1) (
           record { head = l .1; action-count = a .count; step-count = s .count; actions = a .fit; steps = s .fit },
           joined parts h (a .stated) (s .stated) line rest (a .rest) (s .rest) p (l .0) (a .lines) (s .lines)

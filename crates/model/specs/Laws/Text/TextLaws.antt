@@ -21,7 +21,7 @@ use Rattle.text.specs.Laws.JoinLaws.{join-cons, all-join}
 use Rattle.text.specs.Model.{ActionLine, Model}
 use Rattle.text.specs.Lines.{good, headFits?, headOf, name?, actionOf, stepOf}
 use Rattle.model.specs.Text.{headText, levelByte, actionText, stepText, actionsText, stepsText, modelText}
-use Rattle.model.specs.Store.{headPlaces, stepPlaces}
+use Rattle.model.specs.Store.{headRow, stepRow}
 use Rattle.model.specs.WellFormed.{ActionFits, StepFits, WellFormed}
 use Rattle.model.specs.Laws.Store.EachLaws.{all-of-each}
 use Rattle.model.specs.Inner.LineText.{NameByte, LineByte, lineOf, lineOfHead, lineOfAction}
@@ -32,7 +32,7 @@ use Rattle.model.specs.Laws.Text.LineTextLaws.{line-of-headOf, line-of-s
 -- ---- a line's text is the line and its end
 
 pub headText-line : (h : Head) → headText h ≡ lineOfHead h ++ (byteLineEnd ∷ [])
-unfolding headText join headPlaces
+unfolding headText join headRow
 headText-line h = simp append-assoc
 
 pub actionText-line : (a : ActionLine) → actionText a ≡ lineOfAction a ++ (byteLineEnd ∷ [])
@@ -138,11 +138,11 @@ lineOf-lineBytes letter fs e h =
 
 pub lineOfHead-lineBytes : (h : Head) → All LineByte (lineOfHead h)
 unfolding kindOf
-lineOfHead-lineBytes h = lineOf-lineBytes byteM (map digits (headPlaces h)) refl (digits-lineBytes (headPlaces h))
+lineOfHead-lineBytes h = lineOf-lineBytes byteM (map digits (headRow h)) refl (digits-lineBytes (headRow h))
 
 pub lineOfStep-lineBytes : (s : StepLine) → All LineByte (lineOfStep s)
 unfolding kindOf
-lineOfStep-lineBytes s = lineOf-lineBytes byteS (map digits (stepPlaces s)) refl (digits-lineBytes (stepPlaces s))
+lineOfStep-lineBytes s = lineOf-lineBytes byteS (map digits (stepRow s)) refl (digits-lineBytes (stepRow s))
 
 pub lineOfAction-lineBytes : (a : ActionLine) → T (name? (a .name)) → All LineByte (lineOfAction a)
 unfolding kindOf

@@ -25,8 +25,8 @@ enum-known-stepped c = search needs
 enum-known-stepped-2 : tie.Need-enum-known-stepped-2
 enum-known-stepped-2 c = search needs
 
-end-requires : tie.Need-end-requires
-end-requires c κs =
+last-line-requires : tie.Need-last-line-requires
+last-line-requires c κs =
     let k = c .before .before in
     let s = k .before .before .before .before in
     let a = s .before .before .before .before .before .before .before in
@@ -55,7 +55,7 @@ same-length-3 : tie.Need-same-length-3
 same-length-3 c = search needs
 
 returns-3 : tie.Need-returns-3
-returns-3 c = c .end .ensures
+returns-3 c = c .last-line .ensures
 
 pub lines-spec : {M : Type 1} → statement M
 lines-spec =
@@ -67,7 +67,7 @@ lines-spec =
     steps-requires
     enum-known-stepped
     enum-known-stepped-2
-    end-requires
+    last-line-requires
     same-length
     returns
     same-length-2

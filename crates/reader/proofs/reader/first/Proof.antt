@@ -43,7 +43,7 @@ use Rattle.text.proofs.line.HeadRead.Laws as E′
 use Rattle.reader.specs.declared.reader.Reader.{Reader}
 use Rattle.reader.proofs.reader.Reader as T
 use Rattle.reader.proofs.reader.Reader.Laws as T′
-use Rattle.reader.proofs.ReaderParts.{life, row, textValue, ReaderOwn, Parts, lends, hands}
+use Rattle.reader.proofs.ReaderParts.{life, row, textValue, ReaderOwn, Parts, hands}
 use Rattle.reader.proofs.body.first_line as first-line
 use Rattle.reader.proofs.body.first_line.Symbol as first-line-def
 use Rattle.reader.proofs.body.first_line.Met as first-line-thm

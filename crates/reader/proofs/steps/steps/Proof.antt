@@ -45,8 +45,8 @@ returns c =
 enum-known-read-2 : tie.Need-enum-known-read-2 Inv-loop μ-loop
 enum-known-read-2 c = search needs
 
-cast-t21 : tie.Need-cast-t21 Inv-loop μ-loop
-cast-t21 c = omega arith
+cast-t22 : tie.Need-cast-t22 Inv-loop μ-loop
+cast-t22 c = omega arith
 
 put-step-requires : tie.Need-put-step-requires Inv-loop μ-loop
 put-step-requires c κs =
@@ -56,9 +56,9 @@ put-step-requires c κs =
     let m = b .limits .steps in
     omega arith
 
-add-t23 : tie.Need-add-t23 Inv-loop μ-loop
-add-t23 c =
-    let l = c .before .before .before .before .before .before .before .before .before .before in
+add-t24 : tie.Need-add-t24 Inv-loop μ-loop
+add-t24 c =
+    let l = c .before .before .before .before .before .before .before .before .before in
     let i = l .loop .inv .2 .inside in
     omega (arith, i .place, i .line-le)
 
@@ -70,7 +70,7 @@ loop-less c = omega arith
 
 loop-again : tie.Need-loop-again Inv-loop μ-loop
 loop-again c =
-    let p = c .before .before .before in
+    let p = c .before .before in
     let r = p .before .before .before in
     let a = r .before .before in
     let l = a .before .before in (
@@ -101,9 +101,9 @@ steps-spec =
     same-length
     returns
     enum-known-read-2
-    cast-t21
+    cast-t22
     put-step-requires
-    add-t23
+    add-t24
     add-j
     loop-less
     loop-again

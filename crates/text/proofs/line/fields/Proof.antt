@@ -5,8 +5,9 @@ use Prim.Native.Nat.{_+_, _≤_}
 use native.Mathlib.Omega.{arith}
 use lib.ListN.{length, drop, getD}
 use borrow.Author.Needs.{needs}
-use Rattle.text.specs.Bytes.{comma, kindOf}
+use Rattle.text.specs.Bytes.{comma}
 use Rattle.text.specs.Split.{split}
+use Rattle.text.specs.Laws.DecidesLaws.{decides-passed, decides-refused}
 use Rattle.text.specs.Laws.FieldsLaws.{byte-field}
 use Rattle.text.specs.Laws.FieldsLaws.{fields-other-count, fields-other-place, fields-other-letter, fields-yes}
 use Rattle.text.proofs.line.fields.Statement.{statement}
@@ -36,26 +37,24 @@ find-requires c κs = search needs
 returns-2 : tie.Need-returns-2
 returns-2 c = fields-other-place _ _ _ _ (c .before .find .ensures) (c .if2 .taken)
 
-shared-slice-read-b : tie.Need-shared-slice-read-b
-shared-slice-read-b c = omega (arith, first (c .before) .0)
+shared-slice-read-is-letter : tie.Need-shared-slice-read-is-letter
+shared-slice-read-is-letter c = omega (arith, first (c .before) .0)
 
-kind-requires : tie.Need-kind-requires
-kind-requires c κs = search needs
+is-letter-requires : tie.Need-is-letter-requires
+is-letter-requires c κs = search needs
 
 returns-3 : tie.Need-returns-3
 returns-3 c =
-    let b = c .before in
-    let e = b .before .before in
-    let capital = e .before .before .before .before .before .pre .0 in
-    fields-other-letter _ _ _ (first e .1) (λ z. c .if3 .taken (b .kind .ensures ∙ ap kindOf z ∙ capital))
+    let l = c .before in
+    fields-other-letter _ _ _ (first (l .before .before) .1)
+    (decides-refused (l .is-letter .result) _ (l .is-letter .ensures) (c .if3 .taken))
 
 returns-4 : tie.Need-returns-4
-returns-4 c = fields-other-letter _ _ _ (first (c .before .before .before .before) .1) (c .if4 .taken)
-
-returns-5 : tie.Need-returns-5
-returns-5 c =
-    let e = c .before .before .before .before in
-    fields-yes _ _ _ (first e .1) (first e .0) (counted e) (c .if4 .left)
+returns-4 c =
+    let l = c .before in
+    let e = l .before .before in
+    fields-yes _ _ _ (first e .1) (first e .0) (counted e)
+    (decides-passed (l .is-letter .result) _ (l .is-letter .ensures) (c .if3 .left))
 
 pub fields-spec : {M : Type 1} → statement M
 fields-spec =
@@ -65,8 +64,7 @@ fields-spec =
     returns
     find-requires
     returns-2
-    shared-slice-read-b
-    kind-requires
+    shared-slice-read-is-letter
+    is-letter-requires
     returns-3
-    returns-4
-    returns-5)
+    returns-4)

@@ -7,14 +7,14 @@ use borrow.Author.Needs.{needs}
 use Rattle.text.specs.Bytes.{comma}
 use Rattle.text.specs.Laws.SplitLaws.{found-le}
 use Rattle.text.specs.Inner.PartAnswers.{rowRead}
-use Rattle.text.specs.Inner.Row.{Stored}
+use Rattle.text.specs.Inner.Row.{NumbersStored}
 use Rattle.text.specs.Laws.RowLaws.{stored-first, stored-lt, stored-bad, stored-next, stored-last}
 use Rattle.text.proofs.line.numbers.Statement.{statement}
 use Rattle.text.proofs.line.numbers.Tie as tie
 
 abbrev Inv-loop : tie.InvT-loop
 Inv-loop kinds line from out₀ at₀ i₀ out at i =
-    (length out ≡ length out₀) × (i ≤ length out₀) × Stored line from out at i
+    (length out ≡ length out₀) × (i ≤ length out₀) × NumbersStored line from out at i
 
 abbrev μ-loop : tie.MeasureT-loop
 μ-loop kinds line from out₀ at₀ i₀ out at i = length out₀ - i

@@ -1,7 +1,9 @@
 -- `begins` tests that there are two bytes, then each of them.
-use mathlib.Core.Path.{sym, _∙_}
+use mathlib.Core.Path.{refl, sym, _∙_}
 use native.Mathlib.Omega.{arith}
 use borrow.Author.Needs.{needs}
+use Rattle.text.specs.Bytes.{kindOf}
+use Rattle.text.specs.Laws.DecidesLaws.{decides-passed}
 use Rattle.text.specs.Laws.FieldsLaws.{clash}
 use Rattle.text.proofs.scan.begins.Statement.{statement}
 use Rattle.text.proofs.scan.begins.Tie as tie
@@ -12,17 +14,15 @@ sub-if1 c = search needs
 returns : tie.Need-returns
 returns c z = absurd (clash z)
 
-shared-slice-read-letter : tie.Need-shared-slice-read-letter
-shared-slice-read-letter c = search needs
+shared-slice-read-is-letter : tie.Need-shared-slice-read-is-letter
+shared-slice-read-is-letter c = search needs
 
-kind-requires : tie.Need-kind-requires
-kind-requires c κs = search needs
+is-letter-requires : tie.Need-is-letter-requires
+unfolding kindOf
+is-letter-requires c κs = (refl, search needs)
 
 returns-2 : tie.Need-returns-2
 returns-2 c z = absurd (clash z)
-
-returns-3 : tie.Need-returns-3
-returns-3 c z = absurd (clash z)
 
 add-kind : tie.Need-add-kind
 add-kind c = search needs
@@ -30,19 +30,21 @@ add-kind c = search needs
 shared-slice-read-kind : tie.Need-shared-slice-read-kind
 shared-slice-read-kind c = search needs
 
-kind-requires-2 : tie.Need-kind-requires-2
-kind-requires-2 c κs = search needs
+kind-requires : tie.Need-kind-requires
+kind-requires c κs = search needs
+
+returns-3 : tie.Need-returns-3
+returns-3 c z = absurd (clash z)
 
 returns-4 : tie.Need-returns-4
-returns-4 c z = absurd (clash z)
-
-returns-5 : tie.Need-returns-5
-returns-5 c z =
+returns-4 c z =
     let k = c .before in
+    let p = k .before .before in
+    let l = p .before in
     record {
       room = omega arith;
-      letter = k .before .before .if3 .left;
-      separated = sym (k .kind2 .ensures) ∙ c .if4 .left;
+      letter = decides-passed (l .is-letter .result) _ (l .is-letter .ensures) (p .if2 .left);
+      separated = sym (k .kind .ensures) ∙ c .if3 .left;
     }
 
 pub begins-spec : {M : Type 1} → statement M
@@ -51,12 +53,11 @@ begins-spec =
     (tie.spec
     sub-if1
     returns
-    shared-slice-read-letter
-    kind-requires
+    shared-slice-read-is-letter
+    is-letter-requires
     returns-2
-    returns-3
     add-kind
     shared-slice-read-kind
-    kind-requires-2
-    returns-4
-    returns-5)
+    kind-requires
+    returns-3
+    returns-4)

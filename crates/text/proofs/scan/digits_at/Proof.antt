@@ -7,6 +7,7 @@ use native.Mathlib.Omega.{arith}
 use lib.Dec.{lit<}
 use lib.ListN.{length, getD}
 use borrow.Author.Needs.{needs}
+use Rattle.text.specs.Limits.{digitLimit}
 use Rattle.text.specs.Laws.BytesLaws.{digit-within}
 use Rattle.text.specs.Laws.NumbersLaws.{pow-next}
 use Rattle.text.specs.Inner.Scan.{DigitsTo, Scanned}
@@ -16,7 +17,7 @@ use Rattle.text.proofs.scan.digits_at.Tie as tie
 
 abbrev Inv-loop : tie.InvT-loop
 Inv-loop kinds s at k v₀ i₀ v i =
-    (at ≤ i) × (i ≤ at + 5) × (i ≤ length s) × (v < 10 ^ (i - at)) × DigitsTo s at i v
+    (at ≤ i) × (i ≤ at + digitLimit) × (i ≤ length s) × (v < 10 ^ (i - at)) × DigitsTo s at i v
 
 abbrev μ-loop : tie.MeasureT-loop
 μ-loop kinds s at k v₀ i₀ v i = length s - i

@@ -9,8 +9,8 @@ use Rattle.text.specs.Laws.DecidesLaws.{decides-passed, decides-refused}
 use Rattle.text.specs.Laws.SplitLaws.{found-le}
 use Rattle.reader.specs.Inner.ReadSoFar.{AfterSteps, Through}
 use Rattle.reader.specs.Laws.ReadStepsLaws.{end-absent, end-long, end-other, end-more, end-done}
-use Rattle.reader.proofs.body.end.Statement.{statement}
-use Rattle.reader.proofs.body.end.Tie as tie
+use Rattle.reader.proofs.body.last_line.Statement.{statement}
+use Rattle.reader.proofs.body.last_line.Tie as tie
 
 -- the contexts of the search and of the place behind it, where the line has an end
 abbrev start : (f : tie.After-find) → let a = f .before .before .before .args in
@@ -83,8 +83,8 @@ returns-5 c =
     (l .before .before .if2 .left)
     (decides-passed (l .is-letter .result) _ (l .is-letter .ensures) (c .before .if3 .left)) (c .if4 .left)
 
-pub end-spec : {M : Type 1} → statement M
-end-spec =
+pub last-line-spec : {M : Type 1} → statement M
+last-line-spec =
     tie.close
     (tie.spec
     find-requires
