@@ -36,7 +36,7 @@ fn is_low(roles: &[u16], a: Action) -> bool
 }
 
 // The step of p with the action a.
-fn find(store: &[u16], begins: &[u16], p: State, a: Action) -> Found
+fn step_of_action(store: &[u16], begins: &[u16], p: State, a: Action) -> Found
     requires { ⌜ Stored (now store) (modelAt (now store)) ⌝ }
     requires { ⌜ (indexLength ≤ length (now begins))
         × Index (modelAt (now store)) (modelAt (now store) .head .states) (now begins) ⌝ }
@@ -66,7 +66,7 @@ fn unanswered(store: &[u16], begins: &[u16], roles: &[u16], q: State, j: Step) -
     if !is_low(roles, a) {
         return false;
     }
-    match find(store, begins, q, a) {
+    match step_of_action(store, begins, q, a) {
         Found::At(_) => false,
         Found::Nothing => true,
     }
@@ -109,7 +109,7 @@ fn answer(
     if !is_low(roles, a) {
         return Found::Nothing;
     }
-    match find(store, begins, q, a) {
+    match step_of_action(store, begins, q, a) {
         Found::Nothing => Found::Nothing,
         Found::At(i) => {
             let x = model::store::target(store, j);
