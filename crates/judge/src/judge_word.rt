@@ -46,7 +46,7 @@ pub fn judge_word(
     }
     let mut begins = [0u16; INDEX_LENGTH];
     let mut roles = [0u16; ROLES_LENGTH];
-    let v = verdicts::judging::judge_good(store, &mut begins, &mut roles, distances, table);
+    let v = crate::judge::judge_good(store, &mut begins, &mut roles, distances, table);
     if word.len() < WORD_LENGTH {
         return JudgeWordAnswer {
             judge: JudgeAnswer::Judged(v),

@@ -6,8 +6,6 @@ use text::limits::ROLES_LENGTH;
 use text::limits::STORE_LENGTH;
 use text::limits::TABLE_LENGTH;
 use text::limits::WORD_LENGTH;
-ghost use Prim.Native.Nat.{_<_};
-ghost use lib.ListN.{length};
 ghost use Rattle.judge.specs.WordPromise.{wordOutcome, WordPromise};
 
 // What Word answers: what is shown of a good store.
@@ -40,7 +38,7 @@ pub fn word(store: &[u16], distances: &mut [u16], table: &mut [u8], word: &mut [
     }
     let mut begins = [0u16; INDEX_LENGTH];
     let mut roles = [0u16; ROLES_LENGTH];
-    let verdict = verdicts::judging::judge_good(store, &mut begins, &mut roles, distances, table);
+    let verdict = crate::judge::judge_good(store, &mut begins, &mut roles, distances, table);
     let shown = letters::word::show(store, &begins, &roles, distances, table, verdict, word);
     WordAnswer::Shown(shown)
 }

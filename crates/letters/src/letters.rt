@@ -1,14 +1,12 @@
 // The letters of a word: low steps of one state that another state answers, or has no answer to.
 use crate::branch::Found;
+use moves::moves::is_low;
 use text::Action;
 use text::State;
 use text::Step;
-use text::limits::LOW;
-ghost use mathlib.Core.Path.{_≡_};
 ghost use Prim.Native.Nat.{_+_, _≤_, _<_};
-ghost use lib.ListN.{length, getD};
+ghost use lib.ListN.{length};
 ghost use Rattle.text.specs.Decides.{Decides};
-ghost use Rattle.text.specs.Model.{low};
 ghost use Rattle.model.specs.StoredModel.{modelAt};
 ghost use Rattle.model.specs.System.{ReachableIn, DeterministicModel};
 ghost use Rattle.text.specs.Limits.{indexLength};
@@ -23,20 +21,8 @@ pub struct Letter {
     pub to: Step,
 }
 
-// Whether an action is low, by its role.
-fn is_low(roles: &[u16], a: Action) -> bool
-    requires { ⌜ a .0 < length (now roles) ⌝ }
-    ensures { λ r. ⌜ Decides r (getD (now (roles .entry)) (a .0) 0 ≡ low) ⌝ }
-{
-    let of = a.0 as usize;
-    if roles[of] != LOW {
-        return false;
-    }
-    true
-}
-
 // The step of p with the action a.
-fn find(store: &[u16], begins: &[u16], p: State, a: Action) -> Found
+fn step_of_action(store: &[u16], begins: &[u16], p: State, a: Action) -> Found
     requires { ⌜ Stored (now store) (modelAt (now store)) ⌝ }
     requires { ⌜ (indexLength ≤ length (now begins))
         × Index (modelAt (now store)) (modelAt (now store) .head .states) (now begins) ⌝ }
@@ -66,7 +52,7 @@ fn unanswered(store: &[u16], begins: &[u16], roles: &[u16], q: State, j: Step) -
     if !is_low(roles, a) {
         return false;
     }
-    match find(store, begins, q, a) {
+    match step_of_action(store, begins, q, a) {
         Found::At(_) => false,
         Found::Nothing => true,
     }
@@ -105,11 +91,11 @@ fn answer(
     requires { ⌜ (0 < k) × (j .0 < length (modelAt (now store) .steps)) ⌝ }
     ensures { λ r. ⌜ FoundFirst (Answer (modelAt (now (store .entry))) (q .0) k (j .0)) r ⌝ }
 {
-    let a = model::store::action(store, j);
-    if !is_low(roles, a) {
+    let action = model::store::action(store, j);
+    if !is_low(roles, action) {
         return Found::Nothing;
     }
-    match find(store, begins, q, a) {
+    match step_of_action(store, begins, q, action) {
         Found::Nothing => Found::Nothing,
         Found::At(i) => {
             let x = model::store::target(store, j);

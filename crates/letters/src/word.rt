@@ -5,7 +5,7 @@ use text::State;
 use text::Step;
 use verdicts::judging::Verdict;
 ghost use mathlib.Core.List.{[], _∷_};
-ghost use Prim.Native.Nat.{_≤_, _<_};
+ghost use Prim.Native.Nat.{_≤_};
 ghost use lib.ListN.{length};
 ghost use Rattle.text.specs.Limits.{wordLength};
 ghost use Rattle.model.specs.StoredModel.{modelAt};

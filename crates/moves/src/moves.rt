@@ -1,10 +1,14 @@
 // The moves that are played, as lists: the low steps of each state. No other module knows what a move is.
+use text::Action;
 use text::State;
 use text::Step;
 use text::limits::LOW;
+ghost use mathlib.Core.Path.{_≡_};
 ghost use Prim.Native.Nat.{_+_, _≤_, _<_};
 ghost use lib.ListN.{length, getD};
+ghost use Rattle.text.specs.Decides.{Decides};
 ghost use Rattle.text.specs.Limits.{actionLimit, stepLimit};
+ghost use Rattle.text.specs.Model.{low};
 ghost use Rattle.model.specs.StoredModel.{modelAt};
 ghost use Rattle.model.specs.Inner.Stored.{Stored};
 ghost use Rattle.model.specs.Inner.Index.{Index};
@@ -14,6 +18,18 @@ ghost use Rattle.ranking.specs.MoveList.{Lists};
 ghost use Rattle.moves.specs.Inner.Listing.{Appended, LowAmong};
 ghost use Rattle.model.specs.System.{view};
 ghost use Rattle.lts.specs.Noninterference.{LowMove};
+
+// Whether an action is low, by its role.
+pub fn is_low(roles: &[u16], a: Action) -> bool
+    requires { ⌜ a .0 < length (now roles) ⌝ }
+    ensures { λ r. ⌜ Decides r (getD (now (roles .entry)) (a .0) 0 ≡ low) ⌝ }
+{
+    let of = a.0 as usize;
+    if roles[of] != LOW {
+        return false;
+    }
+    true
+}
 
 // Appends a step to the lists at place `at` if it is low, and yields the next free place.
 fn list_step(
@@ -34,8 +50,7 @@ fn list_step(
     ensures { λ r. ⌜ r ≤ at + 1 ⌝ }
 {
     let a = model::store::action(store, j);
-    let of = a.0 as usize;
-    if roles[of] != LOW {
+    if !is_low(roles, a) {
         return at;
     }
     let q = model::store::target(store, j);

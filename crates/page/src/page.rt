@@ -8,7 +8,6 @@ use text::limits::RUN_LENGTH;
 use text::limits::STORE_LENGTH;
 use text::limits::TABLE_LENGTH;
 use text::limits::WORD_LENGTH;
-ghost use lib.ListN.{length};
 ghost use Rattle.model.specs.StoredModel.{modelAt};
 ghost use Rattle.page.specs.PagePromise.{pageOutcome, PagePromise};
 ghost use Rattle.page.specs.Inner.PageLists.{FirstShort, PageLists, PageMade};
@@ -68,7 +67,7 @@ pub fn page_good(
 {
     let mut begins = [0u16; INDEX_LENGTH];
     let mut roles = [0u16; ROLES_LENGTH];
-    let v = verdicts::judging::judge_good(store, &mut begins, &mut roles, distances, table);
+    let v = judge::judge::judge_good(store, &mut begins, &mut roles, distances, table);
     lines::whole::judged_page(store, &begins, &roles, distances, table, v, run, word, out)
 }
 

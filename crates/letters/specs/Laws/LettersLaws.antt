@@ -16,7 +16,7 @@ use Rattle.text.specs.declared.Step.{Step}
 use Rattle.text.specs.First.{First}
 use Rattle.text.specs.Limits.{pairPlace}
 use Rattle.text.specs.Model.{Model, low}
-use Rattle.model.specs.System.{source, action, target, Steps, ReachableIn, DeterministicModel, view}
+use Rattle.model.specs.System.{source, action, target, ReachableIn, DeterministicModel, view}
 use Rattle.model.specs.Laws.Store.SystemLaws.{deterministicModel→Deterministic}
 use Rattle.model.specs.Inner.Index.{Index}
 use Rattle.model.specs.Inner.Stored.{Stored}

@@ -11,7 +11,7 @@ use Rattle.lts.specs.Alike.{Separated}
 use Rattle.lts.specs.AlikeLaws.{rank-of-separated}
 use Rattle.lts.specs.FirstWordLaws.{first-word-cons}
 use Rattle.lts.specs.RankLaws.{rank-lt}
-use Rattle.lts.specs.Run.{Deterministic, onward}
+use Rattle.lts.specs.Run.{onward}
 use Rattle.lts.specs.Word.{FirstWord}
 use Rattle.lts.specs.WordLaws.{only-from-cons}
 use Rattle.text.specs.Model.{Model}

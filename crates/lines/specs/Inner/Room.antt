@@ -29,6 +29,10 @@ allowsRoom = 9
 abbrev pub letterRoom : ℕ
 letterRoom = 2
 
+-- `F,number,place`
+abbrev pub faultRoom : ℕ
+faultRoom = 14
+
 -- All letters of a word, and the end that allows it: 1,914. `N` takes less.
 abbrev pub shownRoom : ℕ
 shownRoom = nameRoom * wordLength + allowsRoom

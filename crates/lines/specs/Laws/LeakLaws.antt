@@ -13,7 +13,7 @@ use Rattle.text.specs.Laws.DigitsLaws.{digitsUpTo-length-le}
 use Rattle.model.specs.StoredModel.{headAt, actionAt, modelAt}
 use Rattle.model.specs.Laws.Store.StoredModelLaws.{actionAt-holds, Good→Holds, listed-length}
 use Rattle.text.specs.All.{All}
-use Rattle.text.specs.Limits.{nameLengthPlace, namePlace}
+use Rattle.text.specs.Limits.{nameLimit, nameLengthPlace, namePlace}
 use Rattle.writer.specs.Inner.Writable.{Writable}
 use Rattle.writer.specs.Laws.WritableLaws.{name-bytes-at, actionAt-part}
 use Rattle.writer.specs.Wrote.{Wrote}
@@ -61,7 +61,7 @@ module _ {s : List ℕ} (w : Writable s) (a : ℕ) (l : a < length (modelAt s .a
   name-part place len p n =
       ap (λ (x : ActionLine). x .name) (actionAt-part s a (actionAt s a .level) place len refl p n) ∙ nameOf-stored
 
-  pub name-length-le : length (nameOf (modelAt s) a) ≤ 12
+  pub name-length-le : length (nameOf (modelAt s) a) ≤ nameLimit
   name-length-le =
       let b = name-bytes-at s w a name-action-lt .short in
       let t = length-take (getD s (nameLengthPlace a) 0) (drop (namePlace a) s) in

@@ -21,7 +21,7 @@ use Rattle.letters.specs.declared.word.End.{End}
 use Rattle.letters.specs.declared.word.End.the-variants.{Source, Target}
 use Rattle.lines.specs.PageLines.{faultText, faultBytes}
 use Rattle.lines.specs.Inner.Entries.{distanceOf}
-use Rattle.lines.specs.Inner.Room.{verdictRoom, allowsRoom, letterRoom}
+use Rattle.lines.specs.Inner.Room.{verdictRoom, allowsRoom, letterRoom, faultRoom}
 
 -- ---- lengths of texts
 
@@ -88,7 +88,7 @@ pub last-length-le : length (lineBytes last-line) ≤ letterRoom
 unfolding lineText
 last-length-le = omega arith
 
-pub fault-length-le : (number place : ℕ) → length (faultBytes number place) ≤ 14
+pub fault-length-le : (number place : ℕ) → length (faultBytes number place) ≤ faultRoom
 unfolding digits
 fault-length-le number place = omega (
   arith,

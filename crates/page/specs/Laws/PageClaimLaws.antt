@@ -1,7 +1,7 @@
 -- The promise of the path from a text to its page gives demand 3 on the page's bytes.
 -- Document 01, "Demand 3 is one claim [..]"; DEMANDS, 3. Assumes nothing.
 use mathlib.Core.List.{List, [], _∷_, _++_, map}
-use mathlib.Core.Logic.{inl, inr, _↔_}
+use mathlib.Core.Logic.{inl, inr}
 use mathlib.Core.Option.{none}
 use mathlib.Core.Path.{_≡_, refl, sym, ap, subst, _∙_}
 use Prim.Native.Nat.{ℕ, _+_, _<_}

@@ -31,7 +31,7 @@ use Rattle.model.specs.Store.{storeOf}
 use Rattle.model.specs.Laws.Store.StoreLaws.{storeOf-length}
 use Rattle.model.specs.Laws.Store.StoredModelLaws.{holds-storeOf}
 use Rattle.lts.specs.Run.{begin}
-use Rattle.model.specs.System.{Steps, ReachableIn, DeterministicModel, view}
+use Rattle.model.specs.System.{ReachableIn, DeterministicModel, view}
 use Rattle.verdicts.specs.declared.judging.Verdict.{Verdict}
 use Rattle.verdicts.specs.declared.judging.Verdict.the-variants.{Passed}
 use Rattle.model.specs.Inner.Stored.{Stored}
@@ -47,7 +47,7 @@ use Rattle.tell.specs.BenchModels.{closeLow, closeLowText, branching, br
 use Rattle.tell.specs.BenchModels.{printLoop, printLoopText, unreachedPrint, unreachedPrintText}
 use Rattle.tell.specs.Bench.{ReadsAndJudged, refusedAt, JointFact}
 use Rattle.letters.specs.declared.word.End.the-variants.{Source, Target}
-use Rattle.letters.specs.Words.{FirstBranch, WordOf}
+use Rattle.letters.specs.Words.{FirstBranch}
 use Rattle.tell.specs.Inner.WordTest.{unbranched?, low?, allows?, notAfter?, eachWord?, wordOf?}
 use Rattle.tell.specs.Laws.WordTestLaws.{unbranched?→DeterministicModel, wordOf?→WordOf}
 use Rattle.lts.specs.Noninterference.{LowMove}

@@ -2,7 +2,7 @@
 -- is INI by theorem 4, and the word's length is the least rank, below which no low sequence tells two such ends apart.
 -- Document 01, "Demand 3 is one claim [..]"; DEMANDS, 3. Assumes nothing.
 use mathlib.Core.List.{List, [], _∷_}
-use mathlib.Core.Logic.{inl, inr, _↔_}
+use mathlib.Core.Logic.{inl, inr}
 use mathlib.Core.Path.{_≡_, refl, sym, ap, subst, _∙_}
 use Prim.Native.Nat.{ℕ, _≤_}
 use native.Mathlib.Omega.{arith}

@@ -3,7 +3,7 @@
 use mathlib.Core.List.{List, []}
 use mathlib.Core.Path.{_≡_, sym, ap, subst, _∙_}
 use Prim.Native.Nat.{ℕ}
-use Rattle.text.specs.Faults.{Outcome, answers, refuses}
+use Rattle.text.specs.Faults.{Outcome, answers}
 use Rattle.read_write.specs.declared.read.ReadAnswer.{ReadAnswer}
 use Rattle.read_write.specs.ReadPromise.{readOutcome}
 use Rattle.read_write.specs.Laws.ReadPromiseLaws.{readPromise-unique}

@@ -41,19 +41,19 @@ abbrev pub depthAt : Model → ℕ → ℕ
 depthAt m j = let r = rankIn m (source m j) (target m j) in cond (highStep? m j) r 0
 
 -- A step and its depth; depth 0 stands for none.
-pub record Least : Type 0 where
+pub record LeastDepth : Type 0 where
   pub step : ℕ
   pub depth : ℕ
 
 -- What was found, once step n with the depth e is looked at too.
-abbrev pub lookAt : ℕ → ℕ → Least → Least
+abbrev pub lookAt : ℕ → ℕ → LeastDepth → LeastDepth
 lookAt n e found =
     cond (eqb e 0) found
     (cond (eqb (found .depth) 0) (record { step = n; depth = e })
     (cond (ltb e (found .depth)) (record { step = n; depth = e }) found))
 
 -- The lowest step of least depth among those below n.
-unfoldable pub leastBelow : Model → ℕ → Least
+unfoldable pub leastBelow : Model → ℕ → LeastDepth
 leastBelow m zero = record { step = 0; depth = 0 }
 leastBelow m (suc n) =
     let found = leastBelow m n in
@@ -61,7 +61,7 @@ leastBelow m (suc n) =
     lookAt n e found
 
 -- The verdict with the greatest rank `top`, and what was found among all steps.
-abbrev pub verdictFrom : ℕ → Least → Verdict
+abbrev pub verdictFrom : ℕ → LeastDepth → Verdict
 verdictFrom top found = cond (eqb (found .depth) 0) (Passed top) (Refused (record { 0 = found .step }) (found .depth))
 
 abbrev pub verdictOf : Model → Verdict

@@ -1,6 +1,6 @@
 -- The computed verdict is the verdict, so every model of a good store has one.
 -- Document 01, operations 3 and 4. Assumes nothing.
-use mathlib.Core.Bool.{true, false, not, cond}
+use mathlib.Core.Bool.{not, cond}
 use mathlib.Core.List.{List}
 use mathlib.Core.Logic.{_⊎_, inl, inr, ⊎-elim}
 use mathlib.Core.Path.{_≡_, refl, sym, ap, subst, _∙_}
@@ -28,7 +28,7 @@ use Rattle.verdicts.specs.Inner.LeakSearch.{DepthAt, FoundBelow}
 use Rattle.verdicts.specs.Laws.LeakSearchLaws.{found-zero, found-skip, found-keep, found-new}
 use Rattle.verdicts.specs.Laws.LeakSearchLaws.{refused-of-found, no-leak-of-found}
 use Rattle.verdicts.specs.Inner.VerdictTest.{rankIn, reachable?, greatestBelow, greatestRank, highStep?}
-use Rattle.verdicts.specs.Inner.VerdictTest.{depthAt, Least}
+use Rattle.verdicts.specs.Inner.VerdictTest.{depthAt, LeastDepth}
 use Rattle.verdicts.specs.Inner.VerdictTest.{lookAt, leastBelow, verdictFrom, verdictOf}
 use Rattle.lts.specs.Noninterference.{LowMove}
 
@@ -146,11 +146,11 @@ module _ {s : List ℕ} {m : Model} (st : Stored s m) where
 
   -- ---- the search
 
-  look-found : (n e : ℕ) (found : Least) → FoundBelow m n (found .step) (found .depth) → DepthAt m n e
+  look-found : (n e : ℕ) (found : LeastDepth) → FoundBelow m n (found .step) (found .depth) → DepthAt m n e
       → FoundBelow m (n + 1) (lookAt n e found .step) (lookAt n e found .depth)
   look-found n e found f d = by-depth (T-cases (eqb e 0)) (T-cases (eqb (found .depth) 0)) (lt-or-le e (found .depth))
     where
-      New : Least → Type 0
+      New : LeastDepth → Type 0
       New x = FoundBelow m (n + 1) (x .step) (x .depth)
 
       by-depth : T (eqb e 0) ⊎ T (not (eqb e 0)) → T (eqb (found .depth) 0) ⊎ T (not (eqb (found .depth) 0))
@@ -178,7 +178,7 @@ module _ {s : List ℕ} {m : Model} (st : Stored s m) where
   pub verdictOf-judged : Judged m (verdictOf m)
   verdictOf-judged = go (leastBelow m (length (m .steps))) (leastBelow-found (length (m .steps)) (omega arith))
     where
-      go : (found : Least) → FoundBelow m (length (m .steps)) (found .step) (found .depth)
+      go : (found : LeastDepth) → FoundBelow m (length (m .steps)) (found .step) (found .depth)
           → Judged m (verdictFrom (greatestRank m) found)
       go found f = by-depth (T-cases (eqb (found .depth) 0))
         where

@@ -1,11 +1,11 @@
 -- The verdict is pinned: a model has one. It is passed exactly when BNID holds.
 -- Document 01, operation 4; definition 22 of source 000. Assumes nothing.
 use mathlib.Core.List.{List}
-use mathlib.Core.Logic.{_⊎_, _↔_, ⊎-elim}
+use mathlib.Core.Logic.{_↔_, ⊎-elim}
 use mathlib.Core.Path.{_≡_, sym, ap, subst, _∙_}
 use Prim.Native.Nat.{ℕ, _<_}
 use native.Mathlib.Omega.{arith}
-use lib.Dec.{eqb, eqb→eq}
+use lib.Dec.{eqb→eq}
 use Rattle.lts.specs.Alike.{Rank, bisimilar, Bisimilar}
 use Rattle.lts.specs.AlikeLaws.{rank-unique, bisimilar-of-rank}
 use Rattle.lts.specs.TestsLaws.{lt-or-le}

@@ -1,4 +1,4 @@
--- The role says whether step j is low, `find` gives the one step of q with its action, the table the targets' rank.
+-- The role says whether step j is low, `step_of_action` gives q's one step of its action, the table the targets' rank.
 use mathlib.Core.Path.{sym, ap, _∙_}
 use native.Mathlib.Omega.{arith}
 use borrow.Author.Needs.{needs}
@@ -34,8 +34,8 @@ returns c i x =
     decides-refused (tested .is-low .result) _ (tested .is-low .ensures) (c .if1 .taken)
     (letter-role S e l (x .is-low))
 
-find-requires : tie.Need-find-requires
-find-requires c κs =
+step-of-action-requires : tie.Need-step-of-action-requires
+step-of-action-requires c κs =
     let pre = c .before .before .before .before .before .before .before .pre in
     let S = pre .0 .step-lists in
     (S .stored, ((S .index-length, S .index), reachable-state (S .stored) (pre .1 .0 .1)))
@@ -55,7 +55,7 @@ target-requires-2 c κs =
     let found = chosen .before .before in
     let pre = found .before .before .before .before .before .before .before .before .pre in
     let st = pre .0 .step-lists .stored in
-    let f = found-at _ (chosen .i .given .1) (found .find .ensures) in
+    let f = found-at _ (chosen .i .given .1) (found .step-of-action .ensures) in
     (st .length-le, omega (arith, st .steps-le, f .holds .number-lt))
 
 rank-at-requires : tie.Need-rank-at-requires
@@ -65,7 +65,7 @@ rank-at-requires c κs =
     let pre = found .before .before .before .before .before .before .before .before .pre in
     let st = pre .0 .step-lists .stored in
     let l = pre .1 .1 .1 in
-    let n = found-at _ (chosen .i .given .1) (found .find .ensures) .holds .number-lt in
+    let n = found-at _ (chosen .i .given .1) (found .step-of-action .ensures) .holds .number-lt in
     let e = ap (λ (x : State). x .0) (c .before .target .ensures) ∙ stored-target st _ l in
     let g = ap (λ (x : State). x .0) (c .target2 .ensures) ∙ stored-target st _ n in (
       (omega (arith, e, st .target-lt _ l, st .states-le), omega (arith, g, st .target-lt _ n, st .states-le)),
@@ -82,7 +82,7 @@ returns-2 c =
     let pre = acted .before .before .before .before .before .pre in
     let st = pre .0 .step-lists .stored in
     let l = pre .1 .1 .1 in
-    let f = found-at _ (chosen .i .given .1) (found .find .ensures) in
+    let f = found-at _ (chosen .i .given .1) (found .step-of-action .ensures) in
     let d = ap (λ (x : Action). x .0) (acted .action .ensures) ∙ stored-action st _ l in
     let e = ap (λ (x : State). x .0) (targets .before .target .ensures) ∙ stored-target st _ l in
     let g = ap (λ (x : State). x .0) (targets .target2 .ensures) ∙ stored-target st _ (f .holds .number-lt) in
@@ -96,7 +96,7 @@ returns-3 c i x =
     let pre = acted .before .before .before .before .before .pre in
     let d = ap (λ (y : Action). y .0) (acted .action .ensures)
     ∙ stored-action (pre .0 .step-lists .stored) _ (pre .1 .1 .1) in
-    found-nothing _ (c .enum-told .given .1) (found .find .ensures) i (stepOf-at (sym d) (x .step-of))
+    found-nothing _ (c .enum-told .given .1) (found .step-of-action .ensures) i (stepOf-at (sym d) (x .step-of))
 
 returns-4 : tie.Need-returns-4
 returns-4 c =
@@ -110,7 +110,7 @@ returns-4 c =
     let l = pre .1 .1 .1 in
     let tested = found .before .before in
     let z = decides-passed (tested .is-low .result) _ (tested .is-low .ensures) (found .before .if1 .left) in
-    let f = found-at _ (chosen .i .given .1) (found .find .ensures) in
+    let f = found-at _ (chosen .i .given .1) (found .step-of-action .ensures) in
     let d = ap (λ (x : Action). x .0) (acted .action .ensures) ∙ stored-action (S .stored) _ l in
     let e = ap (λ (x : State). x .0) (targets .before .target .ensures) ∙ stored-target (S .stored) _ l in
     let g = ap (λ (x : State). x .0) (targets .target2 .ensures) ∙ stored-target (S .stored) _ (f .holds .number-lt) in
@@ -131,7 +131,7 @@ answer-spec =
     action-requires
     is-low-requires
     returns
-    find-requires
+    step-of-action-requires
     enum-told
     enum-known-i
     target-requires

@@ -1,4 +1,4 @@
--- The role says whether step j is low, and `find` whether q has a step of its action.
+-- The role says whether step j is low, and `step_of_action` whether q has a step of its action.
 use mathlib.Core.Path.{ap, _∙_}
 use borrow.Author.Needs.{needs}
 use Rattle.text.specs.declared.Action.{Action}
@@ -27,8 +27,8 @@ returns c x =
     decides-refused (tested .is-low .result) _ (tested .is-low .ensures) (c .if1 .taken)
     (letter-role (pre .0) e (pre .1 .1) (x .is-low))
 
-find-requires : tie.Need-find-requires
-find-requires c κs =
+step-of-action-requires : tie.Need-step-of-action-requires
+step-of-action-requires c κs =
     let pre = c .before .before .before .before .before .before .pre in
     let L = pre .0 in
     (L .stored, ((L .index-length, L .index), pre .1 .0))
@@ -45,7 +45,7 @@ returns-2 c x =
     let acted = found .before .before .before in
     let pre = acted .before .before .before .before .pre in
     let e = ap (λ (y : Action). y .0) (acted .action .ensures) ∙ stored-action (pre .0 .stored) _ (pre .1 .1) in
-    let f = found-at _ (c .enum-told .given .1) (found .find .ensures) in
+    let f = found-at _ (c .enum-told .given .1) (found .step-of-action .ensures) in
     x .none _ (stepOf-at e (f .holds))
 
 returns-3 : tie.Need-returns-3
@@ -57,7 +57,7 @@ returns-3 c =
     let pre = acted .before .before .before .before .pre in
     let e = ap (λ (y : Action). y .0) (acted .action .ensures) ∙ stored-action (pre .0 .stored) _ (pre .1 .1) in
     let z = decides-passed (tested .is-low .result) _ (tested .is-low .ensures) (low .if1 .left) in
-    unanswered-of (pre .0) e (pre .1 .1) z (found-nothing _ (c .enum-told2 .given .1) (found .find .ensures))
+    unanswered-of (pre .0) e (pre .1 .1) z (found-nothing _ (c .enum-told2 .given .1) (found .step-of-action .ensures))
 
 pub unanswered-spec : {M : Type 1} → statement M
 unanswered-spec =
@@ -66,7 +66,7 @@ unanswered-spec =
     action-requires
     is-low-requires
     returns
-    find-requires
+    step-of-action-requires
     enum-told
     enum-told-2
     returns-2

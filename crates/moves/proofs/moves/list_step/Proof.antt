@@ -4,6 +4,7 @@ use native.Mathlib.Omega.{arith}
 use borrow.Author.Needs.{needs}
 use Rattle.text.specs.declared.State.{State}
 use Rattle.text.specs.declared.Action.{Action}
+use Rattle.text.specs.Laws.DecidesLaws.{decides-passed, decides-refused}
 use Rattle.model.specs.Laws.System.StoredLaws.{stored-action, stored-target}
 use Rattle.model.specs.Laws.System.RolesLaws.{low-of-role, role-of-low}
 use Rattle.moves.specs.Laws.ListingLaws.{appended-not-low, appended-low}
@@ -15,31 +16,28 @@ action-requires c κs =
     let pre = c .before .before .before .before .pre in
     (pre .0 .length-le, omega (arith, pre .0 .steps-le, pre .1 .1 .0 .0))
 
-cast-of : tie.Need-cast-of
-cast-of c = search needs
-
-mul-if1 : tie.Need-mul-if1
-mul-if1 c = search needs
-
-shared-slice-read-if1 : tie.Need-shared-slice-read-if1
-shared-slice-read-if1 c =
-    let pre = c .before .before .before .before .before .before .before .pre in
+is-low-requires : tie.Need-is-low-requires
+is-low-requires c κs =
+    let pre = c .before .before .before .before .before .pre in
     let j = pre .1 .1 .0 .0 in
-    let e = ap (λ (x : Action). x .0) (c .before .before .action .ensures) ∙ stored-action (pre .0) _ j in
+    let e = ap (λ (x : Action). x .0) (c .action .ensures) ∙ stored-action (pre .0) _ j in
     omega (arith, e, pre .0 .action-lt _ j, pre .0 .actions-le, pre .1 .0 .0)
 
 returns : tie.Need-returns
 returns c =
-    let pre = c .before .before .before .before .before .before .before .before .pre in
+    let tested = c .before in
+    let acted = tested .before in
+    let pre = acted .before .before .before .before .before .pre in
     let j = pre .1 .1 .0 .0 in
-    let e = ap (λ (x : Action). x .0) (c .before .before .before .action .ensures) ∙ stored-action (pre .0) _ j in (
-      appended-not-low (λ t. c .if1 .taken (role-of-low (pre .1 .0 .1) e (pre .0 .action-lt _ j) t)),
+    let e = ap (λ (x : Action). x .0) (acted .action .ensures) ∙ stored-action (pre .0) _ j in
+    let other = decides-refused (tested .is-low .result) _ (tested .is-low .ensures) (c .if1 .taken) in (
+      appended-not-low (λ t. other (role-of-low (pre .1 .0 .1) e (pre .0 .action-lt _ j) t)),
       omega arith,
     )
 
 target-requires : tie.Need-target-requires
 target-requires c κs =
-    let pre = c .before .before .before .before .before .before .before .before .pre in
+    let pre = c .before .before .before .before .before .before .before .pre in
     (pre .0 .length-le, omega (arith, pre .0 .steps-le, pre .1 .1 .0 .0))
 
 mul-actions : tie.Need-mul-actions
@@ -65,12 +63,14 @@ same-length-2 c = search needs
 
 returns-2 : tie.Need-returns-2
 returns-2 c =
-    let pre = c .before .before .before .before .before .before .before .before .before .pre in
+    let tested = c .before .before in
+    let acted = tested .before in
+    let pre = acted .before .before .before .before .before .pre in
     let j = pre .1 .1 .0 .0 in
-    let a = c .before .before .before .before .action in
-    let e = ap (λ (x : Action). x .0) (a .ensures) ∙ stored-action (pre .0) _ j in
+    let e = ap (λ (x : Action). x .0) (acted .action .ensures) ∙ stored-action (pre .0) _ j in
     let f = ap (λ (x : State). x .0) (c .target .ensures) ∙ stored-target (pre .0) _ j in
-    let low = low-of-role (pre .1 .0 .1) e (pre .0 .action-lt _ j) (c .before .if1 .left) in (
+    let role = decides-passed (tested .is-low .result) _ (tested .is-low .ensures) (c .before .if1 .left) in
+    let low = low-of-role (pre .1 .0 .1) e (pre .0 .action-lt _ j) role in (
       appended-low (omega (arith, pre .1 .1 .0 .1, pre .1 .1 .1 .0)) (omega (arith, pre .1 .1 .0 .1, pre .1 .1 .1 .1))
           (sym e) (sym f) low,
       omega arith,
@@ -81,9 +81,7 @@ list-step-spec =
     tie.close
     (tie.spec
     action-requires
-    cast-of
-    mul-if1
-    shared-slice-read-if1
+    is-low-requires
     returns
     target-requires
     mul-actions

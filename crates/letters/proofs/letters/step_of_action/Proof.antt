@@ -11,8 +11,8 @@ use Rattle.model.specs.Laws.System.StoredLaws.{stored-action}
 use Rattle.letters.specs.Inner.Letters.{StepOf}
 use Rattle.letters.specs.Laws.LettersLaws.{own-of-index, none-before, none-after}
 use Rattle.text.specs.Laws.FirstLaws.{first-found}
-use Rattle.letters.proofs.letters.find.Statement.{statement}
-use Rattle.letters.proofs.letters.find.Tie as tie
+use Rattle.letters.proofs.letters.step_of_action.Statement.{statement}
+use Rattle.letters.proofs.letters.step_of_action.Tie as tie
 
 abbrev Inv-loop : tie.InvT-loop
 Inv-loop store begins a of end j₀ j =
@@ -101,8 +101,8 @@ returns-2 c =
     let pre = c .before .before .before .before .before .before .before .pre in
     none-after (pre .1 .0 .1) (pre .1 .1) _ (λ j x. (x .number-lt, x .source-is)) (inv .0) (c .loop-test .left) (inv .2)
 
-pub find-spec : {M : Type 1} → statement M
-find-spec =
+pub step-of-action-spec : {M : Type 1} → statement M
+step-of-action-spec =
     tie.close
     (tie.spec
     Inv-loop
