@@ -3,3 +3,4 @@ pub mod Answer
 pub mod AnswerLaws
 pub mod Told
 pub mod ToldLaws
+pub mod ToldUniqueLaws

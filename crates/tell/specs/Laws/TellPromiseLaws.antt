@@ -27,7 +27,7 @@ module _ (text store distances table word : List ℕ) where
       x .not-read
       (readPromise-unique text store (readOutcome read) (answers []) s s′ (x .read-promise) (y .read-promise) .0)
 
-  readJudged-unique : (j k v u : Outcome) (s d t w s′ d′ t′ w′ : List ℕ)
+  pub readJudged-unique : (j k v u : Outcome) (s d t w s′ d′ t′ w′ : List ℕ)
       → ReadJudged text store distances table word j v s d t w
       → ReadJudged text store distances table word k u s′ d′ t′ w′
       → ((j ≡ k) × (v ≡ u)) × (s ≡ s′) × (d ≡ d′) × (t ≡ t′) × (w ≡ w′)
