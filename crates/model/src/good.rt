@@ -12,7 +12,6 @@ use text::Step;
 use text::bytes::DIGIT;
 use text::bytes::SMALL_LETTER;
 use text::bytes::kind;
-use text::bytes::kinds;
 use text::limits::ACTIONS_END;
 use text::limits::HIGH;
 use text::limits::NAME_LENGTH_COLUMN;
@@ -27,7 +26,6 @@ ghost use lib.ListN.{length};
 ghost use Rattle.text.specs.Limits.{actionLimit, stepLimit, storeLength};
 ghost use Rattle.text.specs.Decides.{Decides};
 ghost use Rattle.text.specs.Lines.{nameByte?};
-ghost use Rattle.text.specs.Inner.Table.{KindTable};
 ghost use Rattle.model.specs.Store.{Good};
 ghost use Rattle.model.specs.Inner.EachFrom.{EachFrom};
 ghost use Rattle.model.specs.Inner.GoodPlaces.{ZeroAt, NameByteAt, SameAt, SameName, OtherName};
@@ -64,14 +62,13 @@ fn same(store: &[u16], p: usize, q: usize, n: usize) -> bool
 }
 
 // Whether a number is a digit or a small letter. A number of 256 or more is no byte.
-fn is_name_byte(kinds: &[u8; 256], x: u16) -> bool
-    requires { ⌜ KindTable (now kinds) ⌝ }
+fn is_name_byte(x: u16) -> bool
     ensures { λ r. ⌜ Decides r (T (nameByte? x)) ⌝ }
 {
     if 255 < x {
         return false;
     }
-    let k = kind(kinds, x as u8);
+    let k = kind(x as u8);
     if k == DIGIT {
         return true;
     }
@@ -82,13 +79,13 @@ fn is_name_byte(kinds: &[u8; 256], x: u16) -> bool
 }
 
 // Whether the places from `from` on and below `to` hold digits and small letters.
-fn name_bytes(kinds: &[u8; 256], store: &[u16], from: usize, to: usize) -> bool
-    requires { ⌜ (to ≤ length (now store)) × KindTable (now kinds) ⌝ }
+fn name_bytes(store: &[u16], from: usize, to: usize) -> bool
+    requires { ⌜ to ≤ length (now store) ⌝ }
     ensures { λ r. ⌜ Decides r (EachFrom (NameByteAt (now (store .entry))) from to) ⌝ }
 {
     let mut k = from;
     while k < to {
-        if !is_name_byte(kinds, store[k]) {
+        if !is_name_byte(store[k]) {
             return false;
         }
         k += 1;
@@ -126,8 +123,8 @@ fn used_once(store: &[u16], a: Action) -> bool
 }
 
 // Whether an action's places are good.
-fn action_good(kinds: &[u8; 256], store: &[u16], a: Action) -> bool
-    requires { ⌜ (storeLength ≤ length (now store)) × (a .0 < actionLimit) × KindTable (now kinds) ⌝ }
+fn action_good(store: &[u16], a: Action) -> bool
+    requires { ⌜ (storeLength ≤ length (now store)) × (a .0 < actionLimit) ⌝ }
     ensures { λ r. ⌜ Decides r (GoodAction (now (store .entry)) (a .0)) ⌝ }
 {
     if HIGH < level(store, a) {
@@ -142,7 +139,7 @@ fn action_good(kinds: &[u8; 256], store: &[u16], a: Action) -> bool
     }
     let from = name_place(a);
     let to = from + n as usize;
-    if !name_bytes(kinds, store, from, to) {
+    if !name_bytes(store, from, to) {
         return false;
     }
     if !zeros(store, to, from + NAME_LIMIT as usize) {
@@ -156,10 +153,9 @@ fn actions_good(store: &[u16], n: u16) -> bool
     requires { ⌜ (storeLength ≤ length (now store)) × (n ≤ actionLimit) ⌝ }
     ensures { λ r. ⌜ Decides r (EachFrom (GoodAction (now (store .entry))) 0 n) ⌝ }
 {
-    let kinds = kinds();
     let mut i = 0;
     while i < n {
-        if !action_good(&kinds, store, Action(i)) {
+        if !action_good(store, Action(i)) {
             return false;
         }
         i += 1;

@@ -11,32 +11,24 @@ use text::line::ActionRead;
 use text::line::action_line;
 use text::line::find;
 ghost use Prim.Native.Nat.{_+_, _<_};
-ghost use Rattle.text.specs.Inner.Table.{KindTable};
 ghost use Rattle.reader.specs.Inner.ReadSoFar.{AfterActions, Further};
 
 // The line of action i.
-fn action(
-    kinds: &[u8; 256],
-    text: &[u8],
-    start: LineStart,
-    head: Head,
-    i: u16,
-    out: &mut [u16],
-) -> LinesRead
-    requires { ⌜ AfterActions head (now text) start i (now out) × (i < head .actions) × KindTable (now kinds) ⌝ }
+fn action(text: &[u8], start: LineStart, head: Head, i: u16, out: &mut [u16]) -> LinesRead
+    requires { ⌜ AfterActions head (now text) start i (now out) × (i < head .actions) ⌝ }
     ensures { λ r. ⌜ Further (λ next. AfterActions head (now (text .entry)) next (i + 1) (now (out .exit)))
         (now (text .entry)) r ⌝ }
 {
     let at = start.at;
     let line = start.line;
-    let e = find(kinds, text, at, LINE_END);
+    let e = find(text, at, LINE_END);
     if e == text.len() {
         return LinesRead::Faulty {
             fault: Fault::Absent,
             line,
         };
     }
-    let read = action_line(kinds, &text[at..e]);
+    let read = action_line(&text[at..e]);
     match read {
         ActionRead::Bad(fault) => LinesRead::Faulty { fault, line },
         ActionRead::Good(level) => {
@@ -57,14 +49,8 @@ fn action(
 }
 
 // The lines of the actions, into a store that holds what the first line states.
-pub fn actions(
-    kinds: &[u8; 256],
-    text: &[u8],
-    start: LineStart,
-    head: Head,
-    out: &mut [u16],
-) -> LinesRead
-    requires { ⌜ AfterActions head (now text) start 0 (now out) × KindTable (now kinds) ⌝ }
+pub fn actions(text: &[u8], start: LineStart, head: Head, out: &mut [u16]) -> LinesRead
+    requires { ⌜ AfterActions head (now text) start 0 (now out) ⌝ }
     ensures { λ r. ⌜ Further (λ next. AfterActions head (now (text .entry)) next (head .actions) (now (out .exit)))
         (now (text .entry)) r ⌝ }
 {
@@ -72,7 +58,7 @@ pub fn actions(
     let mut from = start;
     let mut i = 0;
     while i < count {
-        let read = action(kinds, text, from, head, i, out);
+        let read = action(text, from, head, i, out);
         match read {
             LinesRead::Faulty { .. } => {
                 return read;

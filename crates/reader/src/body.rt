@@ -10,7 +10,6 @@ use model::put::put_head;
 use text::Fault;
 use text::Head;
 use text::bytes::LINE_END;
-use text::bytes::kinds;
 use text::limits::STORE_LENGTH;
 use text::line::HeadRead;
 use text::line::find;
@@ -22,7 +21,6 @@ ghost use lib.ListN.{length, drop};
 ghost use Rattle.text.specs.Bytes.{lineEnd};
 ghost use Rattle.text.specs.Split.{split};
 ghost use Rattle.text.specs.Limits.{storeLength};
-ghost use Rattle.text.specs.Inner.Table.{KindTable};
 ghost use Rattle.text.specs.Inner.LineAnswers.{headRead};
 ghost use Rattle.reader.specs.Inner.ReadSoFar.{AfterHead, AfterActions, AfterSteps, Through, ReadOut};
 ghost use Rattle.reader.specs.Inner.ReadSoFar.{AfterLine, firstLine, AfterFirst};
@@ -34,12 +32,11 @@ pub fn first_line(text: &[u8], at: usize) -> HeadRead
     if text.len() < at {
         return HeadRead::Bad(Fault::Absent);
     }
-    let kinds = kinds();
-    let e = find(&kinds, text, at, LINE_END);
+    let e = find(text, at, LINE_END);
     if e == text.len() {
         return HeadRead::Bad(Fault::Absent);
     }
-    head_line(&kinds, &text[at..e])
+    head_line(&text[at..e])
 }
 
 // The place after the line at a place, or the text's end where the line has none.
@@ -49,8 +46,7 @@ pub fn after_line(text: &[u8], at: usize) -> usize
     if text.len() < at {
         return text.len();
     }
-    let kinds = kinds();
-    let e = find(&kinds, text, at, LINE_END);
+    let e = find(text, at, LINE_END);
     if e == text.len() {
         return e;
     }
@@ -58,13 +54,13 @@ pub fn after_line(text: &[u8], at: usize) -> usize
 }
 
 // The last line, and nothing after it.
-fn last_line(kinds: &[u8; 256], text: &[u8], start: LineStart, out: &[u16]) -> TextRead
-    requires { ⌜ AfterSteps (now text) start (now out) × KindTable (now kinds) ⌝ }
+fn last_line(text: &[u8], start: LineStart, out: &[u16]) -> TextRead
+    requires { ⌜ AfterSteps (now text) start (now out) ⌝ }
     ensures { λ r. ⌜ Through (now (text .entry)) (now (out .entry)) r ⌝ }
 {
     let at = start.at;
     let line = start.line;
-    let e = find(kinds, text, at, LINE_END);
+    let e = find(text, at, LINE_END);
     if e == text.len() {
         return TextRead::Faulty {
             fault: Fault::Absent,
@@ -77,7 +73,7 @@ fn last_line(kinds: &[u8; 256], text: &[u8], start: LineStart, out: &[u16]) -> T
             line,
         };
     }
-    if !is_letter(kinds, text[at], b'E') {
+    if !is_letter(text[at], b'E') {
         return TextRead::Faulty {
             fault: Fault::Shape,
             line,
@@ -93,18 +89,18 @@ fn last_line(kinds: &[u8; 256], text: &[u8], start: LineStart, out: &[u16]) -> T
 }
 
 // The lines behind the first, into a store that holds what the first states.
-fn lines(kinds: &[u8; 256], text: &[u8], start: LineStart, head: Head, out: &mut [u16]) -> TextRead
-    requires { ⌜ AfterActions head (now text) start 0 (now out) × KindTable (now kinds) ⌝ }
+fn lines(text: &[u8], start: LineStart, head: Head, out: &mut [u16]) -> TextRead
+    requires { ⌜ AfterActions head (now text) start 0 (now out) ⌝ }
     ensures { λ r. ⌜ Through (now (text .entry)) (now (out .exit)) r ⌝ }
 {
-    let acted = actions(kinds, text, start, head, out);
+    let acted = actions(text, start, head, out);
     match acted {
         LinesRead::Faulty { fault, line } => TextRead::Faulty { fault, line },
         LinesRead::Next(a) => {
-            let stepped = steps(kinds, text, a, head, out);
+            let stepped = steps(text, a, head, out);
             match stepped {
                 LinesRead::Faulty { fault, line } => TextRead::Faulty { fault, line },
-                LinesRead::Next(b) => last_line(kinds, text, b, out),
+                LinesRead::Next(b) => last_line(text, b, out),
             }
         }
     }
@@ -115,10 +111,9 @@ fn model(text: &[u8], start: LineStart, head: Head, store: &mut [u16]) -> TextRe
     requires { ⌜ AfterHead head (now text) start × (storeLength ≤ length (now store)) ⌝ }
     ensures { λ r. ⌜ ReadOut (now (text .entry)) (now (store .entry)) r (now (store .exit)) ⌝ }
 {
-    let kinds = kinds();
     let mut local = [0u16; STORE_LENGTH];
     put_head(&mut local, head);
-    let read = lines(&kinds, text, start, head, &mut local);
+    let read = lines(text, start, head, &mut local);
     match read {
         TextRead::Done => {
             copy(&local, store);

@@ -9,18 +9,11 @@ use text::Step;
 use text::StepLine;
 use text::scan::StepAt;
 use text::scan::step_at;
-ghost use Rattle.text.specs.Inner.Table.{KindTable};
 ghost use Rattle.reader.specs.Inner.ReadSoFar.{AfterActions, AfterSteps, Further};
 
 // The lines of the steps, into a store that holds the first line and the actions.
-pub fn steps(
-    kinds: &[u8; 256],
-    text: &[u8],
-    start: LineStart,
-    head: Head,
-    out: &mut [u16],
-) -> LinesRead
-    requires { ⌜ AfterActions head (now text) start (head .actions) (now out) × KindTable (now kinds) ⌝ }
+pub fn steps(text: &[u8], start: LineStart, head: Head, out: &mut [u16]) -> LinesRead
+    requires { ⌜ AfterActions head (now text) start (head .actions) (now out) ⌝ }
     ensures { λ r. ⌜ Further (λ next. AfterSteps (now (text .entry)) next (now (out .exit)))
         (now (text .entry)) r ⌝ }
 {
@@ -33,7 +26,7 @@ pub fn steps(
     let mut from = start;
     let mut j = 0;
     while j < count {
-        let read = step_at(kinds, text, from.at, head, j, last);
+        let read = step_at(text, from.at, head, j, last);
         let line = from.line;
         match read {
             StepAt::Bad(fault) => {

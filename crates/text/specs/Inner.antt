@@ -3,5 +3,4 @@ pub mod PartAnswers
 pub mod Ranges
 pub mod Row
 pub mod Scan
-pub mod Table
 pub mod Clearing

@@ -9,7 +9,7 @@ pub mod RowLaws
 pub mod SameLaws
 pub mod ScanLaws
 pub mod SplitLaws
-pub mod TableLaws
+pub mod KindsLaws
 pub mod ListsLaws
 pub mod ClearingLaws
 pub mod FirstShortLaws

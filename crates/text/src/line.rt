@@ -29,7 +29,6 @@ ghost use Rattle.text.specs.Split.{split, indexOf};
 ghost use Rattle.text.specs.Model.{above?};
 ghost use Rattle.text.specs.Lines.{fieldsOf, numbersOf, numbersLine, headFits?, headOf, levelOf, name?};
 ghost use Rattle.text.specs.Lines.{good, actionFields, stepFits?, stepNumbers, stepOf};
-ghost use Rattle.text.specs.Inner.Table.{KindTable};
 ghost use Rattle.text.specs.Inner.LineAnswers.{headRead, actionRead, stepRead, Last};
 ghost use Rattle.text.specs.Inner.PartAnswers.{rowRead, Fields, levelRead, headOfNumbers, stepOfNumbers};
 
@@ -64,13 +63,13 @@ pub enum RowRead {
 }
 
 // The place of the first byte of a kind at or after `from`, the length where there is none.
-pub fn find(kinds: &[u8; 256], s: &[u8], from: usize, k: u8) -> usize
-    requires { ⌜ (from ≤ length (now s)) × KindTable (now kinds) ⌝ }
+pub fn find(s: &[u8], from: usize, k: u8) -> usize
+    requires { ⌜ from ≤ length (now s) ⌝ }
     ensures { λ r. ⌜ r ≡ from + indexOf k (drop from (now (s .entry))) ⌝ }
 {
     let mut i = from;
     while i < s.len() {
-        if kind(kinds, s[i]) == k {
+        if kind(s[i]) == k {
             return i;
         }
         i += 1;
@@ -79,14 +78,13 @@ pub fn find(kinds: &[u8; 256], s: &[u8], from: usize, k: u8) -> usize
 }
 
 // How many bytes of a kind there are.
-fn count(kinds: &[u8; 256], s: &[u8], k: u8) -> usize
-    requires { ⌜ KindTable (now kinds) ⌝ }
+fn count(s: &[u8], k: u8) -> usize
     ensures { λ r. ⌜ length (split k (now (s .entry))) ≡ r + 1 ⌝ }
 {
     let mut n = 0;
     let mut i = 0;
     while i < s.len() {
-        if kind(kinds, s[i]) == k {
+        if kind(s[i]) == k {
             n += 1;
         }
         i += 1;
@@ -95,11 +93,11 @@ fn count(kinds: &[u8; 256], s: &[u8], k: u8) -> usize
 }
 
 // Whether a byte is a letter: a capital by its kind, and then this one.
-pub fn is_letter(kinds: &[u8; 256], b: u8, letter: u8) -> bool
-    requires { ⌜ (kindOf letter ≡ capital) × KindTable (now kinds) ⌝ }
+pub fn is_letter(b: u8, letter: u8) -> bool
+    requires { ⌜ kindOf letter ≡ capital ⌝ }
     ensures { λ r. ⌜ Decides r (b ≡ letter) ⌝ }
 {
-    if kind(kinds, b) != CAPITAL {
+    if kind(b) != CAPITAL {
         return false;
     }
     if b != letter {
@@ -109,33 +107,33 @@ pub fn is_letter(kinds: &[u8; 256], b: u8, letter: u8) -> bool
 }
 
 // Whether a line has a letter as its first field, and n more fields, which stand from place 2 on.
-fn fields(kinds: &[u8; 256], line: &[u8], letter: u8, n: usize) -> bool
-    requires { ⌜ (kindOf letter ≡ capital) × (0 < n) × KindTable (now kinds) ⌝ }
+fn fields(line: &[u8], letter: u8, n: usize) -> bool
+    requires { ⌜ (kindOf letter ≡ capital) × (0 < n) ⌝ }
     ensures { λ r. ⌜ Fields letter n (now (line .entry)) r ⌝ }
 {
-    if count(kinds, line, COMMA) != n {
+    if count(line, COMMA) != n {
         return false;
     }
-    if find(kinds, line, 0, COMMA) != 1 {
+    if find(line, 0, COMMA) != 1 {
         return false;
     }
-    if !is_letter(kinds, line[0], letter) {
+    if !is_letter(line[0], letter) {
         return false;
     }
     true
 }
 
 // Stores the numbers of the fields from a place on, of which there are out.len().
-fn numbers(kinds: &[u8; 256], line: &[u8], from: usize, out: &mut [u32]) -> RowRead
+fn numbers(line: &[u8], from: usize, out: &mut [u32]) -> RowRead
     requires { ⌜ (from ≤ length (now line))
-        × (length (split comma (drop from (now line))) ≡ length (now out)) × KindTable (now kinds) ⌝ }
+        × (length (split comma (drop from (now line))) ≡ length (now out)) ⌝ }
     ensures { λ r. ⌜ numbersOf (split comma (drop from (now (line .entry)))) ≡ rowRead r (now (out .exit)) ⌝ }
 {
     let mut at = from;
     let mut i = 0;
     while i < out.len() {
-        let e = find(kinds, line, at, COMMA);
-        let Number::Value(v) = parse_number(kinds, &line[at..e]) else {
+        let e = find(line, at, COMMA);
+        let Number::Value(v) = parse_number(&line[at..e]) else {
             return RowRead::Bad(Fault::Digits);
         };
         out[i] = v;
@@ -149,15 +147,15 @@ fn numbers(kinds: &[u8; 256], line: &[u8], from: usize, out: &mut [u32]) -> RowR
 }
 
 // Stores the numbers of a line of a letter and out.len() numbers.
-fn row(kinds: &[u8; 256], line: &[u8], letter: u8, out: &mut [u32]) -> RowRead
-    requires { ⌜ (kindOf letter ≡ capital) × (0 < length (now out)) × KindTable (now kinds) ⌝ }
+fn row(line: &[u8], letter: u8, out: &mut [u32]) -> RowRead
+    requires { ⌜ (kindOf letter ≡ capital) × (0 < length (now out)) ⌝ }
     ensures { λ r. ⌜ numbersLine letter (length (now (out .entry))) (now (line .entry))
         ≡ rowRead r (now (out .exit)) ⌝ }
 {
-    if !fields(kinds, line, letter, out.len()) {
+    if !fields(line, letter, out.len()) {
         return RowRead::Bad(Fault::Shape);
     }
-    numbers(kinds, line, 2, out)
+    numbers(line, 2, out)
 }
 
 fn between(least: u32, most: u32, x: u32) -> bool
@@ -186,12 +184,11 @@ pub fn head_fits(states: u32, actions: u32, steps: u32, start: u32) -> bool
 }
 
 // Line 1: `M,states,actions,steps,start`.
-pub fn head_line(kinds: &[u8; 256], line: &[u8]) -> HeadRead
-    requires { ⌜ KindTable (now kinds) ⌝ }
+pub fn head_line(line: &[u8]) -> HeadRead
     ensures { λ r. ⌜ headOf (now (line .entry)) ≡ headRead r ⌝ }
 {
     let mut ns = [0u32; 4];
-    if let RowRead::Bad(fault) = row(kinds, line, b'M', &mut ns) {
+    if let RowRead::Bad(fault) = row(line, b'M', &mut ns) {
         return HeadRead::Bad(fault);
     }
     let states = ns[0];
@@ -210,11 +207,10 @@ pub fn head_line(kinds: &[u8; 256], line: &[u8]) -> HeadRead
 }
 
 // The level that a byte stands for.
-fn level_of(kinds: &[u8; 256], b: u8) -> LevelRead
-    requires { ⌜ KindTable (now kinds) ⌝ }
+fn level_of(b: u8) -> LevelRead
     ensures { λ r. ⌜ levelOf (b ∷ []) ≡ levelRead r ⌝ }
 {
-    if kind(kinds, b) != CAPITAL {
+    if kind(b) != CAPITAL {
         return LevelRead::NoLevel;
     }
     if b == b'L' {
@@ -230,8 +226,7 @@ fn level_of(kinds: &[u8; 256], b: u8) -> LevelRead
 }
 
 // Whether a field is 1 to 12 small letters and digits.
-fn is_name(kinds: &[u8; 256], f: &[u8]) -> bool
-    requires { ⌜ KindTable (now kinds) ⌝ }
+fn is_name(f: &[u8]) -> bool
     ensures { λ r. ⌜ r ≡ name? (now (f .entry)) ⌝ }
 {
     if f.len() < 1 {
@@ -242,7 +237,7 @@ fn is_name(kinds: &[u8; 256], f: &[u8]) -> bool
     }
     let mut i = 0;
     while i < f.len() {
-        let k = kind(kinds, f[i]);
+        let k = kind(f[i]);
         if k != DIGIT {
             if k != SMALL_LETTER {
                 return false;
@@ -254,20 +249,19 @@ fn is_name(kinds: &[u8; 256], f: &[u8]) -> bool
 }
 
 // `A,level,name`.
-pub fn action_line(kinds: &[u8; 256], line: &[u8]) -> ActionRead
-    requires { ⌜ KindTable (now kinds) ⌝ }
+pub fn action_line(line: &[u8]) -> ActionRead
     ensures { λ r. ⌜ actionFields (fieldsOf byteA 2 (now (line .entry))) ≡ actionRead (now (line .entry)) r ⌝ }
 {
-    if !fields(kinds, line, b'A', 2) {
+    if !fields(line, b'A', 2) {
         return ActionRead::Bad(Fault::Shape);
     }
-    if find(kinds, line, 2, COMMA) != 3 {
+    if find(line, 2, COMMA) != 3 {
         return ActionRead::Bad(Fault::Shape);
     }
-    let LevelRead::Level(level) = level_of(kinds, line[2]) else {
+    let LevelRead::Level(level) = level_of(line[2]) else {
         return ActionRead::Bad(Fault::Shape);
     };
-    if !is_name(kinds, &line[4..]) {
+    if !is_name(&line[4..]) {
         return ActionRead::Bad(Fault::Shape);
     }
     ActionRead::Good(level)
@@ -338,13 +332,12 @@ pub fn step_of(
 }
 
 // `S,source,action,target`: the line of step j, where `last` is the step before it.
-pub fn step_line(kinds: &[u8; 256], line: &[u8], head: Head, j: usize, last: StepLine) -> StepRead
-    requires { ⌜ KindTable (now kinds) ⌝ }
+pub fn step_line(line: &[u8], head: Head, j: usize, last: StepLine) -> StepRead
     ensures { λ r. ⌜ ((before : List StepLine) → Last before j last
         → stepOf head before (now (line .entry)) ≡ stepRead r) ⌝ }
 {
     let mut ns = [0u32; 3];
-    if let RowRead::Bad(fault) = row(kinds, line, b'S', &mut ns) {
+    if let RowRead::Bad(fault) = row(line, b'S', &mut ns) {
         return StepRead::Bad(fault);
     }
     step_of(head, j, last, ns[0], ns[1], ns[2])

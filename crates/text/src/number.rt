@@ -6,7 +6,6 @@ ghost use mathlib.Core.Path.{_≡_};
 ghost use Prim.Native.Nat.{_≤_};
 ghost use lib.ListN.{length};
 ghost use Rattle.text.specs.Limits.{digitLimit};
-ghost use Rattle.text.specs.Inner.Table.{KindTable};
 ghost use Rattle.text.specs.Numbers.{digitsValue, numberOf};
 
 // What a number field holds.
@@ -16,15 +15,15 @@ pub enum Number {
 }
 
 // The value of digits, as many as a number has at most.
-fn digits_value(kinds: &[u8; 256], f: &[u8]) -> Number
-    requires { ⌜ (length (now f) ≤ digitLimit) × KindTable (now kinds) ⌝ }
+fn digits_value(f: &[u8]) -> Number
+    requires { ⌜ length (now f) ≤ digitLimit ⌝ }
     ensures { λ r. ⌜ r ≡ digitsValue 0 (now (f .entry)) ⌝ }
 {
     let mut v: u32 = 0;
     let mut i = 0;
     while i < f.len() {
         let b = f[i];
-        if kind(kinds, b) != DIGIT {
+        if kind(b) != DIGIT {
             return Number::Bad;
         }
         v = v * 10 + (b as u32 - b'0' as u32);
@@ -34,8 +33,7 @@ fn digits_value(kinds: &[u8; 256], f: &[u8]) -> Number
 }
 
 // A field of 1 to 5 digits, of which the first of several is not 0.
-pub fn parse_number(kinds: &[u8; 256], f: &[u8]) -> Number
-    requires { ⌜ KindTable (now kinds) ⌝ }
+pub fn parse_number(f: &[u8]) -> Number
     ensures { λ r. ⌜ r ≡ numberOf (now (f .entry)) ⌝ }
 {
     let n = f.len();
@@ -46,10 +44,10 @@ pub fn parse_number(kinds: &[u8; 256], f: &[u8]) -> Number
         return Number::Bad;
     }
     if n == 1 {
-        return digits_value(kinds, f);
+        return digits_value(f);
     }
     if f[0] == b'0' {
         return Number::Bad;
     }
-    digits_value(kinds, f)
+    digits_value(f)
 }

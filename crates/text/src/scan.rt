@@ -20,7 +20,6 @@ ghost use Prim.Native.Nat.{ℕ, _+_, _^_, _≤_, _<_};
 ghost use lib.ListN.{length};
 ghost use Rattle.text.specs.declared.Head.{Head};
 ghost use Rattle.text.specs.declared.StepLine.{StepLine};
-ghost use Rattle.text.specs.Inner.Table.{KindTable};
 ghost use Rattle.text.specs.Inner.Scan.{Scanned, DigitsAt, NumberAt, StepBegins, StepScanned};
 ghost use Rattle.text.specs.Inner.Scan.{StepLineAt, StepAtRead};
 
@@ -48,15 +47,15 @@ pub enum StepAt {
 }
 
 // The value of the digits at a place, five at most, which a byte of the kind k follows.
-fn digits_at(kinds: &[u8; 256], s: &[u8], at: usize, k: u8) -> Scan
-    requires { ⌜ (at ≤ length (now s)) × KindTable (now kinds) ⌝ }
+fn digits_at(s: &[u8], at: usize, k: u8) -> Scan
+    requires { ⌜ at ≤ length (now s) ⌝ }
     ensures { λ r. ⌜ Scanned (DigitsAt k (now (s .entry)) at) r ⌝ }
 {
     let mut v: u32 = 0;
     let mut i = at;
     while i < s.len() {
         let b = s[i];
-        let c = kind(kinds, b);
+        let c = kind(b);
         if c != DIGIT {
             if c != k {
                 return Scan::Other;
@@ -73,11 +72,11 @@ fn digits_at(kinds: &[u8; 256], s: &[u8], at: usize, k: u8) -> Scan
 }
 
 // The number field at a place, which a byte of the kind k follows.
-fn number_at(kinds: &[u8; 256], s: &[u8], at: usize, k: u8) -> Scan
-    requires { ⌜ (at ≤ length (now s)) × KindTable (now kinds) ⌝ }
+fn number_at(s: &[u8], at: usize, k: u8) -> Scan
+    requires { ⌜ at ≤ length (now s) ⌝ }
     ensures { λ r. ⌜ Scanned (NumberAt k (now (s .entry)) at) r ⌝ }
 {
-    let Scan::Number { value, end } = digits_at(kinds, s, at, k) else {
+    let Scan::Number { value, end } = digits_at(s, at, k) else {
         return Scan::Other;
     };
     if end == at {
@@ -93,45 +92,45 @@ fn number_at(kinds: &[u8; 256], s: &[u8], at: usize, k: u8) -> Scan
 }
 
 // Whether the line at a place begins with `S` and a comma.
-fn begins(kinds: &[u8; 256], text: &[u8], at: usize) -> bool
-    requires { ⌜ (at ≤ length (now text)) × KindTable (now kinds) ⌝ }
+fn begins(text: &[u8], at: usize) -> bool
+    requires { ⌜ at ≤ length (now text) ⌝ }
     ensures { λ r. ⌜ (r ≡ true → StepBegins (now (text .entry)) at) ⌝ }
 {
     if text.len() - at < 2 {
         return false;
     }
-    if !is_letter(kinds, text[at], b'S') {
+    if !is_letter(text[at], b'S') {
         return false;
     }
-    if kind(kinds, text[at + 1]) != COMMA {
+    if kind(text[at + 1]) != COMMA {
         return false;
     }
     true
 }
 
 // The numbers of the step's line at a place.
-fn numbers_at(kinds: &[u8; 256], text: &[u8], at: usize) -> StepScan
-    requires { ⌜ (at ≤ length (now text)) × KindTable (now kinds) ⌝ }
+fn numbers_at(text: &[u8], at: usize) -> StepScan
+    requires { ⌜ at ≤ length (now text) ⌝ }
     ensures { λ r. ⌜ StepScanned (now (text .entry)) at r ⌝ }
 {
-    if !begins(kinds, text, at) {
+    if !begins(text, at) {
         return StepScan::Other;
     }
     let Scan::Number {
         value: source,
         end: a,
-    } = number_at(kinds, text, at + 2, COMMA)
+    } = number_at(text, at + 2, COMMA)
     else {
         return StepScan::Other;
     };
     let Scan::Number {
         value: action,
         end: b,
-    } = number_at(kinds, text, a + 1, COMMA)
+    } = number_at(text, a + 1, COMMA)
     else {
         return StepScan::Other;
     };
-    let Scan::Number { value: target, end } = number_at(kinds, text, b + 1, LINE_END) else {
+    let Scan::Number { value: target, end } = number_at(text, b + 1, LINE_END) else {
         return StepScan::Other;
     };
     StepScan::Numbers {
@@ -158,18 +157,11 @@ fn ended(read: StepRead, end: usize) -> StepAt
 }
 
 // The line of step j at a place, where `last` is the step before it.
-pub fn step_at(
-    kinds: &[u8; 256],
-    text: &[u8],
-    at: usize,
-    head: Head,
-    j: usize,
-    last: StepLine,
-) -> StepAt
-    requires { ⌜ (at ≤ length (now text)) × KindTable (now kinds) ⌝ }
+pub fn step_at(text: &[u8], at: usize, head: Head, j: usize, last: StepLine) -> StepAt
+    requires { ⌜ at ≤ length (now text) ⌝ }
     ensures { λ r. ⌜ StepAtRead head (now (text .entry)) at j last r ⌝ }
 {
-    let scan = numbers_at(kinds, text, at);
+    let scan = numbers_at(text, at);
     if let StepScan::Numbers {
         source,
         action,
@@ -178,9 +170,9 @@ pub fn step_at(
     } = scan {
         return ended(step_of(head, j, last, source, action, target), end);
     }
-    let end = find(kinds, text, at, LINE_END);
+    let end = find(text, at, LINE_END);
     if end == text.len() {
         return StepAt::Bad(Fault::Absent);
     }
-    ended(step_line(kinds, &text[at..end], head, j, last), end)
+    ended(step_line(&text[at..end], head, j, last), end)
 }

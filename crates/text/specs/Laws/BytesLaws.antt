@@ -1,16 +1,17 @@
 -- Which bytes are of which kind, and that a comma and a line end are one byte each.
 -- Document 01, "The text". Assumes nothing.
-use mathlib.Core.Bool.{Bool, true, false, cond}
+use mathlib.Core.Bool.{Bool, true, false, cond, not}
 use mathlib.Core.List.{[], _∷_}
+use mathlib.Core.Logic.{_⊎_, inl, inr}
 use mathlib.Core.Path.{_≡_, sym, subst}
 use Prim.Native.Nat.{ℕ, suc, _≤_}
 use native.Mathlib.Omega.{arith}
 use lib.Dec.{T, leb, eqb, leb→le, le→leb}
 use lib.ListN.{getD}
-use borrow.Author.Tests.{eqb-true, le-leb}
-use Rattle.lts.specs.TestsLaws.{and-left, and-right, and-intro}
+use borrow.Author.Tests.{eqb-true, le-leb, ne-eqb}
+use Rattle.lts.specs.TestsLaws.{and-left, and-right, and-intro, T-cases, not-T→false}
 use Rattle.text.specs.Bytes.{byteZero, byteNine, byteSmallA, byteSmallZ, byteA, byteZ, byteComma, byteLineEnd}
-use Rattle.text.specs.Bytes.{between?, kindOf, digit, smallLetter, capital, comma, lineEnd}
+use Rattle.text.specs.Bytes.{between?, kindOf, other, digit, smallLetter, capital, comma, lineEnd}
 
 pub between?→le : (least most x : ℕ) → T (between? least most x) → (least ≤ x) × (x ≤ most)
 between?→le least most x t =
@@ -67,6 +68,40 @@ module _ (b : ℕ) where
   pub lineEnd-only : kindOf b ≡ lineEnd → b ≡ byteLineEnd
   lineEnd-only h = eqb-true b byteLineEnd (passed 4 h)
 
+  outside : (least most : ℕ) → (least ≤ b → b ≤ most → ⊥) → between? least most b ≡ false
+  outside least most not-in = go (T-cases (between? least most b))
+    where
+      go : T (between? least most b) ⊎ T (not (between? least most b)) → between? least most b ≡ false
+      go (inl t) = let w = between?→le least most b t in absurd (not-in (w .0) (w .1))
+      go (inr f) = not-T→false (between? least most b) f
+
   pub digit-kind : byteZero ≤ b → b ≤ byteNine → kindOf b ≡ digit
   unfolding kindOf
   digit-kind h l = rw (le-leb byteZero b h, le-leb b byteNine l)
+
+  pub smallLetter-kind : byteSmallA ≤ b → b ≤ byteSmallZ → kindOf b ≡ smallLetter
+  unfolding kindOf
+  smallLetter-kind h l = rw (outside byteZero byteNine (λ m n. omega arith), le-leb byteSmallA b h, le-leb b byteSmallZ l)
+
+  pub capital-kind : byteA ≤ b → b ≤ byteZ → kindOf b ≡ capital
+  unfolding kindOf
+  capital-kind h l =
+      rw (
+        outside byteZero byteNine (λ m n. omega arith),
+        outside byteSmallA byteSmallZ (λ m n. omega arith),
+        le-leb byteA b h,
+        le-leb b byteZ l,
+      )
+
+  -- a byte that passes none of the five tests
+  pub other-kind : (byteZero ≤ b → b ≤ byteNine → ⊥) → (byteSmallA ≤ b → b ≤ byteSmallZ → ⊥)
+      → (byteA ≤ b → b ≤ byteZ → ⊥) → (b ≡ byteComma → ⊥) → (b ≡ byteLineEnd → ⊥) → kindOf b ≡ other
+  unfolding kindOf
+  other-kind d s c m e =
+      rw (
+        outside byteZero byteNine d,
+        outside byteSmallA byteSmallZ s,
+        outside byteA byteZ c,
+        ne-eqb b byteComma m,
+        ne-eqb b byteLineEnd e,
+      )

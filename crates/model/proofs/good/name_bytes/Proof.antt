@@ -10,10 +10,10 @@ use Rattle.model.proofs.good.name_bytes.Statement.{statement}
 use Rattle.model.proofs.good.name_bytes.Tie as tie
 
 abbrev Inv-loop : tie.InvT-loop
-Inv-loop kinds store from to k₀ k = (from ≤ k) × EachFrom (NameByteAt store) from k
+Inv-loop store from to k₀ k = (from ≤ k) × EachFrom (NameByteAt store) from k
 
 abbrev μ-loop : tie.MeasureT-loop
-μ-loop kinds store from to k₀ k = to - k
+μ-loop store from to k₀ k = to - k
 
 loop-holds : tie.Need-loop-holds Inv-loop μ-loop
 loop-holds c = (search needs, each-from-nil _)

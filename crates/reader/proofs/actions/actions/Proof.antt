@@ -10,11 +10,11 @@ use Rattle.reader.proofs.actions.actions.Statement.{statement}
 use Rattle.reader.proofs.actions.actions.Tie as tie
 
 abbrev Inv-loop : tie.InvT-loop
-Inv-loop kinds text head out₀ count from₀ i₀ out from i =
+Inv-loop text head out₀ count from₀ i₀ out from i =
     (i ≤ head .actions) × (length out ≡ length out₀) × AfterActions head text from i out
 
 abbrev μ-loop : tie.MeasureT-loop
-μ-loop kinds text head out₀ count from₀ i₀ out from i = head .actions - i
+μ-loop text head out₀ count from₀ i₀ out from i = head .actions - i
 
 loop-holds : tie.Need-loop-holds Inv-loop μ-loop
 loop-holds c = (search needs, refl, c .before .before .pre .0)

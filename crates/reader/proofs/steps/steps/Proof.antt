@@ -13,11 +13,11 @@ use Rattle.reader.proofs.steps.steps.Statement.{statement}
 use Rattle.reader.proofs.steps.steps.Tie as tie
 
 abbrev Inv-loop : tie.InvT-loop
-Inv-loop kinds text head out₀ count last₀ from₀ j₀ out last from j =
+Inv-loop text head out₀ count last₀ from₀ j₀ out last from j =
     (j ≤ head .steps) × (length out ≡ length out₀) × AfterStep head text from j last out
 
 abbrev μ-loop : tie.MeasureT-loop
-μ-loop kinds text head out₀ count last₀ from₀ j₀ out last from j = head .steps - j
+μ-loop text head out₀ count last₀ from₀ j₀ out last from j = head .steps - j
 
 cast-count : tie.Need-cast-count Inv-loop μ-loop
 cast-count c = search needs

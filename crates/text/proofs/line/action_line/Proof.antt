@@ -30,14 +30,14 @@ parts c =
 
 fields-requires : tie.Need-fields-requires
 unfolding kindOf
-fields-requires c κs = (refl, lit< tt, search needs)
+fields-requires c κs = (refl, lit< tt)
 
 returns : tie.Need-returns
 unfolding actionFields actionRead
 returns c = ap actionFields (c .before .fields .ensures .no-fields (not-true _ (c .if1 .taken)))
 
 find-requires : tie.Need-find-requires
-find-requires c κs = (c .before .fields .ensures .yes-length (not-false _ (c .if1 .left)), search needs)
+find-requires c κs = c .before .fields .ensures .yes-length (not-false _ (c .if1 .left))
 
 returns-2 : tie.Need-returns-2
 unfolding actionRead

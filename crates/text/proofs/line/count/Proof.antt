@@ -13,10 +13,10 @@ use Rattle.text.proofs.line.count.Statement.{statement}
 use Rattle.text.proofs.line.count.Tie as tie
 
 abbrev Inv-loop : tie.InvT-loop
-Inv-loop kinds s k n₀ i₀ n i = (i ≤ length s) × (n ≤ i) × (length (split k s) ≡ n + length (split k (drop i s)))
+Inv-loop s k n₀ i₀ n i = (i ≤ length s) × (n ≤ i) × (length (split k s) ≡ n + length (split k (drop i s)))
 
 abbrev μ-loop : tie.MeasureT-loop
-μ-loop kinds s k n₀ i₀ n i = length s - i
+μ-loop s k n₀ i₀ n i = length s - i
 
 loop-holds : tie.Need-loop-holds Inv-loop μ-loop
 loop-holds c = search needs

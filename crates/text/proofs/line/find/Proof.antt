@@ -11,10 +11,10 @@ use Rattle.text.proofs.line.find.Statement.{statement}
 use Rattle.text.proofs.line.find.Tie as tie
 
 abbrev Inv-loop : tie.InvT-loop
-Inv-loop kinds s from k i₀ i = (i ≤ length s) × (i + indexOf k (drop i s) ≡ from + indexOf k (drop from s))
+Inv-loop s from k i₀ i = (i ≤ length s) × (i + indexOf k (drop i s) ≡ from + indexOf k (drop from s))
 
 abbrev μ-loop : tie.MeasureT-loop
-μ-loop kinds s from k i₀ i = length s - i
+μ-loop s from k i₀ i = length s - i
 
 loop-holds : tie.Need-loop-holds Inv-loop μ-loop
 loop-holds c = search needs

@@ -18,7 +18,7 @@ use Rattle.text.proofs.line.head_line.Tie as tie
 
 -- the numbers stored
 abbrev stored : tie.After-row → List ℕ
-stored c = c .row .last .1 .1 .1 .0
+stored c = c .row .last .1 .1 .0
 
 -- all fields are numbers
 read : (c : tie.After-enum-told) → let r = c .before .before .before in
@@ -68,17 +68,17 @@ returns-2 c =
     let f = c .before in
     headOf-numbers _ (read (f .before)) (sym (f .head-fits .ensures) ∙ not-true _ (c .if1 .taken))
 
+cast-t23 : tie.Need-cast-t23
+cast-t23 c = omega (arith, range c .states)
+
 cast-t24 : tie.Need-cast-t24
-cast-t24 c = omega (arith, range c .states)
+cast-t24 c = omega (arith, range c .actions)
 
 cast-t25 : tie.Need-cast-t25
-cast-t25 c = omega (arith, range c .actions)
+cast-t25 c = omega (arith, range c .steps)
 
 cast-t26 : tie.Need-cast-t26
-cast-t26 c = omega (arith, range c .steps)
-
-cast-t27 : tie.Need-cast-t27
-cast-t27 c = omega (arith, range c .states, range c .start)
+cast-t26 c = omega (arith, range c .states, range c .start)
 
 returns-3 : tie.Need-returns-3
 unfolding headRead checked
@@ -101,8 +101,8 @@ head-line-spec =
     array-read-start
     head-fits-requires
     returns-2
+    cast-t23
     cast-t24
     cast-t25
     cast-t26
-    cast-t27
     returns-3)

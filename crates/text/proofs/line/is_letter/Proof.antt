@@ -9,7 +9,7 @@ kind-requires : tie.Need-kind-requires
 kind-requires c κs = search needs
 
 returns : tie.Need-returns
-returns c = λ e. c .if1 .taken (c .before .kind .ensures ∙ ap kindOf e ∙ c .before .before .pre .0)
+returns c = λ e. c .if1 .taken (c .before .kind .ensures ∙ ap kindOf e ∙ c .before .before .pre)
 
 returns-2 : tie.Need-returns-2
 returns-2 c = search needs

@@ -13,11 +13,11 @@ use Rattle.text.proofs.line.is_name.Statement.{statement}
 use Rattle.text.proofs.line.is_name.Tie as tie
 
 abbrev Inv-loop : tie.InvT-loop
-Inv-loop kinds f i₀ i =
+Inv-loop f i₀ i =
     (1 ≤ length f) × (length f ≤ nameLimit) × (i ≤ length f) × (allOf nameByte? (drop i f) ≡ allOf nameByte? f)
 
 abbrev μ-loop : tie.MeasureT-loop
-μ-loop kinds f i₀ i = length f - i
+μ-loop f i₀ i = length f - i
 
 returns : tie.Need-returns Inv-loop μ-loop
 returns c = sym (name-short _ (c .if1 .taken))

@@ -13,11 +13,11 @@ use Rattle.text.proofs.line.numbers.Statement.{statement}
 use Rattle.text.proofs.line.numbers.Tie as tie
 
 abbrev Inv-loop : tie.InvT-loop
-Inv-loop kinds line from out₀ at₀ i₀ out at i =
+Inv-loop line from out₀ at₀ i₀ out at i =
     (length out ≡ length out₀) × (i ≤ length out₀) × NumbersStored line from out at i
 
 abbrev μ-loop : tie.MeasureT-loop
-μ-loop kinds line from out₀ at₀ i₀ out at i = length out₀ - i
+μ-loop line from out₀ at₀ i₀ out at i = length out₀ - i
 
 -- the end that `find` gave
 ends : (c : tie.After-find Inv-loop μ-loop)
@@ -29,7 +29,7 @@ loop-holds : tie.Need-loop-holds Inv-loop μ-loop
 loop-holds c = let p = c .before .before .pre in (refl, search needs, stored-first _ _ _ (p .0) (p .1))
 
 find-requires : tie.Need-find-requires Inv-loop μ-loop
-find-requires c κs = (c .before .loop .inv .2 .at-le, search needs)
+find-requires c κs = c .before .loop .inv .2 .at-le
 
 sub-parse-number : tie.Need-sub-parse-number Inv-loop μ-loop
 sub-parse-number c = omega (arith, ends c)

@@ -19,7 +19,7 @@ numbers-requires c κs =
     let p = c .before in
     let fields = p .before .fields .ensures in
     let yes = not-false _ (p .if1 .left) in
-    (fields .yes-length yes, fields .yes-count yes, search needs)
+    (fields .yes-length yes, fields .yes-count yes)
 
 same-length : tie.Need-same-length
 same-length c = search needs

@@ -15,10 +15,10 @@ use Rattle.text.proofs.number.digits_value.Statement.{statement}
 use Rattle.text.proofs.number.digits_value.Tie as tie
 
 abbrev Inv-loop : tie.InvT-loop
-Inv-loop kinds f v₀ i₀ v i = (i ≤ length f) × (v < 10 ^ i) × (digitsValue v (drop i f) ≡ digitsValue 0 f)
+Inv-loop f v₀ i₀ v i = (i ≤ length f) × (v < 10 ^ i) × (digitsValue v (drop i f) ≡ digitsValue 0 f)
 
 abbrev μ-loop : tie.MeasureT-loop
-μ-loop kinds f v₀ i₀ v i = length f - i
+μ-loop f v₀ i₀ v i = length f - i
 
 -- the byte is a digit, and the value so far has four digits at most
 at-digit : (c : tie.Else1 Inv-loop μ-loop)
@@ -29,7 +29,7 @@ at-digit c =
     let l = c .before .before .before .before in
     let b = getD (l .before .before .args .f .now) (l .loop .i) 0 in
     let r = digit-within b (sym (c .before .kind .ensures) ∙ c .if1 .left) in
-    let k : l .loop .i ≤ 4 = omega (arith, l .before .before .pre .0) in
+    let k : l .loop .i ≤ 4 = omega (arith, l .before .before .pre) in
     let p : 10 ^ (l .loop .i) ≤ 10 ^ 4 = pow-le-pow-right (lit< tt) k in
     (r .0, r .1, omega arith)
 

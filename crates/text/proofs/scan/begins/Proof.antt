@@ -19,7 +19,7 @@ shared-slice-read-is-letter c = search needs
 
 is-letter-requires : tie.Need-is-letter-requires
 unfolding kindOf
-is-letter-requires c κs = (refl, search needs)
+is-letter-requires c κs = refl
 
 returns-2 : tie.Need-returns-2
 returns-2 c z = absurd (clash z)

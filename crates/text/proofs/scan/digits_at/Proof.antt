@@ -16,11 +16,11 @@ use Rattle.text.proofs.scan.digits_at.Statement.{statement}
 use Rattle.text.proofs.scan.digits_at.Tie as tie
 
 abbrev Inv-loop : tie.InvT-loop
-Inv-loop kinds s at k v₀ i₀ v i =
+Inv-loop s at k v₀ i₀ v i =
     (at ≤ i) × (i ≤ at + digitLimit) × (i ≤ length s) × (v < 10 ^ (i - at)) × DigitsTo s at i v
 
 abbrev μ-loop : tie.MeasureT-loop
-μ-loop kinds s at k v₀ i₀ v i = length s - i
+μ-loop s at k v₀ i₀ v i = length s - i
 
 -- the byte is a digit, and the value so far has four digits at most
 at-digit : (c : tie.Else3 Inv-loop μ-loop)

@@ -21,7 +21,7 @@ add-number-at : tie.Need-add-number-at
 add-number-at c = omega (arith, begun c .room)
 
 number-at-requires : tie.Need-number-at-requires
-number-at-requires c κs = (begun c .room, search needs)
+number-at-requires c κs = begun c .room
 
 enum-known-source : tie.Need-enum-known-source
 enum-known-source c = search needs
@@ -43,7 +43,7 @@ number-at-requires-2 : tie.Need-number-at-requires-2
 number-at-requires-2 c κs =
     let s = c .before in
     let i = scanned _ _ _ _ (s .source .given .1) (s .before .before .number-at .ensures) .inside in
-    (omega arith, search needs)
+    omega arith
 
 enum-known-action : tie.Need-enum-known-action
 enum-known-action c = search needs
@@ -61,13 +61,13 @@ add-number-at-3 c =
     let l = a .before .before in
     let i = scanned _ _ _ _ (a .action .given .1) (l .number-at2 .ensures) .inside in
     let k = l .before .before .before .before in
-    omega (arith, k .before .before .before .before .good .1 .0 .0)
+    omega (arith, k .before .before .before .before .good .0 .0)
 
 number-at-requires-3 : tie.Need-number-at-requires-3
 number-at-requires-3 c κs =
     let a = c .before in
     let i = scanned _ _ _ _ (a .action .given .1) (a .before .before .number-at2 .ensures) .inside in
-    (omega arith, search needs)
+    omega arith
 
 enum-known-target : tie.Need-enum-known-target
 enum-known-target c = search needs

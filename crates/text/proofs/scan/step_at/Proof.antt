@@ -54,7 +54,7 @@ part-step-line-start c = search needs
 part-step-line-end : tie.Need-part-step-line-end
 part-step-line-end c =
     let f = c .before in
-    let n = found-le lineEnd _ _ _ (f .before .before .before .before .before .pre .0) (f .find .ensures) in
+    let n = found-le lineEnd _ _ _ (f .before .before .before .before .before .pre) (f .find .ensures) in
     omega arith
 
 step-line-requires : tie.Need-step-line-requires
@@ -63,14 +63,14 @@ step-line-requires c κs = search needs
 ended-requires-2 : tie.Need-ended-requires-2
 ended-requires-2 c κs =
     let f = c .before .before .before in
-    let n = found-le lineEnd _ _ _ (f .before .before .before .before .before .pre .0) (f .find .ensures) in
+    let n = found-le lineEnd _ _ _ (f .before .before .before .before .before .pre) (f .find .ensures) in
     omega arith
 
 returns-3 : tie.Need-returns-3
 returns-3 c =
     let s = c .before in
     let f = s .before .before .before in
-    let n = found-le lineEnd _ _ _ (f .before .before .before .before .before .pre .0) (f .find .ensures) in
+    let n = found-le lineEnd _ _ _ (f .before .before .before .before .before .pre) (f .find .ensures) in
     c .ended2 .ensures _ _ _ _ _
     (record { found = f .find .ensures; inside = omega arith; reads = s .step-line .ensures })
 
