@@ -10,13 +10,10 @@ use Rattle.model.proofs.good.actions_good.Statement.{statement}
 use Rattle.model.proofs.good.actions_good.Tie as tie
 
 abbrev Inv-loop : tie.InvT-loop
-Inv-loop store n kinds i₀ i = EachFrom (GoodAction store) 0 i
+Inv-loop store n i₀ i = EachFrom (GoodAction store) 0 i
 
 abbrev μ-loop : tie.MeasureT-loop
-μ-loop store n kinds i₀ i = n - i
-
-kinds-requires : tie.Need-kinds-requires Inv-loop μ-loop
-kinds-requires c κs = search needs
+μ-loop store n i₀ i = n - i
 
 loop-holds : tie.Need-loop-holds Inv-loop μ-loop
 loop-holds c = each-from-nil _
@@ -27,7 +24,7 @@ action-good-requires c κs = search needs
 returns : tie.Need-returns Inv-loop μ-loop
 returns c =
     let f = c .before .action-good in
-    let i = c .before .before .before .before .loop .i in
+    let i = c .before .before .before .loop .i in
     λ b. decides-refused (f .result) _ (f .ensures) (c .if1 .taken) (b .at i (omega arith) (omega arith))
 
 add-i : tie.Need-add-i Inv-loop μ-loop
@@ -39,7 +36,7 @@ loop-less c = search needs
 loop-again : tie.Need-loop-again Inv-loop μ-loop
 loop-again c =
     let f = c .before .action-good in
-    let b = c .before .before .before .before .loop .inv in
+    let b = c .before .before .before .loop .inv in
     each-from-snoc _ b (decides-passed (f .result) _ (f .ensures) (c .if1 .left))
 
 returns-2 : tie.Need-returns-2 Inv-loop μ-loop
@@ -51,7 +48,6 @@ actions-good-spec =
     (tie.spec
     Inv-loop
     μ-loop
-    kinds-requires
     loop-holds
     action-good-requires
     returns

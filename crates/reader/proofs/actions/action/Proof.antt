@@ -45,7 +45,7 @@ named c =
     name-part _ _ _ _ (i .1) (i .0) (r .action-line .ensures ∙ ap (actionRead _) (c .before .read2 .given .1))
 
 find-requires : tie.Need-find-requires
-find-requires c κs = (c .before .before .pre .0 .inside .place, search needs)
+find-requires c κs = c .before .before .pre .0 .inside .place
 
 returns : tie.Need-returns
 unfolding Further
@@ -131,14 +131,14 @@ put-action-requires c κs =
     let l = afterActions-length _ _ _ (s .args .i) _ (s .pre .0) (omega arith) in
     (omega arith, omega arith, named k .1)
 
-add-t25 : tie.Need-add-t25
-add-t25 c =
+add-t24 : tie.Need-add-t24
+add-t24 c =
     let k = c .before .before .before .before .before .before .before .before .before in
     let i = inside (k .before .before .before .before .before) in
     omega arith
 
-add-t36 : tie.Need-add-t36
-add-t36 c =
+add-t35 : tie.Need-add-t35
+add-t35 c =
     let k = c .before .before .before .before .before .before .before .before .before in
     let s = k .before .before .before .before .before .before .before .before .before in
     let i = s .pre .0 .inside in
@@ -195,8 +195,8 @@ action-spec =
     part-put-action-start
     part-put-action-end
     put-action-requires
-    add-t25
-    add-t36
+    add-t24
+    add-t35
     returns-3
     same-length-2
     returns-4)

@@ -17,10 +17,10 @@ abbrev μ-loop : tie.MeasureT-loop
 μ-loop text head out₀ count from₀ i₀ out from i = head .actions - i
 
 loop-holds : tie.Need-loop-holds Inv-loop μ-loop
-loop-holds c = (search needs, refl, c .before .before .pre .0)
+loop-holds c = (search needs, refl, c .before .before .pre)
 
 action-requires : tie.Need-action-requires Inv-loop μ-loop
-action-requires c κs = let l = c .before .before in (l .loop .inv .2, omega arith, search needs)
+action-requires c κs = let l = c .before .before in (l .loop .inv .2, omega arith)
 
 enum-told : tie.Need-enum-told Inv-loop μ-loop
 enum-told c = search needs
@@ -28,7 +28,7 @@ enum-told c = search needs
 same-length : tie.Need-same-length Inv-loop μ-loop
 same-length c =
     let a = c .before .before .before .before in
-    a .action .kept .1 .1 .1 .1 .1 .0 ∙ a .before .before .before .loop .inv .1
+    a .action .kept .1 .1 .1 .1 .0 ∙ a .before .before .before .loop .inv .1
 
 returns : tie.Need-returns Inv-loop μ-loop
 returns c = further-faulty _ _ _ _ _ _ (c .enum-told .given .1) (c .before .before .before .before .action .ensures)
@@ -47,7 +47,7 @@ loop-again c =
     let a = c .before .before .before .before .before in
     let l = a .before .before .before in
     let next = further-next _ _ _ _ (c .before .read .given .1) (a .action .ensures) in
-    (omega arith, a .action .kept .1 .1 .1 .1 .1 .0 ∙ l .loop .inv .1, next)
+    (omega arith, a .action .kept .1 .1 .1 .1 .0 ∙ l .loop .inv .1, next)
 
 same-length-2 : tie.Need-same-length-2 Inv-loop μ-loop
 same-length-2 c = c .before .loop .inv .1

@@ -10,27 +10,24 @@ use Rattle.reader.proofs.body.after_line.Tie as tie
 returns : tie.Need-returns
 returns c = afterLine-past _ _ (c .if1 .taken)
 
-kinds-requires : tie.Need-kinds-requires
-kinds-requires c κs = search needs
-
 find-requires : tie.Need-find-requires
 find-requires c κs = search needs
 
 returns-2 : tie.Need-returns-2
 returns-2 c =
     let f = c .before in
-    afterLine-absent _ _ _ (f .before .before .before .if1 .left) (f .find .ensures) (omega arith)
+    afterLine-absent _ _ _ (f .before .if1 .left) (f .find .ensures) (omega arith)
 
 add-result : tie.Need-add-result
 add-result c =
     let f = c .before in
-    omega (arith, found-le lineEnd _ _ _ (f .before .before .before .if1 .left) (f .find .ensures))
+    omega (arith, found-le lineEnd _ _ _ (f .before .if1 .left) (f .find .ensures))
 
 returns-3 : tie.Need-returns-3
 returns-3 c =
     let f = c .before in
-    let n = found-le lineEnd _ _ _ (f .before .before .before .if1 .left) (f .find .ensures) in
-    afterLine-line _ _ _ (f .before .before .before .if1 .left) (f .find .ensures) (omega arith)
+    let n = found-le lineEnd _ _ _ (f .before .if1 .left) (f .find .ensures) in
+    afterLine-line _ _ _ (f .before .if1 .left) (f .find .ensures) (omega arith)
 
 pub after-line-spec : {M : Type 1} → statement M
-after-line-spec = tie.close (tie.spec returns kinds-requires find-requires returns-2 add-result returns-3)
+after-line-spec = tie.close (tie.spec returns find-requires returns-2 add-result returns-3)

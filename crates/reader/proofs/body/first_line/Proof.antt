@@ -13,9 +13,6 @@ returns : tie.Need-returns
 unfolding headRead
 returns c = firstLine-past _ _ (c .if1 .taken)
 
-kinds-requires : tie.Need-kinds-requires
-kinds-requires c κs = search needs
-
 find-requires : tie.Need-find-requires
 find-requires c κs = search needs
 
@@ -23,7 +20,7 @@ returns-2 : tie.Need-returns-2
 unfolding headRead
 returns-2 c =
     let f = c .before in
-    firstLine-absent _ _ _ (f .before .before .before .if1 .left) (f .find .ensures) (omega arith)
+    firstLine-absent _ _ _ (f .before .if1 .left) (f .find .ensures) (omega arith)
 
 sub-head-line : tie.Need-sub-head-line
 sub-head-line c = search needs
@@ -33,16 +30,16 @@ part-head-line-start c = search needs
 
 part-head-line-end : tie.Need-part-head-line-end
 part-head-line-end c =
-    let f = c .before .before in
-    omega (arith, found-le lineEnd _ _ _ (f .before .before .before .if1 .left) (f .find .ensures))
+    let f = c .before in
+    omega (arith, found-le lineEnd _ _ _ (f .before .if1 .left) (f .find .ensures))
 
 head-line-requires : tie.Need-head-line-requires
 head-line-requires c κs = search needs
 
 returns-3 : tie.Need-returns-3
 returns-3 c =
-    let f = c .before .before .before .before in
-    let in-text = f .before .before .before .if1 .left in
+    let f = c .before .before .before in
+    let in-text = f .before .if1 .left in
     let n = found-le lineEnd _ _ _ in-text (f .find .ensures) in
     sym (c .head-line .ensures) ∙ firstLine-line _ _ _ in-text (f .find .ensures) (omega arith)
 
@@ -51,7 +48,6 @@ first-line-spec =
     tie.close
     (tie.spec
     returns
-    kinds-requires
     find-requires
     returns-2
     sub-head-line

@@ -15,7 +15,7 @@ use Rattle.reader.proofs.body.last_line.Tie as tie
 -- the contexts of the search and of the place behind it, where the line has an end
 abbrev start : (f : tie.After-find) → let a = f .before .before .before .args in
     AfterSteps (a .text .now) (a .start) (a .out .now)
-start f = f .before .before .before .pre .0
+start f = f .before .before .before .pre
 
 inside : (c : tie.Else1)
     → c .before .find .result < length (c .before .before .before .before .args .text .now)
@@ -45,7 +45,7 @@ shared-slice-read-is-letter c = let i = inside (c .before .before) in omega arit
 
 is-letter-requires : tie.Need-is-letter-requires
 unfolding kindOf
-is-letter-requires c κs = (refl, search needs)
+is-letter-requires c κs = refl
 
 returns-3 : tie.Need-returns-3
 unfolding Through
@@ -58,8 +58,8 @@ returns-3 c =
 add-if4 : tie.Need-add-if4
 add-if4 c = let i = inside (c .before .before .before .before) in omega arith
 
-add-t18 : tie.Need-add-t18
-add-t18 c =
+add-t17 : tie.Need-add-t17
+add-t17 c =
     let e = c .before .before .before .before .before in
     let i = inside e in
     let n = start (e .before) .inside .line-le in
@@ -95,6 +95,6 @@ last-line-spec =
     is-letter-requires
     returns-3
     add-if4
-    add-t18
+    add-t17
     returns-4
     returns-5)

@@ -6,7 +6,7 @@ use Rattle.reader.proofs.body.lines.Statement.{statement}
 use Rattle.reader.proofs.body.lines.Tie as tie
 
 actions-requires : tie.Need-actions-requires
-actions-requires c κs = (c .before .before .before .pre .0, search needs)
+actions-requires c κs = c .before .before .before .pre
 
 enum-known-acted : tie.Need-enum-known-acted
 enum-known-acted c = search needs
@@ -17,7 +17,7 @@ enum-known-acted-2 c = search needs
 steps-requires : tie.Need-steps-requires
 steps-requires c κs =
     let k = c .before .before in
-    (further-next _ _ _ _ (k .acted2 .given .1) (k .before .before .before .before .actions .ensures), search needs)
+    further-next _ _ _ _ (k .acted2 .given .1) (k .before .before .before .before .actions .ensures)
 
 enum-known-stepped : tie.Need-enum-known-stepped
 enum-known-stepped c = search needs
@@ -28,10 +28,7 @@ enum-known-stepped-2 c = search needs
 last-line-requires : tie.Need-last-line-requires
 last-line-requires c κs =
     let k = c .before .before in
-    let s = k .before .before .before .before in
-    let a = s .before .before .before .before .before .before .before in
-    let start = a .before .before .before .before in
-    (further-next _ _ _ _ (k .stepped2 .given .1) (s .steps .ensures), start .pre .1)
+    further-next _ _ _ _ (k .stepped2 .given .1) (k .before .before .before .before .steps .ensures)
 
 same-length : tie.Need-same-length
 same-length c = search needs

@@ -8,9 +8,6 @@ use Rattle.reader.specs.Laws.TextReadLaws.{readOut-done, through-done, t
 use Rattle.reader.proofs.body.model.Statement.{statement}
 use Rattle.reader.proofs.body.model.Tie as tie
 
-kinds-requires : tie.Need-kinds-requires
-kinds-requires c κs = search needs
-
 slice-aggregate-put-head : tie.Need-slice-aggregate-put-head
 slice-aggregate-put-head c = search needs
 
@@ -22,10 +19,9 @@ slice-aggregate-lines c = search needs
 
 lines-requires : tie.Need-lines-requires
 lines-requires c κs =
-    let p = c .before .before .before in
-    let k = p .before .before in
-    let start = k .before .before .before in
-    (rw (p .put-head .ensures ∙ storeOf-head _) (after-head _ _ _ (start .pre .0)), k .kinds .ensures)
+    let p = c .before .before in
+    let start = p .before .before .before .before in
+    rw (p .put-head .ensures ∙ storeOf-head _) (after-head _ _ _ (start .pre .0))
 
 enum-told : tie.Need-enum-told
 enum-told c = search needs
@@ -47,7 +43,7 @@ returns c =
     let p = c .before .before in
     let t = p .before .before .before in
     let r = t .before .before .before in
-    let kept = r .lines .kept .1 .1 .1 .1 .0 ∙ r .before .before .before .before .put-head .kept .0 in
+    let kept = r .lines .kept .1 .1 .1 .0 ∙ r .before .before .before .put-head .kept .0 in
     readOut-done _ _ _ _ (through-done _ _ _ (t .enum-told .given .1) (r .lines .ensures)) kept (p .copy .ensures)
 
 returns-2 : tie.Need-returns-2
@@ -59,7 +55,6 @@ pub model-spec : {M : Type 1} → statement M
 model-spec =
     tie.close
     (tie.spec
-    kinds-requires
     slice-aggregate-put-head
     put-head-requires
     slice-aggregate-lines

@@ -23,10 +23,10 @@ cast-count : tie.Need-cast-count Inv-loop μ-loop
 cast-count c = search needs
 
 loop-holds : tie.Need-loop-holds Inv-loop μ-loop
-loop-holds c = (search needs, refl, after-actions _ _ _ _ _ (c .before .before .before .pre .0))
+loop-holds c = (search needs, refl, after-actions _ _ _ _ _ (c .before .before .before .pre))
 
 step-at-requires : tie.Need-step-at-requires Inv-loop μ-loop
-step-at-requires c κs = (c .before .loop .inv .2 .inside .place, search needs)
+step-at-requires c κs = c .before .loop .inv .2 .inside .place
 
 enum-known-read : tie.Need-enum-known-read Inv-loop μ-loop
 enum-known-read c = search needs
@@ -45,8 +45,8 @@ returns c =
 enum-known-read-2 : tie.Need-enum-known-read-2 Inv-loop μ-loop
 enum-known-read-2 c = search needs
 
-cast-t22 : tie.Need-cast-t22 Inv-loop μ-loop
-cast-t22 c = omega arith
+cast-t21 : tie.Need-cast-t21 Inv-loop μ-loop
+cast-t21 c = omega arith
 
 put-step-requires : tie.Need-put-step-requires Inv-loop μ-loop
 put-step-requires c κs =
@@ -56,8 +56,8 @@ put-step-requires c κs =
     let m = b .limits .steps in
     omega arith
 
-add-t24 : tie.Need-add-t24 Inv-loop μ-loop
-add-t24 c =
+add-t23 : tie.Need-add-t23 Inv-loop μ-loop
+add-t23 c =
     let l = c .before .before .before .before .before .before .before .before .before in
     let i = l .loop .inv .2 .inside in
     omega (arith, i .place, i .line-le)
@@ -101,9 +101,9 @@ steps-spec =
     same-length
     returns
     enum-known-read-2
-    cast-t22
+    cast-t21
     put-step-requires
-    add-t24
+    add-t23
     add-j
     loop-less
     loop-again
