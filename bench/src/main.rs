@@ -1,6 +1,8 @@
 //! Times of the proved operations and of the program, beside those of the second checker and of a plain ranking, all in
 //! one run. Prints the tables; with `--write` it also writes them to TABLE.md, the plot beside it, and a short table
-//! into the README.
+//! into the README. With `--beside PROGRAM` it measures the operations beside those of another archive, over which PROGRAM
+//! is this program.
+mod beside;
 mod growth;
 mod plain;
 mod plot;
@@ -29,11 +31,21 @@ fn write(file: &Path, text: &str) {
 
 fn main() {
     let arguments: Vec<String> = std::env::args().skip(1).collect();
+    let arguments: Vec<&str> = arguments.iter().map(String::as_str).collect();
+    match arguments[..] {
+        ["--beside", other] => print!("{}", beside::table_of(other)),
+        ["--turn", model] => print!("{}", beside::turn(model)),
+        _ => measure(arguments == ["--write"]),
+    }
+}
+
+/// Measures everything, and prints it.
+fn measure(is_written: bool) {
     let report = tables::measure();
     let panels = growth::panels();
     let tables = report.whole() + &tables::growth(&panels);
     print!("{tables}");
-    if arguments == ["--write"] {
+    if is_written {
         let bench = Path::new(env!("CARGO_MANIFEST_DIR"));
         write(&bench.join("TABLE.md"), &tables);
         write(&bench.join("growth.svg"), &plot::svg(&panels));

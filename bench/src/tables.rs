@@ -38,7 +38,7 @@ pub fn measure() -> Report {
 }
 
 /// A table; the first column stands left, the others right.
-fn table(head: &[&str], rows: impl IntoIterator<Item = Vec<String>>) -> String {
+pub fn table(head: &[&str], rows: impl IntoIterator<Item = Vec<String>>) -> String {
     let mut text = format!("| {} |\n", head.join(" | "));
     text += &format!("|---|{}\n", "--:|".repeat(head.len() - 1));
     for row in rows {
@@ -48,7 +48,7 @@ fn table(head: &[&str], rows: impl IntoIterator<Item = Vec<String>>) -> String {
 }
 
 /// Three digits, or all that stand before the point.
-fn digits(value: f64) -> String {
+pub fn digits(value: f64) -> String {
     match value {
         _ if value >= 100.0 => format!("{value:.0}"),
         _ if value >= 10.0 => format!("{value:.1}"),

@@ -22,10 +22,14 @@ pub const TURNS: usize = 5;
 
 const UNREACHABLE: u16 = 65_535;
 
+/// The operations, in the order of the tables.
+pub fn operations() -> impl Iterator<Item = &'static str> {
+    ALL.iter().map(|operation| operation.name())
+}
+
 /// What is timed, in the order of the tables.
 pub fn names() -> Vec<&'static str> {
-    let operations = ALL.iter().map(|operation| operation.name());
-    operations.chain(["program"]).collect()
+    operations().chain(["program"]).collect()
 }
 
 /// The place of a name among them.
@@ -57,7 +61,7 @@ pub fn best_of_turns<T>(mut call: impl FnMut() -> T) -> f64 {
 }
 
 /// Keeps the less of two times, place by place.
-fn least(times: &mut Each, others: &Each) {
+pub fn least(times: &mut Each, others: &Each) {
     for (time, other) in times.iter_mut().zip(others) {
         *time = time.min(*other);
     }
@@ -149,12 +153,17 @@ impl Timed {
         times
     }
 
-    /// One turn of the proved operations and the program.
-    fn ours(&mut self) -> Each {
+    /// One turn of the proved operations.
+    pub fn operations(&mut self) -> Each {
         let Timed { input, lists, .. } = self;
         let call = |operation: &&dyn AnyOperation| best(|| operation.call_proved(input, lists));
-        let mut each: Each = ALL.iter().map(call).collect();
-        each.push(best(|| process::run(process::PROGRAM, &input.text)));
+        ALL.iter().map(call).collect()
+    }
+
+    /// One turn of the proved operations and the program.
+    fn ours(&mut self) -> Each {
+        let mut each = self.operations();
+        each.push(best(|| process::run(process::PROGRAM, &self.input.text)));
         each
     }
 

@@ -55,9 +55,9 @@ fn digits_at(s: &[u8], at: usize, k: u8) -> Scan
     let mut i = at;
     while i < s.len() {
         let b = s[i];
-        let c = kind(b);
-        if c != DIGIT {
-            if c != k {
+        if kind(b) != DIGIT {
+            // Asked anew, so that each digit costs one test and not all of the match.
+            if kind(b) != k {
                 return Scan::Other;
             }
             return Scan::Number { value: v, end: i };

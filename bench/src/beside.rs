@@ -1,0 +1,59 @@
+//! The operations of this archive beside those of another, which is linked to a second build of this program. The two
+//! programs take turns on each model, so that other work on the machine slows neither of them alone.
+use std::env;
+use std::process::Command;
+
+use crate::shapes;
+use crate::tables::{digits, table};
+use crate::times::{least, operations, Each, Timed, TURNS};
+
+/// One turn of the operations on a model: a time to a line.
+pub fn turn(name: &str) -> String {
+    let shapes = shapes::shapes();
+    let (_, model) = shapes
+        .iter()
+        .find(|shape| shape.0 == name)
+        .expect("a model");
+    let times = Timed::of(model).operations();
+    times.iter().map(|time| format!("{time}\n")).collect()
+}
+
+/// One turn of a program.
+fn turn_of(program: &str, name: &str) -> Each {
+    let output = Command::new(program).args(["--turn", name]).output();
+    let output = output.unwrap_or_else(|error| panic!("{program}: {error}"));
+    assert!(output.status.success(), "{program}: {}", output.status);
+    let text = String::from_utf8(output.stdout).expect("numbers");
+    let time = |line: &str| line.parse().expect("a number");
+    text.lines().map(time).collect()
+}
+
+/// Each operation's time on a model, and in brackets that time by the other archive's.
+fn row(programs: &[&str; 2], name: &str) -> Vec<String> {
+    let mut times = programs.map(|program| turn_of(program, name));
+    for _ in 1..TURNS {
+        for (best, program) in times.iter_mut().zip(programs) {
+            least(best, &turn_of(program, name));
+        }
+    }
+    let [ours, others] = times;
+    let cell =
+        |(time, other): (&f64, &f64)| format!("{} ({})", digits(*time), digits(time / other));
+    let cells = ours.iter().zip(&others).map(cell);
+    [name.to_string()].into_iter().chain(cells).collect()
+}
+
+/// The table of all models.
+pub fn table_of(other: &str) -> String {
+    let own = env::current_exe().expect("this program");
+    let programs = [own.to_str().expect("a path"), other];
+    let head: Vec<&str> = ["model"].into_iter().chain(operations()).collect();
+    let rows = shapes::shapes()
+        .into_iter()
+        .map(|(name, _)| row(&programs, name));
+    let rows: Vec<Vec<String>> = rows.collect();
+    format!(
+        "Microseconds, the best of many calls in {TURNS} turns; in brackets, that time by the other archive's.\n\n{}",
+        table(&head, rows)
+    )
+}
