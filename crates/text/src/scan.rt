@@ -21,7 +21,7 @@ ghost use lib.ListN.{length};
 ghost use Rattle.text.specs.declared.Head.{Head};
 ghost use Rattle.text.specs.declared.StepLine.{StepLine};
 ghost use Rattle.text.specs.Inner.Scan.{Scanned, DigitsAt, NumberAt, StepBegins, StepScanned};
-ghost use Rattle.text.specs.Inner.Scan.{StepLineAt, StepAtRead};
+ghost use Rattle.text.specs.Inner.Scan.{afterNumber, StepLineAt, StepAtRead};
 
 // A number and the place after it; or there is none of the right form.
 pub enum Scan {
@@ -55,9 +55,9 @@ fn digits_at(s: &[u8], at: usize, k: u8) -> Scan
     let mut i = at;
     while i < s.len() {
         let b = s[i];
-        if kind(b) != DIGIT {
-            // Asked anew, so that each digit costs one test and not all of the match.
-            if kind(b) != k {
+        let c = kind(b);
+        if c != DIGIT {
+            if c != k {
                 return Scan::Other;
             }
             return Scan::Number { value: v, end: i };
@@ -108,7 +108,17 @@ fn begins(text: &[u8], at: usize) -> bool
     true
 }
 
-// The numbers of the step's line at a place.
+// The kind of the byte that follows number i of a step's line.
+fn after_number(i: usize) -> u8
+    ensures { λ r. ⌜ r ≡ afterNumber i ⌝ }
+{
+    if i == 2 {
+        return LINE_END;
+    }
+    COMMA
+}
+
+// The numbers of the step's line at a place. One call in a loop is compiled into it; three were not.
 fn numbers_at(text: &[u8], at: usize) -> StepScan
     requires { ⌜ at ≤ length (now text) ⌝ }
     ensures { λ r. ⌜ StepScanned (now (text .entry)) at r ⌝ }
@@ -116,23 +126,20 @@ fn numbers_at(text: &[u8], at: usize) -> StepScan
     if !begins(text, at) {
         return StepScan::Other;
     }
-    let Scan::Number {
-        value: source,
-        end: a,
-    } = number_at(text, at + 2, COMMA)
-    else {
-        return StepScan::Other;
-    };
-    let Scan::Number {
-        value: action,
-        end: b,
-    } = number_at(text, a + 1, COMMA)
-    else {
-        return StepScan::Other;
-    };
-    let Scan::Number { value: target, end } = number_at(text, b + 1, LINE_END) else {
-        return StepScan::Other;
-    };
+    let mut numbers = [0u32; 3];
+    let mut end = at + 1;
+    let mut i = 0;
+    while i < 3 {
+        let Scan::Number { value, end: next } = number_at(text, end + 1, after_number(i)) else {
+            return StepScan::Other;
+        };
+        numbers[i] = value;
+        end = next;
+        i += 1;
+    }
+    let source = numbers[0];
+    let action = numbers[1];
+    let target = numbers[2];
     StepScan::Numbers {
         source,
         action,

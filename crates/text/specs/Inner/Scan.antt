@@ -1,10 +1,12 @@
 -- What a step's line holds that is read in one pass, from its letter to its line end. Only the contracts of inner
 -- functions cite it.
 -- Document 01, "The text": "`S,source,action,target`".
+use mathlib.Core.Bool.{cond}
 use mathlib.Core.List.{List, [], _∷_, _++_}
 use mathlib.Core.Logic.{_⊎_}
 use mathlib.Core.Path.{_≡_}
-use Prim.Native.Nat.{ℕ, _+_, _-_, _≤_, _<_}
+use Prim.Native.Nat.{ℕ, zero, suc, _+_, _-_, _≤_, _<_}
+use lib.Dec.{eqb}
 use lib.ListN.{length, take, drop, getD}
 use Rattle.text.specs.Limits.{digitLimit}
 use Rattle.text.specs.declared.Fault.{Fault}
@@ -63,6 +65,16 @@ pub record StepBegins (text : List ℕ) (at : ℕ) : Type 0 where
   pub room : at + 2 ≤ length text
   pub letter : getD text at 0 ≡ byteS
   pub separated : kindOf (getD text (at + 1) 0) ≡ comma
+
+-- the kind of the byte that follows number i of a step's line
+unfoldable pub afterNumber : ℕ → ℕ
+afterNumber i = cond (eqb i 2) lineEnd comma
+
+-- the first i numbers of the step's line at a place stand there, and what follows the last of them stands at place e
+unfoldable pub NumbersTo : List ℕ → ℕ → ℕ → List ℕ → ℕ → Type 0
+NumbersTo text at zero ns e = e ≡ at + 1
+NumbersTo text at (suc i) ns e =
+    (m : ℕ) × NumbersTo text at i ns m × NumberAt (afterNumber i) text (m + 1) (getD ns i 0) e
 
 -- the line at a place of a text has a line end, at place e, and states a step's numbers
 pub record NumbersAt (text : List ℕ) (at source action target e : ℕ) : Type 0 where

@@ -48,9 +48,6 @@ shared-slice-read-b c = search needs
 kind-requires : tie.Need-kind-requires Inv-loop μ-loop
 kind-requires c κs = search needs
 
-kind-requires-2 : tie.Need-kind-requires-2 Inv-loop μ-loop
-kind-requires-2 c κs = search needs
-
 returns : tie.Need-returns Inv-loop μ-loop
 unfolding Scanned
 returns c = tt
@@ -58,13 +55,13 @@ returns c = tt
 returns-2 : tie.Need-returns-2 Inv-loop μ-loop
 unfolding Scanned
 returns-2 c =
-    let k = c .before in
-    let l = k .before .before .before .before .before in
+    let k = c .before .before in
+    let l = k .before .before .before in
     record {
       run = l .loop .inv .4;
       short = l .loop .inv .1;
       inside = omega arith;
-      follows = sym (k .kind2 .ensures) ∙ c .if2 .left;
+      follows = sym (k .kind .ensures) ∙ c .if2 .left;
     }
 
 sub-if3 : tie.Need-sub-if3 Inv-loop μ-loop
@@ -123,7 +120,6 @@ digits-at-spec =
     loop-holds
     shared-slice-read-b
     kind-requires
-    kind-requires-2
     returns
     returns-2
     sub-if3
