@@ -2,8 +2,8 @@
 ghost use mathlib.Core.Path.{_≡_};
 ghost use Rattle.text.specs.Bytes.{kindOf};
 
-// The kinds; a byte of kind 0 is any other.
-pub const OTHER: u8 = 0;
+// The kinds, by document 01's numbers.
+const OTHER: u8 = 0;
 
 pub const DIGIT: u8 = 1;
 

@@ -27,19 +27,19 @@ returns-5 c = sym (smallLetter-kind _ (search needs) (omega arith))
 
 returns-6 : tie.Need-returns-6
 returns-6 c =
-    sym (other-kind _ (λ l m. omega arith) (λ l m. omega arith) (λ l m. omega arith) (λ e. omega arith) (λ e. omega arith))
+    sym (other-kind _ (search needs) (search needs) (search needs) (search needs) (search needs))
 
 returns-7 : tie.Need-returns-7
 returns-7 c =
-    sym (other-kind _ (λ l m. omega arith) (λ l m. omega arith) (λ l m. omega arith) (λ e. omega arith) (λ e. omega arith))
+    sym (other-kind _ (search needs) (search needs) (search needs) (search needs) (search needs))
 
 returns-8 : tie.Need-returns-8
 returns-8 c =
-    sym (other-kind _ (λ l m. omega arith) (λ l m. omega arith) (λ l m. omega arith) (λ e. omega arith) (λ e. omega arith))
+    sym (other-kind _ (search needs) (search needs) (search needs) (search needs) (search needs))
 
 returns-9 : tie.Need-returns-9
 returns-9 c =
-    sym (other-kind _ (λ l m. omega arith) (λ l m. omega arith) (λ l m. omega arith) (λ e. omega arith) (λ e. omega arith))
+    sym (other-kind _ (search needs) (search needs) (search needs) (search needs) (search needs))
 
 pub kind-spec : {M : Type 1} → statement M
 kind-spec =
