@@ -1,7 +1,7 @@
 //! The operations of this archive beside those of another, which is linked to a second build of this program. The two
 //! programs take turns on each model, so that other work on the machine slows neither of them alone.
 use std::env;
-use std::process::Command;
+use std::process::{Command, Stdio};
 
 use crate::shapes;
 use crate::tables::{digits, table};
@@ -20,15 +20,18 @@ pub fn turn(name: &str) -> String {
 
 /// One turn of a program.
 fn turn_of(program: &str, name: &str) -> Each {
-    let output = Command::new(program).args(["--turn", name]).output();
-    let output = output.unwrap_or_else(|error| panic!("{program}: {error}"));
+    let mut command = Command::new(program);
+    command.args(["--turn", name]).stderr(Stdio::inherit());
+    let output = command
+        .output()
+        .unwrap_or_else(|error| panic!("{program}: {error}"));
     assert!(output.status.success(), "{program}: {}", output.status);
     let text = String::from_utf8(output.stdout).expect("numbers");
     let time = |line: &str| line.parse().expect("a number");
     text.lines().map(time).collect()
 }
 
-/// Each operation's time on a model, and in brackets that time by the other archive's.
+/// Each operation's time on a model, and in brackets our time by the other archive's.
 fn row(programs: &[&str; 2], name: &str) -> Vec<String> {
     let mut times = programs.map(|program| turn_of(program, name));
     for _ in 1..TURNS {
@@ -53,7 +56,7 @@ pub fn table_of(other: &str) -> String {
         .map(|(name, _)| row(&programs, name));
     let rows: Vec<Vec<String>> = rows.collect();
     format!(
-        "Microseconds, the best of many calls in {TURNS} turns; in brackets, that time by the other archive's.\n\n{}",
+        "Microseconds, the best of many calls in {TURNS} turns; in brackets: our time by the other archive's.\n\n{}",
         table(&head, rows)
     )
 }

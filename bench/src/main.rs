@@ -1,7 +1,7 @@
 //! Times of the proved operations and of the program, beside those of the second checker and of a plain ranking, all in
 //! one run. Prints the tables; with `--write` it also writes them to TABLE.md, the plot beside it, and a short table
-//! into the README. With `--beside PROGRAM` it measures the operations beside those of another archive, over which PROGRAM
-//! is this program.
+//! into the README. With `--beside PROGRAM` it measures the operations beside those of another archive: PROGRAM is this
+//! program, linked with that archive. Both are then called with `--turn MODEL`, which prints the times of one turn.
 mod beside;
 mod growth;
 mod plain;

@@ -1,5 +1,5 @@
-//! Links the archive of the proved operations, and links again when it changes. `TILL_ARCHIVE` names the folder of
-//! another one, to measure it beside this one.
+//! Links the archive of the proved operations, and links again when it changes. `TILL_ARCHIVE`, which
+//! `bench/run --beside` sets, names the folder of another one.
 use std::env;
 use std::path::{Path, PathBuf};
 

@@ -103,8 +103,8 @@ lineEnd = 5
 abbrev pub between? : ℕ → ℕ → ℕ → Bool
 between? least most x = leb least x && leb x most
 
--- the kind of a byte, by its ranges: 0 to 9, a to z, A to Z, the comma and the line end. Document 02, (iv): "The kind of
--- a byte is to be decided by its ranges".
+-- the kind of a byte, by its ranges: 0 to 9, a to z, A to Z, the comma and the line end
+-- Document 02, (iv): "The kind of a byte is to be decided by its ranges".
 unfoldable pub kindOf : ℕ → ℕ
 kindOf b =
     cond (between? byteZero byteNine b) digit

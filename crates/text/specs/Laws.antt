@@ -8,6 +8,7 @@ pub mod RangesLaws
 pub mod RowLaws
 pub mod SameLaws
 pub mod ScanLaws
+pub mod NumbersToLaws
 pub mod SplitLaws
 pub mod KindsLaws
 pub mod ListsLaws

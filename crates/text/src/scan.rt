@@ -108,7 +108,7 @@ fn begins(text: &[u8], at: usize) -> bool
     true
 }
 
-// The kind of the byte that follows number i of a step's line.
+// The kind of the byte that follows number i of a step's line, counted from 0.
 fn after_number(i: usize) -> u8
     ensures { λ r. ⌜ r ≡ afterNumber i ⌝ }
 {
@@ -118,7 +118,8 @@ fn after_number(i: usize) -> u8
     COMMA
 }
 
-// The numbers of the step's line at a place. One call in a loop is compiled into it; three were not.
+// The numbers of the step's line at a place. In a loop there is one call of `number_at`, which the compiler puts in
+// place.
 fn numbers_at(text: &[u8], at: usize) -> StepScan
     requires { ⌜ at ≤ length (now text) ⌝ }
     ensures { λ r. ⌜ StepScanned (now (text .entry)) at r ⌝ }

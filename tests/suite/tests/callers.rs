@@ -195,7 +195,8 @@ fn calls() -> String {
     .concat()
 }
 
-/// What the header says for firmware: the symbols that the archive needs, its writable data, and the stack.
+/// What the header says for firmware: the symbols that the archive needs, its writable data, its code with its constants,
+/// and the stack.
 #[test]
 fn the_needs() {
     let symbols = output("nm target/staticlib/libtill_c.a", &root());
@@ -208,6 +209,11 @@ fn the_needs() {
     };
     assert_eq!(of_kind("U"), ["memcpy", "memset"]);
     assert_eq!(of_kind("BbCDdGgSsVvWw"), [""; 0]);
+    let sizes = output("size target/staticlib/libtill_c.a", &root());
+    let sizes = String::from_utf8(sizes.stdout).expect("sizes");
+    let sizes = sizes.lines().skip(1).flat_map(str::split_whitespace);
+    let sizes: Vec<usize> = sizes.map_while(|size| size.parse().ok()).collect();
+    assert!(0 < sizes[0] && sizes[0] < 18 << 10, "{sizes:?}");
     let stack = String::from_utf8(printed("stack", &calls())).expect("lines");
     let mut measured = Vec::new();
     for line in stack.lines() {

@@ -77,6 +77,28 @@ fn sizes() {
     }
 }
 
+/// Each byte has its kind at each place of the worked example.
+#[test]
+fn every_byte_at_every_place() {
+    let mut rng = gen::seeded("reading_and_writing::every_byte_at_every_place", SEED + 5);
+    let before = Lists::enough(&mut rng);
+    let worked = include_bytes!("../../../examples/worked.txt");
+    let (mut read, mut refused) = (0, 0);
+    for place in 0..worked.len() {
+        for byte in 0..=255 {
+            let mut text = worked.to_vec();
+            text[place] = byte;
+            let (answer, _) = READ.same(&text, &before);
+            read += usize::from(answer.is_ok());
+            refused += usize::from(answer.is_err());
+        }
+    }
+    assert!(
+        read > worked.len() && refused > 200 * worked.len(),
+        "{read} {refused}"
+    );
+}
+
 /// What Write makes of a store that was read, with an out list of this length, and what Read makes of it again.
 fn back(text: &[u8], store: &Store, before: &Lists) {
     let (answer, after) = WRITE.same(store, before);

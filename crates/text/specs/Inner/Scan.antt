@@ -66,11 +66,12 @@ pub record StepBegins (text : List ℕ) (at : ℕ) : Type 0 where
   pub letter : getD text at 0 ≡ byteS
   pub separated : kindOf (getD text (at + 1) 0) ≡ comma
 
--- the kind of the byte that follows number i of a step's line
+-- the kind of the byte that follows number i of a step's line, counted from 0
 unfoldable pub afterNumber : ℕ → ℕ
 afterNumber i = cond (eqb i 2) lineEnd comma
 
--- the first i numbers of the step's line at a place stand there, and what follows the last of them stands at place e
+-- the first i numbers of the step's line at a place are those of ns, and the byte after them stands at place e: before
+-- the first number, the comma after the letter
 unfoldable pub NumbersTo : List ℕ → ℕ → ℕ → List ℕ → ℕ → Type 0
 NumbersTo text at zero ns e = e ≡ at + 1
 NumbersTo text at (suc i) ns e =

@@ -81,7 +81,8 @@ module _ (b : ℕ) where
 
   pub smallLetter-kind : byteSmallA ≤ b → b ≤ byteSmallZ → kindOf b ≡ smallLetter
   unfolding kindOf
-  smallLetter-kind h l = rw (outside byteZero byteNine (λ m n. omega arith), le-leb byteSmallA b h, le-leb b byteSmallZ l)
+  smallLetter-kind h l =
+      rw (outside byteZero byteNine (λ m n. omega arith), le-leb byteSmallA b h, le-leb b byteSmallZ l)
 
   pub capital-kind : byteA ≤ b → b ≤ byteZ → kindOf b ≡ capital
   unfolding kindOf

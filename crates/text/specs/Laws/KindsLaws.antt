@@ -7,7 +7,7 @@ use lib.Dec.{eqb, eqb→eq}
 use lib.ListN.{getD}
 use Rattle.lts.specs.Tests.{all}
 use Rattle.lts.specs.TestsLaws.{all→Each}
-use Rattle.text.specs.Bytes.{kindOf, other}
+use Rattle.text.specs.Bytes.{kindOf}
 
 -- the table, sixteen bytes to a row: 0 other, 1 digit, 2 small letter, 3 capital, 4 comma, 5 line end
 pub kindTable : List ℕ
@@ -30,9 +30,13 @@ kindTable =
     ∷ 0 ∷ 0 ∷ 0 ∷ 0 ∷ 0 ∷ 0 ∷ 0 ∷ 0 ∷ 0 ∷ 0 ∷ 0 ∷ 0 ∷ 0 ∷ 0 ∷ 0 ∷ 0
     ∷ []
 
+-- no kind: what a place past the list has, so that the list has all 256
+abbrev noKind : ℕ
+noKind = 6
+
 -- what `kind` answers, by its promise, is what the table had; one test computes over all 256 bytes
-pub kind-kept : (b answer : ℕ) → b < 256 → answer ≡ kindOf b → answer ≡ getD kindTable b other
+pub kind-kept : (b answer : ℕ) → b < 256 → answer ≡ kindOf b → answer ≡ getD kindTable b noKind
 unfolding all kindOf kindTable
 kind-kept b answer l is-kind =
     is-kind
-    ∙ eqb→eq (kindOf b) (getD kindTable b other) (all→Each 256 (λ x. eqb (kindOf x) (getD kindTable x other)) tt b l)
+    ∙ eqb→eq (kindOf b) (getD kindTable b noKind) (all→Each 256 (λ x. eqb (kindOf x) (getD kindTable x noKind)) tt b l)

@@ -3,10 +3,10 @@
 use mathlib.Core.List.{List, [], _∷_, _++_, append-assoc}
 use mathlib.Core.Logic.{_⊎_}
 use mathlib.Core.Path.{_≡_, refl, sym, ap, _∙_, subst}
-use Prim.Native.Nat.{ℕ, zero, suc, _+_, _-_, _*_, _≤_, _<_}
+use Prim.Native.Nat.{ℕ, suc, _+_, _-_, _*_, _<_}
 use native.Mathlib.Omega.{arith}
-use lib.ListN.{length, take, drop, getD, set, length-append, List·getD-append}
-use lib.Seq.{getD-drop, getD-set-same, getD-set-other, take-append-seam}
+use lib.ListN.{length, take, drop, getD, length-append, List·getD-append}
+use lib.Seq.{getD-drop, take-append-seam}
 use Rattle.text.specs.declared.Fault.{Fault}
 use Rattle.text.specs.declared.Head.{Head}
 use Rattle.text.specs.declared.StepLine.{StepLine}
@@ -23,7 +23,7 @@ use Rattle.text.specs.Numbers.{digitsValue, numberOf}
 use Rattle.text.specs.Split.{consFirst, split, indexOf}
 use Rattle.text.specs.Lines.{good, consNumber, numbersOf}
 use Rattle.text.specs.Inner.Scan.{AllDigits, DigitsTo, DigitsAt, NumberAt, Scanned}
-use Rattle.text.specs.Inner.Scan.{afterNumber, NumbersTo, NumbersAt, StepBegins, StepScanned, NoLineAt, StepLineAt, StepAtRead}
+use Rattle.text.specs.Inner.Scan.{NumbersAt, StepBegins, StepScanned, NoLineAt, StepLineAt, StepAtRead}
 use Rattle.text.specs.Laws.ListLaws.{drop-next}
 use Rattle.text.specs.Laws.NumbersLaws.{digitsValue-nil, digitsValue-cons, numberOf-one, numberOf-some}
 use Rattle.text.specs.Laws.SplitLaws.{split-nil, split-end, split-cons, indexOf-end, indexOf-cons}
@@ -212,7 +212,7 @@ letter-lineEnd : kindOf byteS ≡ lineEnd → ⊥
 unfolding kindOf
 letter-lineEnd z = omega arith
 
-step-numbers : (s : List ℕ) (at a b e source action target : ℕ) → StepBegins s at
+pub step-numbers : (s : List ℕ) (at a b e source action target : ℕ) → StepBegins s at
     → NumberAt comma s (at + 2) source a → NumberAt comma s (a + 1) action b → NumberAt lineEnd s (b + 1) target e
     → NumbersAt s at source action target e
 unfolding consFirst
@@ -244,38 +244,3 @@ step-numbers s at a b e source action target begins n m o =
       inside = g .inside;
       numbers = rw cut (numbersLine-good byteS 3 line (split comma (g .bytes)) fields ∙ g .numbers);
     }
-
--- ---- number by number
-
-pub numbers-inside : (s : List ℕ) (at i : ℕ) (ns : List ℕ) (e : ℕ) → StepBegins s at → NumbersTo s at i ns e
-    → e < length s
-unfolding NumbersTo
-numbers-inside s at zero ns e begins h = let r = begins .room in omega arith
-numbers-inside s at (suc i) ns e begins h = h .2 .inside
-
--- a number that is stored at place i leaves those before it
-numbers-kept : (s : List ℕ) (at i j v : ℕ) (ns : List ℕ) (e : ℕ) → j ≤ i → NumbersTo s at j ns e
-    → NumbersTo s at j (set ns i v) e
-unfolding NumbersTo
-numbers-kept s at i zero v ns e l h = h
-numbers-kept s at i (suc j) v ns e l h = (
-  h .0,
-  numbers-kept s at i j v ns (h .0) (omega arith) (h .1),
-  rw (getD-set-other ns i j v 0 (λ z. omega arith)) (h .2),
-)
-
-pub numbers-next : (s : List ℕ) (at i v : ℕ) (ns : List ℕ) (m e : ℕ) → i < length ns → NumbersTo s at i ns m
-    → NumberAt (afterNumber i) s (m + 1) v e → NumbersTo s at (i + 1) (set ns i v) e
-unfolding NumbersTo
-numbers-next s at i v ns m e l h n =
-    let one : i + 1 ≡ suc i = omega arith in
-    rw one (m, numbers-kept s at i i v ns m (omega arith) h, rw (getD-set-same ns i v 0 l) n)
-
-pub numbers-all : (s : List ℕ) (at : ℕ) (ns : List ℕ) (e : ℕ) → StepBegins s at → NumbersTo s at 3 ns e
-    → NumbersAt s at (getD ns 0 0) (getD ns 1 0) (getD ns 2 0) e
-unfolding NumbersTo afterNumber
-numbers-all s at ns e begins h =
-    let second = h .1 in
-    let first = second .1 in
-    let two : at + 2 ≡ first .0 + 1 = omega (arith, first .1) in
-    step-numbers s at (second .0) (h .0) e _ _ _ begins (rw two (first .2)) (second .2) (h .2)

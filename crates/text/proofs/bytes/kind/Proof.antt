@@ -1,5 +1,4 @@
--- By the ranges: a byte below the digits, among them or between two ranges, and so on up to the bytes above the small
--- letters.
+-- A byte is the comma or the line end, or stands in one of the three ranges, or below, between or above them.
 use borrow.Author.Needs.{needs}
 use native.Mathlib.Omega.{arith}
 use mathlib.Core.Path.{sym, ap}

@@ -5,8 +5,9 @@ use native.Mathlib.Omega.{arith}
 use lib.ListN.{length, length-set}
 use borrow.Author.Needs.{needs}
 use borrow.Author.Tests.{not-false}
-use Rattle.text.specs.Inner.Scan.{NumberAt, NumbersTo, StepBegins, StepScanned}
-use Rattle.text.specs.Laws.ScanLaws.{scanned, numbers-inside, numbers-next, numbers-all}
+use Rattle.text.specs.Inner.Scan.{NumbersTo, StepBegins, StepScanned}
+use Rattle.text.specs.Laws.ScanLaws.{scanned}
+use Rattle.text.specs.Laws.NumbersToLaws.{numbers-inside, numbers-next, numbers-all}
 use Rattle.text.proofs.scan.numbers_at.Statement.{statement}
 use Rattle.text.proofs.scan.numbers_at.Tie as tie
 
