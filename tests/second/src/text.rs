@@ -1,5 +1,7 @@
 //! Read and Write.
 
+use std::ops::RangeInclusive;
+
 use crate::store::{
     action_place, good, step_place, Action, Level, Model, Step, LONGEST_NAME, MOST_ACTIONS,
     MOST_STATES, MOST_STEPS, STORE, WRITTEN,
@@ -29,12 +31,13 @@ pub fn write(store: &[u16], out: &mut [u8]) -> Result<usize, Refusal> {
     Ok(text.len())
 }
 
-/// Why a text is refused, in the order in which a line is tested.
+/// Why a text is refused, in the order in which a line is tested: 32 first,
+/// then 2, then 31, then 3, then 4 or 5.
 #[derive(Debug, Clone, Copy, PartialEq, Eq, PartialOrd, Ord, Hash)]
 pub enum Cause {
     /// More bytes than a text may have.
     TooLong,
-    /// A line that is missing or has no line end.
+    /// A line that is absent or has no line end.
     NoLine,
     /// Bytes after `E`.
     AfterEnd,
@@ -42,7 +45,7 @@ pub enum Cause {
     FieldCount,
     Level,
     Name,
-    /// Not 1 to 5 digits without a leading zero.
+    /// A number field that isn't 1 to 5 digits without a leading zero.
     Digits,
     /// A number outside its range.
     Range,
@@ -72,9 +75,9 @@ impl Cause {
     pub fn number(self) -> u16 {
         match self {
             Cause::TooLong => 1,
-            Cause::NoLine | Cause::AfterEnd => 2,
+            Cause::NoLine | Cause::AfterEnd => 32,
             Cause::Letter | Cause::FieldCount | Cause::Level | Cause::Name => 2,
-            Cause::Digits => 2,
+            Cause::Digits => 31,
             Cause::Range => 3,
             Cause::NameUsed => 4,
             Cause::Order => 5,
@@ -118,13 +121,15 @@ pub fn parse_or_cause(text: &[u8]) -> Result<Model, (Cause, u64)> {
 /// The first line: a model with no actions and steps yet, and their counts.
 fn head(lines: &mut Lines) -> Result<(Model, usize, usize), Refused> {
     let fields = lines.next(b'M', 4)?;
-    let numbers = lines.numbers(&fields)?;
+    let ranges = [
+        1..=MOST_STATES,
+        1..=MOST_ACTIONS,
+        0..=MOST_STEPS,
+        0..=MOST_STATES - 1,
+    ];
+    let numbers = lines.numbers(&fields, &ranges)?;
     let (states, actions, steps, start) = (numbers[0], numbers[1], numbers[2], numbers[3]);
-    let in_range = (1..=MOST_STATES).contains(&states)
-        && (1..=MOST_ACTIONS).contains(&actions)
-        && steps <= MOST_STEPS
-        && start < states;
-    if !in_range {
+    if start >= states {
         return Err(lines.refused(Cause::Range));
     }
     let model = Model {
@@ -158,13 +163,10 @@ fn action(lines: &mut Lines, model: &Model) -> Result<Action, Refused> {
 /// The next step, given the model with all its actions and the steps so far.
 fn step(lines: &mut Lines, model: &Model) -> Result<Step, Refused> {
     let fields = lines.next(b'S', 3)?;
-    let numbers = lines.numbers(&fields)?;
-    let (source, action, target) = (numbers[0], numbers[1], numbers[2]);
-    let states = usize::from(model.states);
-    if source >= states || action >= model.actions.len() || target >= states {
-        return Err(lines.refused(Cause::Range));
-    }
-    let step = Step::new(source as u16, action as u16, target as u16);
+    let states = 0..=usize::from(model.states) - 1;
+    let actions = 0..=model.actions.len() - 1;
+    let numbers = lines.numbers(&fields, &[states.clone(), actions, states])?;
+    let step = Step::new(numbers[0] as u16, numbers[1] as u16, numbers[2] as u16);
     if model.steps.last().is_some_and(|before| step <= *before) {
         return Err(lines.refused(Cause::Order));
     }
@@ -195,10 +197,19 @@ impl<'a> Lines<'a> {
         Ok(fields)
     }
 
-    /// All fields of the line just taken as numbers.
-    fn numbers(&self, fields: &[&[u8]]) -> Result<Vec<usize>, Refused> {
-        let numbers: Option<Vec<usize>> = fields.iter().map(|field| number(field)).collect();
-        numbers.ok_or(self.refused(Cause::Digits))
+    /// All fields of the line just taken as numbers, each in its range. Bad
+    /// digits in any field are told before a number outside its range.
+    fn numbers(
+        &self,
+        fields: &[&[u8]],
+        ranges: &[RangeInclusive<usize>],
+    ) -> Result<Vec<usize>, Refused> {
+        let fields = fields.iter().zip(ranges);
+        let numbers: Vec<_> = fields.map(|(field, range)| number(field, range)).collect();
+        match numbers.iter().filter_map(|number| number.err()).min() {
+            Some(cause) => Err(self.refused(cause)),
+            None => Ok(numbers.into_iter().flatten().collect()),
+        }
     }
 
     /// Refused at the line just taken.
@@ -207,16 +218,20 @@ impl<'a> Lines<'a> {
     }
 }
 
-/// The number in a field of right digit form.
-fn number(field: &[u8]) -> Option<usize> {
+/// The number in a field. Bad digits are told from a number outside its range.
+fn number(field: &[u8], range: &RangeInclusive<usize>) -> Result<usize, Cause> {
     let length_fits = (1..=5).contains(&field.len());
     let digits_only = field.iter().all(u8::is_ascii_digit);
     let leading_zero = field.len() > 1 && field[0] == b'0';
     if !length_fits || !digits_only || leading_zero {
-        return None;
+        return Err(Cause::Digits);
     }
     let value = |sum, &digit: &u8| 10 * sum + usize::from(digit - b'0');
-    Some(field.iter().fold(0, value))
+    let number = field.iter().fold(0, value);
+    if !range.contains(&number) {
+        return Err(Cause::Range);
+    }
+    Ok(number)
 }
 
 fn is_name(field: &[u8]) -> bool {

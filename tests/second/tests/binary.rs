@@ -24,9 +24,9 @@ fn printed(text: &[u8]) -> Vec<u8> {
 #[test]
 fn pages_and_refusals() {
     assert_eq!(printed(EXAMPLE), EXAMPLE_PAGE.as_bytes());
-    assert_eq!(printed(b""), b"F,2,1\n");
-    assert_eq!(printed(&EXAMPLE[..EXAMPLE.len() - 1]), b"F,2,9\n");
-    assert_eq!(printed(&[EXAMPLE, b"x"].concat()), b"F,2,10\n");
+    assert_eq!(printed(b""), b"F,32,1\n");
+    assert_eq!(printed(&EXAMPLE[..EXAMPLE.len() - 1]), b"F,32,9\n");
+    assert_eq!(printed(&[EXAMPLE, b"x"].concat()), b"F,32,10\n");
     assert_eq!(printed(&[b'\n'; 16_384]), b"F,2,1\n");
     assert_eq!(printed(&[b'\n'; 16_385]), b"F,1,0\n");
     assert_eq!(printed(&[b'\n'; 200_000]), b"F,1,0\n");

@@ -4,52 +4,40 @@ mod common;
 
 use std::collections::BTreeMap;
 
-use common::{store_of, till, Lists, CLOSE, EXAMPLE, LONGER, PRINT, SCAN};
+use common::{refusal, store_of, till, Lists, CLOSE, EXAMPLE, LONGER, PRINT, SCAN};
 use second::gen;
 use second::store::{DISTANCES, STORE};
 use second::text::{parse_or_cause, Cause};
 use second::{judge, page, program, rank, reach, read, run, word, write, Refusal, Verdict};
 
-/// Reads a text that must be refused, and checks that the store is kept.
-fn refusal(text: &[u8]) -> (u16, u64) {
-    let _case = gen::text_case(text);
-    let old = vec![4_321; STORE + 1];
-    let mut store = old.clone();
-    let refusal = read(text, &mut store).expect_err("the text is bad");
-    assert_eq!(store, old);
-    let line = format!("F,{},{}\n", refusal.number, refusal.place);
-    assert_eq!(program(text), line.as_bytes());
-    (refusal.number, refusal.place)
-}
-
 #[test]
-fn lines_that_are_missing_or_not_ended() {
-    assert_eq!(refusal(b""), (2, 1));
+fn lines_that_are_absent_or_not_ended() {
+    assert_eq!(refusal(b""), (32, 1));
     assert_eq!(refusal(b"\n"), (2, 1));
     assert_eq!(refusal(&[b'\n'; 16_384]), (2, 1));
     assert_eq!(refusal(&[b'\n'; 16_385]), (1, 0));
     assert_eq!(refusal(&[0; 16_385]), (1, 0));
-    assert_eq!(refusal(b"M"), (2, 1));
-    assert_eq!(refusal(b"M,1,1,0,0"), (2, 1));
-    assert_eq!(refusal(b"M,1,1,0,0\n"), (2, 2));
-    assert_eq!(refusal(b"M,1,1,0,0\nA,H,a"), (2, 2));
-    assert_eq!(refusal(b"M,1,1,0,0\nA,H,a\n"), (2, 3));
-    assert_eq!(refusal(b"M,1,1,0,0\nA,H,a\nE"), (2, 3));
-    assert_eq!(refusal(b"M,1,1,0,0\nA,H,a\nE\n\n"), (2, 4));
-    assert_eq!(refusal(b"M,1,1,0,0\nA,H,a\nE\nx"), (2, 4));
+    assert_eq!(refusal(b"M"), (32, 1));
+    assert_eq!(refusal(b"M,1,1,0,0"), (32, 1));
+    assert_eq!(refusal(b"M,1,1,0,0\n"), (32, 2));
+    assert_eq!(refusal(b"M,1,1,0,0\nA,H,a"), (32, 2));
+    assert_eq!(refusal(b"M,1,1,0,0\nA,H,a\n"), (32, 3));
+    assert_eq!(refusal(b"M,1,1,0,0\nA,H,a\nE"), (32, 3));
+    assert_eq!(refusal(b"M,1,1,0,0\nA,H,a\nE\n\n"), (32, 4));
+    assert_eq!(refusal(b"M,1,1,0,0\nA,H,a\nE\nx"), (32, 4));
     assert_eq!(refusal(b"M,1,1,0,0\nA,H,a\nEx\n"), (2, 3));
-    assert_eq!(refusal(b"M,1,1,0,0\r\nA,H,a\r\nE\r\n"), (2, 1));
+    assert_eq!(refusal(b"M,1,1,0,0\r\nA,H,a\r\nE\r\n"), (31, 1));
 }
 
 #[test]
 fn first_lines() {
     for (first, number) in [
         ("M,99999,3,4,0", 3),
-        ("M,100000,3,4,0", 2),
-        ("M,04,3,4,0", 2),
-        ("M,00,3,4,0", 2),
+        ("M,100000,3,4,0", 31),
+        ("M,04,3,4,0", 31),
+        ("M,00,3,4,0", 31),
         ("M,0,3,4,0", 3),
-        ("M,200,3,4,x", 2),
+        ("M,200,3,4,x", 31),
         ("M,200,3,4,0", 3),
         ("M,200,3,4,199", 3),
         ("M,129,3,4,0", 3),
@@ -59,12 +47,12 @@ fn first_lines() {
         ("M,4,3,4,4", 3),
         ("M,4,3,4", 2),
         ("M,4,3,4,0,0", 2),
-        ("M,4,3,4,", 2),
-        ("M,,3,4,0", 2),
+        ("M,4,3,4,", 31),
+        ("M,,3,4,0", 31),
         ("m,4,3,4,0", 2),
         ("A,4,3,4,0", 2),
         (" M,4,3,4,0", 2),
-        ("M,4,3,4,-0", 2),
+        ("M,4,3,4,-0", 31),
         ("M,4,3,4,65536", 3),
         ("M,65540,3,4,0", 3),
     ] {
@@ -88,7 +76,7 @@ fn steps_and_names() {
 
     assert_eq!(refusal(b"M,1,2,0,0\nA,L,a\nA,H,a\nE\n"), (4, 3));
     assert_eq!(refusal(b"M,1,2,0,0\nA,H,a\nA,X,a\nE\n"), (2, 3));
-    assert_eq!(refusal(b"M,1,2,0,0\nA,L,a\nA,H,a"), (2, 3));
+    assert_eq!(refusal(b"M,1,2,0,0\nA,L,a\nA,H,a"), (32, 3));
     assert_eq!(refusal(b"M,1,1,0,0\nA,H,\nE\n"), (2, 2));
     assert_eq!(refusal(b"M,1,1,0,0\nA,H,abcdefghijklm\nE\n"), (2, 2));
     assert_eq!(refusal(b"M,1,1,0,0\nA,H,A\nE\n"), (2, 2));
@@ -123,7 +111,7 @@ fn levels_that_are_missing() {
 #[test]
 fn causes_have_these_numbers() {
     let numbers = Cause::ALL.map(Cause::number);
-    assert_eq!(numbers, [1, 2, 2, 2, 2, 2, 2, 2, 3, 4, 5]);
+    assert_eq!(numbers, [1, 32, 32, 2, 2, 2, 2, 31, 3, 4, 5]);
 }
 
 #[test]

@@ -2,7 +2,7 @@
 #![allow(dead_code)]
 
 use second::store::{DISTANCES, PAGE, RUN, STORE, TABLE, WORD, WRITTEN};
-use second::{page, read, Model};
+use second::{gen, page, program, read, Model};
 
 /// How many elements more than need be each list has.
 pub const LONGER: usize = 3;
@@ -47,6 +47,19 @@ pub fn store_of(text: &[u8]) -> Vec<u16> {
     let mut store = vec![9_999; STORE];
     read(text, &mut store).expect("the text is good");
     store
+}
+
+/// Reads a text that must be refused, and checks that the store is kept and
+/// that the program prints the refusal: its number and its place.
+pub fn refusal(text: &[u8]) -> (u16, u64) {
+    let _case = gen::text_case(text);
+    let old = vec![4_321; STORE + 1];
+    let mut store = old.clone();
+    let refusal = read(text, &mut store).expect_err("the text is bad");
+    assert_eq!(store, old);
+    let line = format!("F,{},{}\n", refusal.number, refusal.place);
+    assert_eq!(program(text), line.as_bytes());
+    (refusal.number, refusal.place)
 }
 
 /// A text with the actions scan (low), print (high) and close (release), and
