@@ -24,7 +24,7 @@ pub use models::{
 };
 pub use rng::Rng;
 pub use stores::{bad_stores, mutated_store, scrap_store};
-pub use texts::{faults, mutated_text, scrap_text, Fault};
+pub use texts::{bad_lines, faults, mutated_text, scrap_text, BadLine, Fault, Kind};
 pub use variants::{shuffle, with_twin, with_unreachable};
 
 use std::collections::BTreeSet;

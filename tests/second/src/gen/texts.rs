@@ -4,8 +4,10 @@ mod changes;
 mod ends;
 mod fields;
 mod lines;
+mod pairs;
 
 pub use changes::{mutated_text, scrap_text};
+pub use pairs::{BadLine, Kind};
 
 use std::collections::BTreeSet;
 
@@ -23,20 +25,25 @@ pub struct Fault {
     pub refusal: Refusal,
 }
 
-/// Each kind of fault, one at a time, at lines of each kind of a model's text.
+/// Each kind of fault, alone and beside others, at lines of each kind of a
+/// model's text.
 pub fn faults(model: &Model) -> Vec<Fault> {
-    let text = model.to_text();
-    let lines = lines_of(&text);
-    let mut list = Faults {
-        lines: &lines,
-        first_step: 1 + model.actions.len(),
-        last: lines.len() - 1,
-        faults: Vec::new(),
-    };
+    let lines = lines_of(&model.to_text());
+    let mut list = Faults::new(&lines, model);
     lines::add(&mut list, model);
     fields::add(&mut list, model);
     ends::add(&mut list, model);
+    let bad_lines = pairs::bad_lines(&list, model);
     list.faults
+        .extend(bad_lines.into_iter().map(|bad| bad.fault));
+    list.faults
+}
+
+/// Each cause that a line can have, and each two that it can have together, at
+/// lines of each kind of a model's text. All of them are among the faults.
+pub fn bad_lines(model: &Model) -> Vec<BadLine> {
+    let lines = lines_of(&model.to_text());
+    pairs::bad_lines(&Faults::new(&lines, model), model)
 }
 
 /// The lines of a good text, and the faults made of them so far. Lines are
@@ -49,7 +56,24 @@ struct Faults<'a> {
     faults: Vec<Fault>,
 }
 
-impl Faults<'_> {
+impl<'a> Faults<'a> {
+    fn new(lines: &'a [Vec<u8>], model: &Model) -> Faults<'a> {
+        Faults {
+            lines,
+            first_step: 1 + model.actions.len(),
+            last: lines.len() - 1,
+            faults: Vec::new(),
+        }
+    }
+
+    /// The first and the last line, and some of those between.
+    fn everywhere(&self) -> BTreeSet<usize> {
+        let mut everywhere = BTreeSet::from([0, self.last]);
+        everywhere.extend(self.actions());
+        everywhere.extend(self.steps());
+        everywhere
+    }
+
     /// Some of the lines of actions.
     fn actions(&self) -> BTreeSet<usize> {
         some_of(1, self.first_step)

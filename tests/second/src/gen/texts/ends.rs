@@ -69,11 +69,13 @@ fn bad_lines(list: &Faults, model: &Model) -> Vec<(usize, Vec<u8>, Cause)> {
     let changed = |index: usize, field: usize, new: &[u8]| with_field(&lines[index], field, new);
     let mut bad = vec![
         (0, b"x".to_vec(), Cause::Letter),
+        (0, b"M".to_vec(), Cause::FieldCount),
         (0, changed(0, 1, b"x"), Cause::Digits),
         (0, changed(0, 1, b"999"), Cause::Range),
     ];
     for index in list.actions() {
         bad.push((index, changed(index, 1, b"x"), Cause::Level));
+        bad.push((index, changed(index, 2, b""), Cause::Name));
         if index > 1 {
             let name = fields_of(&lines[1])[2].clone();
             bad.push((index, changed(index, 2, &name), Cause::NameUsed));
@@ -105,5 +107,19 @@ fn two_bad_lines(list: &mut Faults, model: &Model) {
             lines[*later] = line.clone();
             list.add("two bad lines", join(&lines), *cause, index + 1);
         }
+        bad_line_and_end(list, &lines, *index, *cause);
+    }
+}
+
+/// A bad line decides before a line that is absent or has no line end, and
+/// before bytes after `E`.
+fn bad_line_and_end(list: &mut Faults, lines: &[Vec<u8>], index: usize, cause: Cause) {
+    let mut add = |what, text| list.add(what, text, cause, index + 1);
+    add("bad line, then nothing", join(&lines[..=index]));
+    let text = join(lines);
+    add("bad line, bytes after E", [&text[..], b"x"].concat());
+    if index + 1 < lines.len() {
+        let unended = text[..text.len() - 1].to_vec();
+        add("bad line, no last line end", unended);
     }
 }

@@ -1,16 +1,11 @@
 //! Faults that any line can have, and lines that are missing or given twice.
 
-use std::collections::BTreeSet;
-
 use super::{fields_of, join, with_field, Faults};
 use crate::store::{Model, MOST_ACTIONS, MOST_STEPS};
 use crate::text::Cause;
 
 pub(super) fn add(list: &mut Faults, model: &Model) {
-    let mut everywhere = BTreeSet::from([0, list.last]);
-    everywhere.extend(list.actions());
-    everywhere.extend(list.steps());
-    for &index in &everywhere {
+    for index in list.everywhere() {
         letters(list, index);
         surplus(list, index);
         commas(list, index);
