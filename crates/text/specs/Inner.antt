@@ -1,6 +1,7 @@
 pub mod LineAnswers
 pub mod PartAnswers
 pub mod Ranges
+pub mod NumberAt
 pub mod Row
 pub mod Scan
 pub mod Clearing

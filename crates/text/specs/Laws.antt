@@ -5,10 +5,7 @@ pub mod LinesLaws
 pub mod ListLaws
 pub mod NumbersLaws
 pub mod RangesLaws
-pub mod RowLaws
 pub mod SameLaws
-pub mod ScanLaws
-pub mod NumbersToLaws
 pub mod SplitLaws
 pub mod KindsLaws
 pub mod ListsLaws

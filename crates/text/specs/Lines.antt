@@ -1,21 +1,24 @@
 -- What one line of a text states, or its fault.
--- Document 01, "The text"; the tests of a line stand in the order of "Refused because of the input":
--- "in a line 2 is tested before 3, and 3 before 4 or 5".
--- Of what 2 stands for, letter and field count are tested before the fields' digits.
+-- Document 01, "The text". The tests of a line stand in the order of document 02, (i): "in a line 32 is tested first, then
+-- 2, then 31, then 3", each over the whole line, and then 4 or 5. 32, a line that is absent or has no line end, is told
+-- before a line is looked at (model/Reading).
 use mathlib.Core.Bool.{Bool, true, false, cond, _&&_, _||_}
 use mathlib.Core.List.{List, [], _∷_}
 use Prim.Native.Nat.{ℕ}
-use lib.Dec.{leb, ltb, eqb}
+use lib.Dec.{eqb}
 use lib.ListN.{length, getD}
 use Rattle.text.specs.declared.Fault.{Fault}
 use Rattle.text.specs.declared.Fault.the-variants.{Shape, Digits, Range, Repeated, Order}
 use Rattle.text.specs.declared.Head.{Head}
 use Rattle.text.specs.declared.StepLine.{StepLine}
+use Rattle.text.specs.declared.number.Bounds.{Bounds}
 use Rattle.text.specs.declared.number.Number.{Number}
-use Rattle.text.specs.declared.number.Number.the-variants.{Value, Bad}
+use Rattle.text.specs.declared.number.Number.the-variants.{Value, BadDigits, Outside}
+use Rattle.text.specs.declared.row.Row.{Row}
+use Rattle.text.specs.declared.row.Row.the-variants.{HeadRow, StepRow}
 use Rattle.text.specs.Bytes.{byteM, byteA, byteS, byteL, byteD, byteH}
 use Rattle.text.specs.Bytes.{digit, smallLetter, comma, between?, kindOf}
-use Rattle.text.specs.Numbers.{numberOf}
+use Rattle.text.specs.Numbers.{fromTo, below, inBounds?, numberIn}
 use Rattle.text.specs.Split.{split, same?}
 use Rattle.text.specs.Limits.{stateLimit, actionLimit, stepLimit, nameLimit}
 use Rattle.text.specs.Model.{low, release, high, ActionLine, aboveLast?}
@@ -40,33 +43,74 @@ fieldsFrom letter n (f ∷ fs) = checked Shape (same? f (letter ∷ []) && eqb (
 unfoldable pub fieldsOf : ℕ → ℕ → List ℕ → Line (List (List ℕ))
 fieldsOf letter n line = fieldsFrom letter n (split comma line)
 
+-- ---- numbers
+
+-- One number in front of the others of its line. A field with bad digits gets 31, a number outside its range 3, and 31
+-- is tested first, over all of them.
 unfoldable pub consNumber : Number → Line (List ℕ) → Line (List ℕ)
 consNumber (Value n) (good ns) = good (n ∷ ns)
 consNumber (Value n) (bad fault) = bad fault
-consNumber Bad line = bad Digits
+consNumber BadDigits line = bad Digits
+consNumber Outside (good ns) = bad Range
+consNumber Outside (bad fault) = bad fault
 
--- the numbers of fields, one to a field
-unfoldable pub numbersOf : List (List ℕ) → Line (List ℕ)
-numbersOf [] = good []
-numbersOf (f ∷ fs) = consNumber (numberOf f) (numbersOf fs)
+-- the numbers of fields, one to a field, each with its bounds
+unfoldable pub numbersOf : List Bounds → List (List ℕ) → Line (List ℕ)
+numbersOf (b ∷ bs) (f ∷ fs) = consNumber (numberIn b f) (numbersOf bs fs)
+numbersOf [] fs = good []
+numbersOf (b ∷ bs) [] = good []
 
-unfoldable pub numbersFrom : Line (List (List ℕ)) → Line (List ℕ)
-numbersFrom (good fs) = numbersOf fs
-numbersFrom (bad fault) = bad fault
+-- each number is within its bounds
+unfoldable pub fits? : List Bounds → List ℕ → Bool
+fits? (b ∷ bs) (n ∷ ns) = inBounds? b n && fits? bs ns
+fits? [] ns = true
+fits? (b ∷ bs) [] = true
 
--- a letter and n numbers
-unfoldable pub numbersLine : ℕ → ℕ → List ℕ → Line (List ℕ)
-numbersLine letter n line = numbersFrom (fieldsOf letter n line)
+-- ---- rows: lines that are a letter and numbers
+
+-- "States 1 to 128, actions 1 to 64, steps 0 to 1,024, start below states."
+unfoldable pub headBounds : ℕ → List Bounds
+headBounds states = fromTo 1 stateLimit ∷ fromTo 1 actionLimit ∷ fromTo 0 stepLimit ∷ below states ∷ []
+
+-- source, action and target are there
+unfoldable pub stepBounds : Head → List Bounds
+stepBounds h = below (h .states) ∷ below (h .actions) ∷ below (h .states) ∷ []
+
+-- `M,states,actions,steps,start` and `S,source,action,target`
+unfoldable pub rowLetter : Row → ℕ
+rowLetter HeadRow = byteM
+rowLetter (StepRow h) = byteS
+
+unfoldable pub rowCount : Row → ℕ
+rowCount HeadRow = 4
+rowCount (StepRow h) = 3
+
+-- the bounds of its numbers, which in line 1 depend on the states that it gives
+unfoldable pub rowBounds : Row → ℕ → List Bounds
+rowBounds HeadRow states = headBounds states
+rowBounds (StepRow h) states = stepBounds h
+
+unfoldable pub valueOr0 : Number → ℕ
+valueOr0 (Value n) = n
+valueOr0 BadDigits = 0
+valueOr0 Outside = 0
+
+-- the states that line 1 gives; where its first field gives none, the line is refused whatever its start is
+unfoldable pub statesOf : List (List ℕ) → ℕ
+statesOf fs = valueOr0 (numberIn (fromTo 1 stateLimit) (getD fs 0 []))
+
+unfoldable pub rowFrom : Row → Line (List (List ℕ)) → Line (List ℕ)
+rowFrom row (good fs) = numbersOf (rowBounds row (statesOf fs)) fs
+rowFrom row (bad fault) = bad fault
+
+-- the numbers of a row
+unfoldable pub rowOf : Row → List ℕ → Line (List ℕ)
+rowOf row line = rowFrom row (fieldsOf (rowLetter row) (rowCount row) line)
 
 -- ---- line 1: `M,states,actions,steps,start`
 
--- "States 1 to 128, actions 1 to 64, steps 0 to 1,024, start below states."
 unfoldable pub headFits? : Head → Bool
-headFits? h =
-    between? 1 stateLimit (h .states)
-    && between? 1 actionLimit (h .actions)
-    && leb (h .steps) stepLimit
-    && ltb (h .start .0) (h .states)
+headFits? h = fits? (headBounds (h .states)) (h .states ∷ h .actions ∷ h .steps ∷ h .start .0 ∷ [])
 
 abbrev pub headNumbers : List ℕ → Head
 headNumbers ns = record {
@@ -77,11 +121,11 @@ headNumbers ns = record {
 }
 
 unfoldable pub headFrom : Line (List ℕ) → Line Head
-headFrom (good ns) = checked Range (headFits? (headNumbers ns)) (headNumbers ns)
+headFrom (good ns) = good (headNumbers ns)
 headFrom (bad fault) = bad fault
 
 unfoldable pub headOf : List ℕ → Line Head
-headOf line = headFrom (numbersLine byteM 4 line)
+headOf line = headFrom (rowOf HeadRow line)
 
 -- ---- `A,level,name`
 
@@ -128,8 +172,7 @@ actionOf before line = actionFrom before (actionFields (fieldsOf byteA 2 line))
 -- ---- `S,source,action,target`
 
 unfoldable pub stepFits? : Head → StepLine → Bool
-stepFits? h s =
-    ltb (s .source .0) (h .states) && ltb (s .action .0) (h .actions) && ltb (s .target .0) (h .states)
+stepFits? h s = fits? (stepBounds h) (s .source .0 ∷ s .action .0 ∷ s .target .0 ∷ [])
 
 abbrev pub stepNumbers : List ℕ → StepLine
 stepNumbers ns = record {
@@ -138,13 +181,10 @@ stepNumbers ns = record {
   target = record { 0 = getD ns 2 0 };
 }
 
-unfoldable pub rising : List StepLine → Line StepLine → Line StepLine
-rising before (good s) = checked Order (aboveLast? before s) s
-rising before (bad fault) = bad fault
-
-unfoldable pub stepFrom : Head → List StepLine → Line (List ℕ) → Line StepLine
-stepFrom h before (good ns) = rising before (checked Range (stepFits? h (stepNumbers ns)) (stepNumbers ns))
-stepFrom h before (bad fault) = bad fault
+-- "strictly rising": above the steps before it
+unfoldable pub stepFrom : List StepLine → Line (List ℕ) → Line StepLine
+stepFrom before (good ns) = checked Order (aboveLast? before (stepNumbers ns)) (stepNumbers ns)
+stepFrom before (bad fault) = bad fault
 
 unfoldable pub stepOf : Head → List StepLine → List ℕ → Line StepLine
-stepOf h before line = stepFrom h before (numbersLine byteS 3 line)
+stepOf h before line = stepFrom before (rowOf (StepRow h) line)

@@ -1,53 +1,138 @@
 // Number fields.
+use crate::bytes::COMMA;
 use crate::bytes::DIGIT;
+use crate::bytes::LINE_END;
 use crate::bytes::kind;
 use crate::limits::DIGIT_LIMIT;
+ghost use mathlib.Core.Option.{some};
 ghost use mathlib.Core.Path.{_≡_};
 ghost use Prim.Native.Nat.{_≤_};
 ghost use lib.ListN.{length};
-ghost use Rattle.text.specs.Limits.{digitLimit};
-ghost use Rattle.text.specs.Numbers.{digitsValue, numberOf};
+ghost use Rattle.text.specs.Decides.{Decides};
+ghost use Rattle.text.specs.Numbers.{inBounds?, bounded};
+ghost use Rattle.text.specs.Inner.NumberAt.{DigitsAt, FieldEnds, NumberShape, NumberRead};
 
-// What a number field holds.
-pub enum Number {
-    Value(u32),
-    Bad,
+// The numbers that a field may hold: from `least` on, and below `limit`.
+pub struct Bounds {
+    pub least: u16,
+    pub limit: u16,
 }
 
-// The value of digits, as many as a number has at most.
-fn digits_value(f: &[u8]) -> Number
-    requires { ⌜ length (now f) ≤ digitLimit ⌝ }
-    ensures { λ r. ⌜ r ≡ digitsValue 0 (now (f .entry)) ⌝ }
+// What a number field holds: a number within its bounds; no number, for its digits are bad; or a number outside its
+// bounds.
+pub enum Number {
+    Value(u16),
+    BadDigits,
+    Outside,
+}
+
+// The number field at a place, and the place after it; where its digits are bad, the place after those that were read.
+pub struct NumberAt {
+    pub number: Number,
+    pub end: usize,
+}
+
+// The value of the digits at a place, and the place after them.
+struct DigitsRead {
+    value: u32,
+    end: usize,
+}
+
+// Whether a number is within its bounds.
+pub fn within(bounds: Bounds, n: u32) -> bool
+    ensures { λ r. ⌜ r ≡ inBounds? bounds n ⌝ }
 {
-    let mut v: u32 = 0;
-    let mut i = 0;
-    while i < f.len() {
-        let b = f[i];
+    if n < bounds.least as u32 {
+        return false;
+    }
+    n < bounds.limit as u32
+}
+
+// What a field of good digits holds, by their value.
+fn bounded_number(bounds: Bounds, n: u32) -> Number
+    ensures { λ r. ⌜ r ≡ bounded bounds (some n) ⌝ }
+{
+    if !within(bounds, n) {
+        return Number::Outside;
+    }
+    Number::Value(n as u16)
+}
+
+// The digits at a place, as many as a number has at most.
+fn digits_at(s: &[u8], at: usize) -> DigitsRead
+    requires { ⌜ at ≤ length (now s) ⌝ }
+    ensures { λ r. ⌜ DigitsAt (now (s .entry)) at (r .value) (r .end) ⌝ }
+{
+    let mut value: u32 = 0;
+    let mut i = at;
+    while i < s.len() {
+        let b = s[i];
         if kind(b) != DIGIT {
-            return Number::Bad;
+            return DigitsRead { value, end: i };
         }
-        v = v * 10 + (b as u32 - b'0' as u32);
+        if DIGIT_LIMIT <= i - at {
+            return DigitsRead { value, end: i };
+        }
+        value = value * 10 + (b as u32 - b'0' as u32);
         i += 1;
     }
-    Number::Value(v)
+    DigitsRead { value, end: i }
 }
 
-// A field of 1 to 5 digits, of which the first of several is not 0.
-pub fn parse_number(f: &[u8]) -> Number
-    ensures { λ r. ⌜ r ≡ numberOf (now (f .entry)) ⌝ }
+// Whether a field ends at a place: at a comma, a line end, or the text's end.
+fn field_ends(s: &[u8], end: usize) -> bool
+    requires { ⌜ end ≤ length (now s) ⌝ }
+    ensures { λ r. ⌜ Decides r (FieldEnds (now (s .entry)) end) ⌝ }
 {
-    let n = f.len();
-    if n == 0 {
-        return Number::Bad;
+    if end == s.len() {
+        return true;
     }
-    if DIGIT_LIMIT < n {
-        return Number::Bad;
+    let k = kind(s[end]);
+    if k == COMMA {
+        return true;
     }
-    if n == 1 {
-        return digits_value(f);
+    if k == LINE_END {
+        return true;
     }
-    if f[0] == b'0' {
-        return Number::Bad;
+    false
+}
+
+// Whether the digits from a place on and below `end` are a number field: 1 to 5, of which the first of several is not 0.
+fn is_number(s: &[u8], at: usize, end: usize) -> bool
+    requires { ⌜ (at ≤ end) × (end ≤ length (now s)) ⌝ }
+    ensures { λ r. ⌜ Decides r (NumberShape (now (s .entry)) at end) ⌝ }
+{
+    if !field_ends(s, end) {
+        return false;
     }
-    digits_value(f)
+    if end == at {
+        return false;
+    }
+    if end == at + 1 {
+        return true;
+    }
+    if s[at] == b'0' {
+        return false;
+    }
+    true
+}
+
+// The number field at a place.
+pub fn number_at(s: &[u8], at: usize, bounds: Bounds) -> NumberAt
+    requires { ⌜ at ≤ length (now s) ⌝ }
+    ensures { λ r. ⌜ NumberRead bounds (now (s .entry)) at (r .number) (r .end) ⌝ }
+{
+    let read = digits_at(s, at);
+    let value = read.value;
+    let end = read.end;
+    if !is_number(s, at, end) {
+        return NumberAt {
+            number: Number::BadDigits,
+            end,
+        };
+    }
+    NumberAt {
+        number: bounded_number(bounds, value),
+        end,
+    }
 }

@@ -9,8 +9,6 @@ use Rattle.text.specs.declared.line.HeadRead.{HeadRead}
 use Rattle.text.specs.declared.line.HeadRead.the-variants as head-read
 use Rattle.text.specs.declared.line.ActionRead.{ActionRead}
 use Rattle.text.specs.declared.line.ActionRead.the-variants as action-read
-use Rattle.text.specs.declared.line.StepRead.{StepRead}
-use Rattle.text.specs.declared.line.StepRead.the-variants as step-read
 use Rattle.text.specs.Model.{ActionLine, above?, aboveLast?}
 use Rattle.text.specs.Lines.{Line, good, bad}
 
@@ -22,10 +20,6 @@ headRead (head-read.Bad fault) = bad fault
 unfoldable pub actionRead : List ℕ → ActionRead → Line ActionLine
 actionRead line (action-read.Good level) = good (record { level = level; name = drop 4 line })
 actionRead line (action-read.Bad fault) = bad fault
-
-unfoldable pub stepRead : StepRead → Line StepLine
-stepRead (step-read.Good s) = good s
-stepRead (step-read.Bad fault) = bad fault
 
 -- `last` is the last of the j steps `before`
 pub record Last (before : List StepLine) (j : ℕ) (last : StepLine) : Type 0 where

@@ -6,20 +6,11 @@ use mathlib.Core.Path.{_≡_}
 use Prim.Native.Nat.{ℕ, _≤_}
 use lib.ListN.{length, drop}
 use Rattle.text.specs.declared.Fault.the-variants.{Shape}
-use Rattle.text.specs.declared.Head.{Head}
-use Rattle.text.specs.declared.StepLine.{StepLine}
 use Rattle.text.specs.declared.line.LevelRead.{LevelRead}
 use Rattle.text.specs.declared.line.LevelRead.the-variants.{Level, NoLevel}
-use Rattle.text.specs.declared.line.RowRead.{RowRead}
-use Rattle.text.specs.declared.line.RowRead.the-variants.{Good, Bad}
 use Rattle.text.specs.Bytes.{comma}
 use Rattle.text.specs.Split.{split}
 use Rattle.text.specs.Lines.{Line, good, bad, fieldsOf}
-
--- the numbers that a line states are those stored
-unfoldable pub rowRead : RowRead → List ℕ → Line (List ℕ)
-rowRead Good ns = good ns
-rowRead (Bad fault) ns = bad fault
 
 -- the fields after the letter stand from place 2 on
 pub record Fields (letter n : ℕ) (line : List ℕ) (r : Bool) : Type 0 where
@@ -31,12 +22,3 @@ pub record Fields (letter n : ℕ) (line : List ℕ) (r : Bool) : Type 0 where
 unfoldable pub levelRead : LevelRead → Line ℕ
 levelRead (Level n) = good n
 levelRead NoLevel = bad Shape
-
--- line 1, or a step, of these numbers
-abbrev pub headOfNumbers : ℕ → ℕ → ℕ → ℕ → Head
-headOfNumbers states actions steps start =
-    record { states = states; actions = actions; steps = steps; start = record { 0 = start } }
-
-abbrev pub stepOfNumbers : ℕ → ℕ → ℕ → StepLine
-stepOfNumbers source action target =
-    record { source = record { 0 = source }; action = record { 0 = action }; target = record { 0 = target } }

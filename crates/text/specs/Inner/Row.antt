@@ -1,20 +1,107 @@
--- How far the numbers of a line have been stored. Only functions that read a line of numbers cite it.
--- Document 01, "The text".
-use mathlib.Core.List.{List, _++_}
+-- How far the numbers of a row are read, and what the row at a place of a text comes to. Only the contracts of inner
+-- functions cite it.
+-- Document 01, "The text"; document 02, (i).
+use mathlib.Core.Bool.{Bool, true, false, cond}
+use mathlib.Core.List.{List, [], _∷_, _++_}
+use mathlib.Core.Logic.{_⊎_}
 use mathlib.Core.Path.{_≡_}
-use Prim.Native.Nat.{ℕ, _+_, _≤_}
-use lib.ListN.{length, take, drop}
-use Rattle.text.specs.Bytes.{comma}
-use Rattle.text.specs.Split.{split}
-use Rattle.text.specs.Lines.{Line, good, bad, numbersOf}
+use Prim.Native.Nat.{ℕ, _+_, _-_, _≤_, _<_}
+use lib.Dec.{eqb}
+use lib.ListN.{length, take, drop, getD}
+use Rattle.text.specs.declared.Fault.{Fault}
+use Rattle.text.specs.declared.Fault.the-variants.{Absent, Shape, Range}
+use Rattle.text.specs.declared.row.Row.{Row}
+use Rattle.text.specs.declared.row.RowScan.{RowScan}
+use Rattle.text.specs.declared.row.RowScan.the-variants as row-scan
+use Rattle.text.specs.declared.row.RowRead.{RowRead}
+use Rattle.text.specs.declared.row.RowRead.the-variants as row-read
+use Rattle.text.specs.Bytes.{comma, lineEnd, kindOf}
+use Rattle.text.specs.Split.{split, indexOf}
+use Rattle.text.specs.Lines.{Line, good, bad, fieldsOf, numbersOf, rowLetter, rowCount, rowBounds, statesOf, rowOf}
 
--- numbers in front of those that are read after them
-abbrev pub prepend : List ℕ → Line (List ℕ) → Line (List ℕ)
-prepend ns (good ms) = good (ns ++ ms)
-prepend ns (bad fault) = bad fault
+-- ---- the fields of the line at the front of a text
 
--- i numbers of the fields from place `from` on are stored, and the next field begins at place `at`
-pub record NumbersStored (line : List ℕ) (from : ℕ) (out : List ℕ) (at i : ℕ) : Type 0 where
-  pub at-le : at ≤ length line
-  pub count : i + length (split comma (drop at line)) ≡ length out
-  pub numbers : numbersOf (split comma (drop from line)) ≡ prepend (take i out) (numbersOf (split comma (drop at line)))
+unfoldable pub lineFields : List ℕ → List (List ℕ)
+lineFields text = split comma (take (indexOf lineEnd text) text)
+
+-- those behind its first byte, if that is a comma
+unfoldable pub fieldsAfter : List ℕ → List (List ℕ)
+fieldsAfter [] = []
+fieldsAfter (b ∷ bs) = cond (eqb (kindOf b) comma) (lineFields bs) []
+
+-- ---- the line at a place
+
+-- what a line states, where the line at a place of a text has a line end, at place e
+pub record LineAt {A : Type 0} (read : List ℕ → Line A) (text : List ℕ) (at : ℕ) (stated : Line A) (e : ℕ) : Type 0 where
+  pub found : e ≡ at + indexOf lineEnd (drop at text)
+  pub inside : e < length text
+  pub reads : read (take (e - at) (drop at text)) ≡ stated
+
+-- the line has no line end
+pub record NoLineAt (text : List ℕ) (at : ℕ) (fault : Fault) (e : ℕ) : Type 0 where
+  pub found : e ≡ at + indexOf lineEnd (drop at text)
+  pub outside : length text ≤ e
+  pub absent : fault ≡ Absent
+
+-- ---- rows
+
+-- the line at a place begins with a letter and a comma
+pub record RowBegins (letter : ℕ) (text : List ℕ) (at : ℕ) : Type 0 where
+  pub room : at + 2 ≤ length text
+  pub letter-byte : getD text at 0 ≡ letter
+  pub separated : kindOf (getD text (at + 1) 0) ≡ comma
+
+-- the kind of the byte that follows i numbers of a row of n
+unfoldable pub separatorKind : ℕ → ℕ → ℕ
+separatorKind i n = cond (eqb i n) lineEnd comma
+
+-- numbers in front of those that are read after them; whether one of them is outside its bounds
+abbrev pub prepend : Bool → List ℕ → Line (List ℕ) → Line (List ℕ)
+prepend false ns (good ms) = good (ns ++ ms)
+prepend true ns (good ms) = bad Range
+prepend outside ns (bad fault) = bad fault
+
+-- the fields of the row at a place, behind its letter
+abbrev pub rowFields : List ℕ → ℕ → List (List ℕ)
+rowFields text at = fieldsAfter (drop (at + 1) text)
+
+-- i numbers of the row at a place are read, and those within their bounds stored; the byte after them stands at place e
+pub record RowTo (row : Row) (text : List ℕ) (at : ℕ) (outside : Bool) (out : List ℕ) (i e : ℕ) : Type 0 where
+  pub begins : RowBegins (rowLetter row) text at
+  pub out-length : length out ≡ rowCount row
+  pub inside : e < length text
+  pub follows : kindOf (getD text e 0) ≡ separatorKind i (rowCount row)
+  pub line-end : at + indexOf lineEnd (drop at text) ≡ e + indexOf lineEnd (drop e text)
+  pub count : length (rowFields text at) ≡ i + length (fieldsAfter (drop e text))
+  pub none : i ≡ 0 → getD out 0 0 ≡ 0
+  pub bounds : 0 < i → rowBounds row (getD out 0 0) ≡ rowBounds row (statesOf (rowFields text at))
+  pub numbers : numbersOf (rowBounds row (statesOf (rowFields text at))) (rowFields text at)
+      ≡ prepend outside (take i out)
+      (numbersOf (drop i (rowBounds row (statesOf (rowFields text at)))) (fieldsAfter (drop e text)))
+
+-- if the line at a place has an end and the fields of the row, its numbers have the fault
+pub record Caused (row : Row) (text : List ℕ) (at : ℕ) (fault : Fault) : Type 0 where
+  pub told : at + indexOf lineEnd (drop at text) < length text → (fs : List (List ℕ))
+      → fieldsOf (rowLetter row) (rowCount row) (take (indexOf lineEnd (drop at text)) (drop at text)) ≡ good fs
+      → numbersOf (rowBounds row (statesOf fs)) fs ≡ bad fault
+
+-- what reading i numbers of the row at a place came to
+unfoldable pub RowScanned : Row → List ℕ → ℕ → List ℕ → ℕ → RowScan → Type 0
+RowScanned row text at out i (row-scan.To end outside) = RowTo row text at outside out i end
+RowScanned row text at out i (row-scan.Bad fault) = Caused row text at fault
+
+-- past i numbers of a row of n, where the last ends at place e: the right byte follows, or the row has other fields
+unfoldable pub Past : List ℕ → ℕ → ℕ → ℕ → Bool → RowScan → Type 0
+Past text e i n outside (row-scan.To end out) =
+    (end ≡ e) × (out ≡ outside) × (e < length text) × (kindOf (getD text e 0) ≡ separatorKind i n)
+Past text e i n outside (row-scan.Bad fault) =
+    (fault ≡ Shape) × (e < length text → kindOf (getD text e 0) ≡ separatorKind i n → ⊥)
+
+-- the row at a place is refused
+abbrev pub RowRefused : Row → List ℕ → ℕ → Fault → Type 0
+RowRefused row text at fault = (e : ℕ) × (NoLineAt text at fault e ⊎ LineAt (rowOf row) text at (bad fault) e)
+
+-- what the row at a place comes to
+unfoldable pub RowAt : Row → List ℕ → ℕ → List ℕ → RowRead → Type 0
+RowAt row text at ns (row-read.Good e) = LineAt (rowOf row) text at (good ns) e
+RowAt row text at ns (row-read.Bad fault) = RowRefused row text at fault

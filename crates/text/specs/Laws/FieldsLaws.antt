@@ -9,14 +9,13 @@ use lib.Dec.{ltb, eqb}
 use lib.ListN.{length, take, drop, getD, length-drop}
 use lib.Seq.{getD-drop, length-take-le}
 use borrow.Author.Tests.{ltb-true, ltb-false, eq-eqb, ne-eqb}
-use Rattle.text.specs.declared.Fault.{Fault}
 use Rattle.text.specs.declared.Fault.the-variants.{Shape}
 use Rattle.text.specs.Bytes.{comma, kindOf}
 use Rattle.text.specs.Split.{consFirst, split, indexOf, same?}
 use Rattle.text.specs.Laws.SplitLaws.{split-end, split-cons, split-first, split-part, split-last, split-none}
 use Rattle.text.specs.Laws.SplitLaws.{split-found, found-le}
 use Rattle.text.specs.Laws.SameLaws.{and-false, same?-length}
-use Rattle.text.specs.Lines.{good, bad, checked, fieldsFrom, fieldsOf, numbersOf, numbersFrom, numbersLine}
+use Rattle.text.specs.Lines.{good, bad, checked, fieldsFrom, fieldsOf}
 use Rattle.text.specs.Inner.PartAnswers.{Fields}
 
 -- ---- the number of parts
@@ -130,16 +129,6 @@ module _ (letter n : ℕ) (line f : List ℕ) (fs : List (List ℕ)) (parts : sp
   fields-good h k =
       test true
       (ap (λ (t : Bool). t && eqb (length fs) n) h ∙ eq-eqb (length fs) n k)
-
-pub numbersLine-bad : (letter n : ℕ) (line : List ℕ) (fault : Fault) → fieldsOf letter n line ≡ bad fault
-    → numbersLine letter n line ≡ bad fault
-unfolding numbersLine numbersFrom
-numbersLine-bad letter n line fault e = ap numbersFrom e
-
-pub numbersLine-good : (letter n : ℕ) (line : List ℕ) (fs : List (List ℕ)) → fieldsOf letter n line ≡ good fs
-    → numbersLine letter n line ≡ numbersOf fs
-unfolding numbersLine numbersFrom
-numbersLine-good letter n line fs e = ap numbersFrom e
 
 -- ---- by the number of commas, the place of the first and the first byte
 

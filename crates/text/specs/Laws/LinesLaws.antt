@@ -1,47 +1,22 @@
--- The tests on line 1 and on a step, part by part, and what they give.
+-- The order of steps, part by part, and what the line of a step states by its numbers.
 -- Document 01, "The text". Assumes nothing.
 use mathlib.Core.Bool.{Bool, true, false, _&&_, _||_}
 use mathlib.Core.List.{List}
 use mathlib.Core.Path.{_≡_, refl, ap, _∙_}
 use Prim.Native.Nat.{ℕ, _≤_, _<_}
 use native.Mathlib.Omega.{arith}
-use lib.Dec.{leb, ltb, eqb}
+use lib.Dec.{ltb, eqb}
 use borrow.Author.Tests.{lt-ltb, le-ltb, eq-eqb, ne-eqb}
 use Rattle.text.specs.declared.Fault.{Fault}
-use Rattle.text.specs.declared.Fault.the-variants.{Range, Order}
+use Rattle.text.specs.declared.Fault.the-variants.{Order}
 use Rattle.text.specs.declared.Head.{Head}
 use Rattle.text.specs.declared.StepLine.{StepLine}
-use Rattle.text.specs.Bytes.{byteM, byteS, between?}
-use Rattle.text.specs.Limits.{stateLimit, actionLimit, stepLimit}
+use Rattle.text.specs.declared.row.Row.the-variants.{StepRow}
 use Rattle.text.specs.Model.{above?, aboveLast?}
-use Rattle.text.specs.Lines.{good, bad, checked, numbersLine, headFits?, headNumbers, headFrom, headOf}
-use Rattle.text.specs.Lines.{stepFits?, stepNumbers, rising, stepFrom, stepOf}
+use Rattle.text.specs.Lines.{good, bad, checked, rowOf, stepNumbers, stepFrom, stepOf}
 use Rattle.text.specs.Inner.LineAnswers.{Last}
 
--- ---- line 1
-
-pub headFits-tests : (h : Head) {s a n l : Bool} → between? 1 stateLimit (h .states) ≡ s
-    → between? 1 actionLimit (h .actions) ≡ a
-    → leb (h .steps) stepLimit ≡ n → ltb (h .start .0) (h .states) ≡ l → headFits? h ≡ s && a && n && l
-unfolding headFits?
-headFits-tests h e f g k = rw (← e, ← f, ← g, ← k)
-
-module _ (line : List ℕ) where
-  pub headOf-bad : {fault : Fault} → numbersLine byteM 4 line ≡ bad fault → headOf line ≡ bad fault
-  unfolding headOf headFrom
-  headOf-bad e = ap headFrom e
-
-  pub headOf-numbers : {ns : List ℕ} {t : Bool} → numbersLine byteM 4 line ≡ good ns → headFits? (headNumbers ns) ≡ t
-      → headOf line ≡ checked Range t (headNumbers ns)
-  unfolding headOf headFrom
-  headOf-numbers {ns} e f = ap headFrom e ∙ ap (λ (u : Bool). checked Range u (headNumbers ns)) f
-
 -- ---- steps
-
-pub stepFits-tests : (h : Head) (s : StepLine) {p a q : Bool} → ltb (s .source .0) (h .states) ≡ p
-    → ltb (s .action .0) (h .actions) ≡ a → ltb (s .target .0) (h .states) ≡ q → stepFits? h s ≡ p && a && q
-unfolding stepFits?
-stepFits-tests h s e f g = rw (← e, ← f, ← g)
 
 -- source, then action, then target
 module _ (s t : StepLine) where
@@ -81,24 +56,14 @@ module _ (s t : StepLine) where
         (eq-eqb (s .action .0) (t .action .0) (omega arith))
 
 module _ (h : Head) (before : List StepLine) (line : List ℕ) where
-  pub stepOf-bad : {fault : Fault} → numbersLine byteS 3 line ≡ bad fault → stepOf h before line ≡ bad fault
+  pub stepOf-bad : {fault : Fault} → rowOf (StepRow h) line ≡ bad fault → stepOf h before line ≡ bad fault
   unfolding stepOf stepFrom
-  stepOf-bad e = ap (stepFrom h before) e
+  stepOf-bad e = ap (stepFrom before) e
 
-  module _ (ns : List ℕ) (e : numbersLine byteS 3 line ≡ good ns) where
-    numbers : {t : Bool} → stepFits? h (stepNumbers ns) ≡ t
-        → stepOf h before line ≡ rising before (checked Range t (stepNumbers ns))
-    unfolding stepOf stepFrom
-    numbers f = ap (stepFrom h before) e ∙ ap (λ (u : Bool). rising before (checked Range u (stepNumbers ns))) f
-
-    pub stepOf-range : stepFits? h (stepNumbers ns) ≡ false → stepOf h before line ≡ bad Range
-    unfolding rising checked
-    stepOf-range f = numbers f
-
-    pub stepOf-order : {u : Bool} → stepFits? h (stepNumbers ns) ≡ true → aboveLast? before (stepNumbers ns) ≡ u
-        → stepOf h before line ≡ checked Order u (stepNumbers ns)
-    unfolding rising checked
-    stepOf-order f a = numbers f ∙ ap (λ (v : Bool). checked Order v (stepNumbers ns)) a
+  pub stepOf-order : {ns : List ℕ} {t : Bool} → rowOf (StepRow h) line ≡ good ns
+      → aboveLast? before (stepNumbers ns) ≡ t → stepOf h before line ≡ checked Order t (stepNumbers ns)
+  unfolding stepOf stepFrom
+  stepOf-order {ns} e f = ap (stepFrom before) e ∙ ap (λ (u : Bool). checked Order u (stepNumbers ns)) f
 
 -- the first step stands above those before it
 pub last-nil : {before : List StepLine} {j : ℕ} {last : StepLine} (s : StepLine) → Last before j last → j ≡ 0

@@ -1,6 +1,7 @@
 -- The value of digits, byte by byte, and the number of a field, by the field's shape.
 -- Document 01, "The text": "Numbers have 1 to 5 digits and no leading zero, except `0` itself." Assumes nothing.
 use mathlib.Core.List.{List, [], _∷_}
+use mathlib.Core.Option.{none, some}
 use mathlib.Core.Path.{_≡_, refl}
 use Prim.Native.Nat.{ℕ, _+_, _-_, _*_, _^_, _≤_, _<_}
 use native.Mathlib.Nat.{pow-suc}
@@ -10,7 +11,6 @@ use lib.Dec.{leb}
 use lib.ListN.{length, getD}
 use borrow.Author.Tests.{le-leb, lt-leb, eq-eqb, ne-eqb}
 use Rattle.text.specs.Limits.{digitLimit}
-use Rattle.text.specs.declared.number.Number.the-variants.{Value, Bad}
 use Rattle.text.specs.Bytes.{byteZero, digit, kindOf}
 use Rattle.text.specs.Numbers.{digitsValue, numberShape?, numberOf}
 use Rattle.text.specs.Laws.SameLaws.{and-false}
@@ -18,7 +18,7 @@ use Rattle.text.specs.Laws.SameLaws.{and-false}
 pub pow-next : (i : ℕ) → 10 ^ (i + 1) ≡ 10 * 10 ^ i
 pow-next i = rw (add-one, pow-suc) (omega arith)
 
-pub digitsValue-nil : (v : ℕ) → digitsValue v [] ≡ Value v
+pub digitsValue-nil : (v : ℕ) → digitsValue v [] ≡ some v
 unfolding digitsValue
 digitsValue-nil v = refl
 
@@ -27,16 +27,16 @@ pub digitsValue-cons : (v b : ℕ) (bs : List ℕ) → kindOf b ≡ digit
 unfolding digitsValue
 digitsValue-cons v b bs h = rw (eq-eqb (kindOf b) digit h)
 
-pub digitsValue-bad : (v b : ℕ) (bs : List ℕ) → (kindOf b ≡ digit → ⊥) → digitsValue v (b ∷ bs) ≡ Bad
+pub digitsValue-bad : (v b : ℕ) (bs : List ℕ) → (kindOf b ≡ digit → ⊥) → digitsValue v (b ∷ bs) ≡ none
 unfolding digitsValue
 digitsValue-bad v b bs h = rw (ne-eqb (kindOf b) digit h)
 
-pub numberOf-nil : (f : List ℕ) → length f ≡ 0 → numberOf f ≡ Bad
+pub numberOf-nil : (f : List ℕ) → length f ≡ 0 → numberOf f ≡ none
 unfolding numberOf numberShape?
 numberOf-nil [] h = refl
 numberOf-nil (b ∷ bs) h = absurd (omega arith)
 
-pub numberOf-long : (f : List ℕ) → digitLimit < length f → numberOf f ≡ Bad
+pub numberOf-long : (f : List ℕ) → digitLimit < length f → numberOf f ≡ none
 unfolding numberOf numberShape?
 numberOf-long [] h = absurd (omega arith)
 numberOf-long (b ∷ []) h = absurd (omega arith)
@@ -49,7 +49,7 @@ numberOf-one (b ∷ []) h = refl
 numberOf-one (b ∷ c ∷ bs) h = absurd (omega arith)
 
 -- 0 before other digits
-pub numberOf-zero : (f : List ℕ) → 1 < length f → getD f 0 0 ≡ byteZero → numberOf f ≡ Bad
+pub numberOf-zero : (f : List ℕ) → 1 < length f → getD f 0 0 ≡ byteZero → numberOf f ≡ none
 unfolding numberOf numberShape?
 numberOf-zero [] h z = absurd (omega arith)
 numberOf-zero (b ∷ []) h z = absurd (omega arith)

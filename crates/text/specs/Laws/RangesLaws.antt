@@ -1,81 +1,97 @@
--- The tests of ranges decide them.
+-- The tests of bounds decide them.
 -- Document 01, "The text". Assumes nothing.
-use mathlib.Core.Bool.{Bool, _&&_}
+use mathlib.Core.Bool.{Bool, true, _&&_}
+use mathlib.Core.List.{List, [], _∷_}
+use Prim.Native.Nat.{ℕ, suc, _≤_, _<_}
+use native.Mathlib.Omega.{arith}
 use lib.Dec.{T, leb, ltb, leb→le, le→leb, ltb→lt, lt→ltb}
 use Rattle.lts.specs.TestsLaws.{and-left, and-right, and-intro}
 use Rattle.text.specs.declared.Head.{Head}
 use Rattle.text.specs.declared.StepLine.{StepLine}
-use Rattle.text.specs.Bytes.{between?}
-use Rattle.text.specs.Laws.BytesLaws.{between?→le, le→between?}
+use Rattle.text.specs.declared.number.Bounds.{Bounds}
 use Rattle.text.specs.Limits.{stateLimit, actionLimit, stepLimit}
-use Rattle.text.specs.Lines.{headFits?, stepFits?}
+use Rattle.text.specs.Numbers.{inBounds?}
+use Rattle.text.specs.Lines.{fits?, headBounds, stepBounds, headFits?, stepFits?}
 use Rattle.text.specs.Inner.Ranges.{HeadRanges, StepRanges}
 
+-- ---- one number
+
+module _ (b : Bounds) (n : ℕ) where
+  pub inBounds?→lt : T (inBounds? b n) → (b .least ≤ n) × (n < b .limit)
+  unfolding inBounds?
+  inBounds?→lt t =
+      (leb→le (b .least) n (and-left (leb (b .least) n) (ltb n (b .limit)) t),
+      ltb→lt n (b .limit) (and-right (leb (b .least) n) (ltb n (b .limit)) t))
+
+  pub lt→inBounds? : b .least ≤ n → n < b .limit → T (inBounds? b n)
+  unfolding inBounds?
+  lt→inBounds? l h =
+      and-intro (leb (b .least) n) (ltb n (b .limit)) (le→leb (b .least) n l) (lt→ltb n (b .limit) h)
+
+-- ---- several
+
+module _ (b : Bounds) (bs : List Bounds) (n : ℕ) (ns : List ℕ) where
+  pub fits-first : T (fits? (b ∷ bs) (n ∷ ns)) → (b .least ≤ n) × (n < b .limit)
+  unfolding fits?
+  fits-first t = inBounds?→lt b n (and-left (inBounds? b n) (fits? bs ns) t)
+
+  pub fits-rest : T (fits? (b ∷ bs) (n ∷ ns)) → T (fits? bs ns)
+  unfolding fits?
+  fits-rest t = and-right (inBounds? b n) (fits? bs ns) t
+
+  pub fits-cons : b .least ≤ n → n < b .limit → T (fits? bs ns) → T (fits? (b ∷ bs) (n ∷ ns))
+  unfolding fits?
+  fits-cons l h t = and-intro (inBounds? b n) (fits? bs ns) (lt→inBounds? b n l h) t
+
+-- ---- line 1 and a step
+
+zero-le : (n : ℕ) → 0 ≤ n
+zero-le n = omega arith
+
 module _ (h : Head) where
-  abbrev states? : Bool
-  states? = between? 1 stateLimit (h .states)
-
-  abbrev actions? : Bool
-  actions? = between? 1 actionLimit (h .actions)
-
-  abbrev steps? : Bool
-  steps? = leb (h .steps) stepLimit
-
-  abbrev start? : Bool
-  start? = ltb (h .start .0) (h .states)
-
   pub headFits?→HeadRanges : T (headFits? h) → HeadRanges h
-  unfolding headFits?
+  unfolding headFits? headBounds
   headFits?→HeadRanges t =
-      let most = and-left (states? && actions? && steps?) start? t in
-      let both = and-left (states? && actions?) steps? most in
-      let states = between?→le 1 stateLimit (h .states) (and-left states? actions? both) in
-      let actions = between?→le 1 actionLimit (h .actions) (and-right states? actions? both) in
+      let states = fits-first _ _ _ _ t in
+      let u = fits-rest _ _ _ _ t in
+      let actions = fits-first _ _ _ _ u in
+      let v = fits-rest _ _ _ _ u in
+      let steps = fits-first _ _ _ _ v in
+      let start = fits-first _ _ _ _ (fits-rest _ _ _ _ v) in
       record {
         states-pos = states .0;
-        states = states .1;
+        states = omega arith;
         actions-pos = actions .0;
-        actions = actions .1;
-        steps = leb→le (h .steps) stepLimit (and-right (states? && actions?) steps? most);
-        start = ltb→lt (h .start .0) (h .states) (and-right (states? && actions? && steps?) start? t);
+        actions = omega arith;
+        steps = omega arith;
+        start = start .1;
       }
 
   pub HeadRanges→headFits? : HeadRanges h → T (headFits? h)
-  unfolding headFits?
+  unfolding headFits? headBounds fits?
   HeadRanges→headFits? r =
-      and-intro (states? && actions? && steps?) start?
-      (and-intro (states? && actions?) steps?
-      (and-intro states? actions?
-      (le→between? 1 stateLimit (h .states) (r .states-pos) (r .states))
-      (le→between? 1 actionLimit (h .actions) (r .actions-pos) (r .actions)))
-      (le→leb (h .steps) stepLimit (r .steps)))
-      (lt→ltb (h .start .0) (h .states) (r .start))
+      let states : h .states < suc stateLimit = omega (arith, r .states) in
+      let actions : h .actions < suc actionLimit = omega (arith, r .actions) in
+      let steps : h .steps < suc stepLimit = omega (arith, r .steps) in
+      fits-cons _ _ _ _ (r .states-pos) states
+      (fits-cons _ _ _ _ (r .actions-pos) actions
+      (fits-cons _ _ _ _ (zero-le (h .steps)) steps
+      (fits-cons _ _ _ _ (zero-le (h .start .0)) (r .start) tt)))
 
   module _ (s : StepLine) where
-    abbrev source? : Bool
-    source? = ltb (s .source .0) (h .states)
-
-    abbrev action? : Bool
-    action? = ltb (s .action .0) (h .actions)
-
-    abbrev target? : Bool
-    target? = ltb (s .target .0) (h .states)
-
     pub stepFits?→StepRanges : T (stepFits? h s) → StepRanges h s
-    unfolding stepFits?
+    unfolding stepFits? stepBounds
     stepFits?→StepRanges t =
-        let both = and-left (source? && action?) target? t in
+        let u = fits-rest _ _ _ _ t in
         record {
-          source = ltb→lt (s .source .0) (h .states) (and-left source? action? both);
-          action = ltb→lt (s .action .0) (h .actions) (and-right source? action? both);
-          target = ltb→lt (s .target .0) (h .states) (and-right (source? && action?) target? t);
+          source = fits-first _ _ _ _ t .1;
+          action = fits-first _ _ _ _ u .1;
+          target = fits-first _ _ _ _ (fits-rest _ _ _ _ u) .1;
         }
 
     pub StepRanges→stepFits? : StepRanges h s → T (stepFits? h s)
-    unfolding stepFits?
+    unfolding stepFits? stepBounds fits?
     StepRanges→stepFits? r =
-        and-intro (source? && action?) target?
-        (and-intro source? action?
-        (lt→ltb (s .source .0) (h .states) (r .source))
-        (lt→ltb (s .action .0) (h .actions) (r .action)))
-        (lt→ltb (s .target .0) (h .states) (r .target))
+        fits-cons _ _ _ _ (zero-le (s .source .0)) (r .source)
+        (fits-cons _ _ _ _ (zero-le (s .action .0)) (r .action)
+        (fits-cons _ _ _ _ (zero-le (s .target .0)) (r .target) tt))

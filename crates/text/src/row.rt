@@ -1,0 +1,265 @@
+// Lines that are a letter and numbers, each read in one pass over its bytes: line 1, and the lines of steps.
+use crate::Fault;
+use crate::Head;
+use crate::StepLine;
+use crate::bytes::COMMA;
+use crate::bytes::LINE_END;
+use crate::bytes::kind;
+use crate::limits::ACTION_LIMIT;
+use crate::limits::STATE_LIMIT;
+use crate::limits::STEP_LIMIT;
+use crate::line::fields;
+use crate::line::find;
+use crate::line::is_letter;
+use crate::number::Bounds;
+use crate::number::Number;
+use crate::number::number_at;
+use crate::number::within;
+ghost use mathlib.Core.Bool.{false};
+ghost use mathlib.Core.Path.{_≡_};
+ghost use Prim.Native.Nat.{_+_, _≤_, _<_};
+ghost use lib.ListN.{length, getD};
+ghost use Rattle.text.specs.Bytes.{capital, kindOf};
+ghost use Rattle.text.specs.Numbers.{below};
+ghost use Rattle.text.specs.Lines.{headBounds, stepBounds, rowLetter, rowCount, rowBounds, headFits?, stepFits?};
+ghost use Rattle.text.specs.Decides.{Decides};
+ghost use Rattle.text.specs.Inner.Row.{RowBegins, separatorKind, Past, RowTo, RowScanned, Caused, RowRefused, RowAt};
+
+// Which line it is: line 1, or the line of a step in a model whose line 1 is known.
+pub enum Row {
+    HeadRow,
+    StepRow(Head),
+}
+
+// How far the numbers of a row are read: the place after the last of them, and whether one of them is outside its
+// bounds; or the fault of the row, if its line has an end and the right fields.
+pub enum RowScan {
+    To { end: usize, outside: bool },
+    Bad(Fault),
+}
+
+// A row: its numbers are stored, and its line ends at this place; or its fault.
+pub enum RowRead {
+    Good(usize),
+    Bad(Fault),
+}
+
+// The letter of a row.
+fn letter_of(row: Row) -> u8
+    ensures { λ r. ⌜ r ≡ rowLetter row ⌝ }
+{
+    match row {
+        Row::HeadRow => b'M',
+        Row::StepRow(_) => b'S',
+    }
+}
+
+// The bounds of number i of line 1; the start is below the states.
+fn head_bounds(i: usize, states: u16) -> Bounds
+    requires { ⌜ i < 4 ⌝ }
+    ensures { λ r. ⌜ r ≡ getD (headBounds states) i (below 0) ⌝ }
+{
+    if i == 0 {
+        return Bounds {
+            least: 1,
+            limit: STATE_LIMIT + 1,
+        };
+    }
+    if i == 1 {
+        return Bounds {
+            least: 1,
+            limit: ACTION_LIMIT + 1,
+        };
+    }
+    if i == 2 {
+        return Bounds {
+            least: 0,
+            limit: STEP_LIMIT + 1,
+        };
+    }
+    Bounds {
+        least: 0,
+        limit: states,
+    }
+}
+
+// The bounds of number i of a step's line: the action is below the actions, source and target are below the states.
+fn step_bounds(i: usize, head: Head) -> Bounds
+    requires { ⌜ i < 3 ⌝ }
+    ensures { λ r. ⌜ r ≡ getD (stepBounds head) i (below 0) ⌝ }
+{
+    if i == 1 {
+        return Bounds {
+            least: 0,
+            limit: head.actions,
+        };
+    }
+    Bounds {
+        least: 0,
+        limit: head.states,
+    }
+}
+
+// The bounds of number i of a row, whose first number may be the number of states.
+fn bounds_of(row: Row, i: usize, states: u16) -> Bounds
+    requires { ⌜ i < rowCount row ⌝ }
+    ensures { λ r. ⌜ r ≡ getD (rowBounds row states) i (below 0) ⌝ }
+{
+    match row {
+        Row::HeadRow => head_bounds(i, states),
+        Row::StepRow(head) => step_bounds(i, head),
+    }
+}
+
+// Whether line 1 may have these numbers.
+pub fn head_fits(h: Head) -> bool
+    ensures { λ r. ⌜ r ≡ headFits? h ⌝ }
+{
+    if !within(head_bounds(0, h.states), h.states as u32) {
+        return false;
+    }
+    if !within(head_bounds(1, h.states), h.actions as u32) {
+        return false;
+    }
+    if !within(head_bounds(2, h.states), h.steps as u32) {
+        return false;
+    }
+    within(head_bounds(3, h.states), h.start.0 as u32)
+}
+
+// Whether the states and the action of a step are there.
+pub fn step_fits(head: Head, s: StepLine) -> bool
+    ensures { λ r. ⌜ r ≡ stepFits? head s ⌝ }
+{
+    if !within(step_bounds(0, head), s.source.0 as u32) {
+        return false;
+    }
+    if !within(step_bounds(1, head), s.action.0 as u32) {
+        return false;
+    }
+    within(step_bounds(2, head), s.target.0 as u32)
+}
+
+// Whether the line at a place begins with a letter and a comma.
+fn begins(text: &[u8], at: usize, letter: u8) -> bool
+    requires { ⌜ (at ≤ length (now text)) × (kindOf letter ≡ capital) ⌝ }
+    ensures { λ r. ⌜ Decides r (RowBegins letter (now (text .entry)) at) ⌝ }
+{
+    if text.len() - at < 2 {
+        return false;
+    }
+    if !is_letter(text[at], letter) {
+        return false;
+    }
+    if kind(text[at + 1]) != COMMA {
+        return false;
+    }
+    true
+}
+
+// The kind of the byte that follows i numbers of a row of n.
+fn separator(i: usize, n: usize) -> u8
+    ensures { λ r. ⌜ r ≡ separatorKind i n ⌝ }
+{
+    if i == n {
+        return LINE_END;
+    }
+    COMMA
+}
+
+// Past i numbers of a row of n, where the last of them ends.
+fn past_number(text: &[u8], end: usize, i: usize, n: usize, outside: bool) -> RowScan
+    requires { ⌜ end ≤ length (now text) ⌝ }
+    ensures { λ r. ⌜ Past (now (text .entry)) end i n outside r ⌝ }
+{
+    if end == text.len() {
+        return RowScan::Bad(Fault::Shape);
+    }
+    if kind(text[end]) != separator(i, n) {
+        return RowScan::Bad(Fault::Shape);
+    }
+    RowScan::To { end, outside }
+}
+
+// Number i of a row, behind the byte at `end`: stored, if it is within its bounds.
+fn next_number(
+    text: &[u8],
+    at: usize,
+    end: usize,
+    row: Row,
+    i: usize,
+    outside: bool,
+    out: &mut [u16],
+) -> RowScan
+    requires { ⌜ RowTo row (now text) at outside (now out) i end × (i < rowCount row) ⌝ }
+    ensures { λ r. ⌜ RowScanned row (now (text .entry)) at (now (out .exit)) (i + 1) r ⌝ }
+{
+    let read = number_at(text, end + 1, bounds_of(row, i, out[0]));
+    let next = read.end;
+    let number = read.number;
+    match number {
+        Number::BadDigits => RowScan::Bad(Fault::Digits),
+        Number::Outside => past_number(text, next, i + 1, out.len(), true),
+        Number::Value(v) => {
+            out[i] = v;
+            past_number(text, next, i + 1, out.len(), outside)
+        }
+    }
+}
+
+// The numbers of a row whose letter and comma stand at a place.
+fn numbers_at(text: &[u8], at: usize, row: Row, out: &mut [u16]) -> RowScan
+    requires { ⌜ RowTo row (now text) at false (now out) 0 (at + 1) ⌝ }
+    ensures { λ r. ⌜ RowScanned row (now (text .entry)) at (now (out .exit)) (rowCount row) r ⌝ }
+{
+    let mut end = at + 1;
+    let mut outside = false;
+    let mut i = 0;
+    while i < out.len() {
+        let scan = next_number(text, at, end, row, i, outside, out);
+        let RowScan::To { end: next, outside: found } = scan else {
+            return scan;
+        };
+        end = next;
+        outside = found;
+        i += 1;
+    }
+    RowScan::To { end, outside }
+}
+
+// The fault of a row, where its numbers have one: a line without an end has this fault before any other, and one with
+// other fields has it before that of its numbers.
+fn row_fault(text: &[u8], at: usize, row: Row, n: usize, fault: Fault) -> Fault
+    requires { ⌜ (at ≤ length (now text)) × (n ≡ rowCount row) × Caused row (now text) at fault ⌝ }
+    ensures { λ r. ⌜ RowRefused row (now (text .entry)) at r ⌝ }
+{
+    let e = find(text, at, LINE_END);
+    if e == text.len() {
+        return Fault::Absent;
+    }
+    if !fields(&text[at..e], letter_of(row), n) {
+        return Fault::Shape;
+    }
+    fault
+}
+
+// The row at a place; `out` holds as many zeros as the row has numbers.
+pub fn row_at(text: &[u8], at: usize, row: Row, out: &mut [u16]) -> RowRead
+    requires { ⌜ (at ≤ length (now text)) × (length (now out) ≡ rowCount row) × (getD (now out) 0 0 ≡ 0) ⌝ }
+    ensures { λ r. ⌜ RowAt row (now (text .entry)) at (now (out .exit)) r ⌝ }
+{
+    let n = out.len();
+    if !begins(text, at, letter_of(row)) {
+        return RowRead::Bad(row_fault(text, at, row, n, Fault::Shape));
+    }
+    let scan = numbers_at(text, at, row, out);
+    match scan {
+        RowScan::Bad(fault) => RowRead::Bad(row_fault(text, at, row, n, fault)),
+        RowScan::To { end, outside } => {
+            if outside {
+                return RowRead::Bad(Fault::Range);
+            }
+            RowRead::Good(end)
+        }
+    }
+}
