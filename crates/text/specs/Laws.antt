@@ -17,3 +17,5 @@ pub mod FirstLaws
 pub mod DigitsLaws
 pub mod JoinLaws
 pub mod OutcomeLaws
+pub mod LineFieldsLaws
+pub mod RowLaws

@@ -59,7 +59,8 @@ separatorKind i n = cond (eqb i n) lineEnd comma
 abbrev pub prepend : Bool → List ℕ → Line (List ℕ) → Line (List ℕ)
 prepend false ns (good ms) = good (ns ++ ms)
 prepend true ns (good ms) = bad Range
-prepend outside ns (bad fault) = bad fault
+prepend false ns (bad fault) = bad fault
+prepend true ns (bad fault) = bad fault
 
 -- the fields of the row at a place, behind its letter
 abbrev pub rowFields : List ℕ → ℕ → List (List ℕ)
@@ -73,7 +74,7 @@ pub record RowTo (row : Row) (text : List ℕ) (at : ℕ) (outside : Bool) (out 
   pub follows : kindOf (getD text e 0) ≡ separatorKind i (rowCount row)
   pub line-end : at + indexOf lineEnd (drop at text) ≡ e + indexOf lineEnd (drop e text)
   pub count : length (rowFields text at) ≡ i + length (fieldsAfter (drop e text))
-  pub none : i ≡ 0 → getD out 0 0 ≡ 0
+  pub none : i ≡ 0 → (e ≡ at + 1) × (getD out 0 0 ≡ 0)
   pub bounds : 0 < i → rowBounds row (getD out 0 0) ≡ rowBounds row (statesOf (rowFields text at))
   pub numbers : numbersOf (rowBounds row (statesOf (rowFields text at))) (rowFields text at)
       ≡ prepend outside (take i out)

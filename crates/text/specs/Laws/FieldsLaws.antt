@@ -5,16 +5,18 @@ use mathlib.Core.List.{List, [], _∷_}
 use mathlib.Core.Path.{_≡_, refl, sym, ap, _∙_}
 use Prim.Native.Nat.{ℕ, suc, _+_, _-_, _≤_, _<_}
 use native.Mathlib.Omega.{arith}
-use lib.Dec.{ltb, eqb}
+use lib.Dec.{T, ltb, eqb, eqb→eq}
 use lib.ListN.{length, take, drop, getD, length-drop}
 use lib.Seq.{getD-drop, length-take-le}
 use borrow.Author.Tests.{ltb-true, ltb-false, eq-eqb, ne-eqb}
+use Rattle.text.specs.declared.Fault.{Fault}
 use Rattle.text.specs.declared.Fault.the-variants.{Shape}
 use Rattle.text.specs.Bytes.{comma, kindOf}
 use Rattle.text.specs.Split.{consFirst, split, indexOf, same?}
 use Rattle.text.specs.Laws.SplitLaws.{split-end, split-cons, split-first, split-part, split-last, split-none}
 use Rattle.text.specs.Laws.SplitLaws.{split-found, found-le}
-use Rattle.text.specs.Laws.SameLaws.{and-false, same?-length}
+use Rattle.lts.specs.TestsLaws.{and-left, and-right}
+use Rattle.text.specs.Laws.SameLaws.{and-false, same?→eq, same?-length}
 use Rattle.text.specs.Lines.{good, bad, checked, fieldsFrom, fieldsOf}
 use Rattle.text.specs.Inner.PartAnswers.{Fields}
 
@@ -129,6 +131,23 @@ module _ (letter n : ℕ) (line f : List ℕ) (fs : List (List ℕ)) (parts : sp
   fields-good h k =
       test true
       (ap (λ (t : Bool). t && eqb (length fs) n) h ∙ eq-eqb (length fs) n k)
+
+-- what passes a test
+pub good-checked : {A : Type 0} (fault : Fault) (t : Bool) (a b : A) → checked fault t a ≡ good b → T t × (a ≡ b)
+unfolding checked
+good-checked fault true a b h = (tt, cc)
+good-checked fault false a b h = let z : _≡_ {A = ℕ} 0 1 = cc in absurd (omega arith)
+
+-- a line whose fields are good begins with the letter
+pub fields-of-good : (letter n : ℕ) (line f : List ℕ) (fs gs : List (List ℕ)) → split comma line ≡ f ∷ fs
+    → fieldsOf letter n line ≡ good gs → (f ≡ letter ∷ []) × (fs ≡ gs) × (length fs ≡ n)
+unfolding fieldsOf fieldsFrom
+fields-of-good letter n line f fs gs parts h =
+    let s : Bool = same? f (letter ∷ []) in
+    let t : Bool = eqb (length fs) n in
+    let q : checked Shape (s && t) fs ≡ good gs = rw parts at h in
+    let c = good-checked Shape (s && t) fs gs q in
+    (same?→eq f (letter ∷ []) (and-left s t (c .0)), c .1, eqb→eq (length fs) n (and-right s t (c .0)))
 
 -- ---- by the number of commas, the place of the first and the first byte
 
