@@ -17,3 +17,4 @@ pub mod FirstLaws
 pub mod DigitsLaws
 pub mod JoinLaws
 pub mod OutcomeLaws
+pub mod NumberAtLaws
