@@ -12,7 +12,6 @@ use lib.ListN.{length, drop, getD, length-append, drop-of-length-le, List·getD-
 use lib.Seq.{getD-drop}
 use borrow.Author.Tests.{eq-eqb, ne-eqb}
 use Rattle.lts.specs.TestsLaws.{lt-or-le}
-use Rattle.text.specs.Limits.{digitLimit}
 use Rattle.text.specs.Bytes.{byteZero, digit, comma, lineEnd, kindOf}
 use Rattle.text.specs.Numbers.{digitsValue, numberOf}
 use Rattle.text.specs.Inner.NumberAt.{AllDigits, DigitsTo, DigitsAt, FieldEnds, NumberShape, fieldOf}
