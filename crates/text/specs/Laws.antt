@@ -19,3 +19,4 @@ pub mod JoinLaws
 pub mod OutcomeLaws
 pub mod LineFieldsLaws
 pub mod RowLaws
+pub mod NumberAtLaws

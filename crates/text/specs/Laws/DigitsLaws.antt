@@ -45,7 +45,7 @@ value-digit v b bs n h = by-test (eqb (kindOf b) digit) refl
         let k : digitsValue v (b ∷ bs) ≡ none = rw (ne-eqb (kindOf b) digit (eqb-false (kindOf b) digit e)) in cc
 
 -- a value goes on into the digits after it
-value-append : (xs ys : List ℕ) (v w : ℕ) → digitsValue v xs ≡ some w → digitsValue v (xs ++ ys) ≡ digitsValue w ys
+pub value-append : (xs ys : List ℕ) (v w : ℕ) → digitsValue v xs ≡ some w → digitsValue v (xs ++ ys) ≡ digitsValue w ys
 value-append [] ys v w h = let e : v ≡ w = cc (digitsValue-nil v) in ap (λ (z : ℕ). digitsValue z ys) e
 value-append (x ∷ xs) ys v w h =
     let k = value-digit v x xs w h in

@@ -14,6 +14,7 @@ use Rattle.text.specs.Split.{consFirst, split, indexOf}
 use Rattle.text.specs.Laws.SplitLaws.{Is, same, other, is, split-nil, split-end, split-cons}
 use Rattle.text.specs.Laws.SplitLaws.{indexOf-nil, indexOf-end, indexOf-cons}
 use Rattle.text.specs.Inner.NumberAt.{fieldOf}
+use Rattle.text.specs.Laws.NumberAtLaws.{fieldOf-end, fieldOf-cons}
 use Rattle.text.specs.Inner.Row.{lineFields, fieldsAfter}
 
 -- ---- byte by byte
@@ -31,19 +32,6 @@ ends b = by-kind (is (kindOf b) comma) (is (kindOf b) lineEnd)
     by-kind (same e) l = by-comma e
     by-kind (other e) (same f) = by-lineEnd f
     by-kind (other e) (other f) = goes-on e f
-
-pub fieldOf-comma : (b : ℕ) (bs : List ℕ) → kindOf b ≡ comma → fieldOf (b ∷ bs) ≡ []
-unfolding fieldOf
-fieldOf-comma b bs h = rw (eq-eqb (kindOf b) comma h)
-
-fieldOf-lineEnd : (b : ℕ) (bs : List ℕ) → kindOf b ≡ lineEnd → fieldOf (b ∷ bs) ≡ []
-unfolding fieldOf
-fieldOf-lineEnd b bs h = rw (ne-eqb (kindOf b) comma (λ z. omega arith), eq-eqb (kindOf b) lineEnd h)
-
-pub fieldOf-cons : (b : ℕ) (bs : List ℕ) → (kindOf b ≡ comma → ⊥) → (kindOf b ≡ lineEnd → ⊥)
-    → fieldOf (b ∷ bs) ≡ b ∷ fieldOf bs
-unfolding fieldOf
-fieldOf-cons b bs h l = rw (ne-eqb (kindOf b) comma h, ne-eqb (kindOf b) lineEnd l)
 
 pub fieldsAfter-comma : (b : ℕ) (bs : List ℕ) → kindOf b ≡ comma → fieldsAfter (b ∷ bs) ≡ lineFields bs
 unfolding fieldsAfter
@@ -78,9 +66,9 @@ lineFields-field (b ∷ bs) = go (ends b) (lineFields-field bs)
     go : Ends b → lineFields bs ≡ fieldOf bs ∷ fieldsAfter (drop (length (fieldOf bs)) bs)
         → lineFields (b ∷ bs) ≡ fieldOf (b ∷ bs) ∷ fieldsAfter (drop (length (fieldOf (b ∷ bs))) (b ∷ bs))
     go (by-comma h) ih =
-        lineFields-comma b bs h ∙ rw (fieldOf-comma b bs h, fieldsAfter-comma b bs h)
+        lineFields-comma b bs h ∙ rw (fieldOf-end b bs (inl h), fieldsAfter-comma b bs h)
     go (by-lineEnd h) ih =
-        lineFields-lineEnd b bs h ∙ rw (fieldOf-lineEnd b bs h, fieldsAfter-lineEnd b bs h)
+        lineFields-lineEnd b bs h ∙ rw (fieldOf-end b bs (inr h), fieldsAfter-lineEnd b bs h)
     go (goes-on h l) ih =
         lineFields-cons b bs h l ∙ ap (consFirst b) ih ∙ rw (fieldOf-cons b bs h l)
 
@@ -94,8 +82,8 @@ lineEnd-field (b ∷ bs) = go (ends b) (lineEnd-field bs)
     go : Ends b → indexOf lineEnd bs ≡ length (fieldOf bs) + indexOf lineEnd (drop (length (fieldOf bs)) bs)
         → indexOf lineEnd (b ∷ bs)
         ≡ length (fieldOf (b ∷ bs)) + indexOf lineEnd (drop (length (fieldOf (b ∷ bs))) (b ∷ bs))
-    go (by-comma h) ih = rw (fieldOf-comma b bs h) (omega arith)
-    go (by-lineEnd h) ih = rw (fieldOf-lineEnd b bs h) (omega arith)
+    go (by-comma h) ih = rw (fieldOf-end b bs (inl h)) (omega arith)
+    go (by-lineEnd h) ih = rw (fieldOf-end b bs (inr h)) (omega arith)
     go (goes-on h l) ih = rw (fieldOf-cons b bs h l, indexOf-cons lineEnd b bs l) (omega arith)
 
 -- what follows a field, if anything does
@@ -110,8 +98,8 @@ fieldOf-follows (b ∷ bs) p = go (ends b) (fieldOf-follows bs) p
         → length (fieldOf (b ∷ bs)) < length (b ∷ bs)
         → (kindOf (getD (b ∷ bs) (length (fieldOf (b ∷ bs))) 0) ≡ comma)
         ⊎ (kindOf (getD (b ∷ bs) (length (fieldOf (b ∷ bs))) 0) ≡ lineEnd)
-    go (by-comma h) ih q = rw (fieldOf-comma b bs h) (inl h)
-    go (by-lineEnd h) ih q = rw (fieldOf-lineEnd b bs h) (inr h)
+    go (by-comma h) ih q = rw (fieldOf-end b bs (inl h)) (inl h)
+    go (by-lineEnd h) ih q = rw (fieldOf-end b bs (inr h)) (inr h)
     go (goes-on h l) ih q =
         let e = fieldOf-cons b bs h l in
         let n = ap length e in
@@ -123,8 +111,8 @@ fieldOf-length-le [] = omega arith
 fieldOf-length-le (b ∷ bs) = go (ends b) (fieldOf-length-le bs)
   where
     go : Ends b → length (fieldOf bs) ≤ length bs → length (fieldOf (b ∷ bs)) ≤ length (b ∷ bs)
-    go (by-comma h) ih = rw (fieldOf-comma b bs h) (omega arith)
-    go (by-lineEnd h) ih = rw (fieldOf-lineEnd b bs h) (omega arith)
+    go (by-comma h) ih = rw (fieldOf-end b bs (inl h)) (omega arith)
+    go (by-lineEnd h) ih = rw (fieldOf-end b bs (inr h)) (omega arith)
     go (goes-on h l) ih = rw (fieldOf-cons b bs h l) (omega arith)
 
 -- where the first field is a letter alone, and more fields follow, a comma stands behind the letter
@@ -144,8 +132,8 @@ letter-field (b ∷ bs) letter h more = by-first (ends b) bs h (rw h at more)
 
     by-first : Ends b → (bs : List ℕ) → fieldOf (b ∷ bs) ≡ letter ∷ [] → 0 < length (fieldsAfter bs)
         → (2 ≤ length (b ∷ bs)) × (b ≡ letter) × (kindOf (getD (b ∷ bs) 1 0) ≡ comma)
-    by-first (by-comma e) bs h m = let n = ap length (sym (fieldOf-comma b bs e) ∙ h) in absurd (omega arith)
-    by-first (by-lineEnd e) bs h m = let n = ap length (sym (fieldOf-lineEnd b bs e) ∙ h) in absurd (omega arith)
+    by-first (by-comma e) bs h m = let n = ap length (sym (fieldOf-end b bs (inl e)) ∙ h) in absurd (omega arith)
+    by-first (by-lineEnd e) bs h m = let n = ap length (sym (fieldOf-end b bs (inr e)) ∙ h) in absurd (omega arith)
     by-first (goes-on e l) [] h m = absurd (omega arith)
     by-first (goes-on e l) (c ∷ cs) h m =
         let k : b ∷ fieldOf (c ∷ cs) ≡ letter ∷ [] = sym (fieldOf-cons b (c ∷ cs) e l) ∙ h in

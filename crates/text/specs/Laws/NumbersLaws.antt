@@ -1,7 +1,8 @@
 -- The value of digits, byte by byte, and the number of a field, by the field's shape.
 -- Document 01, "The text": "Numbers have 1 to 5 digits and no leading zero, except `0` itself." Assumes nothing.
+use mathlib.Core.Bool.{Bool, true, false, cond}
 use mathlib.Core.List.{List, [], _∷_}
-use mathlib.Core.Option.{none, some}
+use mathlib.Core.Option.{Option, none, some}
 use mathlib.Core.Path.{_≡_, refl}
 use Prim.Native.Nat.{ℕ, _+_, _-_, _*_, _^_, _≤_, _<_}
 use native.Mathlib.Nat.{pow-suc}
@@ -30,6 +31,15 @@ digitsValue-cons v b bs h = rw (eq-eqb (kindOf b) digit h)
 pub digitsValue-bad : (v b : ℕ) (bs : List ℕ) → (kindOf b ≡ digit → ⊥) → digitsValue v (b ∷ bs) ≡ none
 unfolding digitsValue
 digitsValue-bad v b bs h = rw (ne-eqb (kindOf b) digit h)
+
+-- a byte that is no digit
+pub numberOf-bad : (f : List ℕ) → digitsValue 0 f ≡ none → numberOf f ≡ none
+unfolding numberOf
+numberOf-bad f h = rw h (either (numberShape? f))
+  where
+    either : (t : Bool) → _≡_ {A = Option ℕ} (cond t none none) none
+    either true = refl
+    either false = refl
 
 pub numberOf-nil : (f : List ℕ) → length f ≡ 0 → numberOf f ≡ none
 unfolding numberOf numberShape?

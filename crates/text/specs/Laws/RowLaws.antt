@@ -23,14 +23,16 @@ use Rattle.text.specs.Split.{split, indexOf, same?}
 use Rattle.text.specs.Numbers.{below, numberIn}
 use Rattle.text.specs.Lines.{Line, good, bad, checked, fieldsFrom, fieldsOf, consNumber, numbersOf}
 use Rattle.text.specs.Lines.{headBounds, stepBounds, rowLetter, rowCount, rowBounds, valueOr0, statesOf, rowFrom, rowOf}
-use Rattle.text.specs.Inner.NumberAt.{fieldOf, NumberRead}
+use Rattle.text.specs.Inner.NumberAt.{fieldOf}
+use Rattle.text.specs.Inner.PartAnswers.{Fields}
 use Rattle.text.specs.Inner.Row.{lineFields, fieldsAfter, LineAt, NoLineAt, RowBegins, separatorKind, prepend}
 use Rattle.text.specs.Inner.Row.{rowFields, RowTo, Caused, RowRefused}
 use Rattle.text.specs.Laws.ListLaws.{drop-next}
 use Rattle.text.specs.Laws.SplitLaws.{Is, same, other, is, indexOf-end, indexOf-cons}
 use Rattle.text.specs.Laws.FieldsLaws.{same?-byte, fields-good, fields-of-good}
 use Rattle.text.specs.Laws.LineFieldsLaws.{lineFields-field, lineEnd-field, fieldOf-follows, fieldsAfter-comma}
-use Rattle.text.specs.Laws.LineFieldsLaws.{fieldOf-comma, fieldOf-cons, letter-field}
+use Rattle.text.specs.Laws.LineFieldsLaws.{letter-field}
+use Rattle.text.specs.Laws.NumberAtLaws.{fieldOf-end, fieldOf-cons}
 use Rattle.text.specs.Laws.LineFieldsLaws.{fieldsAfter-lineEnd}
 
 -- ---- the kinds of rows
@@ -143,7 +145,7 @@ module _ (row : Row) (text : List ℕ) (at : ℕ) where
         let s = drop (at + 1) text in
         let x = getD text (at + 1) 0 in
         let second = drop-next text (at + 1) (omega arith) in
-        let none = ap fieldOf second ∙ fieldOf-comma x (drop (at + 1 + 1) text) (b .separated) in
+        let none = ap fieldOf second ∙ fieldOf-end x (drop (at + 1 + 1) text) (inl (b .separated)) in
         let one : fieldOf (drop at text) ≡ rowLetter row ∷ [] =
         ap fieldOf first ∙ fieldOf-cons (rowLetter row) s (λ z. omega (arith, c, z)) (λ z. omega (arith, c, z))
         ∙ ap (λ (f : List ℕ). rowLetter row ∷ f) none in
@@ -391,7 +393,13 @@ module _ (row : Row) (text : List ℕ) (at : ℕ) where
   pub row-other : ¬ (RowBegins (rowLetter row) text at) → Caused row text at Shape
   row-other no-begin = record { told = λ h fs g. absurd (no-begin (row-begins fs g)) }
 
-  module _ (fault : Fault) (e : ℕ) (found : e ≡ at + indexOf lineEnd (drop at text)) where
+  -- what the code tests is what the row has
+  pub fields-row : {letter n : ℕ} {l : List ℕ} {r : Bool} → letter ≡ rowLetter row → n ≡ rowCount row
+      → Fields letter n l r → Fields (rowLetter row) (rowCount row) l r
+  fields-row {letter} {n} {l} {r} e f h =
+      subst (λ (k : ℕ). Fields (rowLetter row) k l r) f (subst (λ (x : ℕ). Fields x n l r) e h)
+
+  module _ (e : ℕ) (found : e ≡ at + indexOf lineEnd (drop at text)) where
     pub refused-absent : length text ≤ e → RowRefused row text at Absent
     refused-absent l = (e, inl (record { found = found; outside = l; absent = refl }))
 
@@ -407,7 +415,7 @@ module _ (row : Row) (text : List ℕ) (at : ℕ) where
       unfolding rowOf rowFrom
       refused-shape h = refused-line (ap (rowFrom row) h)
 
-      pub refused-numbers : Caused row text at fault → (fs : List (List ℕ))
+      pub refused-numbers : {fault : Fault} → Caused row text at fault → (fs : List (List ℕ))
           → fieldsOf (rowLetter row) (rowCount row) (take (e - at) (drop at text)) ≡ good fs
           → RowRefused row text at fault
       unfolding rowOf rowFrom

@@ -1,12 +1,36 @@
 -- `row_fault` tests the faults that come before that of the numbers: no line end, then other fields.
-use mathlib.Core.Path.{sym, _∙_}
+use mathlib.Core.Path.{ap, _∙_}
+use Prim.Native.Nat.{_-_, _<_}
 use native.Mathlib.Omega.{arith}
-use Rattle.text.specs.Bytes.{lineEnd}
-use Rattle.text.specs.Laws.SplitLaws.{found-le}
-use Rattle.text.specs.Laws.RowLaws.{rowLetter-capital, rowCount-pos, refused-absent, refused-shape, refused-numbers}
+use lib.ListN.{length, take, drop}
 use borrow.Author.Needs.{needs}
+use borrow.Author.Tests.{not-true, not-false}
+use Rattle.text.specs.Bytes.{lineEnd, kindOf}
+use Rattle.text.specs.Lines.{rowLetter, rowCount}
+use Rattle.text.specs.Inner.PartAnswers.{Fields}
+use Rattle.text.specs.Laws.SplitLaws.{found-le}
+use Rattle.text.specs.Laws.RowLaws.{rowLetter-capital, rowCount-pos, fields-row}
+use Rattle.text.specs.Laws.RowLaws.{refused-absent, refused-shape, refused-numbers}
 use Rattle.text.proofs.row.row_fault.Statement.{statement}
 use Rattle.text.proofs.row.row_fault.Tie as tie
+
+-- the line has an end
+inside : (c : tie.After-fields) → let f = c .before .before .before .before in
+    f .find .result < length (f .before .before .args .text .now)
+inside c =
+    let f = c .before .before .before .before in
+    let n = found-le lineEnd _ _ _ (f .before .before .pre .0) (f .find .ensures) in
+    omega arith
+
+-- whether it has the row's fields
+tested : (c : tie.After-fields) → let f = c .before .before .before .before in
+    let a = f .before .before .args in
+    Fields (rowLetter (a .row)) (rowCount (a .row)) (take (f .find .result - a .at) (drop (a .at) (a .text .now)))
+    (c .fields .result)
+tested c =
+    let a = c .before .before .before .before .before .before in
+    fields-row (a .args .row) (a .args .text .now) (a .args .at) (c .before .letter-of .ensures) (a .pre .1)
+    (c .fields .ensures)
 
 find-requires : tie.Need-find-requires
 find-requires c κs = search needs
@@ -29,13 +53,22 @@ letter-of-requires : tie.Need-letter-of-requires
 letter-of-requires c κs = search needs
 
 fields-requires : tie.Need-fields-requires
-fields-requires c κs = ?fr
+fields-requires c κs =
+    let p = c .before .before .before .before .before .pre in
+    let row = c .before .before .before .before .before .args .row in
+    (ap kindOf (c .letter-of .ensures) ∙ rowLetter-capital row, omega (arith, p .1, rowCount-pos row))
 
 returns-2 : tie.Need-returns-2
-returns-2 c = ?r2
+returns-2 c =
+    let f = c .before .before .before .before .before in
+    refused-shape _ _ _ _ (f .find .ensures) (inside (c .before))
+    (tested (c .before) .no-fields (not-true _ (c .if2 .taken)))
 
 returns-3 : tie.Need-returns-3
-returns-3 c = ?r3
+returns-3 c =
+    let f = c .before .before .before .before .before in
+    refused-numbers _ _ _ _ (f .find .ensures) (inside (c .before)) (f .before .before .pre .2) _
+    (tested (c .before) .yes-fields (not-false _ (c .if2 .left)))
 
 pub row-fault-spec : {M : Type 1} → statement M
 row-fault-spec =

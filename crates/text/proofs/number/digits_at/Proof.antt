@@ -1,0 +1,132 @@
+-- `digits_at` takes up digit by digit: those passed stand from the place on, and the value of i digits is below 10 to
+-- the i.
+use mathlib.Core.Path.{_≡_, sym, _∙_}
+use Prim.Native.Nat.{_+_, _-_, _^_, _≤_, _<_}
+use native.Mathlib.Nat.{pow-le-pow-right}
+use native.Mathlib.Omega.{arith}
+use lib.Dec.{lit<}
+use lib.ListN.{length, getD}
+use borrow.Author.Needs.{needs}
+use Rattle.text.specs.Limits.{digitLimit}
+use Rattle.text.specs.Bytes.{digit, kindOf}
+use Rattle.text.specs.Inner.NumberAt.{DigitsTo}
+use Rattle.text.specs.Laws.BytesLaws.{digit-within}
+use Rattle.text.specs.Laws.NumbersLaws.{pow-next}
+use Rattle.text.specs.Laws.NumberAtLaws.{digits-none, digits-next}
+use Rattle.text.proofs.number.digits_at.Statement.{statement}
+use Rattle.text.proofs.number.digits_at.Tie as tie
+
+abbrev Inv-loop : tie.InvT-loop
+Inv-loop s at value₀ i₀ value i =
+    (at ≤ i) × (i ≤ at + digitLimit) × (i ≤ length s) × (value < 10 ^ (i - at)) × DigitsTo s at i value
+
+abbrev μ-loop : tie.MeasureT-loop
+μ-loop s at value₀ i₀ value i = length s - i
+
+-- the byte is a digit, and the value so far has four digits at most
+at-digit : (c : tie.Else2 Inv-loop μ-loop)
+    → let l = c .before .before .before .before .before in
+    let b = getD (l .before .before .args .s .now) (l .loop .i) 0 in
+    (kindOf b ≡ digit) × (48 ≤ b) × (b ≤ 57) × (l .loop .value < 10000)
+at-digit c =
+    let d = c .before in
+    let l = d .before .before .before .before in
+    let b = getD (l .before .before .args .s .now) (l .loop .i) 0 in
+    let k : kindOf b ≡ digit = sym (d .before .kind .ensures) ∙ d .if1 .left in
+    let r = digit-within b k in
+    let n : l .loop .i - l .before .before .args .at ≤ 4 = omega arith in
+    let p : 10 ^ (l .loop .i - l .before .before .args .at) ≤ 10 ^ 4 = pow-le-pow-right (lit< tt) n in
+    (k, r .0, r .1, omega arith)
+
+loop-holds : tie.Need-loop-holds Inv-loop μ-loop
+loop-holds c =
+    let a = c .before .args in
+    let z : a .at - a .at ≡ 0 = omega arith in
+    (omega arith, omega arith, omega arith, rw z (lit< tt), digits-none _ _)
+
+shared-slice-read-b : tie.Need-shared-slice-read-b Inv-loop μ-loop
+shared-slice-read-b c = search needs
+
+kind-requires : tie.Need-kind-requires Inv-loop μ-loop
+kind-requires c κs = search needs
+
+returns : tie.Need-returns Inv-loop μ-loop
+returns c =
+    let k = c .before in
+    let i = k .before .before .before .loop .inv in
+    record {
+      run = i .4;
+      short = i .1;
+      inside = i .2;
+      stopped = λ h z. absurd (c .if1 .taken (k .kind .ensures ∙ z));
+    }
+
+sub-if2 : tie.Need-sub-if2 Inv-loop μ-loop
+sub-if2 c = search needs
+
+returns-2 : tie.Need-returns-2 Inv-loop μ-loop
+returns-2 c =
+    let i = c .before .before .before .before .before .loop .inv in
+    record { run = i .4; short = i .1; inside = i .2; stopped = λ h z. omega arith }
+
+mul-value : tie.Need-mul-value Inv-loop μ-loop
+mul-value c = omega (arith, at-digit c)
+
+cast-value : tie.Need-cast-value Inv-loop μ-loop
+cast-value c = omega (arith, at-digit c)
+
+cast-value-2 : tie.Need-cast-value-2 Inv-loop μ-loop
+cast-value-2 c = search needs
+
+sub-value : tie.Need-sub-value Inv-loop μ-loop
+sub-value c = omega (arith, at-digit c)
+
+add-value : tie.Need-add-value Inv-loop μ-loop
+add-value c = omega (arith, at-digit c)
+
+add-i : tie.Need-add-i Inv-loop μ-loop
+add-i c = search needs
+
+loop-less : tie.Need-loop-less Inv-loop μ-loop
+loop-less c = search needs
+
+loop-again : tie.Need-loop-again Inv-loop μ-loop
+loop-again c =
+    let l = c .before .before .before .before .before in
+    let a = l .before .before .args in
+    let lt : l .loop .i < length (a .s .now) = omega arith in
+    let s = pow-next (l .loop .i - a .at) in
+    let e : l .loop .i + 1 - a .at ≡ l .loop .i - a .at + 1 = omega arith in (
+      omega arith,
+      omega arith,
+      omega arith,
+      rw e (omega (arith, at-digit c)),
+      digits-next _ _ _ _ (l .loop .inv .4) lt (at-digit c .0),
+    )
+
+returns-3 : tie.Need-returns-3 Inv-loop μ-loop
+returns-3 c =
+    let i = c .before .loop .inv in
+    record { run = i .4; short = i .1; inside = i .2; stopped = λ h z. absurd (omega arith) }
+
+pub digits-at-spec : {M : Type 1} → statement M
+digits-at-spec =
+    tie.close
+    (tie.spec
+    Inv-loop
+    μ-loop
+    loop-holds
+    shared-slice-read-b
+    kind-requires
+    returns
+    sub-if2
+    returns-2
+    mul-value
+    cast-value
+    cast-value-2
+    sub-value
+    add-value
+    add-i
+    loop-less
+    loop-again
+    returns-3)
