@@ -18,20 +18,22 @@ use Rattle.text.specs.declared.number.Number.{Number}
 use Rattle.text.specs.declared.number.Number.the-variants.{Value, BadDigits, Outside}
 use Rattle.text.specs.declared.row.Row.{Row}
 use Rattle.text.specs.declared.row.Row.the-variants.{HeadRow, StepRow}
+use Rattle.text.specs.declared.row.RowScan.{RowScan}
+use Rattle.text.specs.declared.row.RowScan.the-variants as row-scan
 use Rattle.text.specs.Bytes.{capital, comma, lineEnd, kindOf}
 use Rattle.text.specs.Split.{split, indexOf, same?}
 use Rattle.text.specs.Numbers.{below, numberIn}
 use Rattle.text.specs.Lines.{Line, good, bad, checked, fieldsFrom, fieldsOf, consNumber, numbersOf}
 use Rattle.text.specs.Lines.{headBounds, stepBounds, rowLetter, rowCount, rowBounds, valueOr0, statesOf, rowFrom, rowOf}
-use Rattle.text.specs.Inner.NumberAt.{fieldOf}
+use Rattle.text.specs.Inner.NumberAt.{fieldOf, NumberRead}
 use Rattle.text.specs.Inner.PartAnswers.{Fields}
 use Rattle.text.specs.Inner.Row.{lineFields, fieldsAfter, LineAt, NoLineAt, RowBegins, separatorKind, prepend}
-use Rattle.text.specs.Inner.Row.{rowFields, RowTo, Caused, RowRefused}
+use Rattle.text.specs.Inner.Row.{rowFields, RowTo, Caused, RowScanned, Past, RowRefused}
 use Rattle.text.specs.Laws.ListLaws.{drop-next}
 use Rattle.text.specs.Laws.SplitLaws.{Is, same, other, is, indexOf-end, indexOf-cons}
 use Rattle.text.specs.Laws.FieldsLaws.{same?-byte, fields-good, fields-of-good}
 use Rattle.text.specs.Laws.LineFieldsLaws.{lineFields-field, lineEnd-field, fieldOf-follows, fieldsAfter-comma}
-use Rattle.text.specs.Laws.LineFieldsLaws.{letter-field}
+use Rattle.text.specs.Laws.LineFieldsLaws.{fieldOf-length-le, letter-field}
 use Rattle.text.specs.Laws.NumberAtLaws.{fieldOf-end, fieldOf-cons}
 use Rattle.text.specs.Laws.LineFieldsLaws.{fieldsAfter-lineEnd}
 
@@ -73,6 +75,43 @@ separatorKind-last i n h = rw (eq-eqb i n h)
 pub separatorKind-other : (i n : ℕ) → (i ≡ n → ⊥) → separatorKind i n ≡ comma
 unfolding separatorKind
 separatorKind-other i n h = rw (ne-eqb i n h)
+
+pub rowCount-le : (row : Row) → rowCount row ≤ 4
+unfolding rowCount
+rowCount-le HeadRow = omega arith
+rowCount-le (StepRow h) = omega arith
+
+-- ---- what reading some numbers came to
+
+module _ (row : Row) (text : List ℕ) (at : ℕ) (out : List ℕ) (i : ℕ) (r : RowScan) (s : RowScanned row text at out i r)
+  where
+    pub scanned-to : {e : ℕ} {outside : Bool} → r ≡ row-scan.To e outside → RowTo row text at outside out i e
+    unfolding RowScanned
+    scanned-to h = subst (RowScanned row text at out i) h s
+
+    pub scanned-bad : {fault : Fault} → r ≡ row-scan.Bad fault → Caused row text at fault
+    unfolding RowScanned
+    scanned-bad h = subst (RowScanned row text at out i) h s
+
+    -- however many numbers are asked for
+    pub scanned-fault : {fault : Fault} (out′ : List ℕ) (j : ℕ) → r ≡ row-scan.Bad fault → RowScanned row text at out′ j r
+    unfolding RowScanned
+    scanned-fault out′ j h = subst (RowScanned row text at out′ j) (sym h) (scanned-bad h)
+
+-- a field with a number in or outside its bounds has no bad digits
+pub not-bad-value : {number : Number} {v : ℕ} → number ≡ Value v → number ≡ BadDigits → ⊥
+not-bad-value h e = let z : _≡_ {A = ℕ} 0 1 = cc in omega arith
+
+pub not-bad-outside : {number : Number} → number ≡ Outside → number ≡ BadDigits → ⊥
+not-bad-outside h e = let z : _≡_ {A = ℕ} 0 1 = cc in omega arith
+
+pub number-place-le : {b : Bounds} {s : List ℕ} {at e : ℕ} {number : Number} → NumberRead b s at number e → at ≤ length s
+    → (number ≡ BadDigits → ⊥) → e ≤ length s
+number-place-le {s = s} {at = at} n l h =
+    let p = n .place h in
+    let k = fieldOf-length-le (drop at s) in
+    let d = length-drop at s in
+    omega arith
 
 -- ---- numbers in front of others
 
@@ -367,6 +406,21 @@ module _ (row : Row) (text : List ℕ) (at : ℕ) where
         row-outside read =
             row-next Outside read ins follows true out refl (λ p. refl) (λ z. t .none z .1)
             (λ l. prepend-outside outside (take i out) (take (i + 1) out) l)
+
+      -- by what follows the number
+      module _ {e′ n : ℕ} (ended : e′ ≡ end) (numbered : n ≡ rowCount row) (outside′ : Bool) (out′ : List ℕ)
+          (step : end < length text → kindOf (getD text end 0) ≡ separatorKind (i + 1) (rowCount row)
+          → RowTo row text at outside′ out′ (i + 1) end) where
+        pub row-scanned : (r : RowScan) → Past text e′ (i + 1) n outside′ r → RowScanned row text at out′ (i + 1) r
+        unfolding Past RowScanned
+        row-scanned (row-scan.To e″ o) p =
+            let ins : end < length text = rw ended at (p .2) in
+            let follows : kindOf (getD text end 0) ≡ separatorKind (i + 1) (rowCount row) = rw (ended, numbered) at (p .3) in
+            rw (p .0, p .1, ended) (step ins follows)
+        row-scanned (row-scan.Bad fault) p =
+            let q : end < length text → kindOf (getD text end 0) ≡ separatorKind (i + 1) (rowCount row) → ⊥ =
+            rw (ended, numbered) at (p .1) in
+            rw (p .0) (row-shape q)
 
 -- ---- rows that are refused
 
