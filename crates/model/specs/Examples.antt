@@ -5,12 +5,12 @@ use Prim.Native.Nat.{ℕ}
 use Rattle.text.specs.declared.Fault.the-variants.{Absent}
 use Rattle.text.specs.declared.StepLine.{StepLine}
 use Rattle.text.specs.Bytes.{kindOf}
-use Rattle.text.specs.Numbers.{digitsValue, numberShape?, numberOf, digitsUpTo, digits}
+use Rattle.text.specs.Numbers.{digitsValue, numberShape?, numberOf, inBounds?, bounded, numberIn, digitsUpTo, digits}
 use Rattle.text.specs.Split.{consFirst, split, same?}
 use Rattle.text.specs.Model.{low, release, high, Model, above?, aboveLast?}
-use Rattle.text.specs.Lines.{checked, fieldsFrom, fieldsOf, consNumber, numbersOf, numbersFrom, numbersLine}
-use Rattle.text.specs.Lines.{headFits?, headFrom, headOf, levelOf, allOf, nameByte?, name?, nameFrom}
-use Rattle.text.specs.Lines.{actionFields, used?, actionFrom, actionOf, stepFits?, rising, stepFrom, stepOf}
+use Rattle.text.specs.Lines.{checked, fieldsFrom, fieldsOf, consNumber, numbersOf, headBounds, stepBounds, rowLetter}
+use Rattle.text.specs.Lines.{rowCount, rowBounds, valueOr0, statesOf, rowFrom, rowOf, headFrom, headOf, levelOf, allOf}
+use Rattle.text.specs.Lines.{nameByte?, name?, nameFrom, actionFields, used?, actionFrom, actionOf, stepFrom, stepOf}
 use Rattle.model.specs.Reading.{done, faulty, onLine, orFault, readNothing, readEnd, readSteps, readActions}
 use Rattle.model.specs.Reading.{readModel, readText}
 use Rattle.model.specs.Text.{headText, levelByte, actionText, stepText, actionsText, stepsText, modelText}
@@ -45,10 +45,10 @@ workedText =
     ∷ []
 
 reads : readText workedText ≡ done worked
-unfolding readText readModel readActions readSteps readEnd readNothing orFault onLine stepOf stepFrom rising stepFits?
-    actionOf actionFrom used? actionFields nameFrom name? nameByte? allOf levelOf headOf headFrom headFits?
-    numbersLine numbersFrom numbersOf consNumber fieldsOf fieldsFrom checked above? aboveLast? same? split consFirst
-    digitsValue numberShape? numberOf kindOf
+unfolding readText readModel readActions readSteps readEnd readNothing orFault onLine stepOf stepFrom actionOf
+    actionFrom used? actionFields nameFrom name? nameByte? allOf levelOf headOf headFrom rowOf rowFrom statesOf valueOr0
+    rowBounds rowCount rowLetter stepBounds headBounds numbersOf consNumber fieldsOf fieldsFrom checked above?
+    aboveLast? same? split consFirst numberIn bounded inBounds? numberOf numberShape? digitsValue kindOf
 reads = refl
 
 writes : modelText worked ≡ workedText

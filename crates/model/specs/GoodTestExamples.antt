@@ -6,9 +6,10 @@ use Prim.Native.Nat.{_-_}
 use lib.ListN.{set}
 use Rattle.text.specs.Limits.{storeLength, targetPlace}
 use Rattle.text.specs.Bytes.{kindOf}
+use Rattle.text.specs.Numbers.{inBounds?}
 use Rattle.text.specs.Split.{same?}
 use Rattle.text.specs.Model.{low, release, high, Model, above?, aboveLast?}
-use Rattle.text.specs.Lines.{headFits?, allOf, nameByte?, name?, used?, stepFits?}
+use Rattle.text.specs.Lines.{fits?, headBounds, stepBounds, headFits?, allOf, nameByte?, name?, used?, stepFits?}
 use Rattle.model.specs.Store.{padded, actionNumbers, actionsNumbers, stepsNumbers, headRow, storeOf}
 use Rattle.model.specs.StoredModel.{listed, modelAt}
 use Rattle.model.specs.GoodTest.{eachAfter?, actionFits?, stepRises?, wellFormed?, holds?, good?}
@@ -27,25 +28,25 @@ one-state = record {
 
 good : good? (storeOf one-state) ≡ true
 unfolding good? holds? wellFormed? eachAfter? actionFits? stepRises? modelAt listed storeOf padded actionNumbers
-    actionsNumbers stepsNumbers headRow stepFits? used? name? nameByte? allOf headFits? above? aboveLast? same?
-    kindOf one-state
+    actionsNumbers stepsNumbers headRow stepFits? used? name? nameByte? allOf headFits? fits? headBounds stepBounds
+    inBounds? above? aboveLast? same? kindOf one-state
 good = refl
 
 -- "Unused places are 0."
 unused-not-zero : good? (set (storeOf one-state) (storeLength - 1) 1) ≡ false
 unfolding good? holds? wellFormed? eachAfter? actionFits? stepRises? modelAt listed storeOf padded actionNumbers
-    actionsNumbers stepsNumbers headRow stepFits? used? name? nameByte? allOf headFits? above? aboveLast? same?
-    kindOf one-state
+    actionsNumbers stepsNumbers headRow stepFits? used? name? nameByte? allOf headFits? fits? headBounds stepBounds
+    inBounds? above? aboveLast? same? kindOf one-state
 unused-not-zero = refl
 
 -- a target that is no state
 target-out-of-range : good? (set (storeOf one-state) (targetPlace 0) 1) ≡ false
 unfolding good? holds? wellFormed? eachAfter? actionFits? stepRises? modelAt listed storeOf padded actionNumbers
-    actionsNumbers stepsNumbers headRow stepFits? used? name? nameByte? allOf headFits? above? aboveLast? same?
-    kindOf one-state
+    actionsNumbers stepsNumbers headRow stepFits? used? name? nameByte? allOf headFits? fits? headBounds stepBounds
+    inBounds? above? aboveLast? same? kindOf one-state
 target-out-of-range = refl
 
 -- counts as large as 16 bits allow are refused before a model of that size is read off
 counts-too-large : good? (65535 ∷ 65535 ∷ 65535 ∷ 0 ∷ []) ≡ false
-unfolding good? headFits?
+unfolding good? headFits? fits? headBounds inBounds?
 counts-too-large = refl

@@ -17,9 +17,9 @@ use text::limits::HIGH;
 use text::limits::NAME_LENGTH_COLUMN;
 use text::limits::NAME_LIMIT;
 use text::limits::STEPS_END;
-use text::line::head_fits;
 use text::line::is_above;
-use text::line::step_fits;
+use text::row::head_fits;
+use text::row::step_fits;
 ghost use Prim.Native.Nat.{_+_, _≤_, _<_};
 ghost use lib.Dec.{T};
 ghost use lib.ListN.{length};
@@ -169,7 +169,7 @@ fn step_good(store: &[u16], h: Head, j: Step) -> bool
     ensures { λ r. ⌜ Decides r (GoodStep h (now (store .entry)) (j .0)) ⌝ }
 {
     let s = step_line(store, j);
-    if !step_fits(h, s.source.0 as u32, s.action.0 as u32, s.target.0 as u32) {
+    if !step_fits(h, s) {
         return false;
     }
     if j.0 == 0 {
@@ -203,12 +203,7 @@ fn places_good(store: &[u16]) -> bool
     ensures { λ r. ⌜ Decides r (GoodPlaces (now (store .entry))) ⌝ }
 {
     let h = head(store);
-    if !head_fits(
-        h.states as u32,
-        h.actions as u32,
-        h.steps as u32,
-        h.start.0 as u32,
-    ) {
+    if !head_fits(h) {
         return false;
     }
     if !actions_good(store, h.actions) {

@@ -4,6 +4,7 @@
 -- to page"; DEMANDS, 3. Assumes nothing.
 use mathlib.Core.List.{List, [], _∷_, _++_, map}
 use mathlib.Core.Logic.{_⊎_, _↔_}
+use mathlib.Core.Option.{some}
 use mathlib.Core.Path.{_≡_}
 use Prim.Native.Nat.{ℕ, _+_, _<_}
 use lib.ListN.{length, getD, take}
@@ -13,7 +14,6 @@ use Rattle.text.specs.Faults.{Outcome, answers}
 use Rattle.text.specs.Model.{Model}
 use Rattle.text.specs.Numbers.{numberOf}
 use Rattle.text.specs.Split.{split}
-use Rattle.text.specs.declared.number.Number.the-variants.{Value}
 use Rattle.model.specs.System.{source, HighStep, DeterministicModel, IsState, view}
 use Rattle.model.specs.Text.{field}
 use Rattle.ranking.specs.Table.{Greatest}
@@ -42,15 +42,15 @@ pub record PassFields (bytes : List ℕ) (rank : ℕ) : Type 0 where
   pub count : length (lineFields bytes 0) ≡ 3
   pub letter : getD (lineFields bytes 0) 0 [] ≡ byteV ∷ []
   pub verdict : getD (lineFields bytes 0) 1 [] ≡ passText
-  pub rank-field : numberOf (getD (lineFields bytes 0) 2 []) ≡ Value rank
+  pub rank-field : numberOf (getD (lineFields bytes 0) 2 []) ≡ some rank
 
 -- The first line is `V,refuse,step,depth`.
 pub record RefuseFields (bytes : List ℕ) (step depth : ℕ) : Type 0 where
   pub count : length (lineFields bytes 0) ≡ 4
   pub letter : getD (lineFields bytes 0) 0 [] ≡ byteV ∷ []
   pub verdict : getD (lineFields bytes 0) 1 [] ≡ refuseText
-  pub step-field : numberOf (getD (lineFields bytes 0) 2 []) ≡ Value step
-  pub depth-field : numberOf (getD (lineFields bytes 0) 3 []) ≡ Value depth
+  pub step-field : numberOf (getD (lineFields bytes 0) 2 []) ≡ some step
+  pub depth-field : numberOf (getD (lineFields bytes 0) 3 []) ≡ some depth
 
 -- What the page of a passed model tells: the greatest rank.
 pub record PassPage (m : Model) (bytes : List ℕ) : Type 0 where
@@ -71,7 +71,7 @@ pub record LeakPage (m : Model) (bytes word : List ℕ) : Type 0 where
   pub run : List ℕ
   pub run-to : RunTo m (source m step) run
   pub run-fields : (i : ℕ) → i < length run
-      → numberOf (getD (lineFields bytes (1 + length states + i)) 1 []) ≡ Value (getD run i 0)
+      → numberOf (getD (lineFields bytes (1 + length states + i)) 1 []) ≡ some (getD run i 0)
   -- "a low sequence is shown", with all that demand 3 says of it; by `depth-is` the depth is the number of `W` lines
   pub sequence : List ℕ
   pub end : End

@@ -2,7 +2,7 @@
 -- Document 01, "Demand 3 is one claim [..]"; DEMANDS, 3. Assumes nothing.
 use mathlib.Core.List.{List, [], _∷_, _++_, map}
 use mathlib.Core.Logic.{inl, inr}
-use mathlib.Core.Option.{none}
+use mathlib.Core.Option.{none, some}
 use mathlib.Core.Path.{_≡_, refl, sym, ap, subst, _∙_}
 use Prim.Native.Nat.{ℕ, _+_, _<_}
 use native.Mathlib.Omega.{arith}
@@ -14,7 +14,6 @@ use Rattle.text.specs.Laws.OutcomeLaws.{answers-not-refuses}
 use Rattle.text.specs.Model.{Model}
 use Rattle.text.specs.Numbers.{numberOf}
 use Rattle.text.specs.Split.{split}
-use Rattle.text.specs.declared.number.Number.the-variants.{Value}
 use Rattle.read_write.specs.ReadPromise.{readingOutcome}
 use Rattle.model.specs.Reading.{Reading, done, tooLong, faulty, readText}
 use Rattle.model.specs.System.{DeterministicModel}
@@ -158,9 +157,9 @@ module _ {s : List ℕ} {m : Model} (st : Stored s m) (det : DeterministicModel 
 
 -- the `R` lines, counted by the states: there are as many `C` lines
 pub run-fields-states : {m : Model} {bytes word : List ℕ} (x : LeakPage m bytes word) (i : ℕ) → i < length (x .run)
-    → numberOf (getD (lineFields bytes (1 + m .head .states + i)) 1 []) ≡ Value (getD (x .run) i 0)
+    → numberOf (getD (lineFields bytes (1 + m .head .states + i)) 1 []) ≡ some (getD (x .run) i 0)
 run-fields-states {bytes = bytes} x i l =
-    subst (λ (n : ℕ). numberOf (getD (lineFields bytes (1 + n + i)) 1 []) ≡ Value (getD (x .run) i 0))
+    subst (λ (n : ℕ). numberOf (getD (lineFields bytes (1 + n + i)) 1 []) ≡ some (getD (x .run) i 0))
     (stateLines-length (x .state-lines)) (x .run-fields i l)
 
 -- ---- the bytes of a page

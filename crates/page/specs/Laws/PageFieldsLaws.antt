@@ -1,6 +1,7 @@
 -- A `V` line and the `R` lines give back their numbers: parted at the commas, each field of digits reads as its number.
 -- Document 01, "The page". Assumes nothing.
 use mathlib.Core.List.{List, [], _∷_, _++_, map}
+use mathlib.Core.Option.{some}
 use mathlib.Core.Path.{_≡_, refl, ap, _∙_}
 use Prim.Native.Nat.{ℕ, zero, suc, _+_, _<_}
 use native.Mathlib.Omega.{arith}
@@ -10,7 +11,6 @@ use Rattle.text.specs.All.{All}
 use Rattle.text.specs.Bytes.{byteComma, byteV, byteR, digit, comma, lineEnd, kindOf}
 use Rattle.text.specs.Numbers.{numberOf, digits}
 use Rattle.text.specs.Split.{split}
-use Rattle.text.specs.declared.number.Number.the-variants.{Value}
 use Rattle.text.specs.Join.{join, Without}
 use Rattle.text.specs.Laws.DigitsLaws.{numberOf-digits}
 use Rattle.text.specs.Laws.JoinLaws.{split-join, without?, without-test}
@@ -38,7 +38,7 @@ refused-fields j depth =
     split-join comma byteComma refl ((byteV ∷ []) ∷ refuseText ∷ digits j ∷ digits depth ∷ []) (omega arith)
     (without-test comma (byteV ∷ []) tt, (without-test comma refuseText tt, no-commas (j ∷ depth ∷ [])))
 
-run-line-number : (j : ℕ) → j < 100000 → numberOf (getD (split comma (lineText (run-line j))) 1 []) ≡ Value j
+run-line-number : (j : ℕ) → j < 100000 → numberOf (getD (split comma (lineText (run-line j))) 1 []) ≡ some j
 unfolding lineText join without? kindOf
 run-line-number j l =
     let e = split-join comma byteComma refl ((byteR ∷ []) ∷ digits j ∷ []) (omega arith)
@@ -50,7 +50,7 @@ run-number : (head : List PageLine) (run : List ℕ) (rest after : List PageLine
     → All (λ j. j < 100000) run → i < length run → k ≡ length head + i
     → numberOf
     (getD (split comma (getD (map lineText (head ++ (map run-line run ++ rest) ++ after) ++ more) k [])) 1 [])
-    ≡ Value (getD run i 0)
+    ≡ some (getD run i 0)
 run-number (x ∷ head) run rest after more i zero small l e = absurd (omega arith)
 run-number (x ∷ head) run rest after more i (suc k) small l e =
     run-number head run rest after more i k small l (omega arith)
@@ -96,7 +96,7 @@ module _ (bytes : List ℕ) {lines : List PageLine} (parted : split lineEnd byte
 
   pub run-fields : (head : List PageLine) (run : List ℕ) (rest after : List PageLine) {n : ℕ}
       → lines ≡ head ++ (map run-line run ++ rest) ++ after → length head ≡ n → All (λ j. j < 100000) run → (i : ℕ)
-      → i < length run → numberOf (getD (lineFields bytes (n + i)) 1 []) ≡ Value (getD run i 0)
+      → i < length run → numberOf (getD (lineFields bytes (n + i)) 1 []) ≡ some (getD run i 0)
   run-fields head run rest after {n} e len small i l =
       ap (λ (fields : List (List ℕ)). numberOf (getD fields 1 []))
       (line-fields (head ++ (map run-line run ++ rest) ++ after) (n + i) e)

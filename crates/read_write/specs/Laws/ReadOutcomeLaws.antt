@@ -23,9 +23,9 @@ short-read read.TooLong k e = let z : _≡_ {A = ℕ} 1 21 = cc in absurd (omega
 short-read (read.Faulty fault line) k e = absurd (not-short fault e)
   where
     not-short : (f : Fault) → ¬ (refuses (faultNumber f) line ≡ refuses 21 k)
-    not-short Absent h = let z : _≡_ {A = ℕ} 2 21 = cc in absurd (omega arith)
+    not-short Absent h = let z : _≡_ {A = ℕ} 32 21 = cc in absurd (omega arith)
     not-short Shape h = let z : _≡_ {A = ℕ} 2 21 = cc in absurd (omega arith)
-    not-short Digits h = let z : _≡_ {A = ℕ} 2 21 = cc in absurd (omega arith)
+    not-short Digits h = let z : _≡_ {A = ℕ} 31 21 = cc in absurd (omega arith)
     not-short Range h = let z : _≡_ {A = ℕ} 3 21 = cc in absurd (omega arith)
     not-short Repeated h = let z : _≡_ {A = ℕ} 4 21 = cc in absurd (omega arith)
     not-short Order h = let z : _≡_ {A = ℕ} 5 21 = cc in absurd (omega arith)

@@ -3,28 +3,27 @@
 -- Document 01, "The text" and "Refused because of the input". Assumes nothing.
 use mathlib.Core.Bool.{true, false}
 use mathlib.Core.List.{List, [], _∷_, _++_}
-use mathlib.Core.Path.{_≡_, refl, subst, _∙_}
+use mathlib.Core.Path.{_≡_, refl, _∙_}
 use Prim.Native.Nat.{ℕ, suc, _+_, _-_, _≤_, _<_}
 use native.Mathlib.Omega.{arith}
-use lib.Dec.{T}
 use lib.ListN.{length, take, drop, getD, length-append}
 use lib.Seq.{sets}
 use Rattle.text.specs.declared.Fault.{Fault}
-use Rattle.text.specs.declared.Fault.the-variants.{Absent, Repeated, Range}
+use Rattle.text.specs.declared.Fault.the-variants.{Absent, Repeated}
 use Rattle.text.specs.declared.Head.{Head}
 use Rattle.reader.specs.declared.answers.LineStart.{LineStart}
 use Rattle.reader.specs.declared.answers.LinesRead.{LinesRead}
 use Rattle.reader.specs.declared.answers.LinesRead.the-variants.{Next, Faulty}
 use Rattle.text.specs.Limits.{nameLimit, storeLength, actionPlace}
-use Rattle.text.specs.Bytes.{byteM, byteA, lineEnd}
+use Rattle.text.specs.Bytes.{byteA, lineEnd}
 use Rattle.text.specs.Split.{split, indexOf}
 use Rattle.text.specs.Laws.SplitLaws.{split-first, split-part, split-last}
 use Rattle.text.specs.Model.{ActionLine, Model}
-use Rattle.text.specs.Lines.{Line, good, bad, headFits?, headFrom, headOf, headNumbers, numbersLine, levelOf}
+use Rattle.text.specs.Lines.{Line, good, bad, headOf, levelOf}
 use Rattle.text.specs.Lines.{actionFields, fieldsOf, used?, actionFrom, actionOf}
 use Rattle.text.specs.Laws.RangesLaws.{headFits?→HeadRanges}
-use Rattle.model.specs.Laws.Text.JoinedFieldsLaws.{good-checked}
 use Rattle.model.specs.Laws.Text.ActionLineLaws.{good-nameFrom, name-length}
+use Rattle.model.specs.Laws.Text.LineTextLaws.{line-of-headOf}
 use Rattle.model.specs.Reading.{Reading, faulty, onLine, orFault, readActions, headModel}
 use Rattle.model.specs.Store.{storeOf}
 use Rattle.reader.specs.Inner.ReadSoFar.{whole, InLimits, InText, AfterHead, AfterActions, Further}
@@ -77,20 +76,10 @@ further-next P text r start e h = rw e at h
 
 -- ---- what a good line keeps
 
-headFits?-limits : (h : Head) → T (headFits? h) → InLimits h
-headFits?-limits h t =
-    let r = headFits?→HeadRanges h t in record { states = r .states; actions = r .actions; steps = r .steps }
-
-headFrom-limits : (l : Line (List ℕ)) (h : Head) → headFrom l ≡ good h → InLimits h
-unfolding headFrom
-headFrom-limits (good ns) h e =
-    let c = good-checked Range (headFits? (headNumbers ns)) (headNumbers ns) h e in
-    headFits?-limits h (subst (λ (x : Head). T (headFits? x)) (c .1) (c .0))
-headFrom-limits (bad fault) h e = let z : _≡_ {A = ℕ} 0 1 = cc in absurd (omega arith)
-
 pub headOf-limits : (line : List ℕ) (h : Head) → headOf line ≡ good h → InLimits h
-unfolding headOf
-headOf-limits line h e = headFrom-limits (numbersLine byteM 4 line) h e
+headOf-limits line h e =
+    let r = headFits?→HeadRanges h (line-of-headOf line h e .1) in
+    record { states = r .states; actions = r .actions; steps = r .steps }
 
 -- a name that was read has 1 to 12 bytes
 pub actionFields-length : (l : Line (List (List ℕ))) (a : ActionLine) → actionFields l ≡ good a

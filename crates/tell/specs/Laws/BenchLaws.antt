@@ -18,12 +18,12 @@ use Rattle.lts.specs.Checked.{lowMove?}
 use Rattle.lts.specs.CheckedLaws.{decided-low}
 use Rattle.text.specs.Limits.{storeLength}
 use Rattle.text.specs.Bytes.{kindOf}
-use Rattle.text.specs.Numbers.{digitsValue, numberShape?, numberOf}
+use Rattle.text.specs.Numbers.{digitsValue, numberShape?, numberOf, inBounds?, bounded, numberIn}
 use Rattle.text.specs.Split.{consFirst, split, same?}
 use Rattle.text.specs.Model.{Model, above?, aboveLast?}
-use Rattle.text.specs.Lines.{checked, fieldsFrom, fieldsOf, consNumber, numbersOf, numbersFrom, numbersLine}
-use Rattle.text.specs.Lines.{headFits?, headFrom, headOf, levelOf, allOf, nameByte?, name?, nameFrom, actionFields}
-use Rattle.text.specs.Lines.{used?, actionFrom, actionOf, stepFits?, rising, stepFrom, stepOf}
+use Rattle.text.specs.Lines.{checked, fieldsFrom, fieldsOf, consNumber, numbersOf, headBounds, stepBounds, rowLetter}
+use Rattle.text.specs.Lines.{rowCount, rowBounds, valueOr0, statesOf, rowFrom, rowOf, headFrom, headOf, levelOf, allOf}
+use Rattle.text.specs.Lines.{nameByte?, name?, nameFrom, actionFields, used?, actionFrom, actionOf, stepFrom, stepOf}
 use Rattle.model.specs.Reading.{done, onLine, orFault, readNothing, readEnd, readSteps, readActions}
 use Rattle.model.specs.Reading.{readModel, readText}
 use Rattle.model.specs.Laws.Text.ReadingLaws.{readText-well-formed}
@@ -65,10 +65,10 @@ record Read : Type 0 where
   unreached-print : readText unreachedPrintText ≡ done unreachedPrint
 
 read : Read
-unfolding readText readModel readActions readSteps readEnd readNothing orFault onLine stepOf stepFrom rising stepFits?
-    actionOf actionFrom used? actionFields nameFrom name? nameByte? allOf levelOf headOf headFrom headFits? numbersLine
-    numbersFrom numbersOf consNumber fieldsOf fieldsFrom checked above? aboveLast? same? split consFirst digitsValue
-    numberShape? numberOf kindOf
+unfolding readText readModel readActions readSteps readEnd readNothing orFault onLine stepOf stepFrom actionOf
+    actionFrom used? actionFields nameFrom name? nameByte? allOf levelOf headOf headFrom rowOf rowFrom statesOf valueOr0
+    rowBounds rowCount rowLetter stepBounds headBounds numbersOf consNumber fieldsOf fieldsFrom checked above?
+    aboveLast? same? split consFirst numberIn bounded inBounds? numberOf numberShape? digitsValue kindOf
 read = record {
   worked = refl;
   scanned-once = refl;

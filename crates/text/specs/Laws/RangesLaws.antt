@@ -1,11 +1,13 @@
 -- The tests of bounds decide them.
 -- Document 01, "The text". Assumes nothing.
-use mathlib.Core.Bool.{Bool, true, _&&_}
+use mathlib.Core.Bool.{Bool, true, false, not}
 use mathlib.Core.List.{List, [], _∷_}
+use mathlib.Core.Path.{_≡_, refl, sym, _∙_}
 use Prim.Native.Nat.{ℕ, suc, _≤_, _<_}
 use native.Mathlib.Omega.{arith}
 use lib.Dec.{T, leb, ltb, leb→le, le→leb, ltb→lt, lt→ltb}
-use Rattle.lts.specs.TestsLaws.{and-left, and-right, and-intro}
+use borrow.Author.Tests.{not-true, not-false}
+use Rattle.lts.specs.TestsLaws.{T→true, and-left, and-right, and-intro}
 use Rattle.text.specs.declared.Head.{Head}
 use Rattle.text.specs.declared.StepLine.{StepLine}
 use Rattle.text.specs.declared.number.Bounds.{Bounds}
@@ -19,9 +21,10 @@ use Rattle.text.specs.Inner.Ranges.{HeadRanges, StepRanges}
 module _ (b : Bounds) (n : ℕ) where
   pub inBounds?→lt : T (inBounds? b n) → (b .least ≤ n) × (n < b .limit)
   unfolding inBounds?
-  inBounds?→lt t =
-      (leb→le (b .least) n (and-left (leb (b .least) n) (ltb n (b .limit)) t),
-      ltb→lt n (b .limit) (and-right (leb (b .least) n) (ltb n (b .limit)) t))
+  inBounds?→lt t = (
+    leb→le (b .least) n (and-left (leb (b .least) n) (ltb n (b .limit)) t),
+    ltb→lt n (b .limit) (and-right (leb (b .least) n) (ltb n (b .limit)) t),
+  )
 
   pub lt→inBounds? : b .least ≤ n → n < b .limit → T (inBounds? b n)
   unfolding inBounds?
@@ -42,6 +45,31 @@ module _ (b : Bounds) (bs : List Bounds) (n : ℕ) (ns : List ℕ) where
   pub fits-cons : b .least ≤ n → n < b .limit → T (fits? bs ns) → T (fits? (b ∷ bs) (n ∷ ns))
   unfolding fits?
   fits-cons l h t = and-intro (inBounds? b n) (fits? bs ns) (lt→inBounds? b n l h) t
+
+pub fits-nil : T (fits? [] [])
+unfolding fits?
+fits-nil = tt
+
+-- the first number is tested, within bounds that are given as c
+module _ (bs : List Bounds) (n : ℕ) (ns : List ℕ) {b c : Bounds} {t : Bool} (e : c ≡ b) (f : t ≡ inBounds? c n) where
+  first-test : inBounds? b n ≡ t
+  first-test = rw (← e) (sym f)
+
+  pub fits-refused : not t ≡ true → fits? (b ∷ bs) (n ∷ ns) ≡ false
+  unfolding fits?
+  fits-refused h = rw (first-test ∙ not-true t h)
+
+  pub fits-passed : not t ≡ false → fits? (b ∷ bs) (n ∷ ns) ≡ fits? bs ns
+  unfolding fits?
+  fits-passed h = rw (first-test ∙ not-false t h)
+
+-- the last number is tested
+pub fits-last : (n : ℕ) {b c : Bounds} {t : Bool} → c ≡ b → t ≡ inBounds? c n → fits? (b ∷ []) (n ∷ []) ≡ t
+fits-last n {b} {c} {t} e f = by-test t f
+  where
+    by-test : (u : Bool) → u ≡ inBounds? c n → fits? (b ∷ []) (n ∷ []) ≡ u
+    by-test true h = fits-passed [] n [] e h refl ∙ T→true (fits? [] []) fits-nil
+    by-test false h = fits-refused [] n [] e h refl
 
 -- ---- line 1 and a step
 
@@ -68,7 +96,7 @@ module _ (h : Head) where
       }
 
   pub HeadRanges→headFits? : HeadRanges h → T (headFits? h)
-  unfolding headFits? headBounds fits?
+  unfolding headFits? headBounds
   HeadRanges→headFits? r =
       let states : h .states < suc stateLimit = omega (arith, r .states) in
       let actions : h .actions < suc actionLimit = omega (arith, r .actions) in
@@ -76,7 +104,7 @@ module _ (h : Head) where
       fits-cons _ _ _ _ (r .states-pos) states
       (fits-cons _ _ _ _ (r .actions-pos) actions
       (fits-cons _ _ _ _ (zero-le (h .steps)) steps
-      (fits-cons _ _ _ _ (zero-le (h .start .0)) (r .start) tt)))
+      (fits-cons _ _ _ _ (zero-le (h .start .0)) (r .start) fits-nil)))
 
   module _ (s : StepLine) where
     pub stepFits?→StepRanges : T (stepFits? h s) → StepRanges h s
@@ -90,8 +118,8 @@ module _ (h : Head) where
         }
 
     pub StepRanges→stepFits? : StepRanges h s → T (stepFits? h s)
-    unfolding stepFits? stepBounds fits?
+    unfolding stepFits? stepBounds
     StepRanges→stepFits? r =
         fits-cons _ _ _ _ (zero-le (s .source .0)) (r .source)
         (fits-cons _ _ _ _ (zero-le (s .action .0)) (r .action)
-        (fits-cons _ _ _ _ (zero-le (s .target .0)) (r .target) tt))
+        (fits-cons _ _ _ _ (zero-le (s .target .0)) (r .target) fits-nil))

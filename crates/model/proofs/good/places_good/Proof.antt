@@ -17,25 +17,13 @@ head-ranges {h} r e n = headFits?→HeadRanges h (decides-passed r _ (decides-te
 head-requires : tie.Need-head-requires
 head-requires c κs = search needs
 
-cast-head-fits : tie.Need-cast-head-fits
-cast-head-fits c = search needs
-
-cast-head-fits-2 : tie.Need-cast-head-fits-2
-cast-head-fits-2 c = search needs
-
-cast-head-fits-3 : tie.Need-cast-head-fits-3
-cast-head-fits-3 c = search needs
-
-cast-head-fits-4 : tie.Need-cast-head-fits-4
-cast-head-fits-4 c = search needs
-
 head-fits-requires : tie.Need-head-fits-requires
 head-fits-requires c κs = search needs
 
 returns : tie.Need-returns
 returns c =
     let f = c .before .head-fits in
-    let e = c .before .before .before .before .before .before .head .ensures in
+    let e = c .before .before .head .ensures in
     λ p. decides-refused (f .result) _ (decides-test (f .result) _ (f .ensures)) (c .if1 .taken) (rw e (p .head))
 
 actions-good-requires : tie.Need-actions-good-requires
@@ -48,7 +36,7 @@ returns-2 : tie.Need-returns-2
 returns-2 c =
     let f = c .before .actions-good in
     let passed = c .before .before in
-    let n = ap (λ (x : Head). x .actions) (passed .before .before .before .before .before .before .head .ensures) in
+    let n = ap (λ (x : Head). x .actions) (passed .before .before .head .ensures) in
     λ p. decides-refused (f .result) _ (f .ensures) (c .if2 .taken) (rw n (p .actions))
 
 steps-good-requires : tie.Need-steps-good-requires
@@ -61,7 +49,7 @@ steps-good-requires c κs =
 returns-3 : tie.Need-returns-3
 returns-3 c =
     let f = c .before .steps-good in
-    let e = c .before .before .before .before .before .before .before .before .before .before .head .ensures in
+    let e = c .before .before .before .before .before .before .head .ensures in
     λ p. decides-refused (f .result) _ (f .ensures) (c .if3 .taken) (rw e (p .steps))
 
 action-place-requires : tie.Need-action-place-requires
@@ -74,7 +62,7 @@ returns-4 : tie.Need-returns-4
 returns-4 c =
     let f = c .before .zeros in
     let passed = c .before .before .before .before .before .before .before in
-    let e = passed .before .before .before .before .before .before .head .ensures in
+    let e = passed .before .before .head .ensures in
     let n = ap (λ (x : Head). x .actions) e in
     let a = c .before .before .action-place .ensures in
     λ p.
@@ -93,7 +81,7 @@ returns-5 c =
     let steps-passed = unused-passed .before .before .before in
     let actions-passed = steps-passed .before .before in
     let head-passed = actions-passed .before .before in
-    let e = head-passed .before .before .before .before .before .before .head .ensures in
+    let e = head-passed .before .before .head .ensures in
     let n = ap (λ (x : Head). x .actions) e in
     let m = ap (λ (x : Head). x .steps) e in
     let a = unused-passed .before .before .action-place .ensures in
@@ -121,10 +109,6 @@ places-good-spec =
     tie.close
     (tie.spec
     head-requires
-    cast-head-fits
-    cast-head-fits-2
-    cast-head-fits-3
-    cast-head-fits-4
     head-fits-requires
     returns
     actions-good-requires

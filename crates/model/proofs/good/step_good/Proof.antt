@@ -23,36 +23,27 @@ above-at d e f = cc
 step-line-requires : tie.Need-step-line-requires
 step-line-requires c κs = search needs
 
-cast-step-fits : tie.Need-cast-step-fits
-cast-step-fits c = search needs
-
-cast-step-fits-2 : tie.Need-cast-step-fits-2
-cast-step-fits-2 c = search needs
-
-cast-step-fits-3 : tie.Need-cast-step-fits-3
-cast-step-fits-3 c = search needs
-
 step-fits-requires : tie.Need-step-fits-requires
 step-fits-requires c κs = search needs
 
 returns : tie.Need-returns
 returns c =
     let f = c .before .step-fits in
-    let d = fits-at _ (f .result) (c .before .before .before .before .before .step-line .ensures) (f .ensures) in
+    let d = fits-at _ (f .result) (c .before .before .step-line .ensures) (f .ensures) in
     λ p. decides-refused (f .result) _ d (c .if1 .taken) (p .in-range)
 
 returns-2 : tie.Need-returns-2
 returns-2 c =
     let fits = c .before .before .before in
     let f = fits .step-fits in
-    let d = fits-at _ (f .result) (fits .before .before .before .before .step-line .ensures) (f .ensures) in
+    let d = fits-at _ (f .result) (fits .before .step-line .ensures) (f .ensures) in
     record {
       in-range = decides-passed (f .result) _ d (c .before .before .if1 .left);
       rising = λ h. let e = c .if2 .taken in absurd (omega arith);
     }
 
-sub-t12 : tie.Need-sub-t12
-sub-t12 c = search needs
+sub-t9 : tie.Need-sub-t9
+sub-t9 c = search needs
 
 step-line-requires-2 : tie.Need-step-line-requires-2
 step-line-requires-2 c κs = search needs
@@ -64,7 +55,7 @@ returns-3 : tie.Need-returns-3
 returns-3 c =
     let passed = c .before .before .before .before .before .before in
     let f = passed .before .step-fits in
-    let s = passed .before .before .before .before .before .step-line .ensures in
+    let s = passed .before .before .step-line .ensures in
     let d = fits-at _ (f .result) s (f .ensures) in
     let a = above-at (c .before .before .step-line2 .ensures) s (c .before .is-above .ensures) in
     record {
@@ -75,7 +66,7 @@ returns-3 c =
 returns-4 : tie.Need-returns-4
 returns-4 c =
     let fits = c .before .before .before .before .before .before .before in
-    let s = fits .before .before .before .before .step-line .ensures in
+    let s = fits .before .step-line .ensures in
     let a = above-at (c .before .before .step-line2 .ensures) s (c .before .is-above .ensures) in
     λ p. not-T-of-false _ (sym a ∙ c .if3 .left) (p .rising (omega arith))
 
@@ -84,13 +75,10 @@ step-good-spec =
     tie.close
     (tie.spec
     step-line-requires
-    cast-step-fits
-    cast-step-fits-2
-    cast-step-fits-3
     step-fits-requires
     returns
     returns-2
-    sub-t12
+    sub-t9
     step-line-requires-2
     is-above-requires
     returns-3

@@ -13,7 +13,7 @@ use Rattle.lts.specs.TestsLaws.{and-left, and-right, and-intro, or-left, or-rig
 use Rattle.text.specs.declared.Head.{Head}
 use Rattle.text.specs.declared.StepLine.{StepLine}
 use Rattle.text.specs.Model.{Model, above?, aboveLast?}
-use Rattle.text.specs.Lines.{stepFits?}
+use Rattle.text.specs.Lines.{stepBounds, stepFits?}
 use Rattle.model.specs.Above.{Above, withoutStep}
 use Rattle.text.specs.Laws.RangesLaws.{headFits?→HeadRanges, HeadRanges→headFits?}
 use Rattle.model.specs.WellFormed.{EachAfter, StepFits, WellFormed}
@@ -146,7 +146,7 @@ steps-without h before s after e =
     without r ws t f = record { in-range = f .in-range; rising = aboveLast?-without before s ws t r (f .rising) }
 
 pub withoutStep-wellFormed : (m : Model) (j : ℕ) → WellFormed m → j < m .head .steps → WellFormed (withoutStep m j)
-unfolding stepFits?
+unfolding stepFits? stepBounds
 withoutStep-wellFormed m j w l =
     let r = headFits?→HeadRanges (m .head) (w .head) in
     let h = withoutStep m j .head in
