@@ -20,3 +20,4 @@ pub mod OutcomeLaws
 pub mod LineFieldsLaws
 pub mod RowLaws
 pub mod NumberAtLaws
+pub mod ScanLaws

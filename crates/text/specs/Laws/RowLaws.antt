@@ -18,6 +18,8 @@ use Rattle.text.specs.declared.number.Number.{Number}
 use Rattle.text.specs.declared.number.Number.the-variants.{Value, BadDigits, Outside}
 use Rattle.text.specs.declared.row.Row.{Row}
 use Rattle.text.specs.declared.row.Row.the-variants.{HeadRow, StepRow}
+use Rattle.text.specs.declared.row.RowRead.{RowRead}
+use Rattle.text.specs.declared.row.RowRead.the-variants as row-read
 use Rattle.text.specs.declared.row.RowScan.{RowScan}
 use Rattle.text.specs.declared.row.RowScan.the-variants as row-scan
 use Rattle.text.specs.Bytes.{capital, comma, lineEnd, kindOf}
@@ -28,7 +30,7 @@ use Rattle.text.specs.Lines.{headBounds, stepBounds, rowLetter, rowCount
 use Rattle.text.specs.Inner.NumberAt.{fieldOf, NumberRead}
 use Rattle.text.specs.Inner.PartAnswers.{Fields}
 use Rattle.text.specs.Inner.Row.{lineFields, fieldsAfter, LineAt, NoLineAt, RowBegins, separatorKind, prepend}
-use Rattle.text.specs.Inner.Row.{rowFields, RowTo, Caused, RowScanned, Past, RowRefused}
+use Rattle.text.specs.Inner.Row.{rowFields, RowTo, Caused, RowScanned, Past, RowRefused, RowAt}
 use Rattle.text.specs.Laws.ListLaws.{drop-next}
 use Rattle.text.specs.Laws.SplitLaws.{Is, same, other, is, indexOf-end, indexOf-cons}
 use Rattle.text.specs.Laws.FieldsLaws.{same?-byte, fields-good, fields-of-good}
@@ -476,3 +478,14 @@ module _ (row : Row) (text : List ℕ) (at : ℕ) where
       refused-numbers c fs h =
           let l : at + indexOf lineEnd (drop at text) < length text = omega arith in
           refused-line (ap (rowFrom row) h ∙ c .told l fs (rw (sym length-line) h))
+
+-- ---- what a row came to, by the answer
+
+module _ (row : Row) (text : List ℕ) (at : ℕ) (ns : List ℕ) (r : RowRead) (a : RowAt row text at ns r) where
+  pub row-at-good : {e : ℕ} → r ≡ row-read.Good e → LineAt (rowOf row) text at (good ns) e
+  unfolding RowAt
+  row-at-good h = subst (RowAt row text at ns) h a
+
+  pub row-at-bad : {fault : Fault} → r ≡ row-read.Bad fault → RowRefused row text at fault
+  unfolding RowAt
+  row-at-bad h = subst (RowAt row text at ns) h a

@@ -1,48 +1,48 @@
+-- `head_at` has line 1 from its row.
+use mathlib.Core.Logic.{inl, inr}
+use mathlib.Core.Path.{ap, _∙_}
+use Rattle.text.specs.Lines.{rowCount, headFrom, headOf}
+use Rattle.text.specs.Inner.Scan.{HeadAt}
+use Rattle.text.specs.Laws.RowLaws.{row-at-good, row-at-bad}
+use Rattle.text.specs.Laws.ScanLaws.{head-refused, head-stated}
 use borrow.Author.Needs.{needs}
 use Rattle.text.proofs.scan.head_at.Statement.{statement}
 use Rattle.text.proofs.scan.head_at.Tie as tie
-use Rattle.text.proofs.scan.head_at.Reads as reads
-use Rattle.text.proofs.scan.head_at.Lts as lts
-use Rattle.text.proofs.row.row_at.Reads as row-at-reads
 
--- src/scan.rt:34:65
 slice-aggregate-row-at : tie.Need-slice-aggregate-row-at
 slice-aggregate-row-at c = search needs
 
--- src/scan.rt:34:34
 row-at-requires : tie.Need-row-at-requires
+unfolding rowCount
 row-at-requires c κs = search needs
 
--- src/scan.rt:34:25
 enum-known-fault : tie.Need-enum-known-fault
 enum-known-fault c = search needs
 
--- src/scan.rt:35:9
 returns : tie.Need-returns
-returns c = ?
+unfolding HeadAt
+returns c =
+    head-refused _ _ _ (row-at-bad _ _ _ _ _ (c .before .before .before .before .row-at .ensures) (c .before .fault .given .1))
 
 enum-told : tie.Need-enum-told
 enum-told c = search needs
 
--- src/scan.rt:38:17
 array-read-t11 : tie.Need-array-read-t11
 array-read-t11 c = search needs
 
--- src/scan.rt:39:18
 array-read-t14 : tie.Need-array-read-t14
 array-read-t14 c = search needs
 
--- src/scan.rt:40:16
 array-read-t17 : tie.Need-array-read-t17
 array-read-t17 c = search needs
 
--- src/scan.rt:41:22
 array-read-t20 : tie.Need-array-read-t20
 array-read-t20 c = search needs
 
--- src/scan.rt:29:1
 returns-2 : tie.Need-returns-2
-returns-2 c = ?
+unfolding HeadAt
+returns-2 c =
+    (_, head-stated _ _ _ _ (row-at-good _ _ _ _ _ (c .before .before .before .row-at .ensures) (c .enum-told .given .1)))
 
 pub head-at-spec : {M : Type 1} → statement M
 head-at-spec =

@@ -1,50 +1,50 @@
+-- `step_at` has a step's numbers from its row, and then tests the order.
+use mathlib.Core.Path.{refl}
+use native.Mathlib.Omega.{arith}
+use Rattle.text.specs.Lines.{rowCount}
+use Rattle.text.specs.Inner.Scan.{StepAtRead}
+use Rattle.text.specs.Laws.RowLaws.{row-at-good, row-at-bad}
+use Rattle.text.specs.Laws.ScanLaws.{step-refused}
 use borrow.Author.Needs.{needs}
 use Rattle.text.proofs.scan.step_at.Statement.{statement}
 use Rattle.text.proofs.scan.step_at.Tie as tie
-use Rattle.text.proofs.scan.step_at.Reads as reads
-use Rattle.text.proofs.scan.step_at.Lts as lts
-use Rattle.text.proofs.row.row_at.Reads as row-at-reads
-use Rattle.text.proofs.scan.rising.Reads as rising-reads
 
--- src/scan.rt:73:53
 slice-aggregate-row-at : tie.Need-slice-aggregate-row-at
 slice-aggregate-row-at c = search needs
 
--- src/scan.rt:73:9
 row-at-requires : tie.Need-row-at-requires
+unfolding rowCount
 row-at-requires c κs = search needs
 
--- src/scan.rt:75:22
 enum-known-read : tie.Need-enum-known-read
 enum-known-read c = search needs
 
--- src/scan.rt:76:23
 enum-known-read-2 : tie.Need-enum-known-read-2
 enum-known-read-2 c = search needs
 
--- src/scan.rt:78:31
 array-read-t17 : tie.Need-array-read-t17
 array-read-t17 c = search needs
 
--- src/scan.rt:79:32
 array-read-t21 : tie.Need-array-read-t21
 array-read-t21 c = search needs
 
--- src/scan.rt:80:31
 array-read-t25 : tie.Need-array-read-t25
 array-read-t25 c = search needs
 
--- src/scan.rt:82:13
 rising-requires : tie.Need-rising-requires
-rising-requires c κs = search needs
+rising-requires c κs =
+    let r = c .before .before .before .before in
+    omega (arith, row-at-good _ _ _ _ _ (r .row-at .ensures) (c .before .read2 .given .1) .inside)
 
--- src/scan.rt:68:1
 returns : tie.Need-returns
-returns c = ?
+unfolding StepAtRead
+returns c =
+    step-refused _ _ _ _ _ _ (row-at-bad _ _ _ _ _ (c .before .before .before .before .row-at .ensures) (c .before .read .given .1))
 
--- src/scan.rt:68:1
 returns-2 : tie.Need-returns-2
-returns-2 c = ?
+returns-2 c =
+    let r = c .before .before .before .before .before in
+    c .rising .ensures _ _ _ _ (row-at-good _ _ _ _ _ (r .row-at .ensures) (c .before .before .read2 .given .1)) refl
 
 pub step-at-spec : {M : Type 1} → statement M
 step-at-spec =
