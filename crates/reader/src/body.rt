@@ -13,8 +13,8 @@ use text::bytes::LINE_END;
 use text::limits::STORE_LENGTH;
 use text::line::HeadRead;
 use text::line::find;
-use text::line::head_line;
 use text::line::is_letter;
+use text::scan::head_at;
 ghost use mathlib.Core.Path.{_≡_};
 ghost use Prim.Native.Nat.{_≤_};
 ghost use lib.ListN.{length, drop};
@@ -32,11 +32,7 @@ pub fn first_line(text: &[u8], at: usize) -> HeadRead
     if text.len() < at {
         return HeadRead::Bad(Fault::Absent);
     }
-    let e = find(text, at, LINE_END);
-    if e == text.len() {
-        return HeadRead::Bad(Fault::Absent);
-    }
-    head_line(&text[at..e])
+    head_at(text, at)
 }
 
 // The place after the line at a place, or the text's end where the line has none.

@@ -20,10 +20,10 @@ use Rattle.text.specs.Laws.SameLaws.{same?-length}
 use Rattle.text.specs.Laws.FieldsLaws.{same?-byte, same?-other, take-one}
 use Rattle.text.specs.Model.{Model, above?, aboveLast?}
 use Rattle.text.specs.Lines.{good, bad, stepOf}
-use Rattle.text.specs.Inner.LineAnswers.{stepRead, Last}
+use Rattle.text.specs.Inner.LineAnswers.{Last}
 use Rattle.model.specs.Reading.{done, faulty, readNothing, readEnd, readSteps, readActions}
-use Rattle.text.specs.declared.line.StepRead.the-variants as step-read
-use Rattle.text.specs.Inner.Scan.{NoLineAt, StepLineAt}
+use Rattle.text.specs.Inner.Row.{NoLineAt}
+use Rattle.text.specs.Inner.Scan.{StepLineAt}
 use Rattle.reader.specs.declared.answers.LineStart.{LineStart}
 use Rattle.reader.specs.Inner.ReadSoFar.{whole, AfterActions, AfterStep, AfterSteps, AfterEnd}
 use Rattle.model.specs.Store.{stepRow}
@@ -110,19 +110,17 @@ module _ (h : Head) (text : List ℕ) (start : LineStart) (j : ℕ) (last : Step
 
   -- by what the line at the place was read as
   pub step-refused : (fault : Fault)
-      → (e : ℕ) × (NoLineAt text (start .at) fault e ⊎ StepLineAt h text (start .at) j last (step-read.Bad fault) e)
+      → (e : ℕ) × (NoLineAt text (start .at) fault e ⊎ StepLineAt h text (start .at) j last (bad fault) e)
       → whole text ≡ faulty fault (start .line)
-  unfolding stepRead
   step-refused fault (e, inl n) =
       step-absent e (n .found) (n .outside) ∙ ap (λ (f : Fault). faulty f (start .line)) (sym (n .absent))
   step-refused fault (e, inr l) =
       step-bad e (l .found) (l .inside) fault (l .reads (b .steps) (b .last-step))
 
   pub step-taken : (s : StepLine) (next : ℕ)
-      → (e : ℕ) × (next ≡ e + 1) × StepLineAt h text (start .at) j last (step-read.Good s) e
+      → (e : ℕ) × (next ≡ e + 1) × StepLineAt h text (start .at) j last (good s) e
       → AfterStep h text (record { at = next; line = start .line + 1 }) (j + 1) s
       (sets store (stepPlace j) (stepRow s))
-  unfolding stepRead
   step-taken s next (e, n, l) =
       rw n (step-next e (l .found) (l .inside) s (l .reads (b .steps) (b .last-step)))
 

@@ -1,6 +1,7 @@
 -- What the lines of a text answer and leave, by what the first line and the lines behind it came to.
 -- Document 01, operation 1, and "Refused because of the input". Assumes nothing.
 use mathlib.Core.List.{List, [], _∷_, _++_}
+use mathlib.Core.Logic.{inl, inr}
 use mathlib.Core.Path.{_≡_, refl, sym, ap, _∙_}
 use Prim.Native.Nat.{ℕ, _+_, _-_, _≤_, _<_}
 use native.Mathlib.Omega.{arith}
@@ -18,6 +19,7 @@ use Rattle.text.specs.Split.{split, indexOf}
 use Rattle.text.specs.Laws.SplitLaws.{split-nil, split-first, split-part, split-last, found-le}
 use Rattle.text.specs.Lines.{bad, headOf}
 use Rattle.text.specs.Inner.LineAnswers.{headRead}
+use Rattle.text.specs.Inner.Scan.{HeadAt}
 use Rattle.model.specs.Reading.{faulty, onLine, orFault, readModel}
 use Rattle.reader.specs.Answers.{readingStore, ReadAs}
 use Rattle.reader.specs.Inner.ReadSoFar.{whole, AfterHead, AfterEnd, Through}
@@ -42,12 +44,11 @@ afterLine-past text at h =
     record { place = omega arith; rest = λ line part parts s. absurd (one-part (sym (past text at h) ∙ s)) }
 
 module _ (text : List ℕ) (at e : ℕ) (le : at ≤ length text) (found : e ≡ at + indexOf lineEnd (drop at text)) where
-  pub firstLine-absent : length text ≤ e → bad Absent ≡ firstLine (split lineEnd (drop at text))
+  firstLine-absent : length text ≤ e → bad Absent ≡ firstLine (split lineEnd (drop at text))
   unfolding firstLine
   firstLine-absent l = rw (split-last lineEnd text at e le found l)
 
-  pub firstLine-line : e < length text
-      → headOf (take (e - at) (drop at text)) ≡ firstLine (split lineEnd (drop at text))
+  firstLine-line : e < length text → headOf (take (e - at) (drop at text)) ≡ firstLine (split lineEnd (drop at text))
   unfolding firstLine
   firstLine-line l =
       let w = split-first lineEnd (drop (e + 1) text) in rw (split-part lineEnd text at e le found l, w .2)
@@ -69,6 +70,17 @@ module _ (text : List ℕ) (at e : ℕ) (le : at ≤ length text) (found : e ≡
     where
       tail : {p q : List ℕ} {ps qs : List (List ℕ)} → p ∷ ps ≡ q ∷ qs → ps ≡ qs
       tail h = cc
+
+-- what was read of the line at a place is what it states as the first one
+pub firstLine-head : (text : List ℕ) (at : ℕ) → at ≤ length text → (r : HeadRead) → HeadAt text at r
+    → headRead r ≡ firstLine (split lineEnd (drop at text))
+unfolding HeadAt headRead
+firstLine-head text at le (head-read.Good h) (e, l) =
+    sym (l .reads) ∙ firstLine-line text at e le (l .found) (l .inside)
+firstLine-head text at le (head-read.Bad fault) (e, inl n) =
+    ap bad (n .absent) ∙ firstLine-absent text at e le (n .found) (n .outside)
+firstLine-head text at le (head-read.Bad fault) (e, inr l) =
+    sym (l .reads) ∙ firstLine-line text at e le (l .found) (l .inside)
 
 headRead-bad : (r : HeadRead) (fault : Fault) → headRead r ≡ bad fault → r ≡ head-read.Bad fault
 unfolding headRead
