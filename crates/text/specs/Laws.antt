@@ -21,3 +21,4 @@ pub mod LineFieldsLaws
 pub mod RowLaws
 pub mod NumberAtLaws
 pub mod ScanLaws
+pub mod ColumnsLaws

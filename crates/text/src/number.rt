@@ -2,12 +2,14 @@
 use crate::bytes::COMMA;
 use crate::bytes::DIGIT;
 use crate::bytes::LINE_END;
+use crate::bytes::OTHER;
 use crate::bytes::kind;
 use crate::limits::DIGIT_LIMIT;
 ghost use mathlib.Core.Option.{some};
 ghost use mathlib.Core.Path.{_≡_};
 ghost use Prim.Native.Nat.{_≤_};
-ghost use lib.ListN.{length};
+ghost use lib.ListN.{length, getD};
+ghost use Rattle.text.specs.Bytes.{kindOf};
 ghost use Rattle.text.specs.Decides.{Decides};
 ghost use Rattle.text.specs.Numbers.{inBounds?, bounded};
 ghost use Rattle.text.specs.Inner.NumberAt.{DigitsAt, FieldEnds, NumberShape, NumberRead};
@@ -26,16 +28,19 @@ pub enum Number {
     Outside,
 }
 
-// The number field at a place, and the place after it; where its digits are bad, the place after those that were read.
+// The number field at a place, the place after it, and the kind of the byte there; where its digits are bad, the place
+// after those that were read.
 pub struct NumberAt {
     pub number: Number,
     pub end: usize,
+    pub follows: u8,
 }
 
-// The value of the digits at a place, and the place after them.
+// The value of the digits at a place, the place after them, and the kind of the byte there. So a byte is looked at once.
 struct DigitsRead {
     value: u32,
     end: usize,
+    follows: u8,
 }
 
 // Whether a number is within its bounds.
@@ -61,48 +66,60 @@ fn bounded_number(bounds: Bounds, n: u32) -> Number
 // The digits at a place, as many as a number has at most.
 fn digits_at(s: &[u8], at: usize) -> DigitsRead
     requires { ⌜ at ≤ length (now s) ⌝ }
-    ensures { λ r. ⌜ DigitsAt (now (s .entry)) at (r .value) (r .end) ⌝ }
+    ensures { λ r. ⌜ DigitsAt (now (s .entry)) at (r .value) (r .end) (r .follows) ⌝ }
 {
     let mut value: u32 = 0;
     let mut i = at;
     while i < s.len() {
         let b = s[i];
-        if kind(b) != DIGIT {
-            return DigitsRead { value, end: i };
+        let k = kind(b);
+        if k != DIGIT {
+            return DigitsRead {
+                value,
+                end: i,
+                follows: k,
+            };
         }
         if DIGIT_LIMIT <= i - at {
-            return DigitsRead { value, end: i };
+            return DigitsRead {
+                value,
+                end: i,
+                follows: k,
+            };
         }
         value = value * 10 + (b as u32 - b'0' as u32);
         i += 1;
     }
-    DigitsRead { value, end: i }
+    DigitsRead {
+        value,
+        end: i,
+        follows: OTHER,
+    }
 }
 
-// Whether a field ends at a place: at a comma, a line end, or the text's end.
-fn field_ends(s: &[u8], end: usize) -> bool
-    requires { ⌜ end ≤ length (now s) ⌝ }
+// Whether a field ends at a place, where a byte of this kind stands: at a comma, a line end, or the text's end.
+fn field_ends(s: &[u8], end: usize, follows: u8) -> bool
+    requires { ⌜ follows ≡ kindOf (getD (now s) end 0) ⌝ }
     ensures { λ r. ⌜ Decides r (FieldEnds (now (s .entry)) end) ⌝ }
 {
-    if end == s.len() {
+    if s.len() <= end {
         return true;
     }
-    let k = kind(s[end]);
-    if k == COMMA {
+    if follows == COMMA {
         return true;
     }
-    if k == LINE_END {
+    if follows == LINE_END {
         return true;
     }
     false
 }
 
 // Whether the digits from a place on and below `end` are a number field: 1 to 5, of which the first of several is not 0.
-fn is_number(s: &[u8], at: usize, end: usize) -> bool
-    requires { ⌜ (at ≤ end) × (end ≤ length (now s)) ⌝ }
+fn is_number(s: &[u8], at: usize, end: usize, follows: u8) -> bool
+    requires { ⌜ (at ≤ end) × (end ≤ length (now s)) × (follows ≡ kindOf (getD (now s) end 0)) ⌝ }
     ensures { λ r. ⌜ Decides r (NumberShape (now (s .entry)) at end) ⌝ }
 {
-    if !field_ends(s, end) {
+    if !field_ends(s, end, follows) {
         return false;
     }
     if end == at {
@@ -120,19 +137,22 @@ fn is_number(s: &[u8], at: usize, end: usize) -> bool
 // The number field at a place.
 pub fn number_at(s: &[u8], at: usize, bounds: Bounds) -> NumberAt
     requires { ⌜ at ≤ length (now s) ⌝ }
-    ensures { λ r. ⌜ NumberRead bounds (now (s .entry)) at (r .number) (r .end) ⌝ }
+    ensures { λ r. ⌜ NumberRead bounds (now (s .entry)) at (r .number) (r .end) (r .follows) ⌝ }
 {
     let read = digits_at(s, at);
     let value = read.value;
     let end = read.end;
-    if !is_number(s, at, end) {
+    let follows = read.follows;
+    if !is_number(s, at, end, follows) {
         return NumberAt {
             number: Number::BadDigits,
             end,
+            follows,
         };
     }
     NumberAt {
         number: bounded_number(bounds, value),
         end,
+        follows,
     }
 }

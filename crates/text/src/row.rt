@@ -17,13 +17,14 @@ use crate::number::number_at;
 use crate::number::within;
 ghost use mathlib.Core.Bool.{false};
 ghost use mathlib.Core.Path.{_≡_};
-ghost use Prim.Native.Nat.{_+_, _≤_, _<_};
+ghost use Prim.Native.Nat.{_+_, _-_, _≤_, _<_};
 ghost use lib.ListN.{length, getD};
 ghost use Rattle.text.specs.Bytes.{capital, kindOf};
 ghost use Rattle.text.specs.Numbers.{below};
 ghost use Rattle.text.specs.Lines.{headBounds, stepBounds, rowLetter, rowCount, rowBounds, headFits?, stepFits?};
 ghost use Rattle.text.specs.Decides.{Decides};
-ghost use Rattle.text.specs.Inner.Row.{RowBegins, separatorKind, Past, RowTo, RowScanned, Caused, RowRefused, RowAt};
+ghost use Rattle.text.specs.Inner.Row.{RowBegins, separatorKind, PastNumber, Caused, RowRefused, RowAt};
+ghost use Rattle.text.specs.Inner.Columns.{columns, numbersIn, ColumnsTo, ColumnsScanned};
 
 // Which line it is: line 1, or the line of a step in a model whose line 1 is known.
 pub enum Row {
@@ -44,6 +45,10 @@ pub enum RowRead {
     Bad(Fault),
 }
 
+// A row is read into so many columns, of which a row with fewer numbers leaves the first ones free. So each column is
+// read at one place in the code, with its own separator.
+pub const COLUMNS: usize = 4;
+
 // The letter of a row.
 fn letter_of(row: Row) -> u8
     ensures { λ r. ⌜ r ≡ rowLetter row ⌝ }
@@ -51,6 +56,16 @@ fn letter_of(row: Row) -> u8
     match row {
         Row::HeadRow => b'M',
         Row::StepRow(_) => b'S',
+    }
+}
+
+// How many numbers a row has.
+fn count_of(row: Row) -> usize
+    ensures { λ r. ⌜ r ≡ rowCount row ⌝ }
+{
+    match row {
+        Row::HeadRow => 4,
+        Row::StepRow(_) => 3,
     }
 }
 
@@ -100,14 +115,14 @@ fn step_bounds(i: usize, head: Head) -> Bounds
     }
 }
 
-// The bounds of number i of a row, whose first number may be the number of states.
-fn bounds_of(row: Row, i: usize, states: u16) -> Bounds
-    requires { ⌜ i < rowCount row ⌝ }
-    ensures { λ r. ⌜ r ≡ getD (rowBounds row states) i (below 0) ⌝ }
+// The bounds of the number in a column of a row, where `states` is the number in the first.
+fn bounds_of(row: Row, column: usize, states: u16) -> Bounds
+    requires { ⌜ (columns - rowCount row ≤ column) × (column < columns) ⌝ }
+    ensures { λ r. ⌜ r ≡ getD (rowBounds row states) (column - (columns - rowCount row)) (below 0) ⌝ }
 {
     match row {
-        Row::HeadRow => head_bounds(i, states),
-        Row::StepRow(head) => step_bounds(i, head),
+        Row::HeadRow => head_bounds(column, states),
+        Row::StepRow(head) => step_bounds(column - 1, head),
     }
 }
 
@@ -157,104 +172,104 @@ fn begins(text: &[u8], at: usize, letter: u8) -> bool
     true
 }
 
-// The kind of the byte that follows i numbers of a row of n.
-fn separator(i: usize, n: usize) -> u8
-    ensures { λ r. ⌜ r ≡ separatorKind i n ⌝ }
+// The kind of the byte that follows the number in a column.
+fn separator(column: usize) -> u8
+    requires { ⌜ column < columns ⌝ }
+    ensures { λ r. ⌜ r ≡ separatorKind (column + 1) columns ⌝ }
 {
-    if i == n {
+    if column + 1 == COLUMNS {
         return LINE_END;
     }
     COMMA
 }
 
-// Past i numbers of a row of n, where the last of them ends.
-fn past_number(text: &[u8], end: usize, i: usize, n: usize, outside: bool) -> RowScan
-    requires { ⌜ end ≤ length (now text) ⌝ }
-    ensures { λ r. ⌜ Past (now (text .entry)) end i n outside r ⌝ }
+// Past a number that ends at a place, where a byte of one kind follows and one of another is due.
+fn past_number(end: usize, follows: u8, due: u8, outside: bool) -> RowScan
+    ensures { λ r. ⌜ PastNumber end follows due outside r ⌝ }
 {
-    if end == text.len() {
-        return RowScan::Bad(Fault::Shape);
-    }
-    if kind(text[end]) != separator(i, n) {
+    if follows != due {
         return RowScan::Bad(Fault::Shape);
     }
     RowScan::To { end, outside }
 }
 
-// Number i of a row, behind the byte at `end`: stored, if it is within its bounds.
+// The number in a column of a row, behind the byte at `end`: stored, if it is within its bounds.
 fn next_number(
     text: &[u8],
     at: usize,
     end: usize,
     row: Row,
-    i: usize,
+    column: usize,
     outside: bool,
     out: &mut [u16],
 ) -> RowScan
-    requires { ⌜ RowTo row (now text) at outside (now out) i end × (i < rowCount row) ⌝ }
-    ensures { λ r. ⌜ RowScanned row (now (text .entry)) at (now (out .exit)) (i + 1) r ⌝ }
+    requires { ⌜ ColumnsTo row (now text) at outside (now out) column end × (column < columns) ⌝ }
+    ensures { λ r. ⌜ ColumnsScanned row (now (text .entry)) at (now (out .exit)) (column + 1) r ⌝ }
 {
-    let read = number_at(text, end + 1, bounds_of(row, i, out[0]));
+    if column < COLUMNS - count_of(row) {
+        return RowScan::To { end, outside };
+    }
+    let read = number_at(text, end + 1, bounds_of(row, column, out[0]));
     let next = read.end;
+    let follows = read.follows;
     let number = read.number;
     match number {
         Number::BadDigits => RowScan::Bad(Fault::Digits),
-        Number::Outside => past_number(text, next, i + 1, out.len(), true),
+        Number::Outside => past_number(next, follows, separator(column), true),
         Number::Value(v) => {
-            out[i] = v;
-            past_number(text, next, i + 1, out.len(), outside)
+            out[column] = v;
+            past_number(next, follows, separator(column), outside)
         }
     }
 }
 
 // The numbers of a row whose letter and comma stand at a place.
 fn numbers_at(text: &[u8], at: usize, row: Row, out: &mut [u16]) -> RowScan
-    requires { ⌜ RowTo row (now text) at false (now out) 0 (at + 1) ⌝ }
-    ensures { λ r. ⌜ RowScanned row (now (text .entry)) at (now (out .exit)) (rowCount row) r ⌝ }
+    requires { ⌜ ColumnsTo row (now text) at false (now out) 0 (at + 1) ⌝ }
+    ensures { λ r. ⌜ ColumnsScanned row (now (text .entry)) at (now (out .exit)) columns r ⌝ }
 {
     let mut end = at + 1;
     let mut outside = false;
-    let mut i = 0;
-    while i < out.len() {
-        let scan = next_number(text, at, end, row, i, outside, out);
+    let mut column = 0;
+    while column < COLUMNS {
+        let scan = next_number(text, at, end, row, column, outside, out);
         let RowScan::To { end: next, outside: found } = scan else {
             return scan;
         };
         end = next;
         outside = found;
-        i += 1;
+        column += 1;
     }
     RowScan::To { end, outside }
 }
 
 // The fault of a row, where its numbers have one: a line without an end has this fault before any other, and one with
 // other fields has it before that of its numbers.
-fn row_fault(text: &[u8], at: usize, row: Row, n: usize, fault: Fault) -> Fault
-    requires { ⌜ (at ≤ length (now text)) × (n ≡ rowCount row) × Caused row (now text) at fault ⌝ }
+fn row_fault(text: &[u8], at: usize, row: Row, fault: Fault) -> Fault
+    requires { ⌜ (at ≤ length (now text)) × Caused row (now text) at fault ⌝ }
     ensures { λ r. ⌜ RowRefused row (now (text .entry)) at r ⌝ }
 {
     let e = find(text, at, LINE_END);
     if e == text.len() {
         return Fault::Absent;
     }
-    if !fields(&text[at..e], letter_of(row), n) {
+    if !fields(&text[at..e], letter_of(row), count_of(row)) {
         return Fault::Shape;
     }
     fault
 }
 
-// The row at a place; `out` holds as many zeros as the row has numbers.
+// The row at a place, into columns of zeros.
 pub fn row_at(text: &[u8], at: usize, row: Row, out: &mut [u16]) -> RowRead
-    requires { ⌜ (at ≤ length (now text)) × (length (now out) ≡ rowCount row) × (getD (now out) 0 0 ≡ 0) ⌝ }
-    ensures { λ r. ⌜ RowAt row (now (text .entry)) at (now (out .exit)) r ⌝ }
+    requires { ⌜ (at ≤ length (now text)) × (length (now out) ≡ columns) × (getD (numbersIn row (now out)) 0 0 ≡ 0) ⌝ }
+    ensures { λ r. ⌜ RowAt row (now (text .entry)) at (numbersIn row (now (out .exit))) r ⌝ }
 {
-    let n = out.len();
     if !begins(text, at, letter_of(row)) {
-        return RowRead::Bad(row_fault(text, at, row, n, Fault::Shape));
+        return RowRead::Bad(row_fault(text, at, row, Fault::Shape));
     }
     let scan = numbers_at(text, at, row, out);
     match scan {
-        RowScan::Bad(fault) => RowRead::Bad(row_fault(text, at, row, n, fault)),
+        RowScan::Bad(fault) => RowRead::Bad(row_fault(text, at, row, fault)),
         RowScan::To { end, outside } => {
             if outside {
                 return RowRead::Bad(Fault::Range);

@@ -6,6 +6,7 @@ use crate::State;
 use crate::StepLine;
 use crate::line::HeadRead;
 use crate::line::is_above;
+use crate::row::COLUMNS;
 use crate::row::Row;
 use crate::row::RowRead;
 use crate::row::row_at;
@@ -30,7 +31,7 @@ pub fn head_at(text: &[u8], at: usize) -> HeadRead
     requires { ⌜ at ≤ length (now text) ⌝ }
     ensures { λ r. ⌜ HeadAt (now (text .entry)) at r ⌝ }
 {
-    let mut ns = [0u16; 4];
+    let mut ns = [0u16; COLUMNS];
     if let RowRead::Bad(fault) = row_at(text, at, Row::HeadRow, &mut ns) {
         return HeadRead::Bad(fault);
     }
@@ -69,15 +70,15 @@ pub fn step_at(text: &[u8], at: usize, head: Head, j: usize, last: StepLine) -> 
     requires { ⌜ at ≤ length (now text) ⌝ }
     ensures { λ r. ⌜ StepAtRead head (now (text .entry)) at j last r ⌝ }
 {
-    let mut ns = [0u16; 3];
+    let mut ns = [0u16; COLUMNS];
     let read = row_at(text, at, Row::StepRow(head), &mut ns);
     match read {
         RowRead::Bad(fault) => StepAt::Bad(fault),
         RowRead::Good(end) => {
             let step = StepLine {
-                source: State(ns[0]),
-                action: Action(ns[1]),
-                target: State(ns[2]),
+                source: State(ns[1]),
+                action: Action(ns[2]),
+                target: State(ns[3]),
             };
             rising(step, end, j, last)
         }

@@ -29,8 +29,10 @@ pub record DigitsTo (s : List ℕ) (at e v : ℕ) : Type 0 where
   pub digits : AllDigits field
   pub value : digitsValue 0 field ≡ some v
 
--- at most five, and no further digit follows fewer
-pub record DigitsAt (s : List ℕ) (at v e : ℕ) : Type 0 where
+-- at most five, and no further digit follows fewer; k is the kind of the byte that does follow, and past the text's end
+-- there is none: `getD` is 0 there, which is of no kind
+pub record DigitsAt (s : List ℕ) (at v e k : ℕ) : Type 0 where
+  pub follows : k ≡ kindOf (getD s e 0)
   pub run : DigitsTo s at e v
   pub short : e ≤ at + digitLimit
   pub inside : e ≤ length s
@@ -51,7 +53,8 @@ unfoldable pub fieldOf : List ℕ → List ℕ
 fieldOf [] = []
 fieldOf (b ∷ bs) = cond (eqb (kindOf b) comma || eqb (kindOf b) lineEnd) [] (b ∷ fieldOf bs)
 
--- the field at a place holds this number, and, if it is one, ends at place e
-pub record NumberRead (bounds : Bounds) (s : List ℕ) (at : ℕ) (number : Number) (e : ℕ) : Type 0 where
+-- the field at a place holds this number, and, if it is one, ends at place e, where a byte of the kind k stands
+pub record NumberRead (bounds : Bounds) (s : List ℕ) (at : ℕ) (number : Number) (e k : ℕ) : Type 0 where
+  pub follows : k ≡ kindOf (getD s e 0)
   pub read : numberIn bounds (fieldOf (drop at s)) ≡ number
   pub place : (number ≡ BadDigits → ⊥) → e ≡ at + length (fieldOf (drop at s))

@@ -91,12 +91,10 @@ unfoldable pub RowScanned : Row → List ℕ → ℕ → List ℕ → ℕ → Ro
 RowScanned row text at out i (row-scan.To end outside) = RowTo row text at outside out i end
 RowScanned row text at out i (row-scan.Bad fault) = Caused row text at fault
 
--- past i numbers of a row of n, where the last ends at place e: the right byte follows, or the row has other fields
-unfoldable pub Past : List ℕ → ℕ → ℕ → ℕ → Bool → RowScan → Type 0
-Past text e i n outside (row-scan.To end out) =
-    (end ≡ e) × (out ≡ outside) × (e < length text) × (kindOf (getD text e 0) ≡ separatorKind i n)
-Past text e i n outside (row-scan.Bad fault) =
-    (fault ≡ Shape) × (e < length text → kindOf (getD text e 0) ≡ separatorKind i n → ⊥)
+-- past a number that ends at place e: the byte that is due follows, or the row has other fields
+unfoldable pub PastNumber : ℕ → ℕ → ℕ → Bool → RowScan → Type 0
+PastNumber e follows due outside (row-scan.To end found) = (end ≡ e) × (found ≡ outside) × (follows ≡ due)
+PastNumber e follows due outside (row-scan.Bad fault) = (fault ≡ Shape) × (follows ≡ due → ⊥)
 
 -- the row at a place is refused
 abbrev pub RowRefused : Row → List ℕ → ℕ → Fault → Type 0

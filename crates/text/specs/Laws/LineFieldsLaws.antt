@@ -105,16 +105,6 @@ fieldOf-follows (b ∷ bs) p = go (ends b) (fieldOf-follows bs) p
         let n = ap length e in
         rw e (ih (omega arith))
 
-pub fieldOf-length-le : (s : List ℕ) → length (fieldOf s) ≤ length s
-unfolding fieldOf
-fieldOf-length-le [] = omega arith
-fieldOf-length-le (b ∷ bs) = go (ends b) (fieldOf-length-le bs)
-  where
-    go : Ends b → length (fieldOf bs) ≤ length bs → length (fieldOf (b ∷ bs)) ≤ length (b ∷ bs)
-    go (by-comma h) ih = rw (fieldOf-end b bs (inl h)) (omega arith)
-    go (by-lineEnd h) ih = rw (fieldOf-end b bs (inr h)) (omega arith)
-    go (goes-on h l) ih = rw (fieldOf-cons b bs h l) (omega arith)
-
 -- where the first field is a letter alone, and more fields follow, a comma stands behind the letter
 pub letter-field : (s : List ℕ) (letter : ℕ) → fieldOf s ≡ letter ∷ []
     → 0 < length (fieldsAfter (drop (length (fieldOf s)) s))

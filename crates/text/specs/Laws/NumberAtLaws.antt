@@ -8,11 +8,12 @@ use mathlib.Core.Path.{_≡_, refl, sym, ap, _∙_}
 use Prim.Native.Nat.{ℕ, _+_, _-_, _*_, _≤_, _<_}
 use native.Mathlib.Omega.{arith}
 use lib.Dec.{eqb}
-use lib.ListN.{length, drop, getD, length-append, drop-of-length-le, List·getD-append}
+use lib.ListN.{length, drop, getD, length-append, drop-of-length-le, List·getD-append, List·getD-eq-default}
 use lib.Seq.{getD-drop}
 use borrow.Author.Tests.{eq-eqb, ne-eqb}
 use Rattle.lts.specs.TestsLaws.{lt-or-le}
 use Rattle.text.specs.Bytes.{byteZero, digit, comma, lineEnd, kindOf}
+use Rattle.text.specs.Bytes as bytes
 use Rattle.text.specs.Numbers.{digitsValue, numberOf}
 use Rattle.text.specs.Inner.NumberAt.{AllDigits, DigitsTo, DigitsAt, FieldEnds, NumberShape, fieldOf}
 use Rattle.text.specs.Laws.AllLaws.{all-append}
@@ -71,6 +72,19 @@ ends-at s e = go (lt-or-le e (length s)) (is (kindOf (getD s e 0)) comma) (is (k
     go (inl h) (other c) (same l) = ended (λ z. inr l)
     go (inl h) (other c) (other l) = goes-on h (ap fieldOf (drop-next s e h) ∙ fieldOf-cons _ _ c l)
 
+-- past the end of a text `getD` is 0, which is of no kind
+pub kind-past : (s : List ℕ) (e : ℕ) → length s ≤ e → kindOf (getD s e 0) ≡ bytes.other
+unfolding kindOf
+kind-past s e g = ap kindOf (List·getD-eq-default s 0 g)
+
+-- so where a byte of a kind stands there is one
+pub kind-inside : (s : List ℕ) (e k : ℕ) → kindOf (getD s e 0) ≡ k → (k ≡ bytes.other → ⊥) → e < length s
+kind-inside s e k h n = go (lt-or-le e (length s))
+  where
+    go : (e < length s) ⊎ (length s ≤ e) → e < length s
+    go (inl l) = l
+    go (inr g) = absurd (n (sym h ∙ kind-past s e g))
+
 -- ---- digit by digit
 
 pub digits-none : (s : List ℕ) (at : ℕ) → DigitsTo s at at 0
@@ -93,7 +107,7 @@ digits-next s at e v d h k =
 
 -- ---- the number of the field at a place
 
-module _ (s : List ℕ) (at v e : ℕ) (d : DigitsAt s at v e) where
+module _ (s : List ℕ) (at v e k : ℕ) (d : DigitsAt s at v e k) where
   abbrev f : List ℕ
   f = d .run .field
 
@@ -148,13 +162,13 @@ module _ (s : List ℕ) (at v e : ℕ) (d : DigitsAt s at v e) where
 
       by-kind : e < length s → (bs : List ℕ) → Is (kindOf (getD s e 0)) digit
           → numberOf (f ++ (getD s e 0 ∷ bs)) ≡ none
-      by-kind h bs (same k) =
+      by-kind h bs (same z) =
           let p = d .run .place in
-          let five = d .stopped h k in
+          let five = d .stopped h z in
           let n = length-append f (getD s e 0 ∷ bs) in
           numberOf-long _ (omega arith)
-      by-kind h bs (other k) =
-          numberOf-bad _ (value-append f (getD s e 0 ∷ bs) 0 v (d .run .value) ∙ digitsValue-bad v _ bs k)
+      by-kind h bs (other z) =
+          numberOf-bad _ (value-append f (getD s e 0 ∷ bs) 0 v (d .run .value) ∙ digitsValue-bad v _ bs z)
 
       by-end : EndsAt s e → numberOf (fieldOf (drop at s)) ≡ none
       by-end (ended ends) =

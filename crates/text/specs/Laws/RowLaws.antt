@@ -23,20 +23,21 @@ use Rattle.text.specs.declared.row.RowRead.the-variants as row-read
 use Rattle.text.specs.declared.row.RowScan.{RowScan}
 use Rattle.text.specs.declared.row.RowScan.the-variants as row-scan
 use Rattle.text.specs.Bytes.{capital, comma, lineEnd, kindOf}
+use Rattle.text.specs.Bytes as bytes
 use Rattle.text.specs.Split.{split, indexOf, same?}
 use Rattle.text.specs.Numbers.{below, numberIn}
 use Rattle.text.specs.Lines.{Line, good, bad, checked, fieldsFrom, fieldsOf, consNumber, numbersOf}
 use Rattle.text.specs.Lines.{headBounds, stepBounds, rowLetter, rowCount, rowBounds, valueOr0, statesOf, rowFrom, rowOf}
-use Rattle.text.specs.Inner.NumberAt.{fieldOf, NumberRead}
+use Rattle.text.specs.Inner.NumberAt.{fieldOf}
 use Rattle.text.specs.Inner.PartAnswers.{Fields}
 use Rattle.text.specs.Inner.Row.{lineFields, fieldsAfter, LineAt, NoLineAt, RowBegins, separatorKind, prepend}
-use Rattle.text.specs.Inner.Row.{rowFields, RowTo, Caused, RowScanned, Past, RowRefused, RowAt}
+use Rattle.text.specs.Inner.Row.{rowFields, RowTo, Caused, RowScanned, PastNumber, RowRefused, RowAt}
 use Rattle.text.specs.Laws.ListLaws.{drop-next}
 use Rattle.text.specs.Laws.SplitLaws.{Is, same, other, is, indexOf-end, indexOf-cons}
 use Rattle.text.specs.Laws.FieldsLaws.{same?-byte, fields-good, fields-of-good}
 use Rattle.text.specs.Laws.LineFieldsLaws.{lineFields-field, lineEnd-field, fieldOf-follows, fieldsAfter-comma}
-use Rattle.text.specs.Laws.LineFieldsLaws.{fieldOf-length-le, letter-field}
-use Rattle.text.specs.Laws.NumberAtLaws.{fieldOf-end, fieldOf-cons}
+use Rattle.text.specs.Laws.LineFieldsLaws.{letter-field}
+use Rattle.text.specs.Laws.NumberAtLaws.{fieldOf-end, fieldOf-cons, kind-inside}
 use Rattle.text.specs.Laws.LineFieldsLaws.{fieldsAfter-lineEnd}
 
 -- ---- the kinds of rows
@@ -83,6 +84,14 @@ unfolding rowCount
 rowCount-le HeadRow = omega arith
 rowCount-le (StepRow h) = omega arith
 
+-- a comma or a line end
+separatorKind-some : (i n : ℕ) → separatorKind i n ≡ bytes.other → ⊥
+separatorKind-some i n h = go (is i n)
+  where
+    go : Is i n → ⊥
+    go (same e) = let k = sym (separatorKind-last i n e) ∙ h in omega (arith, k)
+    go (other e) = let k = sym (separatorKind-other i n e) ∙ h in omega (arith, k)
+
 -- ---- what reading some numbers came to
 
 module _ (row : Row) (text : List ℕ) (at : ℕ) (out : List ℕ) (i : ℕ) (r : RowScan) (s : RowScanned row text at out i r)
@@ -106,14 +115,6 @@ not-bad-value h e = let z : _≡_ {A = ℕ} 0 1 = cc in omega arith
 
 pub not-bad-outside : {number : Number} → number ≡ Outside → number ≡ BadDigits → ⊥
 not-bad-outside h e = let z : _≡_ {A = ℕ} 0 1 = cc in omega arith
-
-pub number-place-le : {b : Bounds} {s : List ℕ} {at e : ℕ} {number : Number} → NumberRead b s at number e → at ≤ length s
-    → (number ≡ BadDigits → ⊥) → e ≤ length s
-number-place-le {s = s} {at = at} n l h =
-    let p = n .place h in
-    let k = fieldOf-length-le (drop at s) in
-    let d = length-drop at s in
-    omega arith
 
 -- ---- numbers in front of others
 
@@ -410,19 +411,20 @@ module _ (row : Row) (text : List ℕ) (at : ℕ) where
             (λ l. prepend-outside outside (take i out) (take (i + 1) out) l)
 
       -- by what follows the number
-      module _ {e′ n : ℕ} (ended : e′ ≡ end) (numbered : n ≡ rowCount row) (outside′ : Bool) (out′ : List ℕ)
+      module _ {e′ follows due : ℕ} (ended : e′ ≡ end) (byte : follows ≡ kindOf (getD text e′ 0))
+          (separated : due ≡ separatorKind (i + 1) (rowCount row)) (outside′ : Bool) (out′ : List ℕ)
           (step : end < length text → kindOf (getD text end 0) ≡ separatorKind (i + 1) (rowCount row)
           → RowTo row text at outside′ out′ (i + 1) end) where
-        pub row-scanned : (r : RowScan) → Past text e′ (i + 1) n outside′ r → RowScanned row text at out′ (i + 1) r
-        unfolding Past RowScanned
+        here : follows ≡ kindOf (getD text end 0)
+        here = byte ∙ ap (λ (k : ℕ). kindOf (getD text k 0)) ended
+
+        pub row-scanned : (r : RowScan) → PastNumber e′ follows due outside′ r → RowScanned row text at out′ (i + 1) r
+        unfolding PastNumber RowScanned
         row-scanned (row-scan.To e″ o) p =
-            let ins : end < length text = rw ended at (p .2) in
-            let follows : kindOf (getD text end 0) ≡ separatorKind (i + 1) (rowCount row) = rw (ended, numbered) at (p .3) in
-            rw (p .0, p .1, ended) (step ins follows)
-        row-scanned (row-scan.Bad fault) p =
-            let q : end < length text → kindOf (getD text end 0) ≡ separatorKind (i + 1) (rowCount row) → ⊥ =
-            rw (ended, numbered) at (p .1) in
-            rw (p .0) (row-shape q)
+            let k : kindOf (getD text end 0) ≡ separatorKind (i + 1) (rowCount row) = sym here ∙ p .2 ∙ separated in
+            let ins = kind-inside text end _ k (separatorKind-some (i + 1) (rowCount row)) in
+            rw (p .0, p .1, ended) (step ins k)
+        row-scanned (row-scan.Bad fault) p = rw (p .0) (row-shape (λ ins k. p .1 (here ∙ k ∙ sym separated)))
 
 -- ---- rows that are refused
 

@@ -12,7 +12,7 @@ use Rattle.text.specs.Bytes.{digit, kindOf}
 use Rattle.text.specs.Inner.NumberAt.{DigitsTo}
 use Rattle.text.specs.Laws.BytesLaws.{digit-within}
 use Rattle.text.specs.Laws.NumbersLaws.{pow-next}
-use Rattle.text.specs.Laws.NumberAtLaws.{digits-none, digits-next}
+use Rattle.text.specs.Laws.NumberAtLaws.{kind-past, digits-none, digits-next}
 use Rattle.text.proofs.number.digits_at.Statement.{statement}
 use Rattle.text.proofs.number.digits_at.Tie as tie
 
@@ -55,6 +55,7 @@ returns c =
     let k = c .before in
     let i = k .before .before .before .loop .inv in
     record {
+      follows = k .kind .ensures;
       run = i .4;
       short = i .1;
       inside = i .2;
@@ -66,8 +67,9 @@ sub-if2 c = search needs
 
 returns-2 : tie.Need-returns-2 Inv-loop μ-loop
 returns-2 c =
-    let i = c .before .before .before .before .before .loop .inv in
-    record { run = i .4; short = i .1; inside = i .2; stopped = λ h z. omega arith }
+    let k = c .before .before in
+    let i = k .before .before .before .loop .inv in
+    record { follows = k .kind .ensures; run = i .4; short = i .1; inside = i .2; stopped = λ h z. omega arith }
 
 mul-value : tie.Need-mul-value Inv-loop μ-loop
 mul-value c = omega (arith, at-digit c)
@@ -106,8 +108,15 @@ loop-again c =
 
 returns-3 : tie.Need-returns-3 Inv-loop μ-loop
 returns-3 c =
-    let i = c .before .loop .inv in
-    record { run = i .4; short = i .1; inside = i .2; stopped = λ h z. absurd (omega arith) }
+    let l = c .before in
+    let i = l .loop .inv in
+    record {
+      follows = sym (kind-past (l .before .before .args .s .now) (l .loop .i) (omega arith));
+      run = i .4;
+      short = i .1;
+      inside = i .2;
+      stopped = λ h z. absurd (omega arith);
+    }
 
 pub digits-at-spec : {M : Type 1} → statement M
 digits-at-spec =

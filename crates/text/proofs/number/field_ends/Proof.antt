@@ -1,4 +1,4 @@
--- `field_ends` knows the byte at the place by its kind; at the text's end nothing stands there.
+-- `field_ends` knows the byte at the place by its kind; past the text's end nothing stands there.
 use mathlib.Core.Logic.{inl, inr, ⊎-elim}
 use mathlib.Core.Path.{sym, _∙_}
 use native.Mathlib.Omega.{arith}
@@ -9,24 +9,17 @@ use Rattle.text.proofs.number.field_ends.Tie as tie
 returns : tie.Need-returns
 returns c = λ h. absurd (omega arith)
 
-shared-slice-read-kind : tie.Need-shared-slice-read-kind
-shared-slice-read-kind c = search needs
-
-kind-requires : tie.Need-kind-requires
-kind-requires c κs = search needs
-
 returns-2 : tie.Need-returns-2
-returns-2 c = λ h. inl (sym (c .before .kind .ensures) ∙ c .if2 .taken)
+returns-2 c = λ h. inl (sym (c .before .before .pre) ∙ c .if2 .taken)
 
 returns-3 : tie.Need-returns-3
-returns-3 c = λ h. inr (sym (c .before .before .kind .ensures) ∙ c .if3 .taken)
+returns-3 c = λ h. inr (sym (c .before .before .before .pre) ∙ c .if3 .taken)
 
 returns-4 : tie.Need-returns-4
 returns-4 c =
     let d = c .before in
-    let e = d .before .kind .ensures in
+    let e = d .before .before .pre in
     λ ends. ⊎-elim (λ z. d .if2 .left (e ∙ z)) (λ z. c .if3 .left (e ∙ z)) (ends (omega arith))
 
 pub field-ends-spec : {M : Type 1} → statement M
-field-ends-spec =
-    tie.close (tie.spec returns shared-slice-read-kind kind-requires returns-2 returns-3 returns-4)
+field-ends-spec = tie.close (tie.spec returns returns-2 returns-3 returns-4)

@@ -19,7 +19,8 @@ returns c =
     let n = c .before in
     let not-shape = decides-refused (n .is-number .result) _ (n .is-number .ensures) (c .if1 .taken) in
     record {
-      read = ap (bounded _) (number-none _ _ _ _ (n .before .digits-at .ensures) not-shape);
+      follows = n .before .digits-at .ensures .follows;
+      read = ap (bounded _) (number-none _ _ _ _ _ (n .before .digits-at .ensures) not-shape);
       place = λ z. absurd (z refl);
     }
 
@@ -31,8 +32,12 @@ unfolding numberIn
 returns-2 c =
     let n = c .before .before in
     let shape = decides-passed (n .is-number .result) _ (n .is-number .ensures) (c .before .if1 .left) in
-    let w = number-some _ _ _ _ (n .before .digits-at .ensures) shape in
-    record { read = ap (bounded _) (w .0) ∙ sym (c .bounded-number .ensures); place = λ z. w .1 }
+    let w = number-some _ _ _ _ _ (n .before .digits-at .ensures) shape in
+    record {
+      follows = n .before .digits-at .ensures .follows;
+      read = ap (bounded _) (w .0) ∙ sym (c .bounded-number .ensures);
+      place = λ z. w .1;
+    }
 
 pub number-at-spec : {M : Type 1} → statement M
 number-at-spec =

@@ -1,25 +1,42 @@
--- `next_number` reads a number by its bounds, and tells what follows it.
-use mathlib.Core.Path.{_≡_, _∙_}
+-- `next_number` passes a free column, or reads a number by its bounds and tells what follows it.
+use mathlib.Core.Path.{sym, ap, _∙_}
+use Prim.Native.Nat.{ℕ, _-_, _≤_}
 use native.Mathlib.Omega.{arith}
-use lib.ListN.{length, length-set}
 use Rattle.text.specs.Inner.Row.{RowScanned}
-use Rattle.text.specs.Laws.RowLaws.{row-digits, row-value, row-outside, row-scanned}
-use Rattle.text.specs.Laws.RowLaws.{not-bad-value, not-bad-outside, number-place-le}
+use Rattle.text.specs.Inner.Columns.{columns, firstColumn}
+use Rattle.text.specs.Laws.RowLaws.{rowCount-le}
+use Rattle.text.specs.Laws.ColumnsLaws.{column-free, column-digits, column-outside, column-value}
 use borrow.Author.Needs.{needs}
 use Rattle.text.proofs.row.next_number.Statement.{statement}
 use Rattle.text.proofs.row.next_number.Tie as tie
 
+-- the column is one of the row's
+filled : (c : tie.Else1) → let s = c .before .before .before .before in firstColumn (s .args .row) ≤ s .args .column
+filled c = omega (arith, c .before .count-of .ensures)
+
+count-of-requires : tie.Need-count-of-requires
+count-of-requires c κs = search needs
+
+sub-if1 : tie.Need-sub-if1
+sub-if1 c = let s = c .before .before .before in omega (arith, c .count-of .ensures, rowCount-le (s .args .row))
+
+returns : tie.Need-returns
+returns c =
+    let n = c .before in
+    let s = n .before .before .before in
+    column-free _ _ _ _ _ _ _ (s .pre .0) (omega (arith, n .count-of .ensures))
+
 add-number-at : tie.Need-add-number-at
-add-number-at c = search needs
+add-number-at c = let s = c .before .before .before .before in omega (arith, s .pre .0 .row-to .inside)
 
 slice-read-bounds-of : tie.Need-slice-read-bounds-of
-slice-read-bounds-of c = search needs
+slice-read-bounds-of c = let s = c .before .before .before .before .before in omega (arith, s .pre .0 .width)
 
 bounds-of-requires : tie.Need-bounds-of-requires
-bounds-of-requires c κs = c .before .before .before .pre .1
+bounds-of-requires c κs = (filled (c .before), c .before .before .before .before .before .pre .1)
 
 number-at-requires : tie.Need-number-at-requires
-number-at-requires c κs = search needs
+number-at-requires c κs = let s = c .before .before .before .before .before .before in omega (arith, s .pre .0 .row-to .inside)
 
 enum-told : tie.Need-enum-told
 enum-told c = search needs
@@ -27,14 +44,11 @@ enum-told c = search needs
 enum-told-2 : tie.Need-enum-told-2
 enum-told-2 c = search needs
 
-add-past-number : tie.Need-add-past-number
-add-past-number c = search needs
+separator-requires : tie.Need-separator-requires
+separator-requires c κs = search needs
 
 past-number-requires : tie.Need-past-number-requires
-past-number-requires c κs =
-    let n = c .before .before in
-    let p = n .before .before .before .before .before .pre in
-    number-place-le (n .number-at .ensures) (omega (arith, p .0 .inside)) (not-bad-outside (c .enum-told2 .given .1))
+past-number-requires c κs = search needs
 
 enum-known-number : tie.Need-enum-known-number
 enum-known-number c = search needs
@@ -45,67 +59,63 @@ mul-out c = search needs
 slice-write-out : tie.Need-slice-write-out
 slice-write-out c = search needs
 
-add-past-number-2 : tie.Need-add-past-number-2
-add-past-number-2 c = search needs
+separator-requires-2 : tie.Need-separator-requires-2
+separator-requires-2 c κs = search needs
 
 past-number-requires-2 : tie.Need-past-number-requires-2
-past-number-requires-2 c κs =
-    let n = c .before .before .before in
-    let p = n .before .before .before .before .before .pre in
-    number-place-le (n .number-at .ensures) (omega (arith, p .0 .inside)) (not-bad-value (c .before .number .given .1))
-
-returns : tie.Need-returns
-unfolding RowScanned
-returns c =
-    let n = c .before .before in
-    let p = n .before .before .before .before .before .pre in
-    row-digits _ _ _ _ _ _ _ (p .0) (p .1) _ (n .before .bounds-of .ensures)
-    (n .number-at .ensures .read ∙ c .enum-told .given .1)
+past-number-requires-2 c κs = search needs
 
 returns-2 : tie.Need-returns-2
+unfolding RowScanned
 returns-2 c =
-    let t = c .before in
+    let n = c .before .before in
+    let e = n .before .before .before in
+    let s = e .before .before .before .before in
+    column-digits _ _ _ _ _ _ _ (s .pre .0) (filled e) (s .pre .1) _ (n .before .bounds-of .ensures)
+    (n .number-at .ensures) (c .enum-told .given .1)
+
+returns-3 : tie.Need-returns-3
+returns-3 c =
+    let t = c .before .before in
     let n = t .before .before in
-    let p = n .before .before .before .before .before .pre in
-    let b = n .before .bounds-of .ensures in
-    let read = n .number-at .ensures .read ∙ t .enum-told2 .given .1 in
-    row-scanned _ _ _ _ _ _ _ (p .0) (p .1) _ b (n .number-at .ensures .place (not-bad-outside (t .enum-told2 .given .1)))
-    (p .0 .out-length) _ _ (λ ins follows. row-outside _ _ _ _ _ _ _ (p .0) (p .1) _ b ins follows read)
-    (c .past-number .result) (c .past-number .ensures)
+    let e = n .before .before .before in
+    let s = e .before .before .before .before in
+    column-outside _ _ _ _ _ _ _ (s .pre .0) (filled e) (s .pre .1) _ (n .before .bounds-of .ensures)
+    (n .number-at .ensures) (c .before .separator .ensures) _ (t .enum-told2 .given .1) (c .past-number .ensures)
 
 same-length : tie.Need-same-length
 same-length c = search needs
 
-returns-3 : tie.Need-returns-3
-returns-3 c =
-    let v = c .before .before in
+returns-4 : tie.Need-returns-4
+returns-4 c =
+    let v = c .before .before .before in
     let n = v .before .before in
-    let p = n .before .before .before .before .before .pre in
-    let b = n .before .bounds-of .ensures in
-    let a = n .before .before .before .before .before .args in
-    let read = n .number-at .ensures .read ∙ v .number .given .1 in
-    row-scanned _ _ _ _ _ _ _ (p .0) (p .1) _ b (n .number-at .ensures .place (not-bad-value (v .number .given .1)))
-    (length-set (a .out .now) (a .i) _ ∙ p .0 .out-length) _ _ (λ ins follows. row-value _ _ _ _ _ _ _ (p .0) (p .1) _ b ins follows _ read)
-    (c .past-number2 .result) (c .past-number2 .ensures)
+    let e = n .before .before .before in
+    let s = e .before .before .before .before in
+    column-value _ _ _ _ _ _ _ (s .pre .0) (filled e) (s .pre .1) _ (n .before .bounds-of .ensures)
+    (n .number-at .ensures) (c .before .separator2 .ensures) _ _ (v .number .given .1) (c .past-number2 .ensures)
 
 pub next-number-spec : {M : Type 1} → statement M
 next-number-spec =
     tie.close
     (tie.spec
+    count-of-requires
+    sub-if1
+    returns
     add-number-at
     slice-read-bounds-of
     bounds-of-requires
     number-at-requires
     enum-told
     enum-told-2
-    add-past-number
+    separator-requires
     past-number-requires
     enum-known-number
     mul-out
     slice-write-out
-    add-past-number-2
+    separator-requires-2
     past-number-requires-2
-    returns
     returns-2
+    returns-3
     same-length
-    returns-3)
+    returns-4)

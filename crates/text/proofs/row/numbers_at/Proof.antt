@@ -1,21 +1,21 @@
--- `numbers_at` reads one number a turn, from where the one before it ended.
-use Prim.Native.Nat.{_-_, _≤_}
+-- `numbers_at` reads one column a turn, from where the one before it ended.
+use mathlib.Core.Path.{_≡_, refl, _∙_, subst}
+use Prim.Native.Nat.{ℕ, _-_, _≤_}
 use native.Mathlib.Omega.{arith}
 use lib.ListN.{length}
-use mathlib.Core.Path.{_≡_, refl, _∙_}
-use Rattle.text.specs.Lines.{rowCount}
 use Rattle.text.specs.Inner.Row.{RowTo, RowScanned}
-use Rattle.text.specs.Laws.RowLaws.{rowCount-le, scanned-to, scanned-fault}
+use Rattle.text.specs.Inner.Columns.{columns, firstColumn, numbersIn, ColumnsTo}
+use Rattle.text.specs.Laws.RowLaws.{scanned-to, scanned-fault}
 use borrow.Author.Needs.{needs}
 use Rattle.text.proofs.row.numbers_at.Statement.{statement}
 use Rattle.text.proofs.row.numbers_at.Tie as tie
 
 abbrev Inv-loop : tie.InvT-loop
-Inv-loop text at row out₀ end₀ outside₀ i₀ out end outside i =
-    (i ≤ rowCount row) × (length out ≡ length out₀) × RowTo row text at outside out i end
+Inv-loop text at row out₀ end₀ outside₀ column₀ out end outside column =
+    (column ≤ columns) × (length out ≡ length out₀) × ColumnsTo row text at outside out column end
 
 abbrev μ-loop : tie.MeasureT-loop
-μ-loop text at row out₀ end₀ outside₀ i₀ out end outside i = rowCount row - i
+μ-loop text at row out₀ end₀ outside₀ column₀ out end outside column = columns - column
 
 add-end : tie.Need-add-end Inv-loop μ-loop
 add-end c = search needs
@@ -24,9 +24,7 @@ loop-holds : tie.Need-loop-holds Inv-loop μ-loop
 loop-holds c = (omega arith, refl, c .before .before .pre)
 
 next-number-requires : tie.Need-next-number-requires Inv-loop μ-loop
-next-number-requires c κs =
-    let l = c .before .before in
-    (l .loop .inv .2, omega (arith, l .loop .inv .2 .out-length))
+next-number-requires c κs = let l = c .before .before in (l .loop .inv .2, omega arith)
 
 enum-known-scan : tie.Need-enum-known-scan Inv-loop μ-loop
 enum-known-scan c = search needs
@@ -44,10 +42,8 @@ returns c =
     let n = c .before .before .before .before in
     scanned-fault _ _ _ _ _ _ (n .next-number .ensures) _ _ (c .enum-told .given .1)
 
-add-i : tie.Need-add-i Inv-loop μ-loop
-add-i c =
-    let l = c .before .before .before .before .before .before .before .before in
-    omega (arith, l .loop .inv .0, rowCount-le (l .before .before .before .args .row))
+add-column : tie.Need-add-column Inv-loop μ-loop
+add-column c = search needs
 
 loop-less : tie.Need-loop-less Inv-loop μ-loop
 loop-less c = search needs
@@ -55,10 +51,14 @@ loop-less c = search needs
 loop-again : tie.Need-loop-again Inv-loop μ-loop
 loop-again c =
     let n = c .before .before .before .before .before in
-    let l = n .before .before .before in (
-      omega (arith, l .loop .inv .2 .out-length),
-      n .next-number .kept .1 .1 .1 .1 .1 .1 .0 ∙ l .loop .inv .1,
-      scanned-to _ _ _ _ _ _ (n .next-number .ensures) (c .before .scan .given .1),
+    let l = n .before .before .before in
+    let kept = n .next-number .kept .1 .1 .1 .1 .1 .1 .0 in (
+      omega arith,
+      kept ∙ l .loop .inv .1,
+      record {
+        width = kept ∙ l .loop .inv .2 .width;
+        row-to = scanned-to _ _ _ _ _ _ (n .next-number .ensures) (c .before .scan .given .1);
+      },
     )
 
 same-length-2 : tie.Need-same-length-2 Inv-loop μ-loop
@@ -68,8 +68,10 @@ returns-2 : tie.Need-returns-2 Inv-loop μ-loop
 unfolding RowScanned
 returns-2 c =
     let l = c .before in
-    let all : l .loop .i ≡ rowCount (l .before .before .before .args .row) = omega (arith, l .loop .inv .2 .out-length) in
-    rw (← all) (l .loop .inv .2)
+    let a = l .before .before .before .args in
+    let all : l .loop .column ≡ columns = omega arith in
+    subst (λ (k : ℕ). RowTo (a .row) (a .text .now) (a .at) (l .loop .outside) (numbersIn (a .row) (l .loop .out))
+    (k - firstColumn (a .row)) (l .loop .end)) all (l .loop .inv .2 .row-to)
 
 pub numbers-at-spec : {M : Type 1} → statement M
 numbers-at-spec =
@@ -84,7 +86,7 @@ numbers-at-spec =
     enum-told
     same-length
     returns
-    add-i
+    add-column
     loop-less
     loop-again
     same-length-2

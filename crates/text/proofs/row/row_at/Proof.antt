@@ -1,14 +1,15 @@
 -- `row_at` goes on to the numbers where the row begins well; where they have a fault, those that come before it are
 -- tested.
 use mathlib.Core.Logic.{inr}
-use mathlib.Core.Path.{_≡_, refl, sym, ap, _∙_, subst}
-use Prim.Native.Nat.{ℕ}
+use mathlib.Core.Path.{_≡_, sym, ap, _∙_, subst}
+use Prim.Native.Nat.{ℕ, _-_}
 use Rattle.text.specs.Bytes.{kindOf}
-use Rattle.text.specs.Lines.{rowLetter, rowCount}
 use Rattle.text.specs.Inner.Row.{RowBegins, RowTo, RowAt}
+use Rattle.text.specs.Inner.Columns.{columns, firstColumn, numbersIn}
 use Rattle.text.specs.Laws.DecidesLaws.{decides-passed, decides-refused}
-use Rattle.text.specs.Laws.RowLaws.{rowLetter-capital, row-begin, row-other, row-good, row-range}
+use Rattle.text.specs.Laws.RowLaws.{rowLetter-capital, row-other, row-good, row-range}
 use Rattle.text.specs.Laws.RowLaws.{scanned-to, scanned-bad}
+use Rattle.text.specs.Laws.ColumnsLaws.{columns-all, columns-begin}
 use borrow.Author.Needs.{needs}
 use Rattle.text.proofs.row.row_at.Statement.{statement}
 use Rattle.text.proofs.row.row_at.Tie as tie
@@ -16,8 +17,8 @@ use Rattle.text.proofs.row.row_at.Tie as tie
 -- the numbers are read
 scanned : (c : tie.After-scan2) → let n = c .before .before .before .before in
     let a = n .before .before .before .before .before .before .before .args in
-    RowTo (a .row) (a .text .now) (a .at) (c .scan2 .given .0 .1 .0) (n .numbers-at .last .1 .1 .1 .0) (rowCount (a .row))
-    (c .scan2 .given .0 .0)
+    RowTo (a .row) (a .text .now) (a .at) (c .scan2 .given .0 .1 .0) (numbersIn (a .row) (n .numbers-at .last .1 .1 .1 .0))
+    (columns - firstColumn (a .row)) (c .scan2 .given .0 .0)
 scanned c = scanned-to _ _ _ _ _ _ (c .before .before .before .before .numbers-at .ensures) (c .scan2 .given .1)
 
 letter-of-requires : tie.Need-letter-of-requires
@@ -34,9 +35,8 @@ row-fault-requires c κs =
     let s = b .before .before .before .before in
     let other = decides-refused (b .begins .result) _ (b .begins .ensures) (c .if1 .taken) in (
       s .pre .0,
-      s .pre .1,
-      row-other _ _ _
-          (λ x. other (subst (λ (l : ℕ). RowBegins l (s .args .text .now) (s .args .at)) (sym (b .before .letter-of .ensures)) x)),
+      row-other _ _ _ (λ x.
+          other (subst (λ (l : ℕ). RowBegins l (s .args .text .now) (s .args .at)) (sym (b .before .letter-of .ensures)) x)),
     )
 
 returns : tie.Need-returns
@@ -49,8 +49,9 @@ numbers-at-requires c κs =
     let b = e .before in
     let s = b .before .before .before .before in
     let begun = decides-passed (b .begins .result) _ (b .begins .ensures) (e .if1 .left) in
-    row-begin _ _ _ (subst (λ (l : ℕ). RowBegins l (s .args .text .now) (s .args .at)) (b .before .letter-of .ensures) begun)
-    _ (s .pre .1) (s .pre .2)
+    columns-begin _ _ _ _
+    (subst (λ (l : ℕ). RowBegins l (s .args .text .now) (s .args .at)) (b .before .letter-of .ensures) begun)
+    (s .pre .1) (s .pre .2)
 
 enum-known-scan : tie.Need-enum-known-scan
 enum-known-scan c = search needs
@@ -59,7 +60,7 @@ row-fault-requires-2 : tie.Need-row-fault-requires-2
 row-fault-requires-2 c κs =
     let n = c .before .before .before .before .before in
     let s = n .before .before .before .before .before .before .before in
-    (s .pre .0, s .pre .1, scanned-bad _ _ _ _ _ _ (n .numbers-at .ensures) (c .before .scan .given .1))
+    (s .pre .0, scanned-bad _ _ _ _ _ _ (n .numbers-at .ensures) (c .before .scan .given .1))
 
 enum-known-scan-2 : tie.Need-enum-known-scan-2
 enum-known-scan-2 c = search needs
@@ -69,7 +70,7 @@ same-length c = search needs
 
 returns-2 : tie.Need-returns-2
 unfolding RowAt
-returns-2 c = (_, inr (row-range _ _ _ _ _ _ _ (scanned (c .before .before)) refl (c .if2 .taken)))
+returns-2 c = (_, inr (row-range _ _ _ _ _ _ _ (scanned (c .before .before)) (columns-all _) (c .if2 .taken)))
 
 same-length-2 : tie.Need-same-length-2
 same-length-2 c = search needs
@@ -83,7 +84,7 @@ same-length-3 c = search needs
 
 returns-4 : tie.Need-returns-4
 unfolding RowAt
-returns-4 c = row-good _ _ _ _ _ _ _ (scanned (c .before .before)) refl (c .if2 .left)
+returns-4 c = row-good _ _ _ _ _ _ _ (scanned (c .before .before)) (columns-all _) (c .if2 .left)
 
 pub row-at-spec : {M : Type 1} → statement M
 row-at-spec =

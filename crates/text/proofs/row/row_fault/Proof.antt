@@ -15,21 +15,22 @@ use Rattle.text.proofs.row.row_fault.Statement.{statement}
 use Rattle.text.proofs.row.row_fault.Tie as tie
 
 -- the line has an end
-inside : (c : tie.After-fields) → let f = c .before .before .before .before in
+inside : (c : tie.After-fields) → let f = c .before .before .before .before .before in
     f .find .result < length (f .before .before .args .text .now)
 inside c =
-    let f = c .before .before .before .before in
+    let f = c .before .before .before .before .before in
     let n = found-le lineEnd _ _ _ (f .before .before .pre .0) (f .find .ensures) in
     omega arith
 
 -- whether it has the row's fields
-tested : (c : tie.After-fields) → let f = c .before .before .before .before in
+tested : (c : tie.After-fields) → let f = c .before .before .before .before .before in
     let a = f .before .before .args in
     Fields (rowLetter (a .row)) (rowCount (a .row)) (take (f .find .result - a .at) (drop (a .at) (a .text .now)))
     (c .fields .result)
 tested c =
-    let a = c .before .before .before .before .before .before in
-    fields-row (a .args .row) (a .args .text .now) (a .args .at) (c .before .letter-of .ensures) (a .pre .1)
+    let n = c .before in
+    let a = n .before .before .before .before .before .before in
+    fields-row (a .args .row) (a .args .text .now) (a .args .at) (n .before .letter-of .ensures) (n .count-of .ensures)
     (c .fields .ensures)
 
 find-requires : tie.Need-find-requires
@@ -52,22 +53,25 @@ part-fields-end c =
 letter-of-requires : tie.Need-letter-of-requires
 letter-of-requires c κs = search needs
 
+count-of-requires : tie.Need-count-of-requires
+count-of-requires c κs = search needs
+
 fields-requires : tie.Need-fields-requires
 fields-requires c κs =
-    let p = c .before .before .before .before .before .pre in
-    let row = c .before .before .before .before .before .args .row in
-    (ap kindOf (c .letter-of .ensures) ∙ rowLetter-capital row, omega (arith, p .1, rowCount-pos row))
+    let l = c .before in
+    let row = l .before .before .before .before .before .args .row in
+    (ap kindOf (l .letter-of .ensures) ∙ rowLetter-capital row, omega (arith, c .count-of .ensures, rowCount-pos row))
 
 returns-2 : tie.Need-returns-2
 returns-2 c =
-    let f = c .before .before .before .before .before in
+    let f = c .before .before .before .before .before .before in
     refused-shape _ _ _ _ (f .find .ensures) (inside (c .before))
     (tested (c .before) .no-fields (not-true _ (c .if2 .taken)))
 
 returns-3 : tie.Need-returns-3
 returns-3 c =
-    let f = c .before .before .before .before .before in
-    refused-numbers _ _ _ _ (f .find .ensures) (inside (c .before)) (f .before .before .pre .2) _
+    let f = c .before .before .before .before .before .before in
+    refused-numbers _ _ _ _ (f .find .ensures) (inside (c .before)) (f .before .before .pre .1) _
     (tested (c .before) .yes-fields (not-false _ (c .if2 .left)))
 
 pub row-fault-spec : {M : Type 1} → statement M
@@ -80,6 +84,7 @@ row-fault-spec =
     part-fields-start
     part-fields-end
     letter-of-requires
+    count-of-requires
     fields-requires
     returns-2
     returns-3)

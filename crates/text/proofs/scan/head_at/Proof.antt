@@ -40,7 +40,7 @@ array-read-t20 : tie.Need-array-read-t20
 array-read-t20 c = search needs
 
 returns-2 : tie.Need-returns-2
-unfolding HeadAt
+unfolding HeadAt rowCount
 returns-2 c =
     (_, head-stated _ _ _ _ (row-at-good _ _ _ _ _ (c .before .before .before .row-at .ensures) (c .enum-told .given .1)))
 

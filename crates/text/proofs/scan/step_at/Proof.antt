@@ -4,6 +4,7 @@ use native.Mathlib.Omega.{arith}
 use Rattle.text.specs.Lines.{rowCount}
 use Rattle.text.specs.Inner.Scan.{StepAtRead}
 use Rattle.text.specs.Laws.RowLaws.{row-at-good, row-at-bad}
+use Rattle.text.specs.Laws.ColumnsLaws.{stepNumbers-columns}
 use Rattle.text.specs.Laws.ScanLaws.{step-refused}
 use borrow.Author.Needs.{needs}
 use Rattle.text.proofs.scan.step_at.Statement.{statement}
@@ -44,7 +45,8 @@ returns c =
 returns-2 : tie.Need-returns-2
 returns-2 c =
     let r = c .before .before .before .before .before in
-    c .rising .ensures _ _ _ _ (row-at-good _ _ _ _ _ (r .row-at .ensures) (c .before .before .read2 .given .1)) refl
+    c .rising .ensures _ _ _ _ (row-at-good _ _ _ _ _ (r .row-at .ensures) (c .before .before .read2 .given .1))
+    (stepNumbers-columns (r .before .before .before .args .head) _)
 
 pub step-at-spec : {M : Type 1} → statement M
 step-at-spec =

@@ -1,0 +1,123 @@
+-- A row, column by column: the columns that it leaves free are passed, and the others hold its numbers.
+-- Assumes nothing. Only functions that read a row cite it.
+use mathlib.Core.Bool.{Bool, true, false}
+use mathlib.Core.List.{List, [], _∷_}
+use mathlib.Core.Path.{_≡_, refl, sym, ap, _∙_, subst}
+use Prim.Native.Nat.{ℕ, zero, suc, _+_, _-_, _≤_, _<_}
+use native.Mathlib.Omega.{arith}
+use lib.ListN.{length, drop, getD, set, length-drop}
+use lib.Seq.{getD-drop}
+use Rattle.text.specs.declared.Fault.the-variants.{Digits}
+use Rattle.text.specs.declared.Head.{Head}
+use Rattle.text.specs.declared.StepLine.{StepLine}
+use Rattle.text.specs.declared.number.Bounds.{Bounds}
+use Rattle.text.specs.declared.number.Number.{Number}
+use Rattle.text.specs.declared.number.Number.the-variants.{Value, BadDigits, Outside}
+use Rattle.text.specs.declared.row.Row.{Row}
+use Rattle.text.specs.declared.row.Row.the-variants.{HeadRow, StepRow}
+use Rattle.text.specs.declared.row.RowScan.{RowScan}
+use Rattle.text.specs.declared.row.RowScan.the-variants as row-scan
+use Rattle.text.specs.Numbers.{below}
+use Rattle.text.specs.Lines.{rowLetter, rowCount, rowBounds, stepNumbers}
+use Rattle.text.specs.Inner.NumberAt.{NumberRead}
+use Rattle.text.specs.Inner.Row.{RowBegins, separatorKind, RowTo, RowScanned, PastNumber, Caused}
+use Rattle.text.specs.Inner.Columns.{columns, firstColumn, numbersIn, ColumnsTo, ColumnsScanned}
+use Rattle.text.specs.Laws.SplitLaws.{Is, same, other, is}
+use Rattle.text.specs.Laws.RowLaws.{rowCount-le, separatorKind-last, separatorKind-other, not-bad-value}
+use Rattle.text.specs.Laws.RowLaws.{not-bad-outside, row-begin, row-digits, row-value, row-outside, row-scanned}
+
+-- a number that is stored in a column is stored among the numbers
+drop-set : (n j v : ℕ) (l : List ℕ) → drop n (set l (n + j) v) ≡ set (drop n l) j v
+drop-set zero j v l = ap (λ (k : ℕ). set l k v) (omega arith)
+drop-set (suc n) j v [] = refl
+drop-set (suc n) j v (x ∷ l) =
+    let one : suc n + j ≡ suc (n + j) = omega arith in
+    ap (λ (k : ℕ). drop (suc n) (set (x ∷ l) k v)) one ∙ drop-set n j v l
+
+-- the states of line 1 stand in its first column, and no other row asks for them
+rowBounds-column : (row : Row) (out : List ℕ) → rowBounds row (getD out 0 0) ≡ rowBounds row (getD (numbersIn row out) 0 0)
+unfolding rowBounds rowCount
+rowBounds-column HeadRow out = refl
+rowBounds-column (StepRow h) out = refl
+
+-- the columns hold all numbers of a row
+pub columns-all : (row : Row) → columns - firstColumn row ≡ rowCount row
+columns-all row = let l = rowCount-le row in omega arith
+
+pub columns-begin : (row : Row) (text : List ℕ) (at : ℕ) (out : List ℕ) → RowBegins (rowLetter row) text at
+    → length out ≡ columns → getD (numbersIn row out) 0 0 ≡ 0 → ColumnsTo row text at false out 0 (at + 1)
+columns-begin row text at out b w z =
+    let l = rowCount-le row in
+    let d = length-drop (firstColumn row) out in
+    let n : length (numbersIn row out) ≡ rowCount row = omega arith in
+    let none : 0 - firstColumn row ≡ 0 = omega arith in
+    record { width = w; row-to = rw none (row-begin row text at b (numbersIn row out) n z) }
+
+-- a step's numbers stand behind the first column
+pub stepNumbers-columns : (h : Head) (out : List ℕ) → stepNumbers (numbersIn (StepRow h) out)
+    ≡ record {
+      source = record { 0 = getD out 1 0 };
+      action = record { 0 = getD out 2 0 };
+      target = record { 0 = getD out 3 0 };
+    }
+unfolding rowCount
+stepNumbers-columns h out = rw (getD-drop 1 out 0 0, getD-drop 1 out 1 0, getD-drop 1 out 2 0)
+
+module _ (row : Row) (text : List ℕ) (at : ℕ) (outside : Bool) (out : List ℕ) (column e : ℕ)
+    (t : ColumnsTo row text at outside out column e) where
+  -- a column that the row leaves free
+  pub column-free : column < firstColumn row → ColumnsScanned row text at out (column + 1) (row-scan.To e outside)
+  unfolding RowScanned
+  column-free lt =
+      let z : column + 1 - firstColumn row ≡ column - firstColumn row = omega arith in
+      rw z (t .row-to)
+
+  module _ (filled : firstColumn row ≤ column) (lt : column < columns) (b : Bounds)
+      (given : b ≡ getD (rowBounds row (getD out 0 0)) (column - firstColumn row) (below 0))
+      {number : Number} {e′ k : ℕ} (n : NumberRead b text (e + 1) number e′ k) where
+    abbrev i : ℕ
+    i = column - firstColumn row
+
+    i-lt : i < rowCount row
+    i-lt = let l = rowCount-le row in omega arith
+
+    i-suc : column + 1 - firstColumn row ≡ i + 1
+    i-suc = omega arith
+
+    bounds : b ≡ getD (rowBounds row (getD (numbersIn row out) 0 0)) i (below 0)
+    bounds = given ∙ ap (λ (bs : List Bounds). getD bs i (below 0)) (rowBounds-column row out)
+
+    -- the last column is that of the last number
+    separator : separatorKind (column + 1) columns ≡ separatorKind (i + 1) (rowCount row)
+    separator = by-place (is (column + 1) columns)
+      where
+        by-place : Is (column + 1) columns → separatorKind (column + 1) columns ≡ separatorKind (i + 1) (rowCount row)
+        by-place (same z) =
+            let l = rowCount-le row in
+            separatorKind-last (column + 1) columns z ∙ sym (separatorKind-last (i + 1) (rowCount row) (omega (arith, z)))
+        by-place (other z) =
+            let l = rowCount-le row in
+            separatorKind-other (column + 1) columns z
+            ∙ sym (separatorKind-other (i + 1) (rowCount row) (λ y. z (omega (arith, y))))
+
+    pub column-digits : number ≡ BadDigits → Caused row text at Digits
+    column-digits h = row-digits row text at outside (numbersIn row out) i e (t .row-to) i-lt b bounds (n .read ∙ h)
+
+    module _ {due : ℕ} (separated : due ≡ separatorKind (column + 1) columns) (r : RowScan) where
+      pub column-outside : number ≡ Outside → PastNumber e′ k due true r → ColumnsScanned row text at out (column + 1) r
+      column-outside h p =
+          rw i-suc (row-scanned row text at outside (numbersIn row out) i e (t .row-to) i-lt b bounds
+          (n .place (not-bad-outside h)) (n .follows) (separated ∙ separator) true (numbersIn row out)
+          (λ ins follows. row-outside row text at outside (numbersIn row out) i e (t .row-to) i-lt b bounds ins follows
+          (n .read ∙ h)) r p)
+
+      pub column-value : (v : ℕ) → number ≡ Value v → PastNumber e′ k due outside r
+          → ColumnsScanned row text at (set out column v) (column + 1) r
+      column-value v h p =
+          let place : column ≡ firstColumn row + i = omega arith in
+          let stored : numbersIn row (set out column v) ≡ set (numbersIn row out) i v =
+          ap (λ (c : ℕ). drop (firstColumn row) (set out c v)) place ∙ drop-set (firstColumn row) i v out in
+          rw (stored, i-suc) (row-scanned row text at outside (numbersIn row out) i e (t .row-to) i-lt b bounds
+          (n .place (not-bad-value h)) (n .follows) (separated ∙ separator) outside (set (numbersIn row out) i v)
+          (λ ins follows. row-value row text at outside (numbersIn row out) i e (t .row-to) i-lt b bounds ins follows v
+          (n .read ∙ h)) r p)
