@@ -3,7 +3,7 @@ ghost use mathlib.Core.Path.{_≡_};
 ghost use Rattle.text.specs.Bytes.{kindOf};
 
 // The kinds, by document 01's numbers.
-pub const OTHER: u8 = 0;
+const OTHER: u8 = 0;
 
 pub const DIGIT: u8 = 1;
 

@@ -1,18 +1,14 @@
 // Number fields.
-use crate::bytes::COMMA;
 use crate::bytes::DIGIT;
-use crate::bytes::LINE_END;
-use crate::bytes::OTHER;
 use crate::bytes::kind;
 use crate::limits::DIGIT_LIMIT;
 ghost use mathlib.Core.Option.{some};
 ghost use mathlib.Core.Path.{_≡_};
 ghost use Prim.Native.Nat.{_≤_};
-ghost use lib.ListN.{length, getD};
-ghost use Rattle.text.specs.Bytes.{kindOf};
+ghost use lib.ListN.{length};
 ghost use Rattle.text.specs.Decides.{Decides};
 ghost use Rattle.text.specs.Numbers.{inBounds?, bounded};
-ghost use Rattle.text.specs.Inner.NumberAt.{DigitsAt, FieldEnds, NumberShape, NumberRead};
+ghost use Rattle.text.specs.Inner.NumberAt.{Separator, DigitsFound, FieldEnds, NumberShape, NumberRead};
 
 // The numbers that a field may hold: from `least` on, and below `limit`.
 pub struct Bounds {
@@ -28,19 +24,16 @@ pub enum Number {
     Outside,
 }
 
-// The number field at a place, the place after it, and the kind of the byte there; where its digits are bad, the place
-// after those that were read.
+// The number field at a place, and the place after it, where it has no bad digits.
 pub struct NumberAt {
     pub number: Number,
     pub end: usize,
-    pub follows: u8,
 }
 
-// The value of the digits at a place, the place after them, and the kind of the byte there. So a byte is looked at once.
-struct DigitsRead {
-    value: u32,
-    end: usize,
-    follows: u8,
+// The value of the digits at a place, and the place after them; or these bytes are no number.
+pub enum DigitsRead {
+    To { value: u32, end: usize },
+    Bad,
 }
 
 // Whether a number is within its bounds.
@@ -63,10 +56,10 @@ fn bounded_number(bounds: Bounds, n: u32) -> Number
     Number::Value(n as u16)
 }
 
-// The digits at a place, as many as a number has at most.
-fn digits_at(s: &[u8], at: usize) -> DigitsRead
-    requires { ⌜ at ≤ length (now s) ⌝ }
-    ensures { λ r. ⌜ DigitsAt (now (s .entry)) at (r .value) (r .end) (r .follows) ⌝ }
+// The digits at a place, as many as a number has at most, which a byte of the kind `due` follows.
+fn digits_at(s: &[u8], at: usize, due: u8) -> DigitsRead
+    requires { ⌜ (at ≤ length (now s)) × Separator due ⌝ }
+    ensures { λ r. ⌜ DigitsFound due (now (s .entry)) at r ⌝ }
 {
     let mut value: u32 = 0;
     let mut i = at;
@@ -74,54 +67,26 @@ fn digits_at(s: &[u8], at: usize) -> DigitsRead
         let b = s[i];
         let k = kind(b);
         if k != DIGIT {
-            return DigitsRead {
-                value,
-                end: i,
-                follows: k,
-            };
+            if k != due {
+                return DigitsRead::Bad;
+            }
+            return DigitsRead::To { value, end: i };
         }
         if DIGIT_LIMIT <= i - at {
-            return DigitsRead {
-                value,
-                end: i,
-                follows: k,
-            };
+            return DigitsRead::Bad;
         }
         value = value * 10 + (b as u32 - b'0' as u32);
         i += 1;
     }
-    DigitsRead {
-        value,
-        end: i,
-        follows: OTHER,
-    }
+    DigitsRead::Bad
 }
 
-// Whether a field ends at a place, where a byte of this kind stands: at a comma, a line end, or the text's end.
-fn field_ends(s: &[u8], end: usize, follows: u8) -> bool
-    requires { ⌜ follows ≡ kindOf (getD (now s) end 0) ⌝ }
-    ensures { λ r. ⌜ Decides r (FieldEnds (now (s .entry)) end) ⌝ }
-{
-    if s.len() <= end {
-        return true;
-    }
-    if follows == COMMA {
-        return true;
-    }
-    if follows == LINE_END {
-        return true;
-    }
-    false
-}
-
-// Whether the digits from a place on and below `end` are a number field: 1 to 5, of which the first of several is not 0.
-fn is_number(s: &[u8], at: usize, end: usize, follows: u8) -> bool
-    requires { ⌜ (at ≤ end) × (end ≤ length (now s)) × (follows ≡ kindOf (getD (now s) end 0)) ⌝ }
+// Whether the digits from a place on and below `end`, where their field ends, are a number: at least one, and the first
+// of several is not 0.
+fn is_number(s: &[u8], at: usize, end: usize) -> bool
+    requires { ⌜ (at ≤ end) × (end ≤ length (now s)) × FieldEnds (now s) end ⌝ }
     ensures { λ r. ⌜ Decides r (NumberShape (now (s .entry)) at end) ⌝ }
 {
-    if !field_ends(s, end, follows) {
-        return false;
-    }
     if end == at {
         return false;
     }
@@ -134,25 +99,26 @@ fn is_number(s: &[u8], at: usize, end: usize, follows: u8) -> bool
     true
 }
 
-// The number field at a place.
-pub fn number_at(s: &[u8], at: usize, bounds: Bounds) -> NumberAt
-    requires { ⌜ at ≤ length (now s) ⌝ }
-    ensures { λ r. ⌜ NumberRead bounds (now (s .entry)) at (r .number) (r .end) (r .follows) ⌝ }
+// The number field at a place, which a byte of the kind `due` follows. Where another byte or none follows, it counts as
+// bad digits: the line has then no end or other fields, which are told before them.
+pub fn number_at(s: &[u8], at: usize, due: u8, bounds: Bounds) -> NumberAt
+    requires { ⌜ (at ≤ length (now s)) × Separator due ⌝ }
+    ensures { λ r. ⌜ NumberRead bounds due (now (s .entry)) at (r .number) (r .end) ⌝ }
 {
-    let read = digits_at(s, at);
-    let value = read.value;
-    let end = read.end;
-    let follows = read.follows;
-    if !is_number(s, at, end, follows) {
+    let DigitsRead::To { value, end } = digits_at(s, at, due) else {
+        return NumberAt {
+            number: Number::BadDigits,
+            end: at,
+        };
+    };
+    if !is_number(s, at, end) {
         return NumberAt {
             number: Number::BadDigits,
             end,
-            follows,
         };
     }
     NumberAt {
         number: bounded_number(bounds, value),
         end,
-        follows,
     }
 }

@@ -23,7 +23,7 @@ ghost use Rattle.text.specs.Bytes.{capital, kindOf};
 ghost use Rattle.text.specs.Numbers.{below};
 ghost use Rattle.text.specs.Lines.{headBounds, stepBounds, rowLetter, rowCount, rowBounds, headFits?, stepFits?};
 ghost use Rattle.text.specs.Decides.{Decides};
-ghost use Rattle.text.specs.Inner.Row.{RowBegins, separatorKind, PastNumber, Caused, RowRefused, RowAt};
+ghost use Rattle.text.specs.Inner.Row.{RowBegins, separatorKind, BadNumbers, RowRefused, RowAt};
 ghost use Rattle.text.specs.Inner.Columns.{columns, numbersIn, ColumnsTo, ColumnsScanned};
 
 // Which line it is: line 1, or the line of a step in a model whose line 1 is known.
@@ -33,10 +33,10 @@ pub enum Row {
 }
 
 // How far the numbers of a row are read: the place after the last of them, and whether one of them is outside its
-// bounds; or the fault of the row, if its line has an end and the right fields.
+// bounds; or one has bad digits, if the line has an end and the right fields.
 pub enum RowScan {
     To { end: usize, outside: bool },
-    Bad(Fault),
+    Bad,
 }
 
 // A row: its numbers are stored, and its line ends at this place; or its fault.
@@ -183,16 +183,6 @@ fn separator(column: usize) -> u8
     COMMA
 }
 
-// Past a number that ends at a place, where a byte of one kind follows and one of another is due.
-fn past_number(end: usize, follows: u8, due: u8, outside: bool) -> RowScan
-    ensures { λ r. ⌜ PastNumber end follows due outside r ⌝ }
-{
-    if follows != due {
-        return RowScan::Bad(Fault::Shape);
-    }
-    RowScan::To { end, outside }
-}
-
 // The number in a column of a row, behind the byte at `end`: stored, if it is within its bounds.
 fn next_number(
     text: &[u8],
@@ -209,16 +199,19 @@ fn next_number(
     if column < COLUMNS - count_of(row) {
         return RowScan::To { end, outside };
     }
-    let read = number_at(text, end + 1, bounds_of(row, column, out[0]));
+    let bounds = bounds_of(row, column, out[0]);
+    let read = number_at(text, end + 1, separator(column), bounds);
     let next = read.end;
-    let follows = read.follows;
     let number = read.number;
     match number {
-        Number::BadDigits => RowScan::Bad(Fault::Digits),
-        Number::Outside => past_number(next, follows, separator(column), true),
+        Number::BadDigits => RowScan::Bad,
+        Number::Outside => RowScan::To {
+            end: next,
+            outside: true,
+        },
         Number::Value(v) => {
             out[column] = v;
-            past_number(next, follows, separator(column), outside)
+            RowScan::To { end: next, outside }
         }
     }
 }
@@ -243,10 +236,10 @@ fn numbers_at(text: &[u8], at: usize, row: Row, out: &mut [u16]) -> RowScan
     RowScan::To { end, outside }
 }
 
-// The fault of a row, where its numbers have one: a line without an end has this fault before any other, and one with
-// other fields has it before that of its numbers.
-fn row_fault(text: &[u8], at: usize, row: Row, fault: Fault) -> Fault
-    requires { ⌜ (at ≤ length (now text)) × Caused row (now text) at fault ⌝ }
+// The fault of a row, one of whose numbers has bad digits if all else is well: a line without an end, and one with other
+// fields, has that fault before this one.
+fn row_fault(text: &[u8], at: usize, row: Row) -> Fault
+    requires { ⌜ (at ≤ length (now text)) × BadNumbers row (now text) at ⌝ }
     ensures { λ r. ⌜ RowRefused row (now (text .entry)) at r ⌝ }
 {
     let e = find(text, at, LINE_END);
@@ -256,7 +249,7 @@ fn row_fault(text: &[u8], at: usize, row: Row, fault: Fault) -> Fault
     if !fields(&text[at..e], letter_of(row), count_of(row)) {
         return Fault::Shape;
     }
-    fault
+    Fault::Digits
 }
 
 // The row at a place, into columns of zeros.
@@ -265,16 +258,13 @@ pub fn row_at(text: &[u8], at: usize, row: Row, out: &mut [u16]) -> RowRead
     ensures { λ r. ⌜ RowAt row (now (text .entry)) at (numbersIn row (now (out .exit))) r ⌝ }
 {
     if !begins(text, at, letter_of(row)) {
-        return RowRead::Bad(row_fault(text, at, row, Fault::Shape));
+        return RowRead::Bad(row_fault(text, at, row));
     }
-    let scan = numbers_at(text, at, row, out);
-    match scan {
-        RowScan::Bad(fault) => RowRead::Bad(row_fault(text, at, row, fault)),
-        RowScan::To { end, outside } => {
-            if outside {
-                return RowRead::Bad(Fault::Range);
-            }
-            RowRead::Good(end)
-        }
+    let RowScan::To { end, outside } = numbers_at(text, at, row, out) else {
+        return RowRead::Bad(row_fault(text, at, row));
+    };
+    if outside {
+        return RowRead::Bad(Fault::Range);
     }
+    RowRead::Good(end)
 }

@@ -9,7 +9,7 @@ use Prim.Native.Nat.{ℕ, _+_, _-_, _≤_, _<_}
 use lib.Dec.{eqb}
 use lib.ListN.{length, take, drop, getD}
 use Rattle.text.specs.declared.Fault.{Fault}
-use Rattle.text.specs.declared.Fault.the-variants.{Absent, Shape, Range}
+use Rattle.text.specs.declared.Fault.the-variants.{Absent, Digits, Range}
 use Rattle.text.specs.declared.row.Row.{Row}
 use Rattle.text.specs.declared.row.RowScan.{RowScan}
 use Rattle.text.specs.declared.row.RowScan.the-variants as row-scan
@@ -80,21 +80,16 @@ pub record RowTo (row : Row) (text : List ℕ) (at : ℕ) (outside : Bool) (out 
       ≡ prepend outside (take i out)
       (numbersOf (drop i (rowBounds row (statesOf (rowFields text at)))) (fieldsAfter (drop e text)))
 
--- if the line at a place has an end and the fields of the row, its numbers have the fault
-pub record Caused (row : Row) (text : List ℕ) (at : ℕ) (fault : Fault) : Type 0 where
+-- if the line at a place has an end and the fields of the row, one of its numbers has bad digits
+pub record BadNumbers (row : Row) (text : List ℕ) (at : ℕ) : Type 0 where
   pub told : at + indexOf lineEnd (drop at text) < length text → (fs : List (List ℕ))
       → fieldsOf (rowLetter row) (rowCount row) (take (indexOf lineEnd (drop at text)) (drop at text)) ≡ good fs
-      → numbersOf (rowBounds row (statesOf fs)) fs ≡ bad fault
+      → numbersOf (rowBounds row (statesOf fs)) fs ≡ bad Digits
 
 -- what reading i numbers of the row at a place came to
 unfoldable pub RowScanned : Row → List ℕ → ℕ → List ℕ → ℕ → RowScan → Type 0
 RowScanned row text at out i (row-scan.To end outside) = RowTo row text at outside out i end
-RowScanned row text at out i (row-scan.Bad fault) = Caused row text at fault
-
--- past a number that ends at place e: the byte that is due follows, or the row has other fields
-unfoldable pub PastNumber : ℕ → ℕ → ℕ → Bool → RowScan → Type 0
-PastNumber e follows due outside (row-scan.To end found) = (end ≡ e) × (found ≡ outside) × (follows ≡ due)
-PastNumber e follows due outside (row-scan.Bad fault) = (fault ≡ Shape) × (follows ≡ due → ⊥)
+RowScanned row text at out i row-scan.Bad = BadNumbers row text at
 
 -- the row at a place is refused
 abbrev pub RowRefused : Row → List ℕ → ℕ → Fault → Type 0

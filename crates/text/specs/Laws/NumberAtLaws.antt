@@ -4,7 +4,7 @@ use mathlib.Core.Bool.{or-true}
 use mathlib.Core.List.{List, [], _∷_, _++_, append-assoc, append-nil}
 use mathlib.Core.Logic.{_⊎_, inl, inr}
 use mathlib.Core.Option.{none, some}
-use mathlib.Core.Path.{_≡_, refl, sym, ap, _∙_}
+use mathlib.Core.Path.{_≡_, refl, sym, ap, _∙_, subst}
 use Prim.Native.Nat.{ℕ, _+_, _-_, _*_, _≤_, _<_}
 use native.Mathlib.Omega.{arith}
 use lib.Dec.{eqb}
@@ -15,7 +15,10 @@ use Rattle.lts.specs.TestsLaws.{lt-or-le}
 use Rattle.text.specs.Bytes.{byteZero, digit, comma, lineEnd, kindOf}
 use Rattle.text.specs.Bytes as bytes
 use Rattle.text.specs.Numbers.{digitsValue, numberOf}
-use Rattle.text.specs.Inner.NumberAt.{AllDigits, DigitsTo, DigitsAt, FieldEnds, NumberShape, fieldOf}
+use Rattle.text.specs.Inner.NumberAt.{AllDigits, DigitsTo, DigitsAt, Separator, FieldEnds, NumberShape, fieldOf, Followed}
+use Rattle.text.specs.Inner.NumberAt.{DigitsFound}
+use Rattle.text.specs.declared.number.DigitsRead.{DigitsRead}
+use Rattle.text.specs.declared.number.DigitsRead.the-variants as digits-read
 use Rattle.text.specs.Laws.AllLaws.{all-append}
 use Rattle.text.specs.Laws.DigitsLaws.{value-append}
 use Rattle.text.specs.Laws.ListLaws.{drop-next}
@@ -175,3 +178,44 @@ module _ (s : List ℕ) (at v e k : ℕ) (d : DigitsAt s at v e k) where
           ap numberOf (field-ended ends) ∙ by-length ends (lt-or-le 1 (length f)) (lt-or-le 0 (length f))
       by-end (goes-on h w) =
           ap numberOf (field-digits ∙ ap (λ l. f ++ l) w) ∙ by-kind h _ (is (kindOf (getD s e 0)) digit)
+
+  -- where the digits end the field, what follows them follows it
+  pub digits-followed : FieldEnds s e → Followed k s at
+  digits-followed ends =
+      let p = d .run .place in
+      let n = ap length (field-ended ends) in
+      let z : at + length (fieldOf (drop at s)) ≡ e = omega arith in
+      ap (λ i. kindOf (getD s i 0)) z ∙ sym (d .follows)
+
+  -- another byte follows them than is due
+  pub number-other : (due : ℕ) → (k ≡ due → ⊥) → Followed due s at → numberOf (fieldOf (drop at s)) ≡ none
+  number-other due differs followed = by-end (ends-at s e)
+    where
+      by-end : EndsAt s e → numberOf (fieldOf (drop at s)) ≡ none
+      by-end (ended ends) = absurd (differs (sym (digits-followed ends) ∙ followed))
+      by-end (goes-on h w) =
+          number-none (λ shape. let n = ap length (sym w ∙ fieldOf-ended s e (shape .ends)) in omega arith)
+
+-- a separator ends a field
+pub separator-ends : (s : List ℕ) (e due : ℕ) → Separator due → due ≡ kindOf (getD s e 0) → FieldEnds s e
+separator-ends s e due (inl c) h l = inl (sym h ∙ c)
+separator-ends s e due (inr c) h l = inr (sym h ∙ c)
+
+pub separator-some : (due : ℕ) → Separator due → due ≡ bytes.other → ⊥
+separator-some due (inl c) h = omega (arith, c, h)
+separator-some due (inr c) h = omega (arith, c, h)
+
+pub separator-digit : (due : ℕ) → Separator due → due ≡ digit → ⊥
+separator-digit due (inl c) h = omega (arith, c, h)
+separator-digit due (inr c) h = omega (arith, c, h)
+
+-- what was found, by the answer
+pub digits-found : (due : ℕ) (s : List ℕ) (at : ℕ) (r : DigitsRead) {v e : ℕ} → r ≡ digits-read.To v e
+    → DigitsFound due s at r → DigitsAt s at v e due
+unfolding DigitsFound
+digits-found due s at r h f = subst (DigitsFound due s at) h f
+
+pub digits-bad : (due : ℕ) (s : List ℕ) (at : ℕ) (r : DigitsRead) → r ≡ digits-read.Bad → DigitsFound due s at r
+    → Followed due s at → numberOf (fieldOf (drop at s)) ≡ none
+unfolding DigitsFound
+digits-bad due s at r h f = subst (DigitsFound due s at) h f

@@ -23,21 +23,20 @@ use Rattle.text.specs.declared.row.RowRead.the-variants as row-read
 use Rattle.text.specs.declared.row.RowScan.{RowScan}
 use Rattle.text.specs.declared.row.RowScan.the-variants as row-scan
 use Rattle.text.specs.Bytes.{capital, comma, lineEnd, kindOf}
-use Rattle.text.specs.Bytes as bytes
 use Rattle.text.specs.Split.{split, indexOf, same?}
 use Rattle.text.specs.Numbers.{below, numberIn}
 use Rattle.text.specs.Lines.{Line, good, bad, checked, fieldsFrom, fieldsOf, consNumber, numbersOf}
 use Rattle.text.specs.Lines.{headBounds, stepBounds, rowLetter, rowCount, rowBounds, valueOr0, statesOf, rowFrom, rowOf}
-use Rattle.text.specs.Inner.NumberAt.{fieldOf}
+use Rattle.text.specs.Inner.NumberAt.{fieldOf, Separator}
 use Rattle.text.specs.Inner.PartAnswers.{Fields}
 use Rattle.text.specs.Inner.Row.{lineFields, fieldsAfter, LineAt, NoLineAt, RowBegins, separatorKind, prepend}
-use Rattle.text.specs.Inner.Row.{rowFields, RowTo, Caused, RowScanned, PastNumber, RowRefused, RowAt}
+use Rattle.text.specs.Inner.Row.{rowFields, RowTo, BadNumbers, RowScanned, RowRefused, RowAt}
 use Rattle.text.specs.Laws.ListLaws.{drop-next}
 use Rattle.text.specs.Laws.SplitLaws.{Is, same, other, is, indexOf-end, indexOf-cons}
 use Rattle.text.specs.Laws.FieldsLaws.{same?-byte, fields-good, fields-of-good}
 use Rattle.text.specs.Laws.LineFieldsLaws.{lineFields-field, lineEnd-field, fieldOf-follows, fieldsAfter-comma}
 use Rattle.text.specs.Laws.LineFieldsLaws.{letter-field}
-use Rattle.text.specs.Laws.NumberAtLaws.{fieldOf-end, fieldOf-cons, kind-inside}
+use Rattle.text.specs.Laws.NumberAtLaws.{fieldOf-end, fieldOf-cons, kind-inside, separator-some}
 use Rattle.text.specs.Laws.LineFieldsLaws.{fieldsAfter-lineEnd}
 
 -- ---- the kinds of rows
@@ -84,13 +83,12 @@ unfolding rowCount
 rowCount-le HeadRow = omega arith
 rowCount-le (StepRow h) = omega arith
 
--- a comma or a line end
-separatorKind-some : (i n : ℕ) → separatorKind i n ≡ bytes.other → ⊥
-separatorKind-some i n h = go (is i n)
+pub separatorKind-separator : (i n : ℕ) → Separator (separatorKind i n)
+separatorKind-separator i n = go (is i n)
   where
-    go : Is i n → ⊥
-    go (same e) = let k = sym (separatorKind-last i n e) ∙ h in omega (arith, k)
-    go (other e) = let k = sym (separatorKind-other i n e) ∙ h in omega (arith, k)
+    go : Is i n → Separator (separatorKind i n)
+    go (same e) = inr (separatorKind-last i n e)
+    go (other e) = inl (separatorKind-other i n e)
 
 -- ---- what reading some numbers came to
 
@@ -100,14 +98,14 @@ module _ (row : Row) (text : List ℕ) (at : ℕ) (out : List ℕ) (i : ℕ) (r 
     unfolding RowScanned
     scanned-to h = subst (RowScanned row text at out i) h s
 
-    pub scanned-bad : {fault : Fault} → r ≡ row-scan.Bad fault → Caused row text at fault
-    unfolding RowScanned
-    scanned-bad h = subst (RowScanned row text at out i) h s
-
     -- however many numbers are asked for
-    pub scanned-fault : {fault : Fault} (out′ : List ℕ) (j : ℕ) → r ≡ row-scan.Bad fault → RowScanned row text at out′ j r
+    pub scanned-bad : (out′ : List ℕ) (j : ℕ) → r ≡ row-scan.Bad → RowScanned row text at out′ j r
     unfolding RowScanned
-    scanned-fault out′ j h = subst (RowScanned row text at out′ j) (sym h) (scanned-bad h)
+    scanned-bad out′ j h = subst (RowScanned row text at out′ j) (sym h) (subst (RowScanned row text at out i) h s)
+
+    pub scanned-bad-numbers : r ≡ row-scan.Bad → BadNumbers row text at
+    unfolding RowScanned
+    scanned-bad-numbers h = subst (RowScanned row text at out i) h s
 
 -- a field with a number in or outside its bounds has no bad digits
 pub not-bad-value : {number : Number} {v : ℕ} → number ≡ Value v → number ≡ BadDigits → ⊥
@@ -302,59 +300,64 @@ module _ (row : Row) (text : List ℕ) (at : ℕ) where
           by-place (same z) = rw z (rowBounds-first row (getD out 0 0) (statesOf F) d)
           by-place (other z) = ap (λ (l : List Bounds). getD l i d) (t .bounds (omega (arith, z)))
 
-      left-numbers : numbersOf bs F
-          ≡ prepend outside (take i out) (consNumber (numberIn b f) (numbersOf (drop (i + 1) bs) (fieldsAfter (drop end text))))
-      left-numbers =
+      -- what the fields behind this one hold
+      abbrev rest : Line (List ℕ)
+      rest = numbersOf (drop (i + 1) bs) (fieldsAfter (drop end text))
+
+      left-numbers : {number : Number} → numberIn b f ≡ number
+          → numbersOf bs F ≡ prepend outside (take i out) (consNumber number rest)
+      left-numbers {number} read =
           let l = rowBounds-length row (statesOf F) in
           let k : i < length bs = omega arith in
           let q = given ∙ bounds-are (below 0) in
           t .numbers
           ∙ ap (λ (fs : List (List ℕ)). prepend outside (take i out) (numbersOf (drop i bs) fs)) left
           ∙ ap (prepend outside (take i out)) (numbersOf-cons bs i (below 0) f (fieldsAfter (drop end text)) k
-          ∙ ap (λ (x : Bounds). consNumber (numberIn x f) (numbersOf (drop (i + 1) bs) (fieldsAfter (drop end text)))) (sym q))
+          ∙ ap (λ (n : Number). consNumber n rest) (ap (λ (x : Bounds). numberIn x f) (sym q) ∙ read))
 
-      pub row-digits : numberIn b f ≡ BadDigits → Caused row text at Digits
+      -- in a line with the row's fields the right byte follows
+      in-line : at + indexOf lineEnd (drop at text) < length text → length F ≡ rowCount row
+          → kindOf (getD text end 0) ≡ separatorKind (i + 1) (rowCount row)
+      in-line h n =
+          let l = left-line in
+          let d = length-drop (e + 1) text in
+          let p = fieldOf-follows (drop (e + 1) text) (omega arith) in
+          by-kind (rw (getD-drop (e + 1) text (length f) 0) at p) (is (i + 1) (rowCount row))
+        where
+          after : {fs : List (List ℕ)} → fieldsAfter (getD text end 0 ∷ drop (end + 1) text) ≡ fs
+              → length (fieldsAfter (drop end text)) ≡ length fs
+          after g =
+              let l = left-line in
+              let ins : end < length text = omega arith in
+              ap length (ap fieldsAfter (drop-next text end ins) ∙ g)
+
+          by-kind : (kindOf (getD text end 0) ≡ comma) ⊎ (kindOf (getD text end 0) ≡ lineEnd)
+              → Is (i + 1) (rowCount row) → kindOf (getD text end 0) ≡ separatorKind (i + 1) (rowCount row)
+          by-kind (inl k) (same q) =
+              let m = after (fieldsAfter-comma (getD text end 0) (drop (end + 1) text) k
+                  ∙ lineFields-field (drop (end + 1) text)) in
+              let c = left-count in
+              absurd (omega arith)
+          by-kind (inl k) (other q) = k ∙ sym (separatorKind-other (i + 1) (rowCount row) q)
+          by-kind (inr k) (same q) = k ∙ sym (separatorKind-last (i + 1) (rowCount row) q)
+          by-kind (inr k) (other q) =
+              let m = after (fieldsAfter-lineEnd (getD text end 0) (drop (end + 1) text) k) in
+              let c = left-count in
+              absurd (q (omega arith))
+
+      -- bad digits, if the right byte follows
+      pub row-bad : (kindOf (getD text end 0) ≡ separatorKind (i + 1) (rowCount row) → numberIn b f ≡ BadDigits)
+          → BadNumbers row text at
       unfolding consNumber
-      row-digits bad-digits = record {
+      row-bad bad-digits = record {
         told = λ h fs g.
             let w = fields-are (t .begins) fs g in
             subst (λ (x : List (List ℕ)). numbersOf (rowBounds row (statesOf x)) x ≡ bad Digits) (w .0)
-            (left-numbers
-            ∙ ap (λ (n : Number). prepend outside (take i out)
-            (consNumber n (numbersOf (drop (i + 1) bs) (fieldsAfter (drop end text))))) bad-digits
-            ∙ prepend-bad outside (take i out) Digits);
+            (left-numbers (bad-digits (in-line h (w .1))) ∙ prepend-bad outside (take i out) Digits);
       }
 
-      -- another byte follows than the row has there
-      pub row-shape : (end < length text → kindOf (getD text end 0) ≡ separatorKind (i + 1) (rowCount row) → ⊥)
-          → Caused row text at Shape
-      row-shape wrong = record { told = λ h fs g. absurd (contrary h (fields-are (t .begins) fs g .1)) }
-        where
-          contrary : at + indexOf lineEnd (drop at text) < length text → length F ≡ rowCount row → ⊥
-          contrary h n =
-              let l = left-line in
-              let ins : end < length text = omega arith in
-              let d = length-drop (e + 1) text in
-              let p = fieldOf-follows (drop (e + 1) text) (omega arith) in
-              by-kind ins n (rw (getD-drop (e + 1) text (length f) 0) at p) (is (i + 1) (rowCount row))
-            where
-              by-kind : end < length text → length F ≡ rowCount row
-                  → (kindOf (getD text end 0) ≡ comma) ⊎ (kindOf (getD text end 0) ≡ lineEnd) → Is (i + 1) (rowCount row) → ⊥
-              by-kind ins n (inl k) (same q) = 
-                  let m = ap length (ap fieldsAfter (drop-next text end ins)
-                      ∙ fieldsAfter-comma (getD text end 0) (drop (end + 1) text) k ∙ lineFields-field (drop (end + 1) text)) in
-                  let c = left-count in
-                  omega arith
-              by-kind ins n (inl k) (other q) = wrong ins (k ∙ sym (separatorKind-other (i + 1) (rowCount row) q))
-              by-kind ins n (inr k) (same q) = wrong ins (k ∙ sym (separatorKind-last (i + 1) (rowCount row) q))
-              by-kind ins n (inr k) (other q) =
-                  let m = ap length (ap fieldsAfter (drop-next text end ins)
-                      ∙ fieldsAfter-lineEnd (getD text end 0) (drop (end + 1) text) k) in
-                  let c = left-count in
-                  q (omega arith)
-
       -- the number is read, and the right byte follows
-      module _ (number : Number) (read : numberIn b f ≡ number) (ins : end < length text)
+      module _ (number : Number) (read : numberIn b f ≡ number)
           (follows : kindOf (getD text end 0) ≡ separatorKind (i + 1) (rowCount row))
           (outside′ : Bool) (out′ : List ℕ) (same-length : length out′ ≡ length out)
           (kept : 0 < i → getD out′ 0 0 ≡ getD out 0 0) (stored : i ≡ 0 → getD out′ 0 0 ≡ valueOr0 number)
@@ -379,26 +382,23 @@ module _ (row : Row) (text : List ℕ) (at : ℕ) where
         row-next = record {
           begins = t .begins;
           out-length = same-length ∙ t .out-length;
-          inside = ins;
+          inside = kind-inside text end _ follows (separator-some _ (separatorKind-separator (i + 1) (rowCount row)));
           follows = follows;
           line-end = left-line;
           count = left-count;
           none = λ z. absurd (omega (arith, z));
           bounds = λ z. next-bounds;
-          numbers = left-numbers
-              ∙ ap (λ (n : Number). prepend outside (take i out)
-              (consNumber n (numbersOf (drop (i + 1) bs) (fieldsAfter (drop end text))))) read
-              ∙ numbers (numbersOf (drop (i + 1) bs) (fieldsAfter (drop end text)));
+          numbers = left-numbers read ∙ numbers rest;
         }
 
-      module _ (ins : end < length text) (follows : kindOf (getD text end 0) ≡ separatorKind (i + 1) (rowCount row)) where
+      module _ (follows : kindOf (getD text end 0) ≡ separatorKind (i + 1) (rowCount row)) where
         pub row-value : (v : ℕ) → numberIn b f ≡ Value v → RowTo row text at outside (set out i v) (i + 1) end
         unfolding valueOr0
         row-value v read =
             let n = t .out-length in
             let k : i < length out = omega arith in
             let one = add-one i in
-            row-next (Value v) read ins follows outside (set out i v) (length-set out i v)
+            row-next (Value v) read follows outside (set out i v) (length-set out i v)
             (λ p. getD-set-other out i 0 v 0 (λ z. omega (arith, z)))
             (λ z. ap (λ (j : ℕ). getD (set out j v) 0 0) z ∙ getD-set-same out 0 v 0 (omega (arith, z)))
             (λ l. prepend-value outside (take i out) v l
@@ -407,24 +407,8 @@ module _ (row : Row) (text : List ℕ) (at : ℕ) where
         pub row-outside : numberIn b f ≡ Outside → RowTo row text at true out (i + 1) end
         unfolding valueOr0
         row-outside read =
-            row-next Outside read ins follows true out refl (λ p. refl) (λ z. t .none z .1)
+            row-next Outside read follows true out refl (λ p. refl) (λ z. t .none z .1)
             (λ l. prepend-outside outside (take i out) (take (i + 1) out) l)
-
-      -- by what follows the number
-      module _ {e′ follows due : ℕ} (ended : e′ ≡ end) (byte : follows ≡ kindOf (getD text e′ 0))
-          (separated : due ≡ separatorKind (i + 1) (rowCount row)) (outside′ : Bool) (out′ : List ℕ)
-          (step : end < length text → kindOf (getD text end 0) ≡ separatorKind (i + 1) (rowCount row)
-          → RowTo row text at outside′ out′ (i + 1) end) where
-        here : follows ≡ kindOf (getD text end 0)
-        here = byte ∙ ap (λ (k : ℕ). kindOf (getD text k 0)) ended
-
-        pub row-scanned : (r : RowScan) → PastNumber e′ follows due outside′ r → RowScanned row text at out′ (i + 1) r
-        unfolding PastNumber RowScanned
-        row-scanned (row-scan.To e″ o) p =
-            let k : kindOf (getD text end 0) ≡ separatorKind (i + 1) (rowCount row) = sym here ∙ p .2 ∙ separated in
-            let ins = kind-inside text end _ k (separatorKind-some (i + 1) (rowCount row)) in
-            rw (p .0, p .1, ended) (step ins k)
-        row-scanned (row-scan.Bad fault) p = rw (p .0) (row-shape (λ ins k. p .1 (here ∙ k ∙ sym separated)))
 
 -- ---- rows that are refused
 
@@ -448,7 +432,7 @@ module _ (row : Row) (text : List ℕ) (at : ℕ) where
       }
 
   -- another beginning
-  pub row-other : ¬ (RowBegins (rowLetter row) text at) → Caused row text at Shape
+  pub row-other : ¬ (RowBegins (rowLetter row) text at) → BadNumbers row text at
   row-other no-begin = record { told = λ h fs g. absurd (no-begin (row-begins fs g)) }
 
   -- what the code tests is what the row has
@@ -473,11 +457,11 @@ module _ (row : Row) (text : List ℕ) (at : ℕ) where
       unfolding rowOf rowFrom
       refused-shape h = refused-line (ap (rowFrom row) h)
 
-      pub refused-numbers : {fault : Fault} → Caused row text at fault → (fs : List (List ℕ))
+      pub refused-digits : BadNumbers row text at → (fs : List (List ℕ))
           → fieldsOf (rowLetter row) (rowCount row) (take (e - at) (drop at text)) ≡ good fs
-          → RowRefused row text at fault
+          → RowRefused row text at Digits
       unfolding rowOf rowFrom
-      refused-numbers c fs h =
+      refused-digits c fs h =
           let l : at + indexOf lineEnd (drop at text) < length text = omega arith in
           refused-line (ap (rowFrom row) h ∙ c .told l fs (rw (sym length-line) h))
 

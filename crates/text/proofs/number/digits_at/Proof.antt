@@ -9,22 +9,23 @@ use lib.ListN.{length, getD}
 use borrow.Author.Needs.{needs}
 use Rattle.text.specs.Limits.{digitLimit}
 use Rattle.text.specs.Bytes.{digit, kindOf}
-use Rattle.text.specs.Inner.NumberAt.{DigitsTo}
+use Rattle.text.specs.Inner.NumberAt.{DigitsTo, DigitsFound}
 use Rattle.text.specs.Laws.BytesLaws.{digit-within}
 use Rattle.text.specs.Laws.NumbersLaws.{pow-next}
-use Rattle.text.specs.Laws.NumberAtLaws.{kind-past, digits-none, digits-next}
+use Rattle.text.specs.Laws.NumberAtLaws.{kind-past, digits-none, digits-next, number-other, separator-some}
+use Rattle.text.specs.Laws.NumberAtLaws.{separator-digit}
 use Rattle.text.proofs.number.digits_at.Statement.{statement}
 use Rattle.text.proofs.number.digits_at.Tie as tie
 
 abbrev Inv-loop : tie.InvT-loop
-Inv-loop s at value₀ i₀ value i =
+Inv-loop s at due value₀ i₀ value i =
     (at ≤ i) × (i ≤ at + digitLimit) × (i ≤ length s) × (value < 10 ^ (i - at)) × DigitsTo s at i value
 
 abbrev μ-loop : tie.MeasureT-loop
-μ-loop s at value₀ i₀ value i = length s - i
+μ-loop s at due value₀ i₀ value i = length s - i
 
 -- the byte is a digit, and the value so far has four digits at most
-at-digit : (c : tie.Else2 Inv-loop μ-loop)
+at-digit : (c : tie.Else3 Inv-loop μ-loop)
     → let l = c .before .before .before .before .before in
     let b = getD (l .before .before .args .s .now) (l .loop .i) 0 in
     (kindOf b ≡ digit) × (48 ≤ b) × (b ≤ 57) × (l .loop .value < 10000)
@@ -51,25 +52,47 @@ kind-requires : tie.Need-kind-requires Inv-loop μ-loop
 kind-requires c κs = search needs
 
 returns : tie.Need-returns Inv-loop μ-loop
+unfolding DigitsFound
 returns c =
-    let k = c .before in
+    let k = c .before .before in
     let i = k .before .before .before .loop .inv in
-    record {
+    number-other _ _ _ _ _ (record {
       follows = k .kind .ensures;
       run = i .4;
       short = i .1;
       inside = i .2;
-      stopped = λ h z. absurd (c .if1 .taken (k .kind .ensures ∙ z));
-    }
-
-sub-if2 : tie.Need-sub-if2 Inv-loop μ-loop
-sub-if2 c = search needs
+      stopped = λ h z. absurd (c .before .if1 .taken (k .kind .ensures ∙ z));
+    }) _ (c .if2 .taken)
 
 returns-2 : tie.Need-returns-2 Inv-loop μ-loop
+unfolding DigitsFound
 returns-2 c =
     let k = c .before .before in
     let i = k .before .before .before .loop .inv in
-    record { follows = k .kind .ensures; run = i .4; short = i .1; inside = i .2; stopped = λ h z. omega arith }
+    record {
+      follows = sym (c .if2 .left) ∙ k .kind .ensures;
+      run = i .4;
+      short = i .1;
+      inside = i .2;
+      stopped = λ h z. absurd (c .before .if1 .taken (k .kind .ensures ∙ z));
+    }
+
+sub-if3 : tie.Need-sub-if3 Inv-loop μ-loop
+sub-if3 c = search needs
+
+returns-3 : tie.Need-returns-3 Inv-loop μ-loop
+unfolding DigitsFound
+returns-3 c =
+    let k = c .before .before in
+    let l = k .before .before .before in
+    let i = l .loop .inv in
+    number-other _ _ _ _ _ (record {
+      follows = k .kind .ensures;
+      run = i .4;
+      short = i .1;
+      inside = i .2;
+      stopped = λ h z. omega arith;
+    }) _ (λ z. separator-digit _ (l .before .before .pre .1) (sym z ∙ c .before .if1 .left))
 
 mul-value : tie.Need-mul-value Inv-loop μ-loop
 mul-value c = omega (arith, at-digit c)
@@ -106,17 +129,19 @@ loop-again c =
       digits-next _ _ _ _ (l .loop .inv .4) lt (at-digit c .0),
     )
 
-returns-3 : tie.Need-returns-3 Inv-loop μ-loop
-returns-3 c =
+returns-4 : tie.Need-returns-4 Inv-loop μ-loop
+unfolding DigitsFound
+returns-4 c =
     let l = c .before in
     let i = l .loop .inv in
-    record {
-      follows = sym (kind-past (l .before .before .args .s .now) (l .loop .i) (omega arith));
+    let a = l .before .before in
+    number-other _ _ _ _ _ (record {
+      follows = sym (kind-past (a .args .s .now) (l .loop .i) (omega arith));
       run = i .4;
       short = i .1;
       inside = i .2;
       stopped = λ h z. absurd (omega arith);
-    }
+    }) _ (λ z. separator-some _ (a .pre .1) (sym z))
 
 pub digits-at-spec : {M : Type 1} → statement M
 digits-at-spec =
@@ -128,8 +153,9 @@ digits-at-spec =
     shared-slice-read-b
     kind-requires
     returns
-    sub-if2
     returns-2
+    sub-if3
+    returns-3
     mul-value
     cast-value
     cast-value-2
@@ -138,4 +164,4 @@ digits-at-spec =
     add-i
     loop-less
     loop-again
-    returns-3)
+    returns-4)

@@ -5,7 +5,7 @@ use native.Mathlib.Omega.{arith}
 use lib.ListN.{length}
 use Rattle.text.specs.Inner.Row.{RowTo, RowScanned}
 use Rattle.text.specs.Inner.Columns.{columns, firstColumn, numbersIn, ColumnsTo}
-use Rattle.text.specs.Laws.RowLaws.{scanned-to, scanned-fault}
+use Rattle.text.specs.Laws.RowLaws.{scanned-to, scanned-bad}
 use borrow.Author.Needs.{needs}
 use Rattle.text.proofs.row.numbers_at.Statement.{statement}
 use Rattle.text.proofs.row.numbers_at.Tie as tie
@@ -40,7 +40,7 @@ same-length c =
 returns : tie.Need-returns Inv-loop μ-loop
 returns c =
     let n = c .before .before .before .before in
-    scanned-fault _ _ _ _ _ _ (n .next-number .ensures) _ _ (c .enum-told .given .1)
+    scanned-bad _ _ _ _ _ _ (n .next-number .ensures) _ _ (c .enum-told .given .1)
 
 add-column : tie.Need-add-column Inv-loop μ-loop
 add-column c = search needs

@@ -8,18 +8,18 @@ use Rattle.text.specs.Inner.Row.{RowBegins, RowTo, RowAt}
 use Rattle.text.specs.Inner.Columns.{columns, firstColumn, numbersIn}
 use Rattle.text.specs.Laws.DecidesLaws.{decides-passed, decides-refused}
 use Rattle.text.specs.Laws.RowLaws.{rowLetter-capital, row-other, row-good, row-range}
-use Rattle.text.specs.Laws.RowLaws.{scanned-to, scanned-bad}
+use Rattle.text.specs.Laws.RowLaws.{scanned-to, scanned-bad-numbers}
 use Rattle.text.specs.Laws.ColumnsLaws.{columns-all, columns-begin}
 use borrow.Author.Needs.{needs}
 use Rattle.text.proofs.row.row_at.Statement.{statement}
 use Rattle.text.proofs.row.row_at.Tie as tie
 
 -- the numbers are read
-scanned : (c : tie.After-scan2) → let n = c .before .before .before .before in
+scanned : (c : tie.After-end) → let n = c .before .before .before .before in
     let a = n .before .before .before .before .before .before .before .args in
-    RowTo (a .row) (a .text .now) (a .at) (c .scan2 .given .0 .1 .0) (numbersIn (a .row) (n .numbers-at .last .1 .1 .1 .0))
-    (columns - firstColumn (a .row)) (c .scan2 .given .0 .0)
-scanned c = scanned-to _ _ _ _ _ _ (c .before .before .before .before .numbers-at .ensures) (c .scan2 .given .1)
+    RowTo (a .row) (a .text .now) (a .at) (c .end .given .0 .1 .0) (numbersIn (a .row) (n .numbers-at .last .1 .1 .1 .0))
+    (columns - firstColumn (a .row)) (c .end .given .0 .0)
+scanned c = scanned-to _ _ _ _ _ _ (c .before .before .before .before .numbers-at .ensures) (c .end .given .1)
 
 letter-of-requires : tie.Need-letter-of-requires
 letter-of-requires c κs = search needs
@@ -53,31 +53,31 @@ numbers-at-requires c κs =
     (subst (λ (l : ℕ). RowBegins l (s .args .text .now) (s .args .at)) (b .before .letter-of .ensures) begun)
     (s .pre .1) (s .pre .2)
 
-enum-known-scan : tie.Need-enum-known-scan
-enum-known-scan c = search needs
+enum-known-end : tie.Need-enum-known-end
+enum-known-end c = search needs
+
+enum-told : tie.Need-enum-told
+enum-told c = search needs
 
 row-fault-requires-2 : tie.Need-row-fault-requires-2
 row-fault-requires-2 c κs =
-    let n = c .before .before .before .before .before in
+    let n = c .before .before .before .before in
     let s = n .before .before .before .before .before .before .before in
-    (s .pre .0, scanned-bad _ _ _ _ _ _ (n .numbers-at .ensures) (c .before .scan .given .1))
-
-enum-known-scan-2 : tie.Need-enum-known-scan-2
-enum-known-scan-2 c = search needs
+    (s .pre .0, scanned-bad-numbers _ _ _ _ _ _ (n .numbers-at .ensures) (c .enum-told .given .1))
 
 same-length : tie.Need-same-length
 same-length c = search needs
 
 returns-2 : tie.Need-returns-2
 unfolding RowAt
-returns-2 c = (_, inr (row-range _ _ _ _ _ _ _ (scanned (c .before .before)) (columns-all _) (c .if2 .taken)))
+returns-2 c = c .row-fault2 .ensures
 
 same-length-2 : tie.Need-same-length-2
 same-length-2 c = search needs
 
 returns-3 : tie.Need-returns-3
 unfolding RowAt
-returns-3 c = c .row-fault2 .ensures
+returns-3 c = (_, inr (row-range _ _ _ _ _ _ _ (scanned (c .before .before)) (columns-all _) (c .if2 .taken)))
 
 same-length-3 : tie.Need-same-length-3
 same-length-3 c = search needs
@@ -95,9 +95,9 @@ row-at-spec =
     row-fault-requires
     returns
     numbers-at-requires
-    enum-known-scan
+    enum-known-end
+    enum-told
     row-fault-requires-2
-    enum-known-scan-2
     same-length
     returns-2
     same-length-2
