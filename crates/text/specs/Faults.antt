@@ -1,5 +1,5 @@
 -- What an operation tells, and the numbers of refusals.
--- Document 01, "Refused because of the input" and "Refused because of the state".
+-- Document 01, "Refused because of the input" and "Refused because of the state"; document 02, (i).
 use mathlib.Core.Bool.{cond}
 use mathlib.Core.List.{List, [], _∷_}
 use mathlib.Core.Option.{Option, none, some}
@@ -13,14 +13,16 @@ pub data Outcome : Type 0 where
   answers : List ℕ → Outcome
   refuses : (number place : ℕ) → Outcome
 
--- The number of each fault of a line:
--- "2: wrong letter, field count, digit form, level or name; a line that is missing or has no line end; bytes after
--- `E`",
--- "3: a number outside its range", "4: a name used before", "5: a step not above the one before it".
+-- The number of each fault of a line.
+-- Document 02, (i): "A field that isn't 1 to 5 digits without a leading zero gets its own refusal. So does a line that
+-- is absent or has no line end, and bytes after `E`. All else under 2 stays 2 [..]. Such fields get 31, such lines and
+-- bytes 32".
+-- Document 01: "2: wrong letter, field count, [..] level or name", "3: a number outside its range", "4: a name used
+-- before", "5: a step not above the one before it".
 abbrev pub faultNumber : Fault → ℕ
-faultNumber Absent = 2
+faultNumber Absent = 32
 faultNumber Shape = 2
-faultNumber Digits = 2
+faultNumber Digits = 31
 faultNumber Range = 3
 faultNumber Repeated = 4
 faultNumber Order = 5

@@ -48,9 +48,9 @@ pub fn fault_number(fault: Fault) -> u16
     ensures { λ r. ⌜ r ≡ faultNumber fault ⌝ }
 {
     match fault {
-        Fault::Absent => 2,
+        Fault::Absent => 32,
         Fault::Shape => 2,
-        Fault::Digits => 2,
+        Fault::Digits => 31,
         Fault::Range => 3,
         Fault::Repeated => 4,
         Fault::Order => 5,
