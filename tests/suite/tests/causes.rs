@@ -1,5 +1,5 @@
-//! What is told of a text that is not read: the number and the place of its first bad line. In a line 32 is tested first,
-//! then 2, then 31, then 3, then 4 or 5, each over the whole line. Through the operations, the program and the script.
+//! What is told of a text that is not read: the number and the place of its first bad line. In a line 32 is tested
+//! first, then 2, then 31, then 3, then 4 or 5, each over the whole line. By the operations, the program, the script.
 use std::collections::BTreeSet;
 use std::fs;
 use std::process::{Command, Output};
@@ -42,6 +42,9 @@ const REQUESTED: &[(&str, u16, u64)] = &[
     ("M,2,1,1,0\nA,H,print\nS,1,x\nE\n", 2, 3),
     ("M,200,3,4,x\n", 31, 1),
     ("M,200,3,4,0\n", 3, 1),
+    // the first bad line decides, also where a later one is absent or bytes stand after `E`
+    ("M,1,1,1,0\nA,H,print\nS,0,,0\n", 31, 3),
+    ("M,1,1,0,0\nA,h,print\nE\nx", 2, 2),
 ];
 
 /// Another line in place of one of the worked example's: its place, which is the refusal's, and the number.
