@@ -67,10 +67,12 @@ extern "C" {
 
 /* Refusals: of a text, by till_read. */
 #define TILL_TOO_LONG 1 /* more than TILL_TEXT_LIMIT bytes */
-#define TILL_FORM 2     /* wrong letter, field count, digits, level or name; a line that is missing; bytes after E */
+#define TILL_FORM 2     /* wrong letter, field count, level or name */
 #define TILL_RANGE 3    /* a number outside its range */
 #define TILL_REPEATED 4 /* a name used before */
 #define TILL_ORDER 5    /* a step not above the one before it */
+#define TILL_DIGITS 31  /* a number field that is not 1 to 5 digits without a leading zero */
+#define TILL_ABSENT 32  /* a line that is absent or has no line end; bytes after E */
 
 /* Refusals: of what a call finds. */
 #define TILL_SHORT_LIST 21        /* a list below its least length */

@@ -16,7 +16,7 @@ pub fn models_to_damage(rng: &mut Rng, random: usize) -> Vec<Model> {
     models
 }
 
-/// Of every kind of fault at every kind of line, one that is picked at random.
+/// Of every kind of fault and every cause at every kind of line, one that is picked at random.
 pub fn one_of_each(rng: &mut Rng, model: &Model) -> Vec<Fault> {
     let faults = gen::faults(model);
     let text = model.to_text();
@@ -29,7 +29,7 @@ pub fn one_of_each(rng: &mut Rng, model: &Model) -> Vec<Fault> {
             0 => None,
             place => letters.get(place as usize - 1),
         };
-        if seen.insert((fault.what, line)) {
+        if seen.insert((fault.what, fault.cause, line)) {
             picked.push(fault.clone());
         }
     }

@@ -53,9 +53,14 @@ fn the_examples() {
 
 #[test]
 fn sizes() {
-    assert_eq!(same(b""), b"F,2,1\n");
-    for byte in [b'\n', b'E', 0, 255] {
-        assert_eq!(same(&[byte; LONGEST]), b"F,2,1\n");
+    assert_eq!(same(b""), b"F,32,1\n");
+    for (byte, line) in [
+        (b'\n', &b"F,2,1\n"[..]),
+        (b'E', b"F,32,1\n"),
+        (0, b"F,32,1\n"),
+        (255, b"F,32,1\n"),
+    ] {
+        assert_eq!(same(&[byte; LONGEST]), line);
         assert_eq!(same(&[byte; LONGEST + 1]), b"F,1,0\n");
         assert_eq!(same(&[byte; 20_000]), b"F,1,0\n");
     }
@@ -64,9 +69,12 @@ fn sizes() {
         let mut text = model.to_text();
         let page = same(&text);
         assert!(page.starts_with(b"V,"));
-        for length in [LONGEST, LONGEST + 1, 20_000, 200_000] {
+        let after_end = 1 + model.actions.len() + model.steps.len() + 2;
+        text.resize(LONGEST, b'\n');
+        assert_eq!(same(&text), format!("F,32,{after_end}\n").into_bytes());
+        for length in [LONGEST + 1, 20_000, 200_000] {
             text.resize(length, b'\n');
-            assert!(same(&text).starts_with(b"F,"));
+            assert_eq!(same(&text), b"F,1,0\n");
         }
     }
 }
@@ -97,10 +105,10 @@ fn a_slow_pipe() {
         same_in_pieces(&pieces, pause);
     }
     // nothing at all, each byte by itself, and bytes that come after all else
-    assert_eq!(same_in_pieces(&[b"", b""], pause), b"F,2,1\n");
+    assert_eq!(same_in_pieces(&[b"", b""], pause), b"F,32,1\n");
     let bytes: Vec<&[u8]> = WORKED.chunks(1).collect();
     assert_eq!(same_in_pieces(&bytes, pause), WORKED_PAGE);
-    assert_eq!(same_in_pieces(&[WORKED, b"\n"], pause), b"F,2,10\n");
+    assert_eq!(same_in_pieces(&[WORKED, b"\n"], pause), b"F,32,10\n");
     let full = [b'\n'; LONGEST];
     assert_eq!(same_in_pieces(&[&full, b"\n"], pause), b"F,1,0\n");
     let (first, last) = WORKED.split_at(WORKED.len() - 1);

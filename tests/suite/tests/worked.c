@@ -1,5 +1,5 @@
-/* The worked example through the operations as a C program calls them. It prints the page. The numbers are the scope
-   document's; the first that differs is told, and the program then ends with 1. */
+/* The worked example, and texts that are refused, through the operations as a C program calls them. It prints the
+   page. The numbers are the documents'; the first that differs is told, and the program then ends with 1. */
 #include <stdio.h>
 #include <stdlib.h>
 #include <string.h>
@@ -17,6 +17,9 @@ _Static_assert(TILL_RUN == 127, "run");
 _Static_assert(TILL_WORD == 127, "word");
 _Static_assert(TILL_PAGE == 5000, "page");
 _Static_assert(TILL_WRITTEN == 14420, "written");
+_Static_assert(TILL_TOO_LONG == 1 && TILL_FORM == 2 && TILL_RANGE == 3, "refusals of a text");
+_Static_assert(TILL_REPEATED == 4 && TILL_ORDER == 5, "refusals of a text");
+_Static_assert(TILL_DIGITS == 31 && TILL_ABSENT == 32, "refusals of a text");
 
 static const char text[] = "M,4,3,4,0\nA,L,scan\nA,H,print\nA,D,close\n"
                            "S,0,0,1\nS,0,1,2\nS,1,0,1\nS,2,0,3\nE\n";
@@ -106,6 +109,29 @@ static void reads(void) {
     expect_store();
 }
 
+/* A text for each refusal of a text, which is told by its name. */
+static void refuses_texts(void) {
+    static const struct {
+        const char *text;
+        uint64_t number, place;
+    } bad[] = {
+        {"M,4,3,4,0\nA,X,scan\n", TILL_FORM, 2},
+        {"M,4,3,4,0\nA,L,scan\nA,H,print\nA,D,close\nS,0,0,4\n", TILL_RANGE, 5},
+        {"M,4,3,4,0\nA,L,scan\nA,H,scan\n", TILL_REPEATED, 3},
+        {"M,4,3,4,0\nA,L,scan\nA,H,print\nA,D,close\nS,0,0,1\nS,0,0,0\n", TILL_ORDER, 6},
+        {"M,200,3,4,x\n", TILL_DIGITS, 1},
+        {"M,4,3,4,0\nA,X", TILL_ABSENT, 2},
+        {"", TILL_ABSENT, 1},
+    };
+    memset(store, 7, sizeof store);
+    for (size_t i = 0; i < sizeof bad / sizeof *bad; i++)
+        refuses(bad[i].text, till_read((const uint8_t *)bad[i].text, strlen(bad[i].text), store, TILL_STORE),
+                bad[i].number, bad[i].place);
+    static uint8_t too_long[TILL_TEXT_LIMIT + 1];
+    refuses("a long text", till_read(too_long, sizeof too_long, store, TILL_STORE), TILL_TOO_LONG, 0);
+    for (size_t i = 0; i <= TILL_STORE; i++) expect("a number of the store", store[i], 0x0707);
+}
+
 static void judges(void) {
     forget();
     answers("Reach", till_reach(store, TILL_STORE, distances, TILL_DISTANCES), 0, 0, 0);
@@ -166,7 +192,7 @@ static void tells(void) {
     expect_table();
     expect_word();
     told = tell(TEXT_LENGTH - 1);
-    refuses("Read", told.read, TILL_FORM, 9);
+    refuses("Read", told.read, TILL_ABSENT, 9);
     answers("Judge", told.judge, 0, 0, 0);
     answers("Word", told.word, 0, 0, 0);
     expect("no verdict", (uint64_t)(till_refused(told.judge) + till_passed(told.judge)), 0);
@@ -180,12 +206,13 @@ static TillAnswer print(size_t length) {
 }
 
 int main(void) {
+    refuses_texts();
     reads();
     judges();
     shows();
     tells();
-    answers("print", print(TEXT_LENGTH - 1), 1, 6, 0);
-    expect_out("F,2,9\n", 6);
+    answers("print", print(TEXT_LENGTH - 1), 1, 7, 0);
+    expect_out("F,32,9\n", 7);
     answers("print", print(TEXT_LENGTH), 1, PAGE_LENGTH, 0);
     expect_out(page, PAGE_LENGTH);
     return fwrite(out, 1, PAGE_LENGTH, stdout) == PAGE_LENGTH ? 0 : 1;

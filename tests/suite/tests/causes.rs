@@ -1,0 +1,292 @@
+//! What is told of a text that is not read: the number and the place of its first bad line. In a line 32 is tested
+//! first, then 2, then 31, then 3, then 4 or 5, each over the whole line. By the operations, the program, the script.
+use std::collections::BTreeSet;
+use std::fs;
+use std::process::{Command, Output};
+
+use second::gen::{self, BadLine};
+use second::{text, Refusal};
+use suite::bench::{root, WORKED};
+use suite::command::run;
+use suite::lists::Lists;
+use suite::operations::{PRINT, READ, TELL};
+use suite::texts::models_to_damage;
+
+const SEED: u64 = 7_900;
+
+/// Texts of the causes that request (i) names, each with its number and its place.
+const REQUESTED: &[(&str, u16, u64)] = &[
+    // the empty text
+    ("", 32, 1),
+    // an empty field, six digits, a sign, a blank; five digits are too large a number
+    ("M,1,1,1,0\nA,H,print\nS,0,,0\nE\n", 31, 3),
+    ("M,1,1,1,0\nA,H,print\nS,0,0,100000\nE\n", 31, 3),
+    ("M,1,1,1,0\nA,H,print\nS,0,0,99999\nE\n", 3, 3),
+    ("M,1,1,1,0\nA,H,print\nS,-0,0,0\nE\n", 31, 3),
+    ("M,1,1,1,0\nA,H,print\nS,0, 0,0\nE\n", 31, 3),
+    // a leading zero
+    ("M,01,1,0,0\nA,H,print\nE\n", 31, 1),
+    // a line that is absent, one that has no line end
+    ("M,1,1,0,0\nA,H,print\n", 32, 3),
+    ("M,1,1,0,0\nA,H,print\nE", 32, 3),
+    // bytes after `E`, a lone line end too
+    ("M,1,1,0,0\nA,H,print\nE\nx", 32, 4),
+    ("M,1,1,0,0\nA,H,print\nE\n\n", 32, 4),
+    // letter, field count, level and name stay
+    ("M,1,1,0,0\na,H,print\nE\n", 2, 2),
+    ("M,1,1,0,0\nA,print\nE\n", 2, 2),
+    ("M,1,1,0,0\nA,h,print\nE\n", 2, 2),
+    ("M,1,1,0,0\nA,H,Print\nE\n", 2, 2),
+    // 32 first, then 2, then 31, then 3, each over the whole line
+    ("M,1,1,0,0\nA,X", 32, 2),
+    ("M,2,1,1,0\nA,H,print\nS,1,x\nE\n", 2, 3),
+    ("M,200,3,4,x\n", 31, 1),
+    ("M,200,3,4,0\n", 3, 1),
+    // the first bad line decides, also where a later one is absent or bytes stand after `E`
+    ("M,1,1,1,0\nA,H,print\nS,0,,0\n", 31, 3),
+    ("M,1,1,0,0\nA,h,print\nE\nx", 2, 2),
+];
+
+/// Another line in place of one of the worked example's: its place, which is the refusal's, and the number.
+const LINES: &[(usize, &str, u16)] = &[
+    // in each field of a number: not 1 to 5 digits, and not in its range
+    (1, "M,,3,4,0", 31),
+    (1, "M,4,+3,4,0", 31),
+    (1, "M,4,3,000004,0", 31),
+    (1, "M,4,3,4,00", 31),
+    (1, "M,129,3,4,0", 3),
+    (1, "M,4,65,4,0", 3),
+    (1, "M,4,3,1025,0", 3),
+    (1, "M,4,3,4,4", 3),
+    (6, "S,a,1,2", 31),
+    (6, "S,0,1 ,2", 31),
+    (6, "S,0,1,2\r", 31),
+    (6, "S,4,1,2", 3),
+    (6, "S,0,3,2", 3),
+    (6, "S,0,1,4", 3),
+    // five digits, and six
+    (1, "M,99999,3,4,0", 3),
+    (1, "M,100000,3,4,0", 31),
+    (1, "M,65540,3,4,0", 3),
+    (1, "M,4,3,4,65536", 3),
+    (6, "S,65536,1,2", 3),
+    (6, "S,0,65537,2", 3),
+    // 31 before 3, whichever stands first
+    (1, "M,x,3,4,4", 31),
+    (1, "M,200,3,4,x", 31),
+    (6, "S,99999,1,100000", 31),
+    (6, "S,100000,1,99999", 31),
+    // both before 5
+    (6, "S,0,0,1", 5),
+    (6, "S,0,0,x", 31),
+    (6, "S,0,0,4", 3),
+    // 2 before all of them
+    (1, "M,200,3,x", 2),
+    (1, "M,200,3,4,x,", 2),
+    (1, "X,200,3,4,x", 2),
+    (6, "S,0,x", 2),
+    (6, "S,4,x,0,", 2),
+    (6, "S,0,0,1,0", 2),
+    (6, "X,0,0,1", 2),
+    (6, "", 2),
+    // no field of an action is a number; 2 before 4
+    (3, "A,0,print", 2),
+    (3, "A,H,", 2),
+    (3, "A,H,-1", 2),
+    (3, "A,H,scan", 4),
+    (3, "A,X,scan", 2),
+    (3, "A,H,scan,", 2),
+    (3, "A,X", 2),
+    // the last line has no field
+    (9, "e", 2),
+    (9, "E,", 2),
+    (9, "E\r", 2),
+    (9, "S,2,0,x", 2),
+];
+
+/// What stands after `E` has no part in the number.
+const AFTER_END: &[&[u8]] = &[
+    b"\n",
+    b"\n\n",
+    b"\0",
+    b" ",
+    b"E",
+    b"E\n",
+    b"A,X",
+    b"M,200,3,4,x\n",
+];
+
+/// The worked example with other bytes in place of a line, which is counted from 1; or ending with them.
+fn worked_with(place: usize, bytes: &str, goes_on: bool) -> Vec<u8> {
+    let lines: Vec<&[u8]> = WORKED.split_inclusive(|&byte| byte == b'\n').collect();
+    let rest = if goes_on { &lines[place..] } else { &[] };
+    [
+        &lines[..place - 1].concat(),
+        bytes.as_bytes(),
+        &rest.concat(),
+    ]
+    .concat()
+}
+
+/// Texts with their refusals.
+fn cases() -> Vec<(Vec<u8>, Refusal)> {
+    let mut cases = Vec::new();
+    for &(text, number, place) in REQUESTED {
+        cases.push((text.as_bytes().to_vec(), Refusal::new(number, place)));
+    }
+    for &(place, line, number) in LINES {
+        let told = |number| Refusal::new(number, place as u64);
+        let ended = worked_with(place, &format!("{line}\n"), true);
+        cases.push((ended, told(number)));
+        cases.push((worked_with(place, line, false), told(32)));
+    }
+    // A text that is cut off is told at the line where it ends.
+    let mut place = 1;
+    for (length, &byte) in WORKED.iter().enumerate() {
+        cases.push((WORKED[..length].to_vec(), Refusal::new(32, place)));
+        place += u64::from(byte == b'\n');
+    }
+    for bytes in AFTER_END {
+        cases.push(([WORKED, bytes].concat(), Refusal::new(32, 10)));
+    }
+    cases
+}
+
+fn line_of(refusal: Refusal) -> String {
+    format!("F,{},{}\n", refusal.number, refusal.place)
+}
+
+/// Read and `tell` refuse the text so and leave every list as it was; `print` prints it.
+fn refused(text: &[u8], expected: Refusal, before: &Lists) {
+    let _case = gen::text_case(text);
+    let (answer, after) = READ.same(text, before);
+    assert_eq!(answer, Err(expected));
+    assert!(after == *before, "Read changed a list");
+    let (told, after) = TELL.same(text, before);
+    let told = told.expect("an answer for each of the three");
+    assert_eq!((told.read, told.judged), (Err(expected), None));
+    assert!(after == *before, "tell changed a list");
+    let line = line_of(expected);
+    let (length, after) = PRINT.same(text, before);
+    assert_eq!(length, Ok(line.len()));
+    assert_eq!(&after.page[..line.len()], line.as_bytes());
+}
+
+/// What the program or the script prints of a text, and its status.
+fn prints(output: Output, status: i32, expected: Refusal) {
+    assert_eq!(output.status.code(), Some(status), "{output:?}");
+    assert_eq!(String::from_utf8_lossy(&output.stdout), line_of(expected));
+    assert!(output.stderr.is_empty(), "{output:?}");
+}
+
+fn printed_by_the_program(text: &[u8], expected: Refusal) {
+    let _case = gen::text_case(text);
+    let mut program = Command::new(root().join("target/bin/till"));
+    prints(run(&mut program, text), 0, expected);
+}
+
+#[test]
+fn by_the_operations() {
+    let mut rng = gen::seeded("causes::by_the_operations", SEED);
+    for (text, expected) in cases() {
+        refused(&text, expected, &Lists::enough(&mut rng));
+    }
+}
+
+#[test]
+fn by_the_program() {
+    for (text, expected) in cases() {
+        printed_by_the_program(&text, expected);
+    }
+}
+
+/// Each number of a text is status 2.
+#[test]
+fn by_the_script() {
+    for &(text, number, place) in REQUESTED {
+        let _case = gen::text_case(text.as_bytes());
+        let mut script = Command::new(root().join("till"));
+        let output = run(&mut script, text.as_bytes());
+        prints(output, 2, Refusal::new(number, place));
+    }
+}
+
+/// For each number, those that a line can have besides and that are tested later. No line has both a number field and a
+/// name.
+const LATER: &[(u16, &[u16])] = &[
+    (32, &[2, 31, 3, 4, 5]),
+    (2, &[2, 31, 3, 4, 5]),
+    (31, &[3, 5]),
+    (3, &[5]),
+    (4, &[]),
+    (5, &[]),
+];
+
+/// Each number alone and with each other of one line.
+fn all_numbers() -> BTreeSet<(u16, Option<u16>)> {
+    let mut all = BTreeSet::new();
+    for &(number, later) in LATER {
+        all.insert((number, None));
+        all.extend(later.iter().map(|&other| (number, Some(other))));
+    }
+    all
+}
+
+/// The numbers of a bad line: the one that it gets, and the one that it gets when that is mended.
+fn numbers(bad: &BadLine, before: &Lists) -> (u16, Option<u16>) {
+    let Refusal { number, place } = bad.fault.refusal;
+    let _case = gen::text_case(&bad.mended);
+    let other = READ.same(&bad.mended, before).0.err();
+    assert_eq!(other.map(|other| other.place), bad.also.map(|_| place));
+    (number, other.map(|other| other.number))
+}
+
+/// Each cause that a line can have, and each two that it can have together, at lines of each kind.
+#[test]
+fn every_cause_and_every_pair() {
+    let mut rng = gen::seeded("causes::every_cause_and_every_pair", SEED + 1);
+    let mut seen = BTreeSet::new();
+    for model in models_to_damage(&mut rng, 20) {
+        let before = Lists::enough(&mut rng);
+        for bad in gen::bad_lines(&model) {
+            refused(&bad.fault.text, bad.fault.refusal, &before);
+            seen.insert(numbers(&bad, &before));
+        }
+    }
+    assert_eq!(seen, all_numbers());
+}
+
+#[test]
+fn every_cause_and_every_pair_by_the_program() {
+    let model = text::parse(WORKED).expect("the text is good");
+    let bad_lines = gen::bad_lines(&model);
+    for bad in &bad_lines {
+        printed_by_the_program(&bad.fault.text, bad.fault.refusal);
+    }
+    let number = |bad: &BadLine| (bad.fault.refusal.number, bad.also.map(|also| also.number()));
+    let seen: BTreeSet<_> = bad_lines.iter().map(number).collect();
+    assert_eq!(seen, all_numbers());
+}
+
+/// The README's row of a number names texts of `examples/` that get it.
+#[test]
+fn the_readme_names_a_text_for_each_number() {
+    let readme = fs::read_to_string(root().join("README.md")).expect("the README");
+    for number in [1, 2, 3, 4, 5, 31, 32] {
+        let start = format!("| {number} |");
+        let rows = readme.lines().filter(|line| line.starts_with(&start));
+        let names = rows
+            .flat_map(|row| row.split('`'))
+            .filter(|name| name.ends_with(".txt"));
+        let names: Vec<&str> = names.collect();
+        assert!(!names.is_empty(), "{number}");
+        for name in names {
+            let page = root().join("examples").join(name).with_extension("page");
+            let page = fs::read_to_string(page).expect("a page");
+            assert!(
+                page.starts_with(&format!("F,{number},")),
+                "{number}: {name}"
+            );
+        }
+    }
+}
