@@ -76,8 +76,10 @@ fn last_line(text: &[u8], start: LineStart, out: &[u16]) -> TextRead
         };
     }
     if e + 1 != text.len() {
+        // Bytes after the end count as a line of their own.
+        let fault = Fault::Absent;
         return TextRead::Faulty {
-            fault: Fault::Absent,
+            fault,
             line: line + 1,
         };
     }

@@ -226,7 +226,11 @@ fn numbers_at(text: &[u8], at: usize, row: Row, out: &mut [u16]) -> RowScan
     let mut column = 0;
     while column < COLUMNS {
         let scan = next_number(text, at, end, row, column, outside, out);
-        let RowScan::To { end: next, outside: found } = scan else {
+        let RowScan::To {
+            end: next,
+            outside: found,
+        } = scan
+        else {
             return scan;
         };
         end = next;

@@ -173,7 +173,7 @@ module _ (row : Row) (text : List ℕ) (at : ℕ) where
     past-letter =
         let c = rowLetter-capital row in
         let i = ap (indexOf lineEnd) first
-            ∙ indexOf-cons lineEnd (rowLetter row) (drop (at + 1) text) (λ z. omega (arith, c, z)) in
+        ∙ indexOf-cons lineEnd (rowLetter row) (drop (at + 1) text) (λ z. omega (arith, c, z)) in
         omega arith
 
     -- the letter, and then the fields
@@ -287,9 +287,9 @@ module _ (row : Row) (text : List ℕ) (at : ℕ) where
           let l = t .line-end in
           let c = at-comma in
           let n = ap (indexOf lineEnd) next
-              ∙ indexOf-cons lineEnd (getD text e 0) (drop (e + 1) text) (λ z. omega (arith, c, z)) in
+          ∙ indexOf-cons lineEnd (getD text e 0) (drop (e + 1) text) (λ z. omega (arith, c, z)) in
           let m = lineEnd-field (drop (e + 1) text)
-              ∙ ap (λ (s : List ℕ). length f + indexOf lineEnd s) (drop-drop (length f) (e + 1) text) in
+          ∙ ap (λ (s : List ℕ). length f + indexOf lineEnd s) (drop-drop (length f) (e + 1) text) in
           omega arith
 
       -- the bounds that the code has are those of the row
@@ -335,7 +335,7 @@ module _ (row : Row) (text : List ℕ) (at : ℕ) where
               → Is (i + 1) (rowCount row) → kindOf (getD text end 0) ≡ separatorKind (i + 1) (rowCount row)
           by-kind (inl k) (same q) =
               let m = after (fieldsAfter-comma (getD text end 0) (drop (end + 1) text) k
-                  ∙ lineFields-field (drop (end + 1) text)) in
+              ∙ lineFields-field (drop (end + 1) text)) in
               let c = left-count in
               absurd (omega arith)
           by-kind (inl k) (other q) = k ∙ sym (separatorKind-other (i + 1) (rowCount row) q)
@@ -420,7 +420,7 @@ module _ (row : Row) (text : List ℕ) (at : ℕ) where
   row-begins fs h =
       let s = drop at text in
       let w = fields-of-good (rowLetter row) (rowCount row) (line row text at) (fieldOf s)
-          (fieldsAfter (drop (length (fieldOf s)) s)) fs (lineFields-field s) h in
+      (fieldsAfter (drop (length (fieldOf s)) s)) fs (lineFields-field s) h in
       let p = rowCount-pos row in
       let g = letter-field s (rowLetter row) (w .0) (omega (arith, w .2)) in
       let d = length-drop at text in
