@@ -5,7 +5,6 @@ use mathlib.Core.Logic.{_⊎_}
 use mathlib.Core.Path.{_≡_}
 use Prim.Native.Nat.{ℕ, _+_, _-_, _<_}
 use lib.ListN.{length, take, drop}
-use Rattle.text.specs.declared.Fault.{Fault}
 use Rattle.text.specs.declared.Head.{Head}
 use Rattle.text.specs.declared.StepLine.{StepLine}
 use Rattle.text.specs.declared.line.HeadRead.{HeadRead}

@@ -2,19 +2,17 @@
 -- Assumes nothing. Only functions that read a row cite it.
 use mathlib.Core.Bool.{Bool, true, false}
 use mathlib.Core.List.{List, [], _∷_}
-use mathlib.Core.Path.{_≡_, refl, sym, ap, _∙_, subst}
+use mathlib.Core.Path.{_≡_, refl, sym, ap, _∙_}
 use Prim.Native.Nat.{ℕ, zero, suc, _+_, _-_, _≤_, _<_}
 use native.Mathlib.Omega.{arith}
 use lib.ListN.{length, drop, getD, set, length-drop}
 use lib.Seq.{getD-drop}
 use Rattle.text.specs.declared.Head.{Head}
-use Rattle.text.specs.declared.StepLine.{StepLine}
 use Rattle.text.specs.declared.number.Bounds.{Bounds}
 use Rattle.text.specs.declared.number.Number.{Number}
 use Rattle.text.specs.declared.number.Number.the-variants.{Value, BadDigits, Outside}
 use Rattle.text.specs.declared.row.Row.{Row}
 use Rattle.text.specs.declared.row.Row.the-variants.{HeadRow, StepRow}
-use Rattle.text.specs.declared.row.RowScan.{RowScan}
 use Rattle.text.specs.declared.row.RowScan.the-variants as row-scan
 use Rattle.text.specs.Numbers.{below}
 use Rattle.text.specs.Lines.{rowLetter, rowCount, rowBounds, stepNumbers}

@@ -1,18 +1,16 @@
 -- The fields of the line at the front of a text, one by one: each ends at a comma or at the line's end.
 -- Document 01, "The text". Assumes nothing. Only functions that read a row cite it.
-use mathlib.Core.Bool.{Bool, true, false, cond, _||_}
 use mathlib.Core.List.{List, [], _∷_}
 use mathlib.Core.Logic.{_⊎_, inl, inr}
-use mathlib.Core.Path.{_≡_, refl, sym, ap, _∙_}
-use Prim.Native.Nat.{ℕ, suc, _+_, _≤_, _<_}
+use mathlib.Core.Path.{_≡_, sym, ap, _∙_}
+use Prim.Native.Nat.{ℕ, _+_, _≤_, _<_}
 use native.Mathlib.Omega.{arith}
-use lib.Dec.{eqb}
 use lib.ListN.{length, take, drop, getD}
 use borrow.Author.Tests.{eq-eqb, ne-eqb}
 use Rattle.text.specs.Bytes.{comma, lineEnd, kindOf}
-use Rattle.text.specs.Split.{consFirst, split, indexOf}
+use Rattle.text.specs.Split.{consFirst, indexOf}
 use Rattle.text.specs.Laws.SplitLaws.{Is, same, other, is, split-nil, split-end, split-cons}
-use Rattle.text.specs.Laws.SplitLaws.{indexOf-nil, indexOf-end, indexOf-cons}
+use Rattle.text.specs.Laws.SplitLaws.{indexOf-end, indexOf-cons}
 use Rattle.text.specs.Inner.NumberAt.{fieldOf}
 use Rattle.text.specs.Laws.NumberAtLaws.{fieldOf-end, fieldOf-cons}
 use Rattle.text.specs.Inner.Row.{lineFields, fieldsAfter}

@@ -1,13 +1,12 @@
 -- A row, number by number: those read and the fields that are left make up what all its fields hold.
 -- Document 01, "The text"; document 02, (i). Assumes nothing. Only functions that read a row cite it.
-use mathlib.Core.Bool.{Bool, true, false, _&&_}
+use mathlib.Core.Bool.{Bool, true, false}
 use mathlib.Core.List.{List, [], _∷_, _++_, append-nil, append-assoc}
 use mathlib.Core.Logic.{_⊎_, inl, inr}
 use mathlib.Core.Path.{_≡_, refl, sym, ap, _∙_, subst}
-use Prim.Native.Nat.{ℕ, suc, _+_, _-_, _≤_, _<_}
+use Prim.Native.Nat.{ℕ, _+_, _-_, _≤_, _<_}
 use native.Mathlib.Numerals.{add-one}
 use native.Mathlib.Omega.{arith}
-use lib.Dec.{eqb}
 use lib.ListN.{length, take, drop, getD, set, length-set, length-drop}
 use lib.Seq.{drop-cons, drop-drop, getD-drop, getD-set-same, getD-set-other, take-suc-set, take-all}
 use borrow.Author.Tests.{eq-eqb, ne-eqb}
@@ -25,11 +24,11 @@ use Rattle.text.specs.declared.row.RowScan.the-variants as row-scan
 use Rattle.text.specs.Bytes.{capital, comma, lineEnd, kindOf}
 use Rattle.text.specs.Split.{split, indexOf, same?}
 use Rattle.text.specs.Numbers.{below, numberIn}
-use Rattle.text.specs.Lines.{Line, good, bad, checked, fieldsFrom, fieldsOf, consNumber, numbersOf}
+use Rattle.text.specs.Lines.{Line, good, bad, fieldsOf, consNumber, numbersOf}
 use Rattle.text.specs.Lines.{headBounds, stepBounds, rowLetter, rowCount, rowBounds, valueOr0, statesOf, rowFrom, rowOf}
 use Rattle.text.specs.Inner.NumberAt.{fieldOf, Separator}
 use Rattle.text.specs.Inner.PartAnswers.{Fields}
-use Rattle.text.specs.Inner.Row.{lineFields, fieldsAfter, LineAt, NoLineAt, RowBegins, separatorKind, prepend}
+use Rattle.text.specs.Inner.Row.{lineFields, fieldsAfter, LineAt, RowBegins, separatorKind, prepend}
 use Rattle.text.specs.Inner.Row.{rowFields, RowTo, BadNumbers, RowScanned, RowRefused, RowAt}
 use Rattle.text.specs.Laws.ListLaws.{drop-next}
 use Rattle.text.specs.Laws.SplitLaws.{Is, same, other, is, indexOf-end, indexOf-cons}
@@ -51,7 +50,7 @@ unfolding rowCount
 rowCount-pos HeadRow = omega arith
 rowCount-pos (StepRow h) = omega arith
 
-rowBounds-length : (row : Row) (states : ℕ) → length (rowBounds row states) ≡ rowCount row
+pub rowBounds-length : (row : Row) (states : ℕ) → length (rowBounds row states) ≡ rowCount row
 unfolding rowBounds rowCount headBounds stepBounds
 rowBounds-length HeadRow states = refl
 rowBounds-length (StepRow h) states = refl

@@ -2,7 +2,7 @@
 -- Document 01, "The text". Assumes nothing.
 use mathlib.Core.List.{List}
 use mathlib.Core.Logic.{_⊎_, inl, inr}
-use mathlib.Core.Path.{_≡_, ap, _∙_, subst}
+use mathlib.Core.Path.{_≡_, ap, subst}
 use Prim.Native.Nat.{ℕ, _+_}
 use Rattle.text.specs.declared.Fault.{Fault}
 use Rattle.text.specs.declared.Head.{Head}

@@ -21,10 +21,11 @@ use Rattle.text.specs.Laws.AllLaws.{all-of-all}
 use Rattle.text.specs.Model.{low, release, high, ActionLine}
 use Rattle.text.specs.Lines.{Line, good, bad, fieldsOf, levelOf, allOf, nameByte?, name?, nameFrom, used?}
 use Rattle.text.specs.Lines.{actionFields, actionFrom, actionOf}
+use Rattle.text.specs.Laws.FieldsLaws.{good-checked}
 use Rattle.model.specs.Text.{levelByte}
 use Rattle.model.specs.WellFormed.{ActionFits}
 use Rattle.model.specs.Inner.LineText.{lineOf, lineOfAction, NameByte}
-use Rattle.model.specs.Laws.Text.JoinedFieldsLaws.{checked-good, good-checked, fieldsOf-line, line-of-fieldsOf}
+use Rattle.model.specs.Laws.Text.JoinedFieldsLaws.{checked-good, fieldsOf-line, line-of-fieldsOf}
 
 -- ---- levels
 

@@ -1,13 +1,13 @@
 -- A letter and fields joined by commas are read back to the fields, and only such a line is; the same of the numbers of
 -- a row.
 -- Document 01, "The text". Assumes nothing.
-use mathlib.Core.Bool.{Bool, true, false, cond, _&&_}
+use mathlib.Core.Bool.{Bool, true, false, cond}
 use mathlib.Core.List.{List, [], _∷_, map}
 use mathlib.Core.Option.{Option, none, some}
 use mathlib.Core.Path.{_≡_, refl, sym, ap, _∙_, subst}
 use Prim.Native.Nat.{ℕ, _<_}
 use native.Mathlib.Omega.{arith}
-use lib.Dec.{T, eqb, eqb→eq, eqb-refl}
+use lib.Dec.{T, eqb, eqb-refl}
 use lib.ListN.{length, getD, length-map}
 use borrow.Author.Tests.{eqb-false}
 use Rattle.lts.specs.TestsLaws.{T→true, and-left, and-right, and-intro}
@@ -25,13 +25,15 @@ use Rattle.text.specs.Numbers.{numberOf, fromTo, inBounds?, bounded, numberIn, 
 use Rattle.text.specs.Laws.DigitsLaws.{digits-digit, numberOf-digits, digits-of-numberOf}
 use Rattle.text.specs.Split.{same?}
 use Rattle.text.specs.Laws.SplitLaws.{split-first}
-use Rattle.text.specs.Laws.SameLaws.{same?→eq, same?-refl}
+use Rattle.text.specs.Laws.SameLaws.{same?-refl}
+use Rattle.text.specs.Laws.FieldsLaws.{fields-of-good}
+use Rattle.text.specs.Laws.RowLaws.{rowBounds-length}
 use Rattle.text.specs.All.{All}
 use Rattle.text.specs.Laws.AllLaws.{all-of-all}
 use Rattle.text.specs.Join.{join, Without}
 use Rattle.text.specs.Laws.JoinLaws.{split-join, join-split}
 use Rattle.text.specs.Lines.{Line, good, bad, checked, fieldsFrom, fieldsOf, consNumber, numbersOf, fits?}
-use Rattle.text.specs.Lines.{headBounds, stepBounds, rowLetter, rowCount, rowBounds, valueOr0, statesOf, rowFrom, rowOf}
+use Rattle.text.specs.Lines.{headBounds, rowLetter, rowCount, rowBounds, valueOr0, statesOf, rowFrom, rowOf}
 use Rattle.text.specs.Inner.Ranges.{Small}
 use Rattle.model.specs.Inner.LineText.{lineOf, RowNumbers}
 
@@ -41,11 +43,6 @@ pub checked-good : {A : Type 0} (fault : Fault) (t : Bool) (a : A) → T t → c
 unfolding checked
 checked-good fault true a h = refl
 checked-good fault false a h = absurd h
-
-pub good-checked : {A : Type 0} (fault : Fault) (t : Bool) (a b : A) → checked fault t a ≡ good b → T t × (a ≡ b)
-unfolding checked
-good-checked fault true a b h = (tt, cc)
-good-checked fault false a b h = let z : _≡_ {A = ℕ} 0 1 = cc in absurd (omega arith)
 
 -- ---- fields
 
@@ -61,16 +58,12 @@ module _ (letter : ℕ) (fs : List (List ℕ)) where
 
   pub line-of-fieldsOf : (n : ℕ) (line : List ℕ) → fieldsOf letter n line ≡ good fs
       → (line ≡ lineOf letter fs) × (length fs ≡ n)
-  unfolding fieldsOf fieldsFrom
   line-of-fieldsOf n line h =
       let w = split-first comma line in
-      let s : Bool = same? (w .0) (letter ∷ []) in
-      let t : Bool = eqb (length (w .1)) n in
-      let q : checked Shape (s && t) (w .1) ≡ good fs = rw (w .2) at h in
-      let c = good-checked Shape (s && t) (w .1) fs q in
-      let e = same?→eq (w .0) (letter ∷ []) (and-left s t (c .0)) in
-      let l = eqb→eq (length (w .1)) n (and-right s t (c .0)) in
-      (sym (join-split comma byteComma comma-only line) ∙ ap (join byteComma) (w .2 ∙ rw (e, c .1)), rw (c .1) at l)
+      let g = fields-of-good letter n line (w .0) (w .1) fs (w .2) h in (
+        sym (join-split comma byteComma comma-only line) ∙ ap (join byteComma) (w .2 ∙ rw (g .0, g .1)),
+        rw (g .1) at (g .2),
+      )
 
 -- ---- numbers
 
@@ -145,11 +138,6 @@ rowLetter-comma : (row : Row) → kindOf (rowLetter row) ≡ comma → ⊥
 unfolding kindOf rowLetter
 rowLetter-comma HeadRow = λ z. eqb-false capital comma refl z
 rowLetter-comma (StepRow h) = λ z. eqb-false capital comma refl z
-
-rowBounds-length : (row : Row) (states : ℕ) → length (rowBounds row states) ≡ rowCount row
-unfolding rowBounds rowCount headBounds stepBounds
-rowBounds-length HeadRow states = refl
-rowBounds-length (StepRow h) states = refl
 
 -- the first of its numbers is the number of states that the row gives, if the bounds depend on it
 rowBounds-digits : (row : Row) (states : ℕ) (ns : List ℕ) → length ns ≡ rowCount row → Small ns

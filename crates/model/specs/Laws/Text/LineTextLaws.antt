@@ -15,12 +15,13 @@ use Rattle.text.specs.Numbers.{digits}
 use Rattle.text.specs.Model.{aboveLast?}
 use Rattle.text.specs.Lines.{Line, good, bad, rowLetter, rowCount, rowBounds, rowOf}
 use Rattle.text.specs.Lines.{headFits?, headNumbers, headFrom, headOf, stepFits?, stepNumbers, stepFrom, stepOf}
+use Rattle.text.specs.Laws.FieldsLaws.{good-checked}
 use Rattle.model.specs.Store.{headRow, stepRow}
 use Rattle.text.specs.Inner.Ranges.{HeadRanges, Small}
 use Rattle.text.specs.Laws.RangesLaws.{headFits?→HeadRanges, stepFits?→StepRanges}
 use Rattle.model.specs.WellFormed.{StepFits}
 use Rattle.model.specs.Inner.LineText.{lineOf, RowNumbers, lineOfHead, lineOfStep}
-use Rattle.model.specs.Laws.Text.JoinedFieldsLaws.{checked-good, good-checked, rowOf-line, line-of-rowOf}
+use Rattle.model.specs.Laws.Text.JoinedFieldsLaws.{checked-good, rowOf-line, line-of-rowOf}
 
 -- ---- `M,states,actions,steps,start`
 

@@ -1,5 +1,4 @@
 -- `next_number` passes a free column, or reads a number by its bounds and what is due after it.
-use mathlib.Core.Path.{sym, _∙_}
 use Prim.Native.Nat.{_≤_}
 use native.Mathlib.Omega.{arith}
 use Rattle.text.specs.Inner.Row.{RowScanned}

@@ -1,7 +1,7 @@
 -- `row_at` goes on to the numbers where the row begins well; where they have a fault, those that come before it are
 -- tested.
 use mathlib.Core.Logic.{inr}
-use mathlib.Core.Path.{_≡_, sym, ap, _∙_, subst}
+use mathlib.Core.Path.{sym, ap, _∙_, subst}
 use Prim.Native.Nat.{ℕ, _-_}
 use Rattle.text.specs.Bytes.{kindOf}
 use Rattle.text.specs.Inner.Row.{RowBegins, RowTo, RowAt}

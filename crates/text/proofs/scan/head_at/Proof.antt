@@ -1,7 +1,5 @@
 -- `head_at` has line 1 from its row.
-use mathlib.Core.Logic.{inl, inr}
-use mathlib.Core.Path.{ap, _∙_}
-use Rattle.text.specs.Lines.{rowCount, headFrom, headOf}
+use Rattle.text.specs.Lines.{rowCount}
 use Rattle.text.specs.Inner.Scan.{HeadAt}
 use Rattle.text.specs.Laws.RowLaws.{row-at-good, row-at-bad}
 use Rattle.text.specs.Laws.ScanLaws.{head-refused, head-stated}

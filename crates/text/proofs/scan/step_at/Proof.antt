@@ -1,5 +1,4 @@
 -- `step_at` has a step's numbers from its row, and then tests the order.
-use mathlib.Core.Path.{refl}
 use native.Mathlib.Omega.{arith}
 use Rattle.text.specs.Lines.{rowCount}
 use Rattle.text.specs.Inner.Scan.{StepAtRead}
