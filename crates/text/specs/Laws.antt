@@ -19,6 +19,9 @@ pub mod JoinLaws
 pub mod OutcomeLaws
 pub mod LineFieldsLaws
 pub mod RowLaws
+pub mod RowFieldsLaws
+pub mod RowToLaws
+pub mod RowAtLaws
 pub mod NumberAtLaws
 pub mod ScanLaws
 pub mod ColumnsLaws

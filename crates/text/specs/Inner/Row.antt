@@ -10,6 +10,7 @@ use lib.Dec.{eqb}
 use lib.ListN.{length, take, drop, getD}
 use Rattle.text.specs.declared.Fault.{Fault}
 use Rattle.text.specs.declared.Fault.the-variants.{Absent, Digits, Range}
+use Rattle.text.specs.declared.number.Bounds.{Bounds}
 use Rattle.text.specs.declared.row.Row.{Row}
 use Rattle.text.specs.declared.row.RowScan.{RowScan}
 use Rattle.text.specs.declared.row.RowScan.the-variants as row-scan
@@ -30,6 +31,10 @@ fieldsAfter [] = []
 fieldsAfter (b ∷ bs) = cond (eqb (kindOf b) comma) (lineFields bs) []
 
 -- ---- the line at a place
+
+-- the line at a place of a text, without its end
+abbrev pub lineAt : List ℕ → ℕ → List ℕ
+lineAt text at = take (indexOf lineEnd (drop at text)) (drop at text)
 
 -- what a line states, where the line at a place of a text has a line end, at place e
 pub record LineAt {A : Type 0} (read : List ℕ → Line A) (text : List ℕ) (at : ℕ) (stated : Line A) (e : ℕ) : Type 0 where
@@ -66,6 +71,10 @@ prepend true ns (bad fault) = bad fault
 abbrev pub rowFields : List ℕ → ℕ → List (List ℕ)
 rowFields text at = fieldsAfter (drop (at + 1) text)
 
+-- the bounds of its numbers
+abbrev pub boundsAt : Row → List ℕ → ℕ → List Bounds
+boundsAt row text at = rowBounds row (statesOf (rowFields text at))
+
 -- i numbers of the row at a place are read, and those within their bounds stored; the byte after them stands at place e
 pub record RowTo (row : Row) (text : List ℕ) (at : ℕ) (outside : Bool) (out : List ℕ) (i e : ℕ) : Type 0 where
   pub begins : RowBegins (rowLetter row) text at
@@ -75,15 +84,14 @@ pub record RowTo (row : Row) (text : List ℕ) (at : ℕ) (outside : Bool) (out 
   pub line-end : at + indexOf lineEnd (drop at text) ≡ e + indexOf lineEnd (drop e text)
   pub count : length (rowFields text at) ≡ i + length (fieldsAfter (drop e text))
   pub none : i ≡ 0 → (e ≡ at + 1) × (getD out 0 0 ≡ 0)
-  pub bounds : 0 < i → rowBounds row (getD out 0 0) ≡ rowBounds row (statesOf (rowFields text at))
-  pub numbers : numbersOf (rowBounds row (statesOf (rowFields text at))) (rowFields text at)
-      ≡ prepend outside (take i out)
-      (numbersOf (drop i (rowBounds row (statesOf (rowFields text at)))) (fieldsAfter (drop e text)))
+  pub bounds : 0 < i → rowBounds row (getD out 0 0) ≡ boundsAt row text at
+  pub numbers : numbersOf (boundsAt row text at) (rowFields text at)
+      ≡ prepend outside (take i out) (numbersOf (drop i (boundsAt row text at)) (fieldsAfter (drop e text)))
 
 -- if the line at a place has an end and the fields of the row, one of its numbers has bad digits
 pub record BadNumbers (row : Row) (text : List ℕ) (at : ℕ) : Type 0 where
   pub told : at + indexOf lineEnd (drop at text) < length text → (fs : List (List ℕ))
-      → fieldsOf (rowLetter row) (rowCount row) (take (indexOf lineEnd (drop at text)) (drop at text)) ≡ good fs
+      → fieldsOf (rowLetter row) (rowCount row) (lineAt text at) ≡ good fs
       → numbersOf (rowBounds row (statesOf fs)) fs ≡ bad Digits
 
 -- what reading i numbers of the row at a place came to

@@ -21,8 +21,8 @@ use Rattle.text.specs.Bytes.{kindOf}
 use Rattle.text.specs.Inner.Row.{RowBegins, separatorKind, BadNumbers, RowScanned}
 use Rattle.text.specs.Inner.Columns.{columns, firstColumn, numbersIn, ColumnsTo, ColumnsScanned}
 use Rattle.text.specs.Laws.SplitLaws.{Is, same, other, is}
-use Rattle.text.specs.Laws.RowLaws.{rowCount-le, separatorKind-last, separatorKind-other, not-bad-value}
-use Rattle.text.specs.Laws.RowLaws.{not-bad-outside, row-begin, row-bad, row-value, row-outside}
+use Rattle.text.specs.Laws.RowLaws.{rowCount-le, separatorKind-last, separatorKind-other, not-bad-value, not-bad-outside}
+use Rattle.text.specs.Laws.RowToLaws.{row-begin, row-bad, row-value, row-outside}
 
 -- a number that is stored in a column is stored among the numbers
 drop-set : (n j v : ℕ) (l : List ℕ) → drop n (set l (n + j) v) ≡ set (drop n l) j v

@@ -5,7 +5,7 @@ use native.Mathlib.Omega.{arith}
 use lib.ListN.{length}
 use Rattle.text.specs.Inner.Row.{RowTo, RowScanned}
 use Rattle.text.specs.Inner.Columns.{columns, firstColumn, numbersIn, ColumnsTo}
-use Rattle.text.specs.Laws.RowLaws.{scanned-to, scanned-bad}
+use Rattle.text.specs.Laws.RowAtLaws.{scanned-to, scanned-bad}
 use borrow.Author.Needs.{needs}
 use Rattle.text.proofs.row.numbers_at.Statement.{statement}
 use Rattle.text.proofs.row.numbers_at.Tie as tie

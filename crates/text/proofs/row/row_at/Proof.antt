@@ -7,8 +7,10 @@ use Rattle.text.specs.Bytes.{kindOf}
 use Rattle.text.specs.Inner.Row.{RowBegins, RowTo, RowAt}
 use Rattle.text.specs.Inner.Columns.{columns, firstColumn, numbersIn}
 use Rattle.text.specs.Laws.DecidesLaws.{decides-passed, decides-refused}
-use Rattle.text.specs.Laws.RowLaws.{rowLetter-capital, row-other, row-good, row-range}
-use Rattle.text.specs.Laws.RowLaws.{scanned-to, scanned-bad-numbers}
+use Rattle.text.specs.Laws.RowLaws.{rowLetter-capital}
+use Rattle.text.specs.Laws.RowFieldsLaws.{row-other}
+use Rattle.text.specs.Laws.RowToLaws.{row-good, row-range}
+use Rattle.text.specs.Laws.RowAtLaws.{scanned-to, scanned-bad-numbers}
 use Rattle.text.specs.Laws.ColumnsLaws.{columns-all, columns-begin}
 use borrow.Author.Needs.{needs}
 use Rattle.text.proofs.row.row_at.Statement.{statement}

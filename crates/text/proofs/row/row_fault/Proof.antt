@@ -9,8 +9,8 @@ use Rattle.text.specs.Bytes.{lineEnd, kindOf}
 use Rattle.text.specs.Lines.{rowLetter, rowCount}
 use Rattle.text.specs.Inner.PartAnswers.{Fields}
 use Rattle.text.specs.Laws.SplitLaws.{found-le}
-use Rattle.text.specs.Laws.RowLaws.{rowLetter-capital, rowCount-pos, fields-row}
-use Rattle.text.specs.Laws.RowLaws.{refused-absent, refused-shape, refused-digits}
+use Rattle.text.specs.Laws.RowLaws.{rowLetter-capital, rowCount-pos}
+use Rattle.text.specs.Laws.RowAtLaws.{fields-row, refused-absent, refused-shape, refused-digits}
 use Rattle.text.proofs.row.row_fault.Statement.{statement}
 use Rattle.text.proofs.row.row_fault.Tie as tie
 

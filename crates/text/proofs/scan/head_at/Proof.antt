@@ -1,7 +1,7 @@
 -- `head_at` has line 1 from its row.
 use Rattle.text.specs.Lines.{rowCount}
 use Rattle.text.specs.Inner.Scan.{HeadAt}
-use Rattle.text.specs.Laws.RowLaws.{row-at-good, row-at-bad}
+use Rattle.text.specs.Laws.RowAtLaws.{row-at-good, row-at-bad}
 use Rattle.text.specs.Laws.ScanLaws.{head-refused, head-stated}
 use borrow.Author.Needs.{needs}
 use Rattle.text.proofs.scan.head_at.Statement.{statement}

@@ -2,7 +2,7 @@
 use native.Mathlib.Omega.{arith}
 use Rattle.text.specs.Lines.{rowCount}
 use Rattle.text.specs.Inner.Scan.{StepAtRead}
-use Rattle.text.specs.Laws.RowLaws.{row-at-good, row-at-bad}
+use Rattle.text.specs.Laws.RowAtLaws.{row-at-good, row-at-bad}
 use Rattle.text.specs.Laws.ColumnsLaws.{stepNumbers-columns}
 use Rattle.text.specs.Laws.ScanLaws.{step-refused}
 use borrow.Author.Needs.{needs}
