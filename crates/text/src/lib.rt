@@ -32,9 +32,9 @@ pub struct StepLine {
     pub target: State,
 }
 
-// Why a line is refused: it is missing or has no line end, or bytes follow the text's end; its letter, field count,
-// level or name is wrong; a number has no digit form; a number is outside its range; a name was used before; a step is
-// not above the one before it.
+// Why a line is refused: it is absent or has no line end, or bytes follow the last line; its letter, field count, level
+// or name is wrong; a number field is not 1 to 5 digits without a leading zero; a number is outside its range; a name
+// was used before; a step is not above the one before it.
 pub enum Fault {
     Absent,
     Shape,

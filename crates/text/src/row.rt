@@ -240,8 +240,8 @@ fn numbers_at(text: &[u8], at: usize, row: Row, out: &mut [u16]) -> RowScan
     RowScan::To { end, outside }
 }
 
-// The fault of a row, one of whose numbers has bad digits if all else is well: a line without an end, and one with other
-// fields, has that fault before this one.
+// The fault of a row, one of whose numbers has bad digits if all else is well: that the line has no end, or other
+// fields, is told before it.
 fn row_fault(text: &[u8], at: usize, row: Row) -> Fault
     requires { ⌜ (at ≤ length (now text)) × BadNumbers row (now text) at ⌝ }
     ensures { λ r. ⌜ RowRefused row (now (text .entry)) at r ⌝ }

@@ -1,4 +1,4 @@
--- The reading of a text goes on line by line: what a line that is missing, bad or good makes of what has been read
+-- The reading of a text goes on line by line: what a line that is absent, bad or good makes of what has been read
 -- so far.
 -- Document 01, "The text" and "Refused because of the input". Assumes nothing.
 use mathlib.Core.Bool.{true, false}

@@ -1,4 +1,5 @@
--- The columns that a row is read into: its numbers stand in the last ones. Only the contracts of inner functions cite it.
+-- The columns that a row is read into: its numbers stand in the last ones. Only the contracts of inner functions cite
+-- it.
 use mathlib.Core.Bool.{Bool}
 use mathlib.Core.List.{List}
 use mathlib.Core.Path.{_≡_}

@@ -31,8 +31,8 @@ pub record DigitsTo (s : List ℕ) (at e v : ℕ) : Type 0 where
   pub digits : AllDigits field
   pub value : digitsValue 0 field ≡ some v
 
--- at most five, and no further digit follows fewer; k is the kind of the byte that follows, and past the text's end there
--- is none: `getD` is 0 there, which is of no kind
+-- at most five, and no further digit follows fewer; k is the kind of the byte that follows, and past the text's end
+-- there is none: `getD` is 0 there, which is of no kind
 pub record DigitsAt (s : List ℕ) (at v e k : ℕ) : Type 0 where
   pub follows : k ≡ kindOf (getD s e 0)
   pub run : DigitsTo s at e v

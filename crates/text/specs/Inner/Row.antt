@@ -18,7 +18,8 @@ use Rattle.text.specs.declared.row.RowRead.{RowRead}
 use Rattle.text.specs.declared.row.RowRead.the-variants as row-read
 use Rattle.text.specs.Bytes.{comma, lineEnd, kindOf}
 use Rattle.text.specs.Split.{split, indexOf}
-use Rattle.text.specs.Lines.{Line, good, bad, fieldsOf, numbersOf, rowLetter, rowCount, rowBounds, statesOf, rowOf}
+use Rattle.text.specs.Lines.{Line, good, bad, fieldsOf, numbersOf, rowLetter, rowCount, rowBounds, statesOf}
+use Rattle.text.specs.Lines.{rowOf}
 
 -- ---- the fields of the line at the front of a text
 
@@ -37,7 +38,8 @@ abbrev pub lineAt : List ℕ → ℕ → List ℕ
 lineAt text at = take (indexOf lineEnd (drop at text)) (drop at text)
 
 -- what a line states, where the line at a place of a text has a line end, at place e
-pub record LineAt {A : Type 0} (read : List ℕ → Line A) (text : List ℕ) (at : ℕ) (stated : Line A) (e : ℕ) : Type 0 where
+pub record LineAt {A : Type 0} (read : List ℕ → Line A) (text : List ℕ) (at : ℕ) (stated : Line A) (e : ℕ)
+    : Type 0 where
   pub found : e ≡ at + indexOf lineEnd (drop at text)
   pub inside : e < length text
   pub reads : read (take (e - at) (drop at text)) ≡ stated

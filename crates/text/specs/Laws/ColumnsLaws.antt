@@ -21,7 +21,8 @@ use Rattle.text.specs.Bytes.{kindOf}
 use Rattle.text.specs.Inner.Row.{RowBegins, separatorKind, BadNumbers, RowScanned}
 use Rattle.text.specs.Inner.Columns.{columns, firstColumn, numbersIn, ColumnsTo, ColumnsScanned}
 use Rattle.text.specs.Laws.SplitLaws.{Is, same, other, is}
-use Rattle.text.specs.Laws.RowLaws.{rowCount-le, separatorKind-last, separatorKind-other, not-bad-value, not-bad-outside}
+use Rattle.text.specs.Laws.RowLaws.{rowCount-le, separatorKind-last, separatorKind-other, not-bad-value}
+use Rattle.text.specs.Laws.RowLaws.{not-bad-outside}
 use Rattle.text.specs.Laws.RowToLaws.{row-begin, row-bad, row-value, row-outside}
 
 -- a number that is stored in a column is stored among the numbers
@@ -33,7 +34,8 @@ drop-set (suc n) j v (x ∷ l) =
     ap (λ (k : ℕ). drop (suc n) (set (x ∷ l) k v)) one ∙ drop-set n j v l
 
 -- the states of line 1 stand in its first column, and no other row asks for them
-rowBounds-column : (row : Row) (out : List ℕ) → rowBounds row (getD out 0 0) ≡ rowBounds row (getD (numbersIn row out) 0 0)
+rowBounds-column : (row : Row) (out : List ℕ)
+    → rowBounds row (getD out 0 0) ≡ rowBounds row (getD (numbersIn row out) 0 0)
 unfolding rowBounds rowCount
 rowBounds-column HeadRow out = refl
 rowBounds-column (StepRow h) out = refl
@@ -93,7 +95,8 @@ module _ (row : Row) (text : List ℕ) (at : ℕ) (outside : Bool) (out : List �
         by-place : Is (column + 1) columns → separatorKind (column + 1) columns ≡ separatorKind (i + 1) (rowCount row)
         by-place (same z) =
             let l = rowCount-le row in
-            separatorKind-last (column + 1) columns z ∙ sym (separatorKind-last (i + 1) (rowCount row) (omega (arith, z)))
+            separatorKind-last (column + 1) columns z
+            ∙ sym (separatorKind-last (i + 1) (rowCount row) (omega (arith, z)))
         by-place (other z) =
             let l = rowCount-le row in
             separatorKind-other (column + 1) columns z

@@ -15,8 +15,8 @@ use Rattle.lts.specs.TestsLaws.{lt-or-le}
 use Rattle.text.specs.Bytes.{byteZero, digit, comma, lineEnd, kindOf}
 use Rattle.text.specs.Bytes as bytes
 use Rattle.text.specs.Numbers.{digitsValue, numberOf}
-use Rattle.text.specs.Inner.NumberAt.{AllDigits, DigitsTo, DigitsAt, Separator, FieldEnds, NumberShape, fieldOf, Followed}
-use Rattle.text.specs.Inner.NumberAt.{DigitsFound}
+use Rattle.text.specs.Inner.NumberAt.{AllDigits, DigitsTo, DigitsAt, Separator, FieldEnds, NumberShape}
+use Rattle.text.specs.Inner.NumberAt.{fieldOf, Followed, DigitsFound}
 use Rattle.text.specs.declared.number.DigitsRead.{DigitsRead}
 use Rattle.text.specs.declared.number.DigitsRead.the-variants as digits-read
 use Rattle.text.specs.Laws.AllLaws.{all-append}

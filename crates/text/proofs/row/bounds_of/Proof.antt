@@ -37,7 +37,8 @@ returns c =
     let none : a .column ≡ a .column - 0 = omega arith in
     c .head-bounds .ensures
     ∙ ap (λ (i : ℕ). getD (headBounds (a .states)) i (below 0)) none
-    ∙ ap (λ (r : Row). getD (rowBounds r (a .states)) (a .column - firstColumn r) (below 0)) (sym (t .enum-told .given .1))
+    ∙ ap (λ (r : Row). getD (rowBounds r (a .states)) (a .column - firstColumn r) (below 0))
+    (sym (t .enum-told .given .1))
 
 returns-2 : tie.Need-returns-2
 unfolding rowBounds rowCount

@@ -19,8 +19,8 @@ use Rattle.text.proofs.row.row_at.Tie as tie
 -- the numbers are read
 scanned : (c : tie.After-end) → let n = c .before .before .before .before in
     let a = n .before .before .before .before .before .before .before .args in
-    RowTo (a .row) (a .text .now) (a .at) (c .end .given .0 .1 .0) (numbersIn (a .row) (n .numbers-at .last .1 .1 .1 .0))
-    (columns - firstColumn (a .row)) (c .end .given .0 .0)
+    RowTo (a .row) (a .text .now) (a .at) (c .end .given .0 .1 .0)
+    (numbersIn (a .row) (n .numbers-at .last .1 .1 .1 .0)) (columns - firstColumn (a .row)) (c .end .given .0 .0)
 scanned c = scanned-to _ _ _ _ _ _ (c .before .before .before .before .numbers-at .ensures) (c .end .given .1)
 
 letter-of-requires : tie.Need-letter-of-requires
@@ -35,11 +35,9 @@ row-fault-requires : tie.Need-row-fault-requires
 row-fault-requires c κs =
     let b = c .before in
     let s = b .before .before .before .before in
-    let other = decides-refused (b .begins .result) _ (b .begins .ensures) (c .if1 .taken) in (
-      s .pre .0,
-      row-other _ _ _ (λ x.
-          other (subst (λ (l : ℕ). RowBegins l (s .args .text .now) (s .args .at)) (sym (b .before .letter-of .ensures)) x)),
-    )
+    let other = decides-refused (b .begins .result) _ (b .begins .ensures) (c .if1 .taken) in
+    let letter = sym (b .before .letter-of .ensures) in
+    (s .pre .0, row-other _ _ _ (λ x. other (subst (λ l. RowBegins l (s .args .text .now) (s .args .at)) letter x)))
 
 returns : tie.Need-returns
 unfolding RowAt

@@ -20,7 +20,8 @@ enum-known-fault c = search needs
 returns : tie.Need-returns
 unfolding HeadAt
 returns c =
-    head-refused _ _ _ (row-at-bad _ _ _ _ _ (c .before .before .before .before .row-at .ensures) (c .before .fault .given .1))
+    let r = c .before .before .before .before in
+    head-refused _ _ _ (row-at-bad _ _ _ _ _ (r .row-at .ensures) (c .before .fault .given .1))
 
 enum-told : tie.Need-enum-told
 enum-told c = search needs
@@ -40,7 +41,8 @@ array-read-t20 c = search needs
 returns-2 : tie.Need-returns-2
 unfolding HeadAt rowCount
 returns-2 c =
-    (_, head-stated _ _ _ _ (row-at-good _ _ _ _ _ (c .before .before .before .row-at .ensures) (c .enum-told .given .1)))
+    let r = c .before .before .before in
+    (_, head-stated _ _ _ _ (row-at-good _ _ _ _ _ (r .row-at .ensures) (c .enum-told .given .1)))
 
 pub head-at-spec : {M : Type 1} → statement M
 head-at-spec =

@@ -39,7 +39,8 @@ rising-requires c κs =
 returns : tie.Need-returns
 unfolding StepAtRead
 returns c =
-    step-refused _ _ _ _ _ _ (row-at-bad _ _ _ _ _ (c .before .before .before .before .row-at .ensures) (c .before .read .given .1))
+    let r = c .before .before .before .before in
+    step-refused _ _ _ _ _ _ (row-at-bad _ _ _ _ _ (r .row-at .ensures) (c .before .read .given .1))
 
 returns-2 : tie.Need-returns-2
 returns-2 c =
