@@ -2,12 +2,12 @@
 //! first, then 2, then 31, then 3, then 4 or 5, each over the whole line. By the operations, the program, the script.
 use std::collections::BTreeSet;
 use std::fs;
-use std::process::{Command, Output};
+use std::process::Command;
 
 use second::gen::{self, BadLine};
 use second::{text, Refusal};
 use suite::bench::{root, WORKED};
-use suite::command::run;
+use suite::command::{prints, run};
 use suite::lists::Lists;
 use suite::operations::{PRINT, READ, TELL};
 use suite::texts::models_to_damage;
@@ -172,17 +172,10 @@ fn refused(text: &[u8], expected: Refusal, before: &Lists) {
     assert_eq!(&after.page[..line.len()], line.as_bytes());
 }
 
-/// What the program or the script prints of a text, and its status.
-fn prints(output: Output, status: i32, expected: Refusal) {
-    assert_eq!(output.status.code(), Some(status), "{output:?}");
-    assert_eq!(String::from_utf8_lossy(&output.stdout), line_of(expected));
-    assert!(output.stderr.is_empty(), "{output:?}");
-}
-
 fn printed_by_the_program(text: &[u8], expected: Refusal) {
     let _case = gen::text_case(text);
     let mut program = Command::new(root().join("target/bin/till"));
-    prints(run(&mut program, text), 0, expected);
+    prints(run(&mut program, text), 0, &line_of(expected));
 }
 
 #[test]
@@ -207,7 +200,7 @@ fn by_the_script() {
         let _case = gen::text_case(text.as_bytes());
         let mut script = Command::new(root().join("till"));
         let output = run(&mut script, text.as_bytes());
-        prints(output, 2, Refusal::new(number, place));
+        prints(output, 2, &line_of(Refusal::new(number, place)));
     }
 }
 
