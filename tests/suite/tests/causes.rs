@@ -5,7 +5,8 @@ use std::fs;
 use std::process::Command;
 
 use second::gen::{self, BadLine};
-use second::{text, Refusal};
+use second::text::{self, Cause};
+use second::Refusal;
 use suite::bench::{root, WORKED};
 use suite::command::{prints, run};
 use suite::lists::Lists;
@@ -261,13 +262,14 @@ fn every_cause_and_every_pair_by_the_program() {
     assert_eq!(seen, all_numbers());
 }
 
-/// The README's row of a number names texts of `examples/` that get it.
+/// Each number that a text can get has a row under "Refusals" that names texts of `examples/` that get it.
 #[test]
 fn the_readme_names_a_text_for_each_number() {
     let readme = fs::read_to_string(root().join("README.md")).expect("the README");
-    for number in [1, 2, 3, 4, 5, 31, 32] {
+    let (_, refusals) = readme.split_once("\n## Refusals\n").expect("the heading");
+    for number in BTreeSet::from(Cause::ALL.map(Cause::number)) {
         let start = format!("| {number} |");
-        let rows = readme.lines().filter(|line| line.starts_with(&start));
+        let rows = refusals.lines().filter(|line| line.starts_with(&start));
         let names = rows
             .flat_map(|row| row.split('`'))
             .filter(|name| name.ends_with(".txt"));
