@@ -15,7 +15,7 @@ use suite::texts::models_to_damage;
 
 const SEED: u64 = 7_900;
 
-/// Texts of the causes that request (i) names, each with its number and its place.
+/// Texts of the causes that request (i) names, and of 4 and 5, each with its number and its place.
 const REQUESTED: &[(&str, u16, u64)] = &[
     // the empty text
     ("", 32, 1),
@@ -46,6 +46,9 @@ const REQUESTED: &[(&str, u16, u64)] = &[
     // the first bad line decides, also where a later one is absent or bytes stand after `E`
     ("M,1,1,1,0\nA,H,print\nS,0,,0\n", 31, 3),
     ("M,1,1,0,0\nA,h,print\nE\nx", 2, 2),
+    // a name used before, a step not above the one before it
+    ("M,1,2,0,0\nA,L,scan\nA,H,scan\nE\n", 4, 3),
+    ("M,1,1,2,0\nA,H,print\nS,0,0,0\nS,0,0,0\nE\n", 5, 4),
 ];
 
 /// Another line in place of one of the worked example's: its place, which is the refusal's, and the number.
@@ -65,6 +68,15 @@ const LINES: &[(usize, &str, u16)] = &[
     (6, "S,4,1,2", 3),
     (6, "S,0,3,2", 3),
     (6, "S,0,1,4", 3),
+    // a blank or a sign alone, a sign or a tab before a digit
+    (1, "M, ,3,4,0", 31),
+    (1, "M,4,-,4,0", 31),
+    (1, "M,4,3,+0,0", 31),
+    (1, "M,4,3,4,\t1", 31),
+    (6, "S, ,1,2", 31),
+    (6, "S,0,-,2", 31),
+    (6, "S,0,1,+0", 31),
+    (6, "S,\t1,1,2", 31),
     // five digits, and six
     (1, "M,99999,3,4,0", 3),
     (1, "M,100000,3,4,0", 31),
@@ -129,6 +141,24 @@ fn worked_with(place: usize, bytes: &str, goes_on: bool) -> Vec<u8> {
     .concat()
 }
 
+/// One line of 16,384 bytes, the most that a text may have: a number field of thousands of digits, or `M` and commas.
+/// Without its line end it gets 32.
+fn long_lines() -> Vec<(Vec<u8>, Refusal)> {
+    let mut cases = Vec::new();
+    for (start, byte, end, number) in [
+        ("M,", b'9', ",3,4,0\n", 31),
+        ("M,4,3,4,", b'0', "\n", 31),
+        ("M", b',', "\n", 2),
+    ] {
+        let bytes = vec![byte; 16_384 - start.len() - end.len()];
+        let text = [start.as_bytes(), &bytes, end.as_bytes()].concat();
+        let without_end = text[..text.len() - 1].to_vec();
+        cases.push((without_end, Refusal::new(32, 1)));
+        cases.push((text, Refusal::new(number, 1)));
+    }
+    cases
+}
+
 /// Texts with their refusals.
 fn cases() -> Vec<(Vec<u8>, Refusal)> {
     let mut cases = Vec::new();
@@ -150,6 +180,7 @@ fn cases() -> Vec<(Vec<u8>, Refusal)> {
     for bytes in AFTER_END {
         cases.push(([WORKED, bytes].concat(), Refusal::new(32, 10)));
     }
+    cases.extend(long_lines());
     cases
 }
 
@@ -194,7 +225,8 @@ fn by_the_program() {
     }
 }
 
-/// Each number of a text is status 2.
+/// Each text of `REQUESTED`, on standard input, gets its line and status 2. They have every number but 1, which an
+/// example in `script.rs` has.
 #[test]
 fn by_the_script() {
     for &(text, number, place) in REQUESTED {
