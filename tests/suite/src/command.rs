@@ -1,4 +1,4 @@
-//! Commands, run on a text.
+//! Commands, run on a text, and what they print.
 use std::io::Write;
 use std::process::{Command, Output, Stdio};
 use std::thread::sleep;
@@ -27,4 +27,11 @@ pub fn run_in_pieces(command: &mut Command, pieces: &[&[u8]], pause: Duration) -
     }
     drop(input);
     child.wait_with_output().expect("the command ends")
+}
+
+/// The status and what is printed; nothing else is said.
+pub fn prints(output: Output, status: i32, printed: &str) {
+    assert_eq!(output.status.code(), Some(status), "{output:?}");
+    assert_eq!(String::from_utf8_lossy(&output.stdout), printed);
+    assert!(output.stderr.is_empty(), "{output:?}");
 }

@@ -2,19 +2,20 @@
 //! first, then 2, then 31, then 3, then 4 or 5, each over the whole line. By the operations, the program, the script.
 use std::collections::BTreeSet;
 use std::fs;
-use std::process::{Command, Output};
+use std::process::Command;
 
 use second::gen::{self, BadLine};
-use second::{text, Refusal};
+use second::text::{self, Cause};
+use second::Refusal;
 use suite::bench::{root, WORKED};
-use suite::command::run;
+use suite::command::{prints, run};
 use suite::lists::Lists;
 use suite::operations::{PRINT, READ, TELL};
 use suite::texts::models_to_damage;
 
 const SEED: u64 = 7_900;
 
-/// Texts of the causes that request (i) names, each with its number and its place.
+/// Texts of the causes that request (i) names, and of 4 and 5, each with its number and its place.
 const REQUESTED: &[(&str, u16, u64)] = &[
     // the empty text
     ("", 32, 1),
@@ -45,6 +46,9 @@ const REQUESTED: &[(&str, u16, u64)] = &[
     // the first bad line decides, also where a later one is absent or bytes stand after `E`
     ("M,1,1,1,0\nA,H,print\nS,0,,0\n", 31, 3),
     ("M,1,1,0,0\nA,h,print\nE\nx", 2, 2),
+    // a name used before, a step not above the one before it
+    ("M,1,2,0,0\nA,L,scan\nA,H,scan\nE\n", 4, 3),
+    ("M,1,1,2,0\nA,H,print\nS,0,0,0\nS,0,0,0\nE\n", 5, 4),
 ];
 
 /// Another line in place of one of the worked example's: its place, which is the refusal's, and the number.
@@ -64,6 +68,15 @@ const LINES: &[(usize, &str, u16)] = &[
     (6, "S,4,1,2", 3),
     (6, "S,0,3,2", 3),
     (6, "S,0,1,4", 3),
+    // a blank or a sign alone, a sign or a tab before a digit
+    (1, "M, ,3,4,0", 31),
+    (1, "M,4,-,4,0", 31),
+    (1, "M,4,3,+0,0", 31),
+    (1, "M,4,3,4,\t1", 31),
+    (6, "S, ,1,2", 31),
+    (6, "S,0,-,2", 31),
+    (6, "S,0,1,+0", 31),
+    (6, "S,\t1,1,2", 31),
     // five digits, and six
     (1, "M,99999,3,4,0", 3),
     (1, "M,100000,3,4,0", 31),
@@ -128,6 +141,24 @@ fn worked_with(place: usize, bytes: &str, goes_on: bool) -> Vec<u8> {
     .concat()
 }
 
+/// One line of 16,384 bytes, the most that a text may have: a number field of thousands of digits, or `M` and commas.
+/// Without its line end it gets 32.
+fn long_lines() -> Vec<(Vec<u8>, Refusal)> {
+    let mut cases = Vec::new();
+    for (start, byte, end, number) in [
+        ("M,", b'9', ",3,4,0\n", 31),
+        ("M,4,3,4,", b'0', "\n", 31),
+        ("M", b',', "\n", 2),
+    ] {
+        let bytes = vec![byte; 16_384 - start.len() - end.len()];
+        let text = [start.as_bytes(), &bytes, end.as_bytes()].concat();
+        let without_end = text[..text.len() - 1].to_vec();
+        cases.push((without_end, Refusal::new(32, 1)));
+        cases.push((text, Refusal::new(number, 1)));
+    }
+    cases
+}
+
 /// Texts with their refusals.
 fn cases() -> Vec<(Vec<u8>, Refusal)> {
     let mut cases = Vec::new();
@@ -149,6 +180,7 @@ fn cases() -> Vec<(Vec<u8>, Refusal)> {
     for bytes in AFTER_END {
         cases.push(([WORKED, bytes].concat(), Refusal::new(32, 10)));
     }
+    cases.extend(long_lines());
     cases
 }
 
@@ -172,17 +204,10 @@ fn refused(text: &[u8], expected: Refusal, before: &Lists) {
     assert_eq!(&after.page[..line.len()], line.as_bytes());
 }
 
-/// What the program or the script prints of a text, and its status.
-fn prints(output: Output, status: i32, expected: Refusal) {
-    assert_eq!(output.status.code(), Some(status), "{output:?}");
-    assert_eq!(String::from_utf8_lossy(&output.stdout), line_of(expected));
-    assert!(output.stderr.is_empty(), "{output:?}");
-}
-
 fn printed_by_the_program(text: &[u8], expected: Refusal) {
     let _case = gen::text_case(text);
     let mut program = Command::new(root().join("target/bin/till"));
-    prints(run(&mut program, text), 0, expected);
+    prints(run(&mut program, text), 0, &line_of(expected));
 }
 
 #[test]
@@ -200,14 +225,15 @@ fn by_the_program() {
     }
 }
 
-/// Each number of a text is status 2.
+/// Each text of `REQUESTED`, on standard input, gets its line and status 2. They have every number but 1, which an
+/// example in `script.rs` has.
 #[test]
 fn by_the_script() {
     for &(text, number, place) in REQUESTED {
         let _case = gen::text_case(text.as_bytes());
         let mut script = Command::new(root().join("till"));
         let output = run(&mut script, text.as_bytes());
-        prints(output, 2, Refusal::new(number, place));
+        prints(output, 2, &line_of(Refusal::new(number, place)));
     }
 }
 
@@ -268,13 +294,14 @@ fn every_cause_and_every_pair_by_the_program() {
     assert_eq!(seen, all_numbers());
 }
 
-/// The README's row of a number names texts of `examples/` that get it.
+/// Each number that a text can get has a row under "Refusals" that names texts of `examples/` that get it.
 #[test]
 fn the_readme_names_a_text_for_each_number() {
     let readme = fs::read_to_string(root().join("README.md")).expect("the README");
-    for number in [1, 2, 3, 4, 5, 31, 32] {
+    let (_, refusals) = readme.split_once("\n## Refusals\n").expect("the heading");
+    for number in BTreeSet::from(Cause::ALL.map(Cause::number)) {
         let start = format!("| {number} |");
-        let rows = readme.lines().filter(|line| line.starts_with(&start));
+        let rows = refusals.lines().filter(|line| line.starts_with(&start));
         let names = rows
             .flat_map(|row| row.split('`'))
             .filter(|name| name.ends_with(".txt"));

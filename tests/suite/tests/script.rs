@@ -10,7 +10,7 @@ use std::thread::sleep;
 use std::time::{Duration, Instant};
 
 use suite::bench::{examples, root, Folder};
-use suite::command::run;
+use suite::command::{prints, run};
 
 /// Status 3: the script says why and prints nothing.
 fn fails(output: Output, why: &str) {
@@ -18,13 +18,6 @@ fn fails(output: Output, why: &str) {
     assert!(output.stdout.is_empty(), "{output:?}");
     let said = String::from_utf8_lossy(&output.stderr);
     assert!(said.starts_with("till: ") && said.contains(why), "{said}");
-}
-
-/// The status and what is printed; nothing else is said.
-fn prints(output: Output, status: i32, printed: &str) {
-    assert_eq!(output.status.code(), Some(status), "{output:?}");
-    assert_eq!(String::from_utf8_lossy(&output.stdout), printed);
-    assert!(output.stderr.is_empty(), "{output:?}");
 }
 
 // ---- with the program

@@ -109,7 +109,7 @@ static void reads(void) {
     expect_store();
 }
 
-/* A text for each refusal of a text, which is told by its name. */
+/* A text for each refusal of a text; the refusals by their names. */
 static void refuses_texts(void) {
     static const struct {
         const char *text;
@@ -122,6 +122,7 @@ static void refuses_texts(void) {
         {"M,200,3,4,x\n", TILL_DIGITS, 1},
         {"M,4,3,4,0\nA,X", TILL_ABSENT, 2},
         {"", TILL_ABSENT, 1},
+        {"M,1,1,0,0\nA,H,print\nE\n\n", TILL_ABSENT, 4},
     };
     memset(store, 7, sizeof store);
     for (size_t i = 0; i < sizeof bad / sizeof *bad; i++)
