@@ -25,7 +25,7 @@ readingOutcome (done m) = answers []
 readingOutcome tooLong = refuses 1 0
 readingOutcome (faulty fault line) = refuses (faultNumber fault) line
 
--- the answer that a reading is, with the cause of the fault, which the numbers do not always tell apart
+-- the answer that a reading is, with the cause of the fault, which its number tells too
 unfoldable pub readAnswer : Reading → ReadAnswer
 readAnswer (done m) = Done
 readAnswer tooLong = TooLong

@@ -76,7 +76,7 @@ fn last_line(text: &[u8], start: LineStart, out: &[u16]) -> TextRead
         };
     }
     if e + 1 != text.len() {
-        // Bytes after the end count as a line of their own.
+        // "bytes after `E`", which have the number of an absent line.
         let fault = Fault::Absent;
         return TextRead::Faulty {
             fault,

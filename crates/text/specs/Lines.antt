@@ -54,13 +54,13 @@ consNumber BadDigits line = bad Digits
 consNumber Outside (good ns) = bad Range
 consNumber Outside (bad fault) = bad fault
 
--- the numbers of fields, one to a field, each with its bounds
+-- the numbers of fields, one to a field, each with its bounds; there are as many bounds as fields
 unfoldable pub numbersOf : List Bounds → List (List ℕ) → Line (List ℕ)
 numbersOf (b ∷ bs) (f ∷ fs) = consNumber (numberIn b f) (numbersOf bs fs)
 numbersOf [] fs = good []
 numbersOf (b ∷ bs) [] = good []
 
--- each number is within its bounds
+-- each number is within its bounds, of which there are as many
 unfoldable pub fits? : List Bounds → List ℕ → Bool
 fits? (b ∷ bs) (n ∷ ns) = inBounds? b n && fits? bs ns
 fits? [] ns = true
@@ -90,6 +90,7 @@ unfoldable pub rowBounds : Row → ℕ → List Bounds
 rowBounds HeadRow states = headBounds states
 rowBounds (StepRow h) states = stepBounds h
 
+-- the number that a field holds within its bounds, else 0
 unfoldable pub valueOr0 : Number → ℕ
 valueOr0 (Value n) = n
 valueOr0 BadDigits = 0

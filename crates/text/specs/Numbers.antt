@@ -37,9 +37,11 @@ fromTo least most = record { least = least; limit = suc most }
 abbrev pub below : ℕ → Bounds
 below limit = record { least = 0; limit = limit }
 
+-- from the least on, and below the limit
 unfoldable pub inBounds? : Bounds → ℕ → Bool
 inBounds? bounds n = leb (bounds .least) n && ltb n (bounds .limit)
 
+-- the number of a field, or none, by its bounds
 unfoldable pub bounded : Bounds → Option ℕ → Number
 bounded bounds none = BadDigits
 bounded bounds (some n) = cond (inBounds? bounds n) (Value n) Outside

@@ -1,5 +1,7 @@
 // Number fields.
+use crate::bytes::COMMA;
 use crate::bytes::DIGIT;
+use crate::bytes::LINE_END;
 use crate::bytes::kind;
 use crate::limits::DIGIT_LIMIT;
 ghost use mathlib.Core.Option.{some};
@@ -8,7 +10,7 @@ ghost use Prim.Native.Nat.{_≤_};
 ghost use lib.ListN.{length};
 ghost use Rattle.text.specs.Decides.{Decides};
 ghost use Rattle.text.specs.Numbers.{inBounds?, bounded};
-ghost use Rattle.text.specs.Inner.NumberAt.{Separator, DigitsFound, FieldEnds, NumberShape, NumberRead};
+ghost use Rattle.text.specs.Inner.NumberAt.{Separator, DigitsEnd, DigitsRead, FieldEnds, NumberShape, NumberRead};
 
 // The numbers that a field may hold: from `least` on, and below `limit`.
 pub struct Bounds {
@@ -24,16 +26,19 @@ pub enum Number {
     Outside,
 }
 
-// The number field at a place, and the place after it, where it has no bad digits.
-pub struct NumberAt {
-    pub number: Number,
-    pub end: usize,
+// The number field at a place: what it holds and, where its digits are not bad, the place after it; or another byte
+// follows it, or none, than the one that is due.
+pub enum NumberAt {
+    Field { number: Number, end: usize },
+    Other,
 }
 
-// The value of the digits at a place, and the place after them; or these bytes are no number.
-pub enum DigitsRead {
+// The digits at a place: their value and the place after them; bad digits; or another byte, or none, ends their field
+// than the one that is due.
+pub enum DigitsAt {
     To { value: u32, end: usize },
     Bad,
+    Other,
 }
 
 // Whether a number is within its bounds.
@@ -56,10 +61,26 @@ fn bounded_number(bounds: Bounds, n: u32) -> Number
     Number::Value(n as u16)
 }
 
-// The digits at a place, as many as a number has at most, which a byte of the kind `due` follows.
-fn digits_at(s: &[u8], at: usize, due: u8) -> DigitsRead
+// What digits come to that end at a place, by the kind of the byte there.
+fn digits_end(value: u32, end: usize, k: u8, due: u8) -> DigitsAt
+    ensures { λ r. ⌜ DigitsEnd value end k due r ⌝ }
+{
+    if k == due {
+        return DigitsAt::To { value, end };
+    }
+    if k == COMMA {
+        return DigitsAt::Other;
+    }
+    if k == LINE_END {
+        return DigitsAt::Other;
+    }
+    DigitsAt::Bad
+}
+
+// The digits at a place, as many as a number has at most, where a byte of the kind `due` is to follow.
+fn digits_at(s: &[u8], at: usize, due: u8) -> DigitsAt
     requires { ⌜ (at ≤ length (now s)) × Separator due ⌝ }
-    ensures { λ r. ⌜ DigitsFound due (now (s .entry)) at r ⌝ }
+    ensures { λ r. ⌜ DigitsRead due (now (s .entry)) at r ⌝ }
 {
     let mut value: u32 = 0;
     let mut i = at;
@@ -67,18 +88,15 @@ fn digits_at(s: &[u8], at: usize, due: u8) -> DigitsRead
         let b = s[i];
         let k = kind(b);
         if k != DIGIT {
-            if k != due {
-                return DigitsRead::Bad;
-            }
-            return DigitsRead::To { value, end: i };
+            return digits_end(value, i, k, due);
         }
         if DIGIT_LIMIT <= i - at {
-            return DigitsRead::Bad;
+            return DigitsAt::Bad;
         }
         value = value * 10 + (b as u32 - b'0' as u32);
         i += 1;
     }
-    DigitsRead::Bad
+    DigitsAt::Other
 }
 
 // Whether the digits from a place on and below `end`, where their field ends, are a number: at least one, and the first
@@ -99,26 +117,29 @@ fn is_number(s: &[u8], at: usize, end: usize) -> bool
     true
 }
 
-// The number field at a place, which a byte of the kind `due` follows. Where another byte or none follows, it counts as
-// bad digits: the line has then no end or other fields, which are told before them.
+// The number field at a place, where a byte of the kind `due` is to follow.
 pub fn number_at(s: &[u8], at: usize, due: u8, bounds: Bounds) -> NumberAt
     requires { ⌜ (at ≤ length (now s)) × Separator due ⌝ }
-    ensures { λ r. ⌜ NumberRead bounds due (now (s .entry)) at (r .number) (r .end) ⌝ }
+    ensures { λ r. ⌜ NumberRead bounds due (now (s .entry)) at r ⌝ }
 {
-    let DigitsRead::To { value, end } = digits_at(s, at, due) else {
-        return NumberAt {
+    let digits = digits_at(s, at, due);
+    match digits {
+        DigitsAt::Other => NumberAt::Other,
+        DigitsAt::Bad => NumberAt::Field {
             number: Number::BadDigits,
             end: at,
-        };
-    };
-    if !is_number(s, at, end) {
-        return NumberAt {
-            number: Number::BadDigits,
-            end,
-        };
-    }
-    NumberAt {
-        number: bounded_number(bounds, value),
-        end,
+        },
+        DigitsAt::To { value, end } => {
+            if !is_number(s, at, end) {
+                return NumberAt::Field {
+                    number: Number::BadDigits,
+                    end,
+                };
+            }
+            NumberAt::Field {
+                number: bounded_number(bounds, value),
+                end,
+            }
+        }
     }
 }

@@ -13,6 +13,7 @@ use crate::line::find;
 use crate::line::is_letter;
 use crate::number::Bounds;
 use crate::number::Number;
+use crate::number::NumberAt;
 use crate::number::number_at;
 use crate::number::within;
 ghost use mathlib.Core.Bool.{false};
@@ -23,7 +24,7 @@ ghost use Rattle.text.specs.Bytes.{capital, kindOf};
 ghost use Rattle.text.specs.Numbers.{below};
 ghost use Rattle.text.specs.Lines.{headBounds, stepBounds, rowLetter, rowCount, rowBounds, headFits?, stepFits?};
 ghost use Rattle.text.specs.Decides.{Decides};
-ghost use Rattle.text.specs.Inner.Row.{RowBegins, separatorKind, BadNumbers, RowRefused, RowAt};
+ghost use Rattle.text.specs.Inner.Row.{RowBegins, separatorKind, Found, RowRefused, RowAt};
 ghost use Rattle.text.specs.Inner.Columns.{columns, numbersIn, ColumnsTo, ColumnsScanned};
 
 // Which line it is: line 1, or the line of a step in a model whose line 1 is known.
@@ -33,10 +34,10 @@ pub enum Row {
 }
 
 // How far the numbers of a row are read: the place after the last of them, and whether one of them is outside its
-// bounds; or one has bad digits, if the line has an end and the right fields.
+// bounds; or the fault that was found.
 pub enum RowScan {
     To { end: usize, outside: bool },
-    Bad,
+    Bad(Fault),
 }
 
 // A row: its numbers are stored, and its line ends at this place; or its fault.
@@ -45,8 +46,8 @@ pub enum RowRead {
     Bad(Fault),
 }
 
-// A row is read into so many columns, of which a row with fewer numbers leaves the first ones free. So each column is
-// read at one place in the code, with its own separator.
+// A row is read into so many columns, of which a row with fewer numbers leaves the first ones free: a fixed number of
+// turns, each with the same byte due after its number, which the compiler unrolls.
 pub const COLUMNS: usize = 4;
 
 // The letter of a row.
@@ -201,10 +202,11 @@ fn next_number(
     }
     let bounds = bounds_of(row, column, out[0]);
     let read = number_at(text, end + 1, separator(column), bounds);
-    let next = read.end;
-    let number = read.number;
+    let NumberAt::Field { number, end: next } = read else {
+        return RowScan::Bad(Fault::Shape);
+    };
     match number {
-        Number::BadDigits => RowScan::Bad,
+        Number::BadDigits => RowScan::Bad(Fault::Digits),
         Number::Outside => RowScan::To {
             end: next,
             outside: true,
@@ -240,10 +242,20 @@ fn numbers_at(text: &[u8], at: usize, row: Row, out: &mut [u16]) -> RowScan
     RowScan::To { end, outside }
 }
 
-// The fault of a row, one of whose numbers has bad digits if all else is well: that the line has no end, or other
-// fields, is told before it.
-fn row_fault(text: &[u8], at: usize, row: Row) -> Fault
-    requires { ⌜ (at ≤ length (now text)) × BadNumbers row (now text) at ⌝ }
+// What is found at a place where a row is due.
+fn scan_row(text: &[u8], at: usize, row: Row, out: &mut [u16]) -> RowScan
+    requires { ⌜ (at ≤ length (now text)) × (length (now out) ≡ columns) × (getD (numbersIn row (now out)) 0 0 ≡ 0) ⌝ }
+    ensures { λ r. ⌜ ColumnsScanned row (now (text .entry)) at (now (out .exit)) columns r ⌝ }
+{
+    if !begins(text, at, letter_of(row)) {
+        return RowScan::Bad(Fault::Shape);
+    }
+    numbers_at(text, at, row, out)
+}
+
+// The fault of a row in which one was found: that the line has no end, or other fields, is told before bad digits.
+fn row_fault(text: &[u8], at: usize, row: Row, found: Fault) -> Fault
+    requires { ⌜ (at ≤ length (now text)) × Found row (now text) at found ⌝ }
     ensures { λ r. ⌜ RowRefused row (now (text .entry)) at r ⌝ }
 {
     let e = find(text, at, LINE_END);
@@ -253,22 +265,22 @@ fn row_fault(text: &[u8], at: usize, row: Row) -> Fault
     if !fields(&text[at..e], letter_of(row), count_of(row)) {
         return Fault::Shape;
     }
-    Fault::Digits
+    found
 }
 
-// The row at a place, into columns of zeros.
+// The row at a place, into columns of zeros; where it is refused, they may hold anything.
 pub fn row_at(text: &[u8], at: usize, row: Row, out: &mut [u16]) -> RowRead
     requires { ⌜ (at ≤ length (now text)) × (length (now out) ≡ columns) × (getD (numbersIn row (now out)) 0 0 ≡ 0) ⌝ }
     ensures { λ r. ⌜ RowAt row (now (text .entry)) at (numbersIn row (now (out .exit))) r ⌝ }
 {
-    if !begins(text, at, letter_of(row)) {
-        return RowRead::Bad(row_fault(text, at, row));
+    let scan = scan_row(text, at, row, out);
+    match scan {
+        RowScan::Bad(found) => RowRead::Bad(row_fault(text, at, row, found)),
+        RowScan::To { end, outside } => {
+            if outside {
+                return RowRead::Bad(Fault::Range);
+            }
+            RowRead::Good(end)
+        }
     }
-    let RowScan::To { end, outside } = numbers_at(text, at, row, out) else {
-        return RowRead::Bad(row_fault(text, at, row));
-    };
-    if outside {
-        return RowRead::Bad(Fault::Range);
-    }
-    RowRead::Good(end)
 }
