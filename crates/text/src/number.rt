@@ -1,7 +1,5 @@
 // Number fields.
-use crate::bytes::COMMA;
 use crate::bytes::DIGIT;
-use crate::bytes::LINE_END;
 use crate::bytes::kind;
 use crate::limits::DIGIT_LIMIT;
 ghost use mathlib.Core.Option.{some};
@@ -10,7 +8,7 @@ ghost use Prim.Native.Nat.{_≤_};
 ghost use lib.ListN.{length};
 ghost use Rattle.text.specs.Decides.{Decides};
 ghost use Rattle.text.specs.Numbers.{inBounds?, bounded};
-ghost use Rattle.text.specs.Inner.NumberAt.{Separator, DigitsEnd, DigitsRead, FieldEnds, NumberShape, NumberRead};
+ghost use Rattle.text.specs.Inner.NumberAt.{Separator, DigitsFound, FieldEnds, NumberShape, NumberRead};
 
 // The numbers that a field may hold: from `least` on, and below `limit`.
 pub struct Bounds {
@@ -26,19 +24,17 @@ pub enum Number {
     Outside,
 }
 
-// The number field at a place: what it holds and, where its digits are not bad, the place after it; or another byte
-// follows it, or none, than the one that is due.
-pub enum NumberAt {
-    Field { number: Number, end: usize },
-    Other,
+// What the field at a place holds that ends before the next byte of the kind that is due, and the place of that byte,
+// where its digits are not bad.
+pub struct NumberAt {
+    pub number: Number,
+    pub end: usize,
 }
 
-// The digits at a place: their value and the place after them; bad digits; or another byte, or none, ends their field
-// than the one that is due.
-pub enum DigitsAt {
+// The value of the digits at a place, and the place after them; or the bytes up to the one that is due are no number.
+pub enum DigitsRead {
     To { value: u32, end: usize },
     Bad,
-    Other,
 }
 
 // Whether a number is within its bounds.
@@ -61,26 +57,10 @@ fn bounded_number(bounds: Bounds, n: u32) -> Number
     Number::Value(n as u16)
 }
 
-// What digits come to that end at a place, by the kind of the byte there.
-fn digits_end(value: u32, end: usize, k: u8, due: u8) -> DigitsAt
-    ensures { λ r. ⌜ DigitsEnd value end k due r ⌝ }
-{
-    if k == due {
-        return DigitsAt::To { value, end };
-    }
-    if k == COMMA {
-        return DigitsAt::Other;
-    }
-    if k == LINE_END {
-        return DigitsAt::Other;
-    }
-    DigitsAt::Bad
-}
-
-// The digits at a place, as many as a number has at most, where a byte of the kind `due` is to follow.
-fn digits_at(s: &[u8], at: usize, due: u8) -> DigitsAt
+// The digits at a place, as many as a number has at most, which a byte of the kind `due` follows.
+fn digits_at(s: &[u8], at: usize, due: u8) -> DigitsRead
     requires { ⌜ (at ≤ length (now s)) × Separator due ⌝ }
-    ensures { λ r. ⌜ DigitsRead due (now (s .entry)) at r ⌝ }
+    ensures { λ r. ⌜ DigitsFound due (now (s .entry)) at r ⌝ }
 {
     let mut value: u32 = 0;
     let mut i = at;
@@ -88,15 +68,18 @@ fn digits_at(s: &[u8], at: usize, due: u8) -> DigitsAt
         let b = s[i];
         let k = kind(b);
         if k != DIGIT {
-            return digits_end(value, i, k, due);
+            if k != due {
+                return DigitsRead::Bad;
+            }
+            return DigitsRead::To { value, end: i };
         }
         if DIGIT_LIMIT <= i - at {
-            return DigitsAt::Bad;
+            return DigitsRead::Bad;
         }
         value = value * 10 + (b as u32 - b'0' as u32);
         i += 1;
     }
-    DigitsAt::Other
+    DigitsRead::Bad
 }
 
 // Whether the digits from a place on and below `end`, where their field ends, are a number: at least one, and the first
@@ -117,29 +100,26 @@ fn is_number(s: &[u8], at: usize, end: usize) -> bool
     true
 }
 
-// The number field at a place, where a byte of the kind `due` is to follow.
+// The number field at a place, up to the next byte of the kind `due`. Where that is not the byte which ends the field,
+// for the line has no end or other fields, the bytes up to it are more than digits, and bad.
 pub fn number_at(s: &[u8], at: usize, due: u8, bounds: Bounds) -> NumberAt
     requires { ⌜ (at ≤ length (now s)) × Separator due ⌝ }
-    ensures { λ r. ⌜ NumberRead bounds due (now (s .entry)) at r ⌝ }
+    ensures { λ r. ⌜ NumberRead bounds due (now (s .entry)) at (r .number) (r .end) ⌝ }
 {
-    let digits = digits_at(s, at, due);
-    match digits {
-        DigitsAt::Other => NumberAt::Other,
-        DigitsAt::Bad => NumberAt::Field {
+    let DigitsRead::To { value, end } = digits_at(s, at, due) else {
+        return NumberAt {
             number: Number::BadDigits,
             end: at,
-        },
-        DigitsAt::To { value, end } => {
-            if !is_number(s, at, end) {
-                return NumberAt::Field {
-                    number: Number::BadDigits,
-                    end,
-                };
-            }
-            NumberAt::Field {
-                number: bounded_number(bounds, value),
-                end,
-            }
-        }
+        };
+    };
+    if !is_number(s, at, end) {
+        return NumberAt {
+            number: Number::BadDigits,
+            end,
+        };
+    }
+    NumberAt {
+        number: bounded_number(bounds, value),
+        end,
     }
 }

@@ -13,7 +13,6 @@ use crate::line::find;
 use crate::line::is_letter;
 use crate::number::Bounds;
 use crate::number::Number;
-use crate::number::NumberAt;
 use crate::number::number_at;
 use crate::number::within;
 ghost use mathlib.Core.Bool.{false};
@@ -24,7 +23,7 @@ ghost use Rattle.text.specs.Bytes.{capital, kindOf};
 ghost use Rattle.text.specs.Numbers.{below};
 ghost use Rattle.text.specs.Lines.{headBounds, stepBounds, rowLetter, rowCount, rowBounds, headFits?, stepFits?};
 ghost use Rattle.text.specs.Decides.{Decides};
-ghost use Rattle.text.specs.Inner.Row.{RowBegins, separatorKind, Found, RowRefused, RowAt};
+ghost use Rattle.text.specs.Inner.Row.{RowBegins, separatorKind, BadNumbers, RowRefused, RowAt};
 ghost use Rattle.text.specs.Inner.Columns.{columns, numbersIn, ColumnsTo, ColumnsScanned};
 
 // Which line it is: line 1, or the line of a step in a model whose line 1 is known.
@@ -34,10 +33,10 @@ pub enum Row {
 }
 
 // How far the numbers of a row are read: the place after the last of them, and whether one of them is outside its
-// bounds; or the fault that was found.
+// bounds; or one has bad digits up to the byte that is due after it, or the row begins otherwise.
 pub enum RowScan {
     To { end: usize, outside: bool },
-    Bad(Fault),
+    Bad,
 }
 
 // A row: its numbers are stored, and its line ends at this place; or its fault.
@@ -202,11 +201,10 @@ fn next_number(
     }
     let bounds = bounds_of(row, column, out[0]);
     let read = number_at(text, end + 1, separator(column), bounds);
-    let NumberAt::Field { number, end: next } = read else {
-        return RowScan::Bad(Fault::Shape);
-    };
+    let next = read.end;
+    let number = read.number;
     match number {
-        Number::BadDigits => RowScan::Bad(Fault::Digits),
+        Number::BadDigits => RowScan::Bad,
         Number::Outside => RowScan::To {
             end: next,
             outside: true,
@@ -248,14 +246,15 @@ fn scan_row(text: &[u8], at: usize, row: Row, out: &mut [u16]) -> RowScan
     ensures { λ r. ⌜ ColumnsScanned row (now (text .entry)) at (now (out .exit)) columns r ⌝ }
 {
     if !begins(text, at, letter_of(row)) {
-        return RowScan::Bad(Fault::Shape);
+        return RowScan::Bad;
     }
     numbers_at(text, at, row, out)
 }
 
-// The fault of a row in which one was found: that the line has no end, or other fields, is told before bad digits.
-fn row_fault(text: &[u8], at: usize, row: Row, found: Fault) -> Fault
-    requires { ⌜ (at ≤ length (now text)) × Found row (now text) at found ⌝ }
+// The fault of a row with bad digits up to a byte that is due: that the line has no end, or other fields, is told before
+// them.
+fn row_fault(text: &[u8], at: usize, row: Row) -> Fault
+    requires { ⌜ (at ≤ length (now text)) × BadNumbers row (now text) at ⌝ }
     ensures { λ r. ⌜ RowRefused row (now (text .entry)) at r ⌝ }
 {
     let e = find(text, at, LINE_END);
@@ -265,7 +264,7 @@ fn row_fault(text: &[u8], at: usize, row: Row, found: Fault) -> Fault
     if !fields(&text[at..e], letter_of(row), count_of(row)) {
         return Fault::Shape;
     }
-    found
+    Fault::Digits
 }
 
 // The row at a place, into columns of zeros; where it is refused, they may hold anything.
@@ -275,7 +274,7 @@ pub fn row_at(text: &[u8], at: usize, row: Row, out: &mut [u16]) -> RowRead
 {
     let scan = scan_row(text, at, row, out);
     match scan {
-        RowScan::Bad(found) => RowRead::Bad(row_fault(text, at, row, found)),
+        RowScan::Bad => RowRead::Bad(row_fault(text, at, row)),
         RowScan::To { end, outside } => {
             if outside {
                 return RowRead::Bad(Fault::Range);

@@ -10,10 +10,8 @@ use Prim.Native.Nat.{ℕ, _+_, _≤_, _<_}
 use lib.Dec.{eqb}
 use lib.ListN.{length, drop, getD}
 use Rattle.text.specs.declared.number.Bounds.{Bounds}
-use Rattle.text.specs.declared.number.DigitsAt.{DigitsAt}
-use Rattle.text.specs.declared.number.DigitsAt.the-variants as digits-at
-use Rattle.text.specs.declared.number.NumberAt.{NumberAt}
-use Rattle.text.specs.declared.number.NumberAt.the-variants as number-at
+use Rattle.text.specs.declared.number.DigitsRead.{DigitsRead}
+use Rattle.text.specs.declared.number.DigitsRead.the-variants as digits-read
 use Rattle.text.specs.declared.number.Number.{Number}
 use Rattle.text.specs.declared.number.Number.the-variants.{BadDigits}
 use Rattle.text.specs.All.{All}
@@ -35,7 +33,7 @@ pub record DigitsTo (s : List ℕ) (at e v : ℕ) : Type 0 where
 
 -- at most five, and no further digit follows fewer; k is the kind of the byte that follows, and past the text's end
 -- there is none: `getD` is 0 there, which is of no kind
-pub record DigitsStop (s : List ℕ) (at v e k : ℕ) : Type 0 where
+pub record DigitsAt (s : List ℕ) (at v e k : ℕ) : Type 0 where
   pub follows : k ≡ kindOf (getD s e 0)
   pub run : DigitsTo s at e v
   pub short : e ≤ at + digitLimit
@@ -65,25 +63,15 @@ fieldOf (b ∷ bs) = cond (eqb (kindOf b) comma || eqb (kindOf b) lineEnd) [] (b
 abbrev pub Followed : ℕ → List ℕ → ℕ → Type 0
 Followed due s at = kindOf (getD s (at + length (fieldOf (drop at s))) 0) ≡ due
 
--- what digits come to that end at place e, by the kind of the byte there
-unfoldable pub DigitsEnd : ℕ → ℕ → ℕ → ℕ → DigitsAt → Type 0
-DigitsEnd v e k due (digits-at.To value end) = (value ≡ v) × (end ≡ e) × (k ≡ due)
-DigitsEnd v e k due digits-at.Bad = (k ≡ comma → ⊥) × (k ≡ lineEnd → ⊥)
-DigitsEnd v e k due digits-at.Other = Separator k × (k ≡ due → ⊥)
+-- what the digits at a place come to: they stand before a byte of the kind `due`; or the bytes up to such a byte, if the
+-- field ends there, are no number
+unfoldable pub DigitsFound : ℕ → List ℕ → ℕ → DigitsRead → Type 0
+DigitsFound due s at (digits-read.To value end) = DigitsAt s at value end due
+DigitsFound due s at digits-read.Bad = Followed due s at → numberOf (fieldOf (drop at s)) ≡ none
 
--- what the digits at a place come to
-unfoldable pub DigitsRead : ℕ → List ℕ → ℕ → DigitsAt → Type 0
-DigitsRead due s at (digits-at.To value end) = DigitsStop s at value end due
-DigitsRead due s at digits-at.Bad = numberOf (fieldOf (drop at s)) ≡ none
-DigitsRead due s at digits-at.Other = ¬ (Followed due s at)
-
--- the field at a place holds this number; if its digits are not bad, it ends at place e, and the byte that is due follows
-pub record FieldRead (bounds : Bounds) (due : ℕ) (s : List ℕ) (at : ℕ) (number : Number) (e : ℕ) : Type 0 where
-  pub read : numberIn bounds (fieldOf (drop at s)) ≡ number
+-- The bytes from a place on, up to the next byte of the kind `due`, hold this number, and, if it is one, that byte stands at
+-- place e. If it ends the field, this is what the field holds; else there are other bytes than digits before it.
+pub record NumberRead (bounds : Bounds) (due : ℕ) (s : List ℕ) (at : ℕ) (number : Number) (e : ℕ) : Type 0 where
+  pub read : Followed due s at → numberIn bounds (fieldOf (drop at s)) ≡ number
+  pub other : ¬ (Followed due s at) → number ≡ BadDigits
   pub place : (number ≡ BadDigits → ⊥) → e ≡ at + length (fieldOf (drop at s))
-  pub followed : (number ≡ BadDigits → ⊥) → Followed due s at
-
--- what the number field at a place comes to
-unfoldable pub NumberRead : Bounds → ℕ → List ℕ → ℕ → NumberAt → Type 0
-NumberRead bounds due s at (number-at.Field number end) = FieldRead bounds due s at number end
-NumberRead bounds due s at number-at.Other = ¬ (Followed due s at)

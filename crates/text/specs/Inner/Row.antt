@@ -9,7 +9,7 @@ use Prim.Native.Nat.{ℕ, _+_, _-_, _≤_, _<_}
 use lib.Dec.{eqb}
 use lib.ListN.{length, take, drop, getD}
 use Rattle.text.specs.declared.Fault.{Fault}
-use Rattle.text.specs.declared.Fault.the-variants.{Absent, Range}
+use Rattle.text.specs.declared.Fault.the-variants.{Absent, Digits, Range}
 use Rattle.text.specs.declared.number.Bounds.{Bounds}
 use Rattle.text.specs.declared.row.Row.{Row}
 use Rattle.text.specs.declared.row.RowScan.{RowScan}
@@ -90,16 +90,16 @@ pub record RowTo (row : Row) (text : List ℕ) (at : ℕ) (outside : Bool) (out 
   pub numbers : numbersOf (boundsAt row text at) (rowFields text at)
       ≡ prepend outside (take i out) (numbersOf (drop i (boundsAt row text at)) (fieldsAfter (drop e text)))
 
--- if the line at a place has an end and the fields of the row, its numbers have this fault
-pub record Found (row : Row) (text : List ℕ) (at : ℕ) (fault : Fault) : Type 0 where
+-- if the line at a place has an end and the fields of the row, one of its numbers has bad digits
+pub record BadNumbers (row : Row) (text : List ℕ) (at : ℕ) : Type 0 where
   pub told : at + indexOf lineEnd (drop at text) < length text → (fs : List (List ℕ))
       → fieldsOf (rowLetter row) (rowCount row) (lineAt text at) ≡ good fs
-      → numbersOf (rowBounds row (statesOf fs)) fs ≡ bad fault
+      → numbersOf (rowBounds row (statesOf fs)) fs ≡ bad Digits
 
 -- what reading i numbers of the row at a place came to
 unfoldable pub RowScanned : Row → List ℕ → ℕ → List ℕ → ℕ → RowScan → Type 0
 RowScanned row text at out i (row-scan.To end outside) = RowTo row text at outside out i end
-RowScanned row text at out i (row-scan.Bad fault) = Found row text at fault
+RowScanned row text at out i row-scan.Bad = BadNumbers row text at
 
 -- the row at a place is refused
 abbrev pub RowRefused : Row → List ℕ → ℕ → Fault → Type 0

@@ -7,7 +7,6 @@ use Prim.Native.Nat.{ℕ, zero, suc, _+_, _-_, _≤_, _<_}
 use native.Mathlib.Omega.{arith}
 use lib.ListN.{length, drop, getD, set, length-drop}
 use lib.Seq.{getD-drop}
-use Rattle.text.specs.declared.Fault.the-variants.{Shape, Digits}
 use Rattle.text.specs.declared.Head.{Head}
 use Rattle.text.specs.declared.number.Bounds.{Bounds}
 use Rattle.text.specs.declared.number.Number.{Number}
@@ -17,13 +16,14 @@ use Rattle.text.specs.declared.row.Row.the-variants.{HeadRow, StepRow}
 use Rattle.text.specs.declared.row.RowScan.the-variants as row-scan
 use Rattle.text.specs.Numbers.{below}
 use Rattle.text.specs.Lines.{rowLetter, rowCount, rowBounds, stepNumbers}
-use Rattle.text.specs.Inner.NumberAt.{Followed, FieldRead}
-use Rattle.text.specs.Inner.Row.{RowBegins, separatorKind, Found, RowScanned}
+use Rattle.text.specs.Inner.NumberAt.{fieldOf, Followed, NumberRead}
+use Rattle.text.specs.Bytes.{kindOf}
+use Rattle.text.specs.Inner.Row.{RowBegins, separatorKind, BadNumbers, RowScanned}
 use Rattle.text.specs.Inner.Columns.{columns, firstColumn, numbersIn, ColumnsTo, ColumnsScanned}
 use Rattle.text.specs.Laws.SplitLaws.{Is, same, other, is}
 use Rattle.text.specs.Laws.RowLaws.{rowCount-le, separatorKind-last, separatorKind-other, not-bad-value}
 use Rattle.text.specs.Laws.RowLaws.{not-bad-outside}
-use Rattle.text.specs.Laws.RowToLaws.{row-begin, row-digits, row-shape, row-value, row-outside}
+use Rattle.text.specs.Laws.RowToLaws.{row-begin, row-bad, row-value, row-outside}
 
 -- a number that is stored in a column is stored among the numbers
 drop-set : (n j v : ℕ) (l : List ℕ) → drop n (set l (n + j) v) ≡ set (drop n l) j v
@@ -74,7 +74,8 @@ module _ (row : Row) (text : List ℕ) (at : ℕ) (outside : Bool) (out : List �
 
   module _ (filled : firstColumn row ≤ column) (lt : column < columns) (b : Bounds)
       (given : b ≡ getD (rowBounds row (getD out 0 0)) (column - firstColumn row) (below 0))
-      {due : ℕ} (separated : due ≡ separatorKind (column + 1) columns) where
+      {due : ℕ} (separated : due ≡ separatorKind (column + 1) columns)
+      {number : Number} {e′ : ℕ} (n : NumberRead b due text (e + 1) number e′) where
     abbrev i : ℕ
     i = column - firstColumn row
 
@@ -104,28 +105,38 @@ module _ (row : Row) (text : List ℕ) (at : ℕ) (outside : Bool) (out : List �
     due-is : due ≡ separatorKind (i + 1) (rowCount row)
     due-is = separated ∙ separator
 
-    pub column-shape : ¬ (Followed due text (e + 1)) → Found row text at Shape
-    column-shape differs =
-        row-shape row text at outside (numbersIn row out) i e (t .row-to) i-lt b bounds (λ z. differs (z ∙ sym due-is))
+    pub column-bad : number ≡ BadDigits → BadNumbers row text at
+    column-bad h =
+        row-bad row text at outside (numbersIn row out) i e (t .row-to) i-lt b bounds
+        (λ follows. n .read (follows ∙ sym due-is) ∙ h)
 
-    module _ {number : Number} {e′ : ℕ} (n : FieldRead b due text (e + 1) number e′) where
-      pub column-digits : number ≡ BadDigits → Found row text at Digits
-      column-digits h = row-digits row text at outside (numbersIn row out) i e (t .row-to) i-lt b bounds (n .read ∙ h)
+    -- a number is followed by what is due
+    module _ (some : number ≡ BadDigits → ⊥) where
+      followed : Followed due text (e + 1)
+      followed = by-kind (is _ due)
+        where
+          by-kind : Is (kindOf (getD text (e + 1 + length (fieldOf (drop (e + 1) text))) 0)) due
+              → Followed due text (e + 1)
+          by-kind (same z) = z
+          by-kind (other z) = absurd (some (n .other z))
 
-      pub column-outside : number ≡ Outside → ColumnsScanned row text at out (column + 1) (row-scan.To e′ true)
-      unfolding RowScanned
-      column-outside h =
-          let some = not-bad-outside h in
-          rw (i-suc, n .place some) (row-outside row text at outside (numbersIn row out) i e (t .row-to) i-lt b bounds
-          (n .followed some ∙ due-is) (n .read ∙ h))
+      place : e′ ≡ e + 1 + length (fieldOf (drop (e + 1) text))
+      place = n .place some
 
-      pub column-value : (v : ℕ) → number ≡ Value v
-          → ColumnsScanned row text at (set out column v) (column + 1) (row-scan.To e′ outside)
-      unfolding RowScanned
-      column-value v h =
-          let some = not-bad-value h in
-          let at-column : column ≡ firstColumn row + i = omega arith in
-          let stored : numbersIn row (set out column v) ≡ set (numbersIn row out) i v =
-          ap (λ (c : ℕ). drop (firstColumn row) (set out c v)) at-column ∙ drop-set (firstColumn row) i v out in
-          rw (stored, i-suc, n .place some) (row-value row text at outside (numbersIn row out) i e (t .row-to) i-lt b
-          bounds (n .followed some ∙ due-is) v (n .read ∙ h))
+    pub column-outside : number ≡ Outside → ColumnsScanned row text at out (column + 1) (row-scan.To e′ true)
+    unfolding RowScanned
+    column-outside h =
+        let some = not-bad-outside h in
+        rw (i-suc, place some) (row-outside row text at outside (numbersIn row out) i e (t .row-to) i-lt b bounds
+        (followed some ∙ due-is) (n .read (followed some) ∙ h))
+
+    pub column-value : (v : ℕ) → number ≡ Value v
+        → ColumnsScanned row text at (set out column v) (column + 1) (row-scan.To e′ outside)
+    unfolding RowScanned
+    column-value v h =
+        let some = not-bad-value h in
+        let at-column : column ≡ firstColumn row + i = omega arith in
+        let stored : numbersIn row (set out column v) ≡ set (numbersIn row out) i v =
+        ap (λ (c : ℕ). drop (firstColumn row) (set out c v)) at-column ∙ drop-set (firstColumn row) i v out in
+        rw (stored, i-suc, place some) (row-value row text at outside (numbersIn row out) i e (t .row-to) i-lt b bounds
+        (followed some ∙ due-is) v (n .read (followed some) ∙ h))

@@ -2,7 +2,7 @@
 -- Document 01, "The text": "Numbers have 1 to 5 digits and no leading zero, except `0` itself." Assumes nothing.
 use mathlib.Core.Bool.{or-true}
 use mathlib.Core.List.{List, [], _∷_, _++_, append-assoc, append-nil}
-use mathlib.Core.Logic.{_⊎_, inl, inr, ⊎-elim}
+use mathlib.Core.Logic.{_⊎_, inl, inr}
 use mathlib.Core.Option.{none, some}
 use mathlib.Core.Path.{_≡_, refl, sym, ap, _∙_, subst}
 use Prim.Native.Nat.{ℕ, _+_, _-_, _*_, _≤_, _<_}
@@ -15,14 +15,10 @@ use Rattle.lts.specs.TestsLaws.{lt-or-le}
 use Rattle.text.specs.Bytes.{byteZero, digit, comma, lineEnd, kindOf}
 use Rattle.text.specs.Bytes as bytes
 use Rattle.text.specs.Numbers.{digitsValue, numberOf}
-use Rattle.text.specs.Inner.NumberAt.{AllDigits, DigitsTo, DigitsStop, Separator, FieldEnds, NumberShape}
-use Rattle.text.specs.Inner.NumberAt.{fieldOf, Followed, DigitsEnd, DigitsRead, FieldRead, NumberRead}
-use Rattle.text.specs.declared.number.Bounds.{Bounds}
-use Rattle.text.specs.declared.number.DigitsAt.{DigitsAt}
-use Rattle.text.specs.declared.number.DigitsAt.the-variants as digits-at
-use Rattle.text.specs.declared.number.Number.{Number}
-use Rattle.text.specs.declared.number.NumberAt.{NumberAt}
-use Rattle.text.specs.declared.number.NumberAt.the-variants as number-at
+use Rattle.text.specs.Inner.NumberAt.{AllDigits, DigitsTo, DigitsAt, Separator, FieldEnds, NumberShape}
+use Rattle.text.specs.Inner.NumberAt.{fieldOf, Followed, DigitsFound}
+use Rattle.text.specs.declared.number.DigitsRead.{DigitsRead}
+use Rattle.text.specs.declared.number.DigitsRead.the-variants as digits-read
 use Rattle.text.specs.Laws.AllLaws.{all-append}
 use Rattle.text.specs.Laws.DigitsLaws.{value-append}
 use Rattle.text.specs.Laws.ListLaws.{drop-next}
@@ -114,7 +110,7 @@ digits-next s at e v d h k =
 
 -- ---- the number of the field at a place
 
-module _ (s : List ℕ) (at v e k : ℕ) (d : DigitsStop s at v e k) where
+module _ (s : List ℕ) (at v e k : ℕ) (d : DigitsAt s at v e k) where
   abbrev f : List ℕ
   f = d .run .field
 
@@ -191,14 +187,14 @@ module _ (s : List ℕ) (at v e k : ℕ) (d : DigitsStop s at v e k) where
       let z : at + length (fieldOf (drop at s)) ≡ e = omega arith in
       ap (λ i. kindOf (getD s i 0)) z ∙ sym (d .follows)
 
-  -- the field ends after them, but not as is due
-  pub digits-other : (due : ℕ) → FieldEnds s e → (k ≡ due → ⊥) → ¬ (Followed due s at)
-  digits-other due ends differs followed = differs (sym (digits-followed ends) ∙ followed)
-
-  -- it goes on after them
-  pub digits-bad : e < length s → (k ≡ comma → ⊥) → (k ≡ lineEnd → ⊥) → numberOf (fieldOf (drop at s)) ≡ none
-  digits-bad l c n =
-      number-none (λ shape. ⊎-elim (λ z. c (d .follows ∙ z)) (λ z. n (d .follows ∙ z)) (shape .ends l))
+  -- another byte follows them than is due
+  pub number-other : (due : ℕ) → (k ≡ due → ⊥) → Followed due s at → numberOf (fieldOf (drop at s)) ≡ none
+  number-other due differs followed = by-end (ends-at s e)
+    where
+      by-end : EndsAt s e → numberOf (fieldOf (drop at s)) ≡ none
+      by-end (ended ends) = absurd (differs (sym (digits-followed ends) ∙ followed))
+      by-end (goes-on h w) =
+          number-none (λ shape. let n = ap length (sym w ∙ fieldOf-ended s e (shape .ends)) in omega arith)
 
 -- a separator ends a field
 pub separator-ends : (s : List ℕ) (e due : ℕ) → Separator due → due ≡ kindOf (getD s e 0) → FieldEnds s e
@@ -213,34 +209,13 @@ pub separator-digit : (due : ℕ) → Separator due → due ≡ digit → ⊥
 separator-digit due (inl c) h = omega (arith, c, h)
 separator-digit due (inr c) h = omega (arith, c, h)
 
--- what digits come to at a place where they end
-pub digits-read : (s : List ℕ) (at v e k due : ℕ) → DigitsStop s at v e k → e < length s → (r : DigitsAt)
-    → DigitsEnd v e k due r → DigitsRead due s at r
-unfolding DigitsEnd DigitsRead
-digits-read s at v e k due d l (digits-at.To value end) p = rw (p .0, p .1, ← p .2) d
-digits-read s at v e k due d l digits-at.Bad p = digits-bad s at v e k d l (p .0) (p .1)
-digits-read s at v e k due d l digits-at.Other p =
-    digits-other s at v e k d due (separator-ends s e k (p .0) (d .follows)) (p .1)
+-- what was found, by the answer
+pub digits-found : (due : ℕ) (s : List ℕ) (at : ℕ) (r : DigitsRead) {v e : ℕ} → r ≡ digits-read.To v e
+    → DigitsFound due s at r → DigitsAt s at v e due
+unfolding DigitsFound
+digits-found due s at r h f = subst (DigitsFound due s at) h f
 
--- what the digits, or the number, came to, by the answer
-module _ (due : ℕ) (s : List ℕ) (at : ℕ) (r : DigitsAt) (h : DigitsRead due s at r) where
-  pub read-to : {v e : ℕ} → r ≡ digits-at.To v e → DigitsStop s at v e due
-  unfolding DigitsRead
-  read-to z = subst (DigitsRead due s at) z h
-
-  pub read-bad : r ≡ digits-at.Bad → numberOf (fieldOf (drop at s)) ≡ none
-  unfolding DigitsRead
-  read-bad z = subst (DigitsRead due s at) z h
-
-  pub read-other : r ≡ digits-at.Other → ¬ (Followed due s at)
-  unfolding DigitsRead
-  read-other z = subst (DigitsRead due s at) z h
-
-module _ (b : Bounds) (due : ℕ) (s : List ℕ) (at : ℕ) (r : NumberAt) (h : NumberRead b due s at r) where
-  pub number-field : {number : Number} {e : ℕ} → r ≡ number-at.Field number e → FieldRead b due s at number e
-  unfolding NumberRead
-  number-field z = subst (NumberRead b due s at) z h
-
-  pub number-not-due : r ≡ number-at.Other → ¬ (Followed due s at)
-  unfolding NumberRead
-  number-not-due z = subst (NumberRead b due s at) z h
+pub digits-bad : (due : ℕ) (s : List ℕ) (at : ℕ) (r : DigitsRead) → r ≡ digits-read.Bad → DigitsFound due s at r
+    → Followed due s at → numberOf (fieldOf (drop at s)) ≡ none
+unfolding DigitsFound
+digits-bad due s at r h f = subst (DigitsFound due s at) h f

@@ -8,7 +8,7 @@ use Prim.Native.Nat.{ℕ, _+_, _-_, _≤_, _<_}
 use native.Mathlib.Omega.{arith}
 use lib.ListN.{length, take, drop}
 use Rattle.text.specs.declared.Fault.{Fault}
-use Rattle.text.specs.declared.Fault.the-variants.{Absent, Shape}
+use Rattle.text.specs.declared.Fault.the-variants.{Absent, Shape, Digits}
 use Rattle.text.specs.declared.row.Row.{Row}
 use Rattle.text.specs.declared.row.RowRead.{RowRead}
 use Rattle.text.specs.declared.row.RowRead.the-variants as row-read
@@ -20,7 +20,7 @@ use Rattle.text.specs.Lines.{good, bad, fieldsOf}
 use Rattle.text.specs.Lines.{rowLetter, rowCount, rowFrom, rowOf}
 use Rattle.text.specs.Inner.PartAnswers.{Fields}
 use Rattle.text.specs.Inner.Row.{LineAt}
-use Rattle.text.specs.Inner.Row.{RowTo, Found, RowScanned, RowRefused, RowAt}
+use Rattle.text.specs.Inner.Row.{RowTo, BadNumbers, RowScanned, RowRefused, RowAt}
 use Rattle.text.specs.Laws.SplitLaws.{is}
 
 -- ---- what reading some numbers came to
@@ -31,14 +31,14 @@ module _ (row : Row) (text : List ℕ) (at : ℕ) (out : List ℕ) (i : ℕ) (r 
     unfolding RowScanned
     scanned-to h = subst (RowScanned row text at out i) h s
 
-    pub scanned-found : {fault : Fault} → r ≡ row-scan.Bad fault → Found row text at fault
-    unfolding RowScanned
-    scanned-found h = subst (RowScanned row text at out i) h s
-
     -- however many numbers are asked for
-    pub scanned-bad : {fault : Fault} (out′ : List ℕ) (j : ℕ) → r ≡ row-scan.Bad fault → RowScanned row text at out′ j r
+    pub scanned-bad : (out′ : List ℕ) (j : ℕ) → r ≡ row-scan.Bad → RowScanned row text at out′ j r
     unfolding RowScanned
-    scanned-bad out′ j h = subst (RowScanned row text at out′ j) (sym h) (scanned-found h)
+    scanned-bad out′ j h = subst (RowScanned row text at out′ j) (sym h) (subst (RowScanned row text at out i) h s)
+
+    pub scanned-bad-numbers : r ≡ row-scan.Bad → BadNumbers row text at
+    unfolding RowScanned
+    scanned-bad-numbers h = subst (RowScanned row text at out i) h s
 
 -- ---- rows that are refused
 
@@ -65,11 +65,11 @@ module _ (row : Row) (text : List ℕ) (at : ℕ) where
       unfolding rowOf rowFrom
       refused-shape h = refused-line (ap (rowFrom row) h)
 
-      pub refused-found : {fault : Fault} → Found row text at fault → (fs : List (List ℕ))
+      pub refused-digits : BadNumbers row text at → (fs : List (List ℕ))
           → fieldsOf (rowLetter row) (rowCount row) (take (e - at) (drop at text)) ≡ good fs
-          → RowRefused row text at fault
+          → RowRefused row text at Digits
       unfolding rowOf rowFrom
-      refused-found c fs h =
+      refused-digits c fs h =
           let l : at + indexOf lineEnd (drop at text) < length text = omega arith in
           refused-line (ap (rowFrom row) h ∙ c .told l fs (rw (sym length-line) h))
 

@@ -7,7 +7,6 @@ use Prim.Native.Nat.{ℕ, _+_}
 use native.Mathlib.Omega.{arith}
 use lib.ListN.{length, drop, getD, length-drop}
 use lib.Seq.{getD-drop}
-use Rattle.text.specs.declared.Fault.{Fault}
 use Rattle.text.specs.declared.number.Bounds.{Bounds}
 use Rattle.text.specs.declared.row.Row.{Row}
 use Rattle.text.specs.Bytes.{comma, lineEnd, kindOf}
@@ -16,7 +15,7 @@ use Rattle.text.specs.Lines.{good, fieldsOf, numbersOf}
 use Rattle.text.specs.Lines.{rowLetter, rowCount, rowFrom, rowOf}
 use Rattle.text.specs.Inner.NumberAt.{fieldOf}
 use Rattle.text.specs.Inner.Row.{lineFields, fieldsAfter, lineAt, RowBegins}
-use Rattle.text.specs.Inner.Row.{rowFields, boundsAt, Found}
+use Rattle.text.specs.Inner.Row.{rowFields, boundsAt, BadNumbers}
 use Rattle.text.specs.Laws.ListLaws.{drop-next}
 use Rattle.text.specs.Laws.SplitLaws.{same, indexOf-cons}
 use Rattle.text.specs.Laws.FieldsLaws.{same?-byte, fields-good, fields-of-good}
@@ -92,5 +91,5 @@ module _ (row : Row) (text : List ℕ) (at : ℕ) where
       }
 
   -- another beginning
-  pub row-other : {fault : Fault} → ¬ (RowBegins (rowLetter row) text at) → Found row text at fault
+  pub row-other : ¬ (RowBegins (rowLetter row) text at) → BadNumbers row text at
   row-other no-begin = record { told = λ h fs g. absurd (no-begin (row-begins fs g)) }

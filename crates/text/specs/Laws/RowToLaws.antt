@@ -9,8 +9,7 @@ use native.Mathlib.Numerals.{add-one}
 use native.Mathlib.Omega.{arith}
 use lib.ListN.{length, take, drop, getD, set, length-set, length-drop}
 use lib.Seq.{drop-drop, getD-drop, getD-set-same, getD-set-other, take-suc-set, take-all}
-use Rattle.text.specs.declared.Fault.{Fault}
-use Rattle.text.specs.declared.Fault.the-variants.{Shape, Digits, Range}
+use Rattle.text.specs.declared.Fault.the-variants.{Digits, Range}
 use Rattle.text.specs.declared.number.Bounds.{Bounds}
 use Rattle.text.specs.declared.number.Number.{Number}
 use Rattle.text.specs.declared.number.Number.the-variants.{Value, BadDigits, Outside}
@@ -22,7 +21,7 @@ use Rattle.text.specs.Lines.{Line, good, bad, consNumber, numbersOf}
 use Rattle.text.specs.Lines.{rowLetter, rowCount, rowBounds, valueOr0, statesOf, rowOf}
 use Rattle.text.specs.Inner.NumberAt.{fieldOf}
 use Rattle.text.specs.Inner.Row.{fieldsAfter, lineAt, LineAt, RowBegins, separatorKind, prepend}
-use Rattle.text.specs.Inner.Row.{rowFields, boundsAt, RowTo, Found}
+use Rattle.text.specs.Inner.Row.{rowFields, boundsAt, RowTo, BadNumbers}
 use Rattle.text.specs.Laws.ListLaws.{drop-next}
 use Rattle.text.specs.Laws.SplitLaws.{Is, same, other, is, indexOf-end, indexOf-cons}
 use Rattle.text.specs.Laws.LineFieldsLaws.{lineFields-field, lineEnd-field, fieldOf-follows, fieldsAfter-comma}
@@ -182,22 +181,16 @@ module _ (row : Row) (text : List ℕ) (at : ℕ) where
               let c = left-count in
               absurd (q (omega arith))
 
-      -- what the row's fields hold, if the line has its end and they are the row's
-      found : {fault : Fault} → (at + indexOf lineEnd (drop at text) < length text → length F ≡ rowCount row
-          → numbersOf bs F ≡ bad fault) → Found row text at fault
-      found {fault} told = record {
+      -- bad digits, if the right byte follows
+      pub row-bad : (kindOf (getD text end 0) ≡ separatorKind (i + 1) (rowCount row) → numberIn b f ≡ BadDigits)
+          → BadNumbers row text at
+      unfolding consNumber
+      row-bad bad-digits = record {
         told = λ h fs g.
             let w = fields-are row text at (t .begins) fs g in
-            subst (λ (x : List (List ℕ)). numbersOf (rowBounds row (statesOf x)) x ≡ bad fault) (w .0) (told h (w .1));
+            subst (λ (x : List (List ℕ)). numbersOf (rowBounds row (statesOf x)) x ≡ bad Digits) (w .0)
+            (left-numbers (bad-digits (in-line h (w .1))) ∙ prepend-bad outside (take i out) Digits);
       }
-
-      pub row-digits : numberIn b f ≡ BadDigits → Found row text at Digits
-      unfolding consNumber
-      row-digits read = found (λ h n. left-numbers read ∙ prepend-bad outside (take i out) Digits)
-
-      -- another byte follows than the row has there
-      pub row-shape : ¬ (kindOf (getD text end 0) ≡ separatorKind (i + 1) (rowCount row)) → Found row text at Shape
-      row-shape wrong = found (λ h n. absurd (wrong (in-line h n)))
 
       -- the number is read, and the right byte follows
       module _ (number : Number) (read : numberIn b f ≡ number)

@@ -9,12 +9,11 @@ use lib.ListN.{length, getD}
 use borrow.Author.Needs.{needs}
 use Rattle.text.specs.Limits.{digitLimit}
 use Rattle.text.specs.Bytes.{digit, kindOf}
-use Rattle.text.specs.Bytes as bytes
-use Rattle.text.specs.Inner.NumberAt.{DigitsTo, DigitsStop, DigitsRead}
+use Rattle.text.specs.Inner.NumberAt.{DigitsTo, DigitsFound}
 use Rattle.text.specs.Laws.BytesLaws.{digit-within}
 use Rattle.text.specs.Laws.NumbersLaws.{pow-next}
-use Rattle.text.specs.Laws.NumberAtLaws.{kind-past, digits-none, digits-next, digits-read, digits-bad}
-use Rattle.text.specs.Laws.NumberAtLaws.{digits-other, separator-some}
+use Rattle.text.specs.Laws.NumberAtLaws.{kind-past, digits-none, digits-next, number-other, separator-some}
+use Rattle.text.specs.Laws.NumberAtLaws.{separator-digit}
 use Rattle.text.proofs.number.digits_at.Statement.{statement}
 use Rattle.text.proofs.number.digits_at.Tie as tie
 
@@ -26,7 +25,7 @@ abbrev μ-loop : tie.MeasureT-loop
 μ-loop s at due value₀ i₀ value i = length s - i
 
 -- the byte is a digit, and the value so far has four digits at most
-at-digit : (c : tie.Else2 Inv-loop μ-loop)
+at-digit : (c : tie.Else3 Inv-loop μ-loop)
     → let l = c .before .before .before .before .before in
     let b = getD (l .before .before .args .s .now) (l .loop .i) 0 in
     (kindOf b ≡ digit) × (48 ≤ b) × (b ≤ 57) × (l .loop .value < 10000)
@@ -52,44 +51,48 @@ shared-slice-read-b c = search needs
 kind-requires : tie.Need-kind-requires Inv-loop μ-loop
 kind-requires c κs = search needs
 
-digits-end-requires : tie.Need-digits-end-requires Inv-loop μ-loop
-digits-end-requires c κs = search needs
-
 returns : tie.Need-returns Inv-loop μ-loop
+unfolding DigitsFound
 returns c =
-    let t = c .before in
-    let k = t .before in
-    let l = k .before .before .before in
-    let i = l .loop .inv in
-    let stop : DigitsStop (l .before .before .args .s .now) (l .before .before .args .at) (l .loop .value) (l .loop .i)
-    (k .kind .result) = record {
+    let k = c .before .before in
+    let i = k .before .before .before .loop .inv in
+    number-other _ _ _ _ _ (record {
       follows = k .kind .ensures;
       run = i .4;
       short = i .1;
       inside = i .2;
-      stopped = λ h z. absurd (t .if1 .taken (k .kind .ensures ∙ z));
-    } in
-    digits-read _ _ _ _ _ _ stop (omega arith) (c .digits-end .result) (c .digits-end .ensures)
-
-sub-if2 : tie.Need-sub-if2 Inv-loop μ-loop
-sub-if2 c = search needs
+      stopped = λ h z. absurd (c .before .if1 .taken (k .kind .ensures ∙ z));
+    }) _ (c .if2 .taken)
 
 returns-2 : tie.Need-returns-2 Inv-loop μ-loop
-unfolding DigitsRead
+unfolding DigitsFound
 returns-2 c =
+    let k = c .before .before in
+    let i = k .before .before .before .loop .inv in
+    record {
+      follows = sym (c .if2 .left) ∙ k .kind .ensures;
+      run = i .4;
+      short = i .1;
+      inside = i .2;
+      stopped = λ h z. absurd (c .before .if1 .taken (k .kind .ensures ∙ z));
+    }
+
+sub-if3 : tie.Need-sub-if3 Inv-loop μ-loop
+sub-if3 c = search needs
+
+returns-3 : tie.Need-returns-3 Inv-loop μ-loop
+unfolding DigitsFound
+returns-3 c =
     let k = c .before .before in
     let l = k .before .before .before in
     let i = l .loop .inv in
-    let d = c .before .if1 .left in
-    let stop : DigitsStop (l .before .before .args .s .now) (l .before .before .args .at) (l .loop .value) (l .loop .i)
-    (k .kind .result) = record {
+    number-other _ _ _ _ _ (record {
       follows = k .kind .ensures;
       run = i .4;
       short = i .1;
       inside = i .2;
       stopped = λ h z. omega arith;
-    } in
-    digits-bad _ _ _ _ _ stop (omega arith) (λ z. omega (arith, d, z)) (λ z. omega (arith, d, z))
+    }) _ (λ z. separator-digit _ (l .before .before .pre .1) (sym z ∙ c .before .if1 .left))
 
 mul-value : tie.Need-mul-value Inv-loop μ-loop
 mul-value c = omega (arith, at-digit c)
@@ -126,20 +129,19 @@ loop-again c =
       digits-next _ _ _ _ (l .loop .inv .4) lt (at-digit c .0),
     )
 
-returns-3 : tie.Need-returns-3 Inv-loop μ-loop
-unfolding DigitsRead
-returns-3 c =
+returns-4 : tie.Need-returns-4 Inv-loop μ-loop
+unfolding DigitsFound
+returns-4 c =
     let l = c .before in
-    let a = l .before .before in
     let i = l .loop .inv in
-    let stop : DigitsStop (a .args .s .now) (a .args .at) (l .loop .value) (l .loop .i) bytes.other = record {
+    let a = l .before .before in
+    number-other _ _ _ _ _ (record {
       follows = sym (kind-past (a .args .s .now) (l .loop .i) (omega arith));
       run = i .4;
       short = i .1;
       inside = i .2;
       stopped = λ h z. absurd (omega arith);
-    } in
-    digits-other _ _ _ _ _ stop _ (λ h. absurd (omega arith)) (λ z. separator-some _ (a .pre .1) (sym z))
+    }) _ (λ z. separator-some _ (a .pre .1) (sym z))
 
 pub digits-at-spec : {M : Type 1} → statement M
 digits-at-spec =
@@ -150,10 +152,10 @@ digits-at-spec =
     loop-holds
     shared-slice-read-b
     kind-requires
-    digits-end-requires
     returns
-    sub-if2
     returns-2
+    sub-if3
+    returns-3
     mul-value
     cast-value
     cast-value-2
@@ -162,4 +164,4 @@ digits-at-spec =
     add-i
     loop-less
     loop-again
-    returns-3)
+    returns-4)

@@ -3,9 +3,8 @@ use Prim.Native.Nat.{_≤_}
 use native.Mathlib.Omega.{arith}
 use Rattle.text.specs.Inner.Row.{RowScanned}
 use Rattle.text.specs.Inner.Columns.{firstColumn}
-use Rattle.text.specs.Laws.NumberAtLaws.{number-field, number-not-due}
 use Rattle.text.specs.Laws.RowLaws.{rowCount-le, separatorKind-separator}
-use Rattle.text.specs.Laws.ColumnsLaws.{column-free, column-shape, column-digits, column-outside, column-value}
+use Rattle.text.specs.Laws.ColumnsLaws.{column-free, column-bad, column-outside, column-value}
 use borrow.Author.Needs.{needs}
 use Rattle.text.proofs.row.next_number.Statement.{statement}
 use Rattle.text.proofs.row.next_number.Tie as tie
@@ -45,26 +44,11 @@ number-at-requires c κs =
     let s = c .before .before .before .before .before .before .before in
     (omega (arith, s .pre .0 .row-to .inside), rw (c .separator .ensures) (separatorKind-separator _ _))
 
-enum-known-read : tie.Need-enum-known-read
-enum-known-read c = search needs
-
 enum-told : tie.Need-enum-told
 enum-told c = search needs
 
-returns-2 : tie.Need-returns-2
-unfolding RowScanned
-returns-2 c =
-    let n = c .before .before in
-    let e = n .before .before .before .before in
-    let s = e .before .before .before .before in
-    column-shape _ _ _ _ _ _ _ (s .pre .0) (filled e) (s .pre .1) _ (n .before .before .bounds-of .ensures)
-    (n .before .separator .ensures) (number-not-due _ _ _ _ _ (n .number-at .ensures) (c .enum-told .given .1))
-
 enum-told-2 : tie.Need-enum-told-2
 enum-told-2 c = search needs
-
-enum-told-3 : tie.Need-enum-told-3
-enum-told-3 c = search needs
 
 enum-known-number : tie.Need-enum-known-number
 enum-known-number c = search needs
@@ -75,40 +59,34 @@ mul-out c = search needs
 slice-write-out : tie.Need-slice-write-out
 slice-write-out c = search needs
 
-returns-3 : tie.Need-returns-3
+returns-2 : tie.Need-returns-2
 unfolding RowScanned
-returns-3 c =
-    let r = c .before .before .before in
-    let n = r .before .before in
+returns-2 c =
+    let n = c .before .before in
     let e = n .before .before .before .before in
     let s = e .before .before .before .before in
-    column-digits _ _ _ _ _ _ _ (s .pre .0) (filled e) (s .pre .1) _ (n .before .before .bounds-of .ensures)
-    (n .before .separator .ensures) (number-field _ _ _ _ _ (n .number-at .ensures) (r .read .given .1))
-    (c .enum-told2 .given .1)
+    column-bad _ _ _ _ _ _ _ (s .pre .0) (filled e) (s .pre .1) _ (n .before .before .bounds-of .ensures)
+    (n .before .separator .ensures) (n .number-at .ensures) (c .enum-told .given .1)
 
-returns-4 : tie.Need-returns-4
-returns-4 c =
-    let r = c .before .before .before in
-    let n = r .before .before in
+returns-3 : tie.Need-returns-3
+returns-3 c =
+    let n = c .before .before in
     let e = n .before .before .before .before in
     let s = e .before .before .before .before in
     column-outside _ _ _ _ _ _ _ (s .pre .0) (filled e) (s .pre .1) _ (n .before .before .bounds-of .ensures)
-    (n .before .separator .ensures) (number-field _ _ _ _ _ (n .number-at .ensures) (r .read .given .1))
-    (c .enum-told3 .given .1)
+    (n .before .separator .ensures) (n .number-at .ensures) (c .enum-told2 .given .1)
 
 same-length : tie.Need-same-length
 same-length c = search needs
 
-returns-5 : tie.Need-returns-5
-returns-5 c =
+returns-4 : tie.Need-returns-4
+returns-4 c =
     let v = c .before in
-    let r = v .before .before .before in
-    let n = r .before .before in
+    let n = v .before .before in
     let e = n .before .before .before .before in
     let s = e .before .before .before .before in
     column-value _ _ _ _ _ _ _ (s .pre .0) (filled e) (s .pre .1) _ (n .before .before .bounds-of .ensures)
-    (n .before .separator .ensures) (number-field _ _ _ _ _ (n .number-at .ensures) (r .read .given .1)) _
-    (v .number .given .1)
+    (n .before .separator .ensures) (n .number-at .ensures) _ (v .number .given .1)
 
 pub next-number-spec : {M : Type 1} → statement M
 next-number-spec =
@@ -122,15 +100,12 @@ next-number-spec =
     add-number-at
     separator-requires
     number-at-requires
-    enum-known-read
     enum-told
-    returns-2
     enum-told-2
-    enum-told-3
     enum-known-number
     mul-out
     slice-write-out
+    returns-2
     returns-3
-    returns-4
     same-length
-    returns-5)
+    returns-4)

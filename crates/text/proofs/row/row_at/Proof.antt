@@ -4,33 +4,33 @@ use Prim.Native.Nat.{_-_}
 use Rattle.text.specs.Inner.Row.{RowTo, RowAt}
 use Rattle.text.specs.Inner.Columns.{columns, firstColumn, numbersIn}
 use Rattle.text.specs.Laws.RowToLaws.{row-good, row-range}
-use Rattle.text.specs.Laws.RowAtLaws.{scanned-to, scanned-found}
+use Rattle.text.specs.Laws.RowAtLaws.{scanned-to, scanned-bad-numbers}
 use Rattle.text.specs.Laws.ColumnsLaws.{columns-all}
 use borrow.Author.Needs.{needs}
 use Rattle.text.proofs.row.row_at.Statement.{statement}
 use Rattle.text.proofs.row.row_at.Tie as tie
 
 -- the numbers are read
-scanned : (c : tie.After-scan2) → let n = c .before .before .before .before in
+scanned : (c : tie.After-scan) → let n = c .before .before .before .before in
     let a = n .before .before .before .before .args in
-    RowTo (a .row) (a .text .now) (a .at) (c .scan2 .given .0 .1 .0)
-    (numbersIn (a .row) (n .scan-row .last .1 .1 .1 .0)) (columns - firstColumn (a .row)) (c .scan2 .given .0 .0)
-scanned c = scanned-to _ _ _ _ _ _ (c .before .before .before .before .scan-row .ensures) (c .scan2 .given .1)
+    RowTo (a .row) (a .text .now) (a .at) (c .scan .given .0 .1 .0)
+    (numbersIn (a .row) (n .scan-row .last .1 .1 .1 .0)) (columns - firstColumn (a .row)) (c .scan .given .0 .0)
+scanned c = scanned-to _ _ _ _ _ _ (c .before .before .before .before .scan-row .ensures) (c .scan .given .1)
 
 scan-row-requires : tie.Need-scan-row-requires
 scan-row-requires c κs = search needs
 
-enum-known-scan : tie.Need-enum-known-scan
-enum-known-scan c = search needs
+enum-told : tie.Need-enum-told
+enum-told c = search needs
 
 row-fault-requires : tie.Need-row-fault-requires
 row-fault-requires c κs =
-    let n = c .before .before .before .before .before in
+    let n = c .before .before .before .before in
     let s = n .before .before .before .before in
-    (s .pre .0, scanned-found _ _ _ _ _ _ (n .scan-row .ensures) (c .before .scan .given .1))
+    (s .pre .0, scanned-bad-numbers _ _ _ _ _ _ (n .scan-row .ensures) (c .enum-told .given .1))
 
-enum-known-scan-2 : tie.Need-enum-known-scan-2
-enum-known-scan-2 c = search needs
+enum-known-scan : tie.Need-enum-known-scan
+enum-known-scan c = search needs
 
 same-length : tie.Need-same-length
 same-length c = search needs
@@ -58,9 +58,9 @@ row-at-spec =
     tie.close
     (tie.spec
     scan-row-requires
-    enum-known-scan
+    enum-told
     row-fault-requires
-    enum-known-scan-2
+    enum-known-scan
     same-length
     returns
     same-length-2

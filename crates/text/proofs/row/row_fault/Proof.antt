@@ -10,7 +10,7 @@ use Rattle.text.specs.Lines.{rowLetter, rowCount}
 use Rattle.text.specs.Inner.PartAnswers.{Fields}
 use Rattle.text.specs.Laws.SplitLaws.{found-le}
 use Rattle.text.specs.Laws.RowLaws.{rowLetter-capital, rowCount-pos}
-use Rattle.text.specs.Laws.RowAtLaws.{fields-row, refused-absent, refused-shape, refused-found}
+use Rattle.text.specs.Laws.RowAtLaws.{fields-row, refused-absent, refused-shape, refused-digits}
 use Rattle.text.proofs.row.row_fault.Statement.{statement}
 use Rattle.text.proofs.row.row_fault.Tie as tie
 
@@ -71,7 +71,7 @@ returns-2 c =
 returns-3 : tie.Need-returns-3
 returns-3 c =
     let f = c .before .before .before .before .before .before in
-    refused-found _ _ _ _ (f .find .ensures) (inside (c .before)) (f .before .before .pre .1) _
+    refused-digits _ _ _ _ (f .find .ensures) (inside (c .before)) (f .before .before .pre .1) _
     (tested (c .before) .yes-fields (not-false _ (c .if2 .left)))
 
 pub row-fault-spec : {M : Type 1} → statement M
