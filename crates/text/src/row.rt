@@ -251,8 +251,8 @@ fn scan_row(text: &[u8], at: usize, row: Row, out: &mut [u16]) -> RowScan
     numbers_at(text, at, row, out)
 }
 
-// The fault of a row with bad digits up to a byte that is due: that the line has no end, or other fields, is told before
-// them.
+// The fault of a row with bad digits up to a byte that is due: that the line has no end, or other fields, is told
+// before them.
 fn row_fault(text: &[u8], at: usize, row: Row) -> Fault
     requires { ⌜ (at ≤ length (now text)) × BadNumbers row (now text) at ⌝ }
     ensures { λ r. ⌜ RowRefused row (now (text .entry)) at r ⌝ }

@@ -63,14 +63,15 @@ fieldOf (b ∷ bs) = cond (eqb (kindOf b) comma || eqb (kindOf b) lineEnd) [] (b
 abbrev pub Followed : ℕ → List ℕ → ℕ → Type 0
 Followed due s at = kindOf (getD s (at + length (fieldOf (drop at s))) 0) ≡ due
 
--- what the digits at a place come to: they stand before a byte of the kind `due`; or the bytes up to such a byte, if the
--- field ends there, are no number
+-- what the digits at a place come to: they stand before a byte of the kind `due`; or the bytes up to such a byte, if
+-- the field ends there, are no number
 unfoldable pub DigitsFound : ℕ → List ℕ → ℕ → DigitsRead → Type 0
 DigitsFound due s at (digits-read.To value end) = DigitsAt s at value end due
 DigitsFound due s at digits-read.Bad = Followed due s at → numberOf (fieldOf (drop at s)) ≡ none
 
--- The bytes from a place on, up to the next byte of the kind `due`, hold this number, and, if it is one, that byte stands at
--- place e. If it ends the field, this is what the field holds; else there are other bytes than digits before it.
+-- The bytes from a place on, up to the next byte of the kind `due`, hold this number, and, if it is one, that byte
+-- stands at place e. If it ends the field, this is what the field holds; else there are other bytes than digits before
+-- it.
 pub record NumberRead (bounds : Bounds) (due : ℕ) (s : List ℕ) (at : ℕ) (number : Number) (e : ℕ) : Type 0 where
   pub read : Followed due s at → numberIn bounds (fieldOf (drop at s)) ≡ number
   pub other : ¬ (Followed due s at) → number ≡ BadDigits
