@@ -4,9 +4,9 @@ use mathlib.Core.List.{List, [], _∷_, _++_, map}
 use mathlib.Core.Option.{Option, none, some}
 use mathlib.Core.Path.{_≡_}
 use Prim.Native.Nat.{ℕ, suc, _<_}
-use lib.ListN.{length, getD, drop}
+use lib.ListN.{length, drop}
 use Rattle.lts.specs.Alike.{Rank}
-use Rattle.text.specs.Model.{Model, noAction}
+use Rattle.text.specs.Model.{Model}
 use Rattle.model.specs.System.{source, ReachableIn, DistanceIn, DeterministicModel, IsState, view}
 use Rattle.verdicts.specs.declared.judging.Verdict.{Verdict}
 use Rattle.verdicts.specs.declared.judging.Verdict.the-variants.{Passed, Refused}
@@ -17,6 +17,7 @@ use Rattle.letters.specs.Words.{WordOf}
 use Rattle.lines.specs.PageLines.{PageLine, verdict-line, state-line, run-line, word-line, allows-line}
 use Rattle.lines.specs.PageLines.{branch-line, last-line}
 use Rattle.lts.specs.Noninterference.{LowMove}
+pub use Rattle.columns.specs.LowNames.{nameOf}
 
 -- What stands in a `C` line as the distance of state p: "distance `-` if unreachable".
 pub data DistanceField (m : Model) (p : ℕ) : Option ℕ → Type 0 where
@@ -39,10 +40,6 @@ pub data StateLines (m : Model) : ℕ → List PageLine → Type 0 where
   next-state : {n : ℕ} {lines : List PageLine} {distance : Option ℕ} {class : ℕ} → StateLines m n lines
       → DistanceField m n distance → ClassOf m n class
       → StateLines m (suc n) (lines ++ (state-line n distance class ∷ []))
-
--- The name of action a.
-abbrev pub nameOf : Model → ℕ → List ℕ
-nameOf m a = getD (m .actions) a noAction .name
 
 -- `W,name`
 abbrev pub nameLine : Model → ℕ → PageLine

@@ -1,15 +1,16 @@
 -- The lines of a page, and its bytes.
 -- Document 01, "The page".
 use mathlib.Core.List.{List, [], _∷_, _++_}
-use mathlib.Core.Option.{Option, none, some}
+use mathlib.Core.Option.{Option}
 use Prim.Native.Nat.{ℕ}
-use Rattle.text.specs.Bytes.{byteLineEnd, byteDash, byteV, byteC, byteR, byteW, byteB, byteN, byteE, byteF}
+use Rattle.text.specs.Bytes.{byteLineEnd, byteV, byteC, byteR, byteW, byteB, byteN, byteE, byteF}
 use Rattle.text.specs.Numbers.{digits}
 use Rattle.model.specs.Text.{field}
 use Rattle.verdicts.specs.declared.judging.Verdict.{Verdict}
 use Rattle.verdicts.specs.declared.judging.Verdict.the-variants.{Passed, Refused}
 use Rattle.letters.specs.declared.word.End.{End}
 use Rattle.letters.specs.declared.word.End.the-variants.{Source, Target}
+unfoldable pub use Rattle.columns.specs.StateRows.{distanceText}
 
 -- What a line says.
 pub data PageLine : Type 0 where
@@ -27,11 +28,6 @@ passText = 112 ∷ 97 ∷ 115 ∷ 115 ∷ []
 
 abbrev pub refuseText : List ℕ
 refuseText = 114 ∷ 101 ∷ 102 ∷ 117 ∷ 115 ∷ 101 ∷ []
-
--- "distance `-` if unreachable"
-unfoldable pub distanceText : Option ℕ → List ℕ
-distanceText none = byteDash ∷ []
-distanceText (some d) = digits d
 
 -- `source` or `target`
 unfoldable pub endText : End → List ℕ

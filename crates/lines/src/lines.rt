@@ -20,6 +20,12 @@ ghost use Rattle.lines.specs.PageLines.{verdict-line, state-line, run-li
 ghost use Rattle.lines.specs.PageLines.{last-line, distanceText, lineText, faultText};
 ghost use Rattle.lines.specs.Inner.Entries.{distanceOf};
 
+// The page as it is, or on the receipt roll, whose lines have 42 columns.
+pub enum Form {
+    Page,
+    Roll,
+}
+
 // A comma, and the distance of p or `-`.
 fn distance_field(at: Position, out: &mut [u8], distances: &[u16], p: State) -> Position
     requires { ⌜ (p .0 < distancesLength) × (distancesLength ≤ length (now distances)) ⌝ }

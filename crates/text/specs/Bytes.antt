@@ -79,6 +79,10 @@ byteF = 70
 abbrev pub byteDash : ℕ
 byteDash = 45
 
+-- "padded with blanks" (document 02, (ii))
+abbrev pub byteBlank : ℕ
+byteBlank = 32
+
 -- ---- kinds
 
 abbrev pub other : ℕ

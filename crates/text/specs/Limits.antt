@@ -133,6 +133,10 @@ wordLength = 127
 abbrev pub pageLength : ℕ
 pageLength = 5000
 
+-- Roll's "out with at least 35,840 bytes" (document 02, (ii))
+abbrev pub rollLength : ℕ
+rollLength = 35840
+
 -- "65,535 for unreachable and unused places"
 abbrev pub unreachable : ℕ
 unreachable = 65535

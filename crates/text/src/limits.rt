@@ -76,8 +76,10 @@ pub const RUN_LENGTH: usize = STATE_LIMIT as usize - 1;
 
 pub const WORD_LENGTH: usize = STATE_LIMIT as usize - 1;
 
-// The longest page, and the longest text of a model, fit.
+// The longest page, the longest roll, and the longest text of a model, fit.
 pub const PAGE_LENGTH: usize = 5000;
+
+pub const ROLL_LENGTH: usize = 35840;
 
 pub const OUT_LENGTH: usize = 14420;
 

@@ -1,27 +1,23 @@
 -- The lines of a run and of a word, one more at a time.
 -- Document 01, "The page". Assumes nothing.
 use mathlib.Core.List.{List, [], _∷_, _++_, map, map-append}
-use mathlib.Core.Path.{_≡_, refl, sym, ap, subst, _∙_}
-use Prim.Native.Nat.{ℕ, _+_, _-_, _*_, _≤_, _<_}
+use mathlib.Core.Path.{_≡_, refl, sym, ap, _∙_}
+use Prim.Native.Nat.{ℕ, _+_, _*_, _≤_, _<_}
 use native.Mathlib.Omega.{arith}
 use native.Mathlib.Nat.{mul-suc}
 use native.Mathlib.Numerals.{add-one}
-use lib.ListN.{length, getD, take, drop, length-take}
-use Rattle.text.specs.Model.{ActionLine}
+use lib.ListN.{length, getD, take}
 use Rattle.text.specs.Numbers.{digits}
 use Rattle.text.specs.Laws.DigitsLaws.{digitsUpTo-length-le}
-use Rattle.model.specs.StoredModel.{headAt, actionAt, modelAt}
-use Rattle.model.specs.Laws.Store.StoredModelLaws.{actionAt-holds, Good→Holds, listed-length}
-use Rattle.text.specs.All.{All}
-use Rattle.text.specs.Limits.{nameLimit, nameLengthPlace, namePlace}
+use Rattle.model.specs.StoredModel.{modelAt}
 use Rattle.writer.specs.Inner.Writable.{Writable}
-use Rattle.writer.specs.Laws.WritableLaws.{name-bytes-at, actionAt-part}
 use Rattle.writer.specs.Wrote.{Wrote}
 use Rattle.writer.specs.Laws.WroteLaws.{take-next}
 use Rattle.lines.specs.PageLines.{PageLine, run-line, word-line, lineBytes}
 use Rattle.lines.specs.Page.{nameOf, nameLine}
 use Rattle.lines.specs.Inner.LinesWritten.{LinesWritten}
 use Rattle.lines.specs.Inner.Room.{runRoom, nameRoom}
+use Rattle.columns.specs.Laws.NameLaws.{name-length-le}
 use Rattle.lines.specs.Laws.PageLinesLaws.{lineBytes-length, run-length, word-length}
 use Rattle.lines.specs.Laws.LinesWrittenLaws.{written-line, written-both, written-of}
 
@@ -45,33 +41,9 @@ pub run-length-le : (j : ℕ) → length (lineBytes (run-line j)) ≤ runRoom
 unfolding digits
 run-length-le j = omega (arith, lineBytes-length (run-line j), run-length j, digitsUpTo-length-le 5 j)
 
--- ---- the name of an action, as the store holds it
-
+-- `W,name` and the line end
 module _ {s : List ℕ} (w : Writable s) (a : ℕ) (l : a < length (modelAt s .actions)) where
-  nameOf-stored : actionAt s a .name ≡ nameOf (modelAt s) a
-  nameOf-stored = ap (λ (x : ActionLine). x .name) (actionAt-holds s (modelAt s) (Good→Holds s (w .good)) a _ l)
-
-  pub name-action-lt : a < headAt s .actions
-  unfolding modelAt
-  name-action-lt = omega (arith, l, listed-length (headAt s .actions) (actionAt s))
-
-  -- the part of the store where it stands
-  pub name-part : (place len : ℕ) → place ≡ namePlace a → len ≡ getD s (nameLengthPlace a) 0
-      → take (place + len - place) (drop place s) ≡ nameOf (modelAt s) a
-  name-part place len p n =
-      ap (λ (x : ActionLine). x .name) (actionAt-part s a (actionAt s a .level) place len refl p n) ∙ nameOf-stored
-
-  pub name-length-le : length (nameOf (modelAt s) a) ≤ nameLimit
-  name-length-le =
-      let b = name-bytes-at s w a name-action-lt .short in
-      let t = length-take (getD s (nameLengthPlace a) 0) (drop (namePlace a) s) in
-      omega (arith, b, t, ap length nameOf-stored)
-
   pub name-line-length-le : length (lineBytes (nameLine (modelAt s) a)) ≤ nameRoom
   name-line-length-le =
       let name = nameOf (modelAt s) a in
-      omega (arith, lineBytes-length (word-line name), word-length name, name-length-le)
-
-  pub name-bytes-lt : All (λ (b : ℕ). b < 256) (nameOf (modelAt s) a)
-  name-bytes-lt =
-      subst (All (λ (b : ℕ). b < 256)) nameOf-stored (name-bytes-at s w a name-action-lt .bytes)
+      omega (arith, lineBytes-length (word-line name), word-length name, name-length-le w a l)

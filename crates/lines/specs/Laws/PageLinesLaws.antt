@@ -1,17 +1,14 @@
--- The lengths of lines, and the distance in a list as a field.
+-- The lengths of lines.
 -- Document 01, "The page". Assumes nothing.
-use mathlib.Core.Bool.{Bool, cond}
 use mathlib.Core.List.{List, [], _∷_}
-use mathlib.Core.Option.{Option, none, some}
-use mathlib.Core.Path.{_≡_, ap}
+use mathlib.Core.Option.{Option}
+use mathlib.Core.Path.{_≡_}
 use Prim.Native.Nat.{ℕ, _+_, _≤_}
 use native.Mathlib.Omega.{arith}
-use lib.ListN.{length, getD, length-append}
-use borrow.Author.Tests.{eq-eqb, ne-eqb}
+use lib.ListN.{length, length-append}
 use Rattle.text.specs.Bytes.{byteLineEnd}
 use Rattle.text.specs.Numbers.{digits}
 use Rattle.text.specs.Laws.DigitsLaws.{digitsUpTo-length-le}
-use Rattle.text.specs.Limits.{unreachable}
 use Rattle.verdicts.specs.declared.judging.Verdict.{Verdict}
 use Rattle.verdicts.specs.declared.judging.Verdict.the-variants.{Passed, Refused}
 use Rattle.text.specs.declared.Step.{Step}
@@ -20,7 +17,6 @@ use Rattle.lines.specs.PageLines.{branch-line, last-line, distanceText, 
 use Rattle.letters.specs.declared.word.End.{End}
 use Rattle.letters.specs.declared.word.End.the-variants.{Source, Target}
 use Rattle.lines.specs.PageLines.{faultText, faultBytes}
-use Rattle.lines.specs.Inner.Entries.{distanceOf}
 use Rattle.lines.specs.Inner.Room.{verdictRoom, allowsRoom, letterRoom, faultRoom}
 
 -- ---- lengths of texts
@@ -97,18 +93,3 @@ fault-length-le number place = omega (
   digitsUpTo-length-le 5 number,
   digitsUpTo-length-le 5 place,
 )
-
--- ---- an entry of the distances
-
-module _ (distances : List ℕ) (p : ℕ) where
-  -- none where the test holds
-  shown : Bool → Option ℕ
-  shown unreached = cond unreached none (some (getD distances p 0))
-
-  pub distanceOf-unreachable : getD distances p 0 ≡ unreachable → distanceOf distances p ≡ none
-  unfolding distanceOf shown
-  distanceOf-unreachable e = ap shown (eq-eqb (getD distances p 0) unreachable e)
-
-  pub distanceOf-reachable : ¬ (getD distances p 0 ≡ unreachable) → distanceOf distances p ≡ some (getD distances p 0)
-  unfolding distanceOf shown
-  distanceOf-reachable n = ap shown (ne-eqb (getD distances p 0) unreachable n)

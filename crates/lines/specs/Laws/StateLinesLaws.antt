@@ -24,7 +24,7 @@ use Rattle.lines.specs.Inner.Entries.{distanceOf, LowestZero}
 use Rattle.lines.specs.Inner.LinesWritten.{LinesWritten}
 use Rattle.lines.specs.Inner.Room.{stateRoom}
 use Rattle.lines.specs.Laws.PageLinesLaws.{lineBytes-length, state-length}
-use Rattle.lines.specs.Laws.PageLinesLaws.{distanceOf-unreachable, distanceOf-reachable}
+use Rattle.columns.specs.Laws.DistanceOfLaws.{distanceOf-unreachable, distanceOf-reachable}
 use Rattle.lines.specs.Laws.LinesWrittenLaws.{written-line, written-append, written-of}
 use Rattle.model.specs.System.{IsState, view}
 use Rattle.lts.specs.Noninterference.{LowMove}

@@ -4,7 +4,7 @@ use native.Mathlib.Omega.{arith}
 use denote.Ref.{now}
 use Rattle.text.specs.Laws.DecidesLaws.{decides-true, decides-false}
 use Rattle.lines.specs.PageLines.{distanceText}
-use Rattle.lines.specs.Laws.PageLinesLaws.{distanceOf-unreachable, distanceOf-reachable}
+use Rattle.columns.specs.Laws.DistanceOfLaws.{distanceOf-unreachable, distanceOf-reachable}
 use Rattle.lines.proofs.lines.distance_field.Statement.{statement}
 use Rattle.lines.proofs.lines.distance_field.Tie as tie
 

@@ -9,7 +9,7 @@ use Prim.Native.Nat.{ℕ, _<_}
 use Rattle.text.specs.All.{All}
 use Rattle.writer.specs.Laws.WritableLaws.{actions-le, name-bytes-at}
 use Rattle.lines.specs.PageLines.{word-line, lineText}
-use Rattle.lines.specs.Laws.LeakLaws.{name-action-lt, name-part, name-bytes-lt}
+use Rattle.columns.specs.Laws.NameLaws.{name-action-lt, name-part, name-bytes-lt}
 use Rattle.lines.proofs.lines.PagePosition.name_text.Statement.{statement}
 use Rattle.lines.proofs.lines.PagePosition.name_text.Tie as tie
 

@@ -1,0 +1,2 @@
+pub mod DistanceOfLaws
+pub mod NameLaws

@@ -1,0 +1,5 @@
+pub mod Inner
+pub mod Laws
+pub mod Rows
+pub mod LowNames
+pub mod StateRows

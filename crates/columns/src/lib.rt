@@ -1,0 +1,1 @@
+// The columns of the receipt roll: its lines, and the lines of a state.
