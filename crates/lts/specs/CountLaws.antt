@@ -5,8 +5,17 @@ use mathlib.Core.Bool.{Bool, true, false, not}
 use Prim.Native.Nat.{ℕ, zero, suc, _+_, _≤_, _<_}
 use native.Mathlib.Omega.{arith}
 use lib.Dec.{T, T-not}
-use Rattle.lts.specs.Tests.{bit, count, countPairs}
+use Rattle.lts.specs.Tests.{Each, bit, count, countPairs}
 use Rattle.lts.specs.TestsLaws.{T-cases, eq-or-not, count-le-count, count-pos}
+
+bit-none : (b : Bool) → T (not b) → bit b ≡ 0
+bit-none true t = absurd t
+bit-none false t = refl
+
+pub count-none : (n : ℕ) (f : ℕ → Bool) → Each n (λ i. not (f i)) → count n f ≡ 0
+unfolding count
+count-none zero f h = refl
+count-none (suc n) f h = omega (arith, count-none n f (λ i l. h i (omega arith)), bit-none (f n) (h n (omega arith)))
 
 bit-not : (b : Bool) → bit b + bit (not b) ≡ 1
 bit-not true = refl
@@ -50,44 +59,48 @@ count-le-suc (suc n) f g one =
 
 -- ---- pairs
 
+pub countPairs-none : (n l : ℕ) (f : ℕ → ℕ → Bool) → ((i j : ℕ) → i < n → j < l → T (not (f i j)))
+    → countPairs n l f ≡ 0
+unfolding countPairs
+countPairs-none zero l f h = refl
+countPairs-none (suc n) l f h =
+    let r = countPairs-none n l f (λ i j k. h i j (omega arith)) in
+    omega (arith, count-none l (f n) (λ j k. h n j (omega arith) k))
+
 module _ (l : ℕ) (f g : ℕ → ℕ → Bool) where
-  pub countPairs-le : (n : ℕ) → ((i j : ℕ) → i < n → T (f i j) → T (g i j)) → countPairs n l f ≤ countPairs n l g
+  -- What passes f passes g.
+  pub countPairs-le : (n : ℕ) → ((i j : ℕ) → i < n → j < l → T (f i j) → T (g i j))
+      → countPairs n l f ≤ countPairs n l g
   unfolding countPairs
   countPairs-le zero h = omega arith
   countPairs-le (suc n) h =
-      omega (
-        arith,
-        countPairs-le n (λ i j k. h i j (omega arith)),
-        count-le-count l (f n) (g n) (λ j _. h n j (omega arith)),
-      )
+      let r = countPairs-le n (λ i j k. h i j (omega arith)) in
+      omega (arith, count-le-count l (f n) (g n) (λ j k. h n j (omega arith) k))
 
   -- What passes f passes g, but for the pair of x and y.
-  pub countPairs-le-suc : (n x y : ℕ) → ((i j : ℕ) → T (f i j) → T (g i j) ⊎ ((i ≡ x) × (j ≡ y)))
+  pub countPairs-le-suc : (n x y : ℕ) → ((i j : ℕ) → i < n → j < l → T (f i j) → T (g i j) ⊎ ((i ≡ x) × (j ≡ y)))
       → countPairs n l f ≤ suc (countPairs n l g)
   unfolding countPairs
   countPairs-le-suc zero x y h = omega arith
-  countPairs-le-suc (suc n) x y h = go (eq-or-not n x) (countPairs-le-suc n x y h)
+  countPairs-le-suc (suc n) x y h = go (eq-or-not n x) (countPairs-le-suc n x y (λ i j k. h i j (omega arith)))
     where
-      other : (i j : ℕ) → ¬ (i ≡ x) → T (f i j) → T (g i j)
-      other i j d t = cases (h i j t)
+      other : (i j : ℕ) → i < suc n → j < l → ¬ (i ≡ x) → T (f i j) → T (g i j)
+      other i j a b d t = cases (h i j a b t)
         where
           cases : T (g i j) ⊎ ((i ≡ x) × (j ≡ y)) → T (g i j)
           cases (inl u) = u
           cases (inr e) = absurd (d (e .0))
 
-      is-y : (i j : ℕ) → T (f i j) → T (not (g i j)) → j ≡ y
-      is-y i j t u = cases (h i j t)
+      is-y : (j : ℕ) → j < l → T (f n j) → T (not (g n j)) → j ≡ y
+      is-y j b t u = cases (h n j (omega arith) b t)
         where
-          cases : T (g i j) ⊎ ((i ≡ x) × (j ≡ y)) → j ≡ y
-          cases (inl v) = absurd (T-not (g i j) u v)
+          cases : T (g n j) ⊎ ((n ≡ x) × (j ≡ y)) → j ≡ y
+          cases (inl v) = absurd (T-not (g n j) u v)
           cases (inr e) = e .1
 
       go : (n ≡ x) ⊎ ¬ (n ≡ x) → countPairs n l f ≤ suc (countPairs n l g)
           → countPairs n l f + count l (f n) ≤ suc (countPairs n l g + count l (g n))
       go (inl e) ih =
-          omega (
-            arith,
-            countPairs-le n (λ i j k. other i j (λ d. absurd (omega arith))),
-            count-le-suc l (f n) (g n) (λ i j _ _ t u v w. is-y n i t u ∙ sym (is-y n j v w)),
-          )
-      go (inr d) ih = omega (arith, ih, count-le-count l (f n) (g n) (λ j _. other n j d))
+          let r = countPairs-le n (λ i j a b. other i j (omega arith) b (λ d. absurd (omega arith))) in
+          omega (arith, count-le-suc l (f n) (g n) (λ i j a b t u v w. is-y i a t u ∙ sym (is-y j b v w)))
+      go (inr d) ih = omega (arith, count-le-count l (f n) (g n) (λ j b. other n j (omega arith) b d))

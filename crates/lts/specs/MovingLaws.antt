@@ -113,7 +113,8 @@ module _ (v : View) (tests : ViewTest) (D : DecidedView v tests) where
       → Rank (LowMove v) p q r → r ≤ count (v .states) (λ x. within? v tests (v .states - 1) x && moves? x)
   rank-le-moving-reachable moves? moves p q r cp cq x =
       let B = decided→Bounded v tests D in
-      rank-le-moving-among (LowMove v) (v .states) (tests .actions) (lowMove? v tests) (decided-low v tests D) reachable?
+      rank-le-moving-among (LowMove v) (v .states) (tests .actions) (lowMove? v tests) (decided-low v tests D)
+      reachable?
       (λ p a q t m. Reachable→within? v tests D q (onward (reached p t) (m .1)))
       moves? (λ p a q t m. moves p a q (reached p t) m) p q r (reachable-lt v B p cp) (reachable-lt v B q cq)
       (Reachable→within? v tests D p cp) (Reachable→within? v tests D q cq) x
