@@ -12,7 +12,8 @@ ghost use Rattle.judge.specs.RunPromise.{RunPromise};
 ghost use Rattle.judge.specs.RankPromise.{RankPromise};
 ghost use Rattle.judge.specs.JudgePromise.{JudgePromise};
 ghost use Rattle.judge.specs.WordPromise.{WordPromise};
-ghost use Rattle.page.specs.PagePromise.{PagePromise};
+ghost use Rattle.lines.specs.declared.lines.Form.the-variants.{Page};
+ghost use Rattle.page.specs.PagePromise.{PagePromise, RollPromise};
 ghost use Rattle.page.specs.PrintPromise.{PrintPromise};
 ghost use Rattle.page.specs.Claim.{PrintClaim};
 ghost use Rattle.till_c.specs.Answer.{answerOutcome, Plain};
@@ -106,6 +107,23 @@ pub extern "C" fn till_page(
 }
 
 #[no_mangle]
+pub extern "C" fn till_roll(
+    store: &[u16],
+    distances: &mut [u16],
+    table: &mut [u8],
+    run: &mut [u16],
+    word: &mut [u16],
+    out: &mut [u8],
+) -> TillAnswer
+    ensures { λ r. ⌜ RollPromise (now (store .entry)) (now (distances .entry)) (now (table .entry)) (now (run .entry))
+        (now (word .entry)) (now (out .entry)) (answerOutcome r) (now (distances .exit)) (now (table .exit))
+        (now (run .exit)) (now (word .exit)) (now (out .exit)) ⌝ }
+    ensures { λ r. ⌜ Plain r ⌝ }
+{
+    answer::page_answer(page::page::roll(store, distances, table, run, word, out))
+}
+
+#[no_mangle]
 pub extern "C" fn till_print(
     text: &[u8],
     store: &mut [u16],
@@ -115,10 +133,10 @@ pub extern "C" fn till_print(
     word: &mut [u16],
     out: &mut [u8],
 ) -> TillAnswer
-    ensures { λ r. ⌜ PrintPromise (now (text .entry)) (now (store .entry)) (now (distances .entry)) (now (table .entry))
+    ensures { λ r. ⌜ PrintPromise Page (now (text .entry)) (now (store .entry)) (now (distances .entry)) (now (table .entry))
         (now (run .entry)) (now (word .entry)) (now (out .entry)) (answerOutcome r) (now (store .exit))
         (now (distances .exit)) (now (table .exit)) (now (run .exit)) (now (word .exit)) (now (out .exit)) ⌝ }
-    ensures { λ r. ⌜ PrintClaim (now (text .entry)) (answerOutcome r) (now (word .exit)) (now (out .exit)) ⌝ }
+    ensures { λ r. ⌜ PrintClaim Page (now (text .entry)) (answerOutcome r) (now (word .exit)) (now (out .exit)) ⌝ }
     ensures { λ r. ⌜ Plain r ⌝ }
 {
     answer::print_answer(page::print::print(text, store, distances, table, run, word, out))
