@@ -1,1 +1,2 @@
 // The columns of the receipt roll: its lines, and the lines of a state.
+pub mod row;
