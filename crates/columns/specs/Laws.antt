@@ -1,2 +1,3 @@
 pub mod DistanceOfLaws
 pub mod NameLaws
+pub mod RowCountLaws
