@@ -1,3 +1,5 @@
 pub mod DistanceOfLaws
+pub mod FillingLaws
+pub mod LowNamesLaws
 pub mod NameLaws
 pub mod RowCountLaws

@@ -1,2 +1,3 @@
 // The columns of the receipt roll: its lines, and the lines of a state.
+mod names;
 pub mod row;

@@ -10,7 +10,7 @@ ghost use Rattle.writer.specs.Wrote.{Wrote};
 ghost use Rattle.columns.specs.Rows.{rollWidth, blanks, flushRight};
 ghost use Rattle.columns.specs.StateRows.{numberWidth};
 
-const WIDTH: usize = 42;
+pub const WIDTH: usize = 42;
 
 // The columns of a state, a distance or a class.
 const NUMBER_WIDTH: usize = 3;
