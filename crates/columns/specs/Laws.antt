@@ -1,3 +1,4 @@
+pub mod ColumnsLaws
 pub mod DistanceOfLaws
 pub mod FillingLaws
 pub mod LowNamesLaws

@@ -9,7 +9,7 @@ use lib.ListN.{length, length-append, length-replicate}
 use Rattle.text.specs.Bytes.{byteBlank, byteLineEnd}
 use Rattle.text.specs.Limits.{nameLimit}
 use Rattle.writer.specs.Wrote.{Wrote}
-use Rattle.writer.specs.Laws.WroteLaws.{wrote-append}
+use Rattle.writer.specs.Laws.WroteLaws.{wrote-append, wrote-length}
 use Rattle.columns.specs.declared.row.Row.{Row}
 use Rattle.columns.specs.Rows.{rollWidth, blanks, flushLeft, rowBytes, rowsBytes, nameIndent, fill}
 use Rattle.columns.specs.Inner.Filling.{Filling, NamesFilled, NameRoom}
@@ -55,15 +55,16 @@ ended-place {begin = begin} {at = at} h k w =
 
 -- ---- the first line, before any name
 
-pub filling-start : {head entry exit : List ℕ} {from : ℕ} {row : Row} → length head ≤ rollWidth → row .begin ≡ from
-    → Wrote entry from head exit (row .at .at) → Filling head [] entry from exit row
+pub filling-start : {head entry exit : List ℕ} {from : ℕ} {start row : Row} → length head ≤ rollWidth
+    → (start .at .at ≡ from) × (start .begin ≡ from) → Wrote entry (start .at .at) head exit (row .at .at)
+    → row .begin ≡ start .begin → Filling head [] entry from exit row
 unfolding rowsBytes
-filling-start {head} l e w = record {
+filling-start {head} l begun w e = record {
   closed = [];
   last = head;
   filled = λ more. refl;
-  wrote = w;
-  begin-is = omega (arith, e);
+  wrote = rw (begun .0) at w;
+  begin-is = omega (arith, e, begun .1);
   last-le = l;
 }
 
@@ -83,47 +84,55 @@ module _ {head entry exit : List ℕ} {names : List (List ℕ)} {from : ℕ} {ro
       ∙ length-append (rowsBytes (f .closed)) (rowsBytes (fill (f .last) more))
 
   -- room for all lines is room for one more name
-  pub filling-room : (name : List ℕ) (more : List (List ℕ)) {room : ℕ}
-      → from + length (rowsBytes (fill head (names ++ (name ∷ more)))) ≤ room → NameRoom row (length name) room
-  filling-room name more l =
+  pub filling-room : {all : List (List ℕ)} (name : List ℕ) (more : List (List ℕ)) → all ≡ names ++ (name ∷ more)
+      → from + length (rowsBytes (fill head all)) ≤ length entry → NameRoom row (length name) (length exit)
+  filling-room name more e l =
+      let a = ap (λ (x : List (List ℕ)). length (rowsBytes (fill head x))) e in
       let n = parts-length (name ∷ more) in
       let b = rowsBytes-length-le (fill (f .last) (name ∷ more)) in
       let one = fill-pos (f .last) (name ∷ more) in
+      let same = wrote-length (f .wrote) in
       record {
         begin-le = omega (arith, filling-used);
         at-le = omega (arith, filling-used, f .last-le);
-        line-lt = omega (arith, l, n, b, one, f .begin-is);
+        line-lt = omega (arith, l, a, n, b, one, f .begin-is, same);
         next-lt = λ h.
             let two = ap length (fill-next (f .last) name more (omega (arith, h, filling-used))) in
-            omega (arith, l, n, b, two, fill-pos (blanks nameIndent ++ name) more, f .begin-is);
+            omega (arith, l, a, n, b, two, fill-pos (blanks nameIndent ++ name) more, f .begin-is, same);
       }
 
   -- and for the end of the last line
-  pub filling-end-room : {room : ℕ} → from + length (rowsBytes (fill head names)) ≤ room
-      → (row .begin ≤ row .at .at) × (row .at .at ≤ row .begin + rollWidth) × (row .begin + rollWidth < room)
-  filling-end-room l =
-      let n = ap (λ (x : List (List ℕ)). length (rowsBytes (fill head x))) (append-nil names) in
+  pub filling-end-room : {all : List (List ℕ)} → all ≡ names
+      → from + length (rowsBytes (fill head all)) ≤ length entry
+      → (row .begin ≤ row .at .at) × (row .at .at ≤ row .begin + rollWidth) × (row .begin + rollWidth < length exit)
+  filling-end-room e l =
+      let n = ap (λ (x : List (List ℕ)). length (rowsBytes (fill head x))) (e ∙ sym (append-nil names)) in
       let b = rowsBytes-length-le (fill (f .last) []) in (
         omega (arith, filling-used),
         omega (arith, filling-used, f .last-le),
-        omega (arith, l, n, parts-length [], b, fill-pos (f .last) [], f .begin-is),
+        omega (arith, l, n, parts-length [], b, fill-pos (f .last) [], f .begin-is, wrote-length (f .wrote)),
       )
 
   -- the last line padded and ended
-  pub filling-end : {exit′ : List ℕ} {next : ℕ}
+  pub filling-end : {all : List (List ℕ)} {exit′ : List ℕ} {next : ℕ} → all ≡ names
       → Wrote exit (row .at .at) (blanks (rollWidth - (row .at .at - row .begin)) ++ (byteLineEnd ∷ [])) exit′ next
-      → Wrote entry from (rowsBytes (fill head names)) exit′ next
+      → Wrote entry from (rowsBytes (fill head all)) exit′ next
   unfolding fill flushLeft
-  filling-end {exit′} {next} w =
-      let e : row .at .at - row .begin ≡ length (f .last) = omega (arith, filling-used) in
+  filling-end {all} {exit′} {next} e w =
+      let used : row .at .at - row .begin ≡ length (f .last) = omega (arith, filling-used) in
       let pad = blanks (rollWidth - length (f .last)) in
-      let rows = ap (fill head) (sym (append-nil names)) ∙ f .filled [] in
-      let bytes : rowsBytes (f .closed) ++ f .last ++ (pad ++ (byteLineEnd ∷ [])) ≡ rowsBytes (fill head names) =
+      let rows = ap (fill head) (e ∙ sym (append-nil names)) ∙ f .filled [] in
+      let bytes : rowsBytes (f .closed) ++ f .last ++ (pad ++ (byteLineEnd ∷ [])) ≡ rowsBytes (fill head all) =
       append-assoc (rowsBytes (f .closed)) (f .last) (pad ++ (byteLineEnd ∷ []))
       ∙ ap (λ (t : List ℕ). rowsBytes (f .closed) ++ t) (sym (append-assoc (f .last) pad (byteLineEnd ∷ [])))
       ∙ sym (rowsBytes-last (f .closed) (f .last))
       ∙ ap rowsBytes (sym rows) in
-      subst (λ (t : List ℕ). Wrote entry from t exit′ next) bytes (wrote-append (f .wrote) (rw e at w))
+      subst (λ (t : List ℕ). Wrote entry from t exit′ next) bytes (wrote-append (f .wrote) (rw used at w))
+
+-- room for all lines is room for the first
+pub rows-room : (head : List ℕ) (names : List (List ℕ)) (at : ℕ) {room : ℕ}
+    → at + length (rowsBytes (fill head names)) ≤ room → at + rollWidth < room
+rows-room head names at l = omega (arith, l, rowsBytes-length-le (fill head names), fill-pos head names)
 
 -- ---- one more name
 
@@ -131,6 +140,15 @@ pub filled-nil : {entry : List ℕ} {row : Row} → NamesFilled [] entry row ent
 filled-nil {entry} {row} = record {
   filling = λ head before first from f.
       subst (λ (names : List (List ℕ)). Filling head names first from entry row) (sym (append-nil before)) f;
+}
+
+pub filled-append : {names more : List (List ℕ)} {entry middle exit : List ℕ} {row between next : Row}
+    → NamesFilled names entry row middle between → NamesFilled more middle between exit next
+    → NamesFilled (names ++ more) entry row exit next
+filled-append {names} {more} {exit = exit} {next = next} x y = record {
+  filling = λ head before first from f.
+      subst (λ (all : List (List ℕ)). Filling head all first from exit next) (append-assoc before names more)
+      (y .filling head (before ++ names) first from (x .filling head before first from f));
 }
 
 -- a name and those after it
@@ -170,7 +188,7 @@ module _ {name entry exit : List ℕ} {row next : Row} (n : length name ≤ name
         let closed = f .closed ++ (f .last ∷ []) in
         let whole : fill head before ≡ closed = ap (fill head) (sym (append-nil before)) ∙ f .filled [] in
         let ended : Wrote first from (rowsBytes closed) middle at =
-        subst (λ (rows : List (List ℕ)). Wrote first from (rowsBytes rows) middle at) whole (filling-end f end) in
+        subst (λ (rows : List (List ℕ)). Wrote first from (rowsBytes rows) middle at) whole (filling-end f refl end) in
         record {
           closed = closed;
           last = blanks nameIndent ++ name;

@@ -1,10 +1,10 @@
 -- The names of the low actions from a state, one step more at a time: the steps of a state rise by action.
 -- Document 02, (ii): "the names of the low actions with a step there, in action order". Assumes nothing.
-use mathlib.Core.Bool.{Bool, true, false, cond, not, _&&_}
+use mathlib.Core.Bool.{Bool, true, false, not}
 use mathlib.Core.List.{List, [], _∷_, _++_, map, map-append, append-assoc, append-nil}
 use mathlib.Core.Logic.{_⊎_, inl, inr, ⊎-elim}
 use mathlib.Core.Path.{_≡_, refl, sym, ap, subst, _∙_}
-use Prim.Native.Nat.{ℕ, zero, suc, _+_, _≤_, _<_}
+use Prim.Native.Nat.{ℕ, zero, suc, _+_, _-_, _≤_, _<_}
 use native.Mathlib.Numerals.{add-one}
 use native.Mathlib.Omega.{arith}
 use lib.Dec.{T, T-not, not-T, eqb, eqb→eq}
@@ -281,7 +281,7 @@ module _ {s : List ℕ} {m : Model} (st : Stored s m) (counted : length (m .acti
         action-is = x .action-is;
       })
 
-  -- the names of the steps before j, that of j, and those of the steps behind it
+  -- those of the steps before j stand first
   lowNames-rest : (k j : ℕ) → j + k ≡ to → from ≤ j → (more : List (List ℕ)) × (lowNames m p ≡ lowNamesTo m p j ++ more)
   lowNames-rest zero j n f =
       let same : j ≡ to = omega (arith, n) in
@@ -295,3 +295,20 @@ module _ {s : List ℕ} {m : Model} (st : Stored s m) (counted : length (m .acti
             ∙ ap (λ (names : List (List ℕ)). names ++ rest .0) next
             ∙ append-assoc (lowNamesTo m p j) (nameAdded m j) (rest .0),
       )
+
+  module _ (j : ℕ) (f : from ≤ j) (k : j < to) where
+    pub lowNames-next : lowNamesTo m p (j + 1) ≡ lowNamesTo m p j ++ nameAdded m j
+    lowNames-next =
+        rw add-one (lowNames-suc st counted j (omega (arith, k, e .from-le)) (begins-source b e j f k))
+
+    -- the name of step j, and those behind it
+    pub lowNames-split : FirstLow m j
+        → (more : List (List ℕ)) × (lowNames m p ≡ lowNamesTo m p j ++ (nameOf m (action m j) ∷ more))
+    lowNames-split x =
+        let rest = lowNames-rest (to - (j + 1)) (j + 1) (omega (arith, k)) (omega (arith, f)) in
+        let next = lowNames-next ∙ ap (λ (names : List (List ℕ)). lowNamesTo m p j ++ names) (nameAdded-first m x) in (
+          rest .0,
+          rest .1
+              ∙ ap (λ (names : List (List ℕ)). names ++ rest .0) next
+              ∙ append-assoc (lowNamesTo m p j) (nameOf m (action m j) ∷ []) (rest .0),
+        )
