@@ -40,8 +40,9 @@ fn first_of_low(store: &[u16], roles: &[u16], from: u16, j: Step) -> bool
     if j.0 == from {
         return true;
     }
-    let before = model::store::action(store, Step(j.0 - 1));
-    if before.0 == a.0 {
+    let before = j.0 - 1;
+    let b = model::store::action(store, Step(before));
+    if b.0 == a.0 {
         return false;
     }
     true

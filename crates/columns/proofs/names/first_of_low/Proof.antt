@@ -43,8 +43,8 @@ returns-2 c =
     let t = low-of-role (s .pre .1 .0 .1) e (s .pre .0 .action-lt _ (step .number-lt)) z in
     firstLow-begin (s .pre .0) (step .number-lt) (step .begins) t (c .if2 .taken)
 
-sub-t9 : tie.Need-sub-t9
-sub-t9 c = search needs
+sub-before : tie.Need-sub-before
+sub-before c = search needs
 
 action-requires-2 : tie.Need-action-requires-2
 action-requires-2 c κs = search needs
@@ -90,7 +90,7 @@ first-of-low-spec =
     is-low-requires
     returns
     returns-2
-    sub-t9
+    sub-before
     action-requires-2
     returns-3
     returns-4)
