@@ -3,4 +3,5 @@ pub mod DistanceOfLaws
 pub mod FillingLaws
 pub mod LowNamesLaws
 pub mod NameLaws
+pub mod RoomLaws
 pub mod RowCountLaws
