@@ -15,6 +15,8 @@ use Rattle.tell.specs.BenchModels.{printLoopText, unreachedPrintText}
 use Rattle.lines.specs.Examples.{workedPage}
 use Rattle.lines.specs.PageLines.{PageLine, verdict-line, state-line, word-line, allows-line, branch-line, last-line}
 use Rattle.lines.specs.PageLines.{pageBytes}
+use Rattle.lines.specs.declared.lines.Form.{Form}
+use Rattle.lines.specs.declared.lines.Form.the-variants.{Page}
 use Rattle.page.specs.PrintPromise.{printLists, PrintPromise}
 
 -- The bytes stand at the front of `out`, the answer is how many they are, and behind them stands what stood there.
@@ -24,11 +26,11 @@ pub record BytesPrinted (bytes : List ℕ) (outcome : Outcome) (out out′ : Lis
   pub kept : drop (length bytes) out′ ≡ drop (length bytes) out
 
 -- Whatever the lists held, if none is too short the promise gives these bytes for the text.
-pub record PrintsPage (text bytes : List ℕ) : Type 0 where
+pub record PrintsBytes (form : Form) (text bytes : List ℕ) : Type 0 where
   pub by-promise : {store distances table run word out : List ℕ} {outcome : Outcome}
       {store′ distances′ table′ run′ word′ out′ : List ℕ}
-      → printLists text store distances table run word out ≡ none
-      → PrintPromise text store distances table run word out outcome store′ distances′ table′ run′ word′ out′
+      → printLists form text store distances table run word out ≡ none
+      → PrintPromise form text store distances table run word out outcome store′ distances′ table′ run′ word′ out′
       → BytesPrinted bytes outcome out out′
 
 -- ---- the pages of the other models; document 01 gives their verdicts alone
@@ -93,11 +95,11 @@ unreachedPrintLines =
 
 pub record PagesPrinted : Type 0 where
   -- "Input, then the output whole", byte by byte
-  pub worked : PrintsPage workedText workedPage
-  pub scanned-once : PrintsPage scannedOnceText (pageBytes scannedOnceLines)
-  pub released : PrintsPage releasedText (pageBytes releasedLines)
-  pub close-low : PrintsPage closeLowText (pageBytes closeLowLines)
-  pub branching : PrintsPage branchingText (pageBytes branchingLines)
-  pub no-steps : PrintsPage noStepsText (pageBytes oneStateLines)
-  pub print-loop : PrintsPage printLoopText (pageBytes oneStateLines)
-  pub unreached-print : PrintsPage unreachedPrintText (pageBytes unreachedPrintLines)
+  pub worked : PrintsBytes Page workedText workedPage
+  pub scanned-once : PrintsBytes Page scannedOnceText (pageBytes scannedOnceLines)
+  pub released : PrintsBytes Page releasedText (pageBytes releasedLines)
+  pub close-low : PrintsBytes Page closeLowText (pageBytes closeLowLines)
+  pub branching : PrintsBytes Page branchingText (pageBytes branchingLines)
+  pub no-steps : PrintsBytes Page noStepsText (pageBytes oneStateLines)
+  pub print-loop : PrintsBytes Page printLoopText (pageBytes oneStateLines)
+  pub unreached-print : PrintsBytes Page unreachedPrintText (pageBytes unreachedPrintLines)

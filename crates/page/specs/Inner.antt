@@ -1,3 +1,5 @@
 pub mod PageLists
 pub mod Refusals
 pub mod StateLinesTest
+pub mod OtherLines
+pub mod StandIn
