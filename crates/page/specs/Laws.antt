@@ -2,6 +2,7 @@ pub mod PageLaws
 pub mod PagePromiseLaws
 pub mod LineTextLaws
 pub mod PageSplitLaws
+pub mod OtherLinesLaws
 pub mod RollSplitLaws
 pub mod PageFieldsLaws
 pub mod ClaimTextsLaws

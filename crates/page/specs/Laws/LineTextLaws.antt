@@ -205,20 +205,24 @@ module _ {m : Model} (w : WellFormed m) where
       (leak-other (x .shown)))
 
   module _ {run word run′ word′ : List ℕ} {lines : List PageLine} (x : PageOf m run word run′ word′ lines) where
-    after-of-page : All OtherLine (x .after)
-    after-of-page = after-other (x .verdict) run word run′ word′ (x .after) (x .after-states)
+    -- what holds of the states' lines and of all others
+    pub page-all : (P : PageLine → Type 0) → ((l : PageLine) → OtherLine l → P l) → All P (x .states) → All P lines
+    page-all P other states =
+        let after = after-other (x .verdict) run word run′ word′ (x .after) (x .after-states) in
+        subst (All P) (sym (x .lines-are))
+        (all-append P ((verdict-line (x .verdict) ∷ []) ++ x .states ++ x .after) (last-line ∷ [])
+        (all-append P ((verdict-line (x .verdict) ∷ []) ++ x .states) (x .after)
+        (other (verdict-line (x .verdict)) (verdict-other (x .verdict)), states)
+        (all-of-all OtherLine P other (x .after) after)) (other last-line last-other, tt))
 
     pub page-any : All AnyLine lines
-    page-any = subst (All AnyLine) (sym (x .lines-are))
-        (all-append AnyLine ((verdict-line (x .verdict) ∷ []) ++ x .states ++ x .after) (last-line ∷ [])
-        (all-append AnyLine ((verdict-line (x .verdict) ∷ []) ++ x .states) (x .after)
-        (of-other (verdict-other (x .verdict)), states-any (x .state-lines))
-        (all-of-all OtherLine AnyLine (λ l o. of-other o) (x .after) after-of-page))
-        (of-other last-other, tt))
+    page-any = page-all AnyLine (λ l o. of-other o) (states-any (x .state-lines))
 
     -- all lines but the states', in their order
-    pub page-others : withoutStates lines ≡ (verdict-line (x .verdict) ∷ []) ++ [] ++ x .after ++ (last-line ∷ [])
-    page-others =
+    pub withoutStates-page : withoutStates lines
+        ≡ (verdict-line (x .verdict) ∷ []) ++ [] ++ x .after ++ (last-line ∷ [])
+    withoutStates-page =
+        let after = after-other (x .verdict) run word run′ word′ (x .after) (x .after-states) in
         ap withoutStates (x .lines-are)
         ∙ withoutStates-whole (x .verdict) (x .states) (x .after) (withoutStates-states (x .state-lines))
-        (withoutStates-others (x .after) after-of-page)
+        (withoutStates-others (x .after) after)

@@ -17,8 +17,8 @@ use Rattle.lines.specs.Roll.{rollRows, rollBytes}
 use Rattle.page.specs.RollClaim.{otherLines, PassRoll, LeakRoll, RollTells}
 use Rattle.page.specs.Inner.OtherLines.{withoutStates}
 use Rattle.page.specs.Laws.ClaimTextsLaws.{pass-texts, leak-texts, Says, ByVerdict, bytes-tell}
-use Rattle.page.specs.Laws.LineTextLaws.{page-others}
-use Rattle.page.specs.Laws.RollSplitLaws.{roll-others}
+use Rattle.page.specs.Laws.LineTextLaws.{withoutStates-page}
+use Rattle.page.specs.Laws.RollSplitLaws.{otherLines-roll}
 
 -- a roll begins with its verdict
 roll-says : (m : Model) (v : Verdict) (rest : List PageLine) → Says v (rollBytes m (verdict-line v ∷ rest))
@@ -30,7 +30,7 @@ module _ {m : Model} (w : WellFormed m) (det : DeterministicModel m) {run word r
     {lines : List PageLine} (x : PageOf m run word run′ word′ lines) where
   -- with nothing after them
   parted : otherLines (rollBytes m lines) ≡ map lineText (withoutStates lines) ++ []
-  parted = roll-others w x ∙ sym (append-nil (map lineText (withoutStates lines)))
+  parted = otherLines-roll w x ∙ sym (append-nil (map lineText (withoutStates lines)))
 
   roll-told : (v : Verdict) (after : List PageLine) → Judged m v → AfterStates m v run word run′ word′ after
       → withoutStates lines ≡ (verdict-line v ∷ []) ++ [] ++ after ++ (last-line ∷ [])
@@ -41,14 +41,14 @@ module _ {m : Model} (w : WellFormed m) (det : DeterministicModel m) {run word r
       record {
         rank = rank;
         texts = pass-texts (well-formed-stored w) _ _ (withoutStates lines) parted rank _ judged e;
-        parted = roll-others w x ∙ ap (map lineText) only;
+        parted = otherLines-roll w x ∙ ap (map lineText) only;
       }
   roll-told (Refused j depth) after judged y e = record {
     lines = withoutStates lines;
     texts =
         leak-texts (well-formed-stored w) _ _ (withoutStates lines) parted det run word run′ word′ (j .0) depth [] after
         judged y e;
-    parted = roll-others w x;
+    parted = otherLines-roll w x;
   }
 
   pub roll-tells : RollTells m (rollBytes m lines) word′
@@ -56,4 +56,4 @@ module _ {m : Model} (w : WellFormed m) (det : DeterministicModel m) {run word r
       bytes-tell (well-formed-stored w) det (rollBytes m lines) (x .verdict) (x .judged)
       (subst (λ (z : List PageLine). Says (x .verdict) (rollBytes m z)) (sym (x .lines-are))
       (roll-says m (x .verdict) _))
-      (roll-told (x .verdict) (x .after) (x .judged) (x .after-states) (page-others w x))
+      (roll-told (x .verdict) (x .after) (x .judged) (x .after-states) (withoutStates-page w x))

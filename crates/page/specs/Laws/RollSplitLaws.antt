@@ -34,7 +34,8 @@ use Rattle.page.specs.RollClaim.{consUnpadded, unpadded, other?, othersO
 use Rattle.page.specs.Inner.OtherLines.{unlessState, withoutStates, Marked, OtherLine, AnyLine, of-state, of-other}
 use Rattle.page.specs.Inner.OtherLines.{paddedRows}
 use Rattle.page.specs.Laws.LineTextLaws.{marked-digits, marked-name, page-any}
-use Rattle.page.specs.Laws.PageSplitLaws.{plain-append, plain-distance, split-page}
+use Rattle.page.specs.Laws.PageSplitLaws.{plain-append, plain-distance}
+use Rattle.page.specs.Laws.OtherLinesLaws.{others-of-text, othersOf-append, others-last, otherLines-page}
 
 -- ---- a state's lines
 
@@ -121,39 +122,7 @@ split-rows (row ∷ rows) rest p =
     ∙ split-append lineEnd byteLineEnd (flushLeft rollWidth row) (rowsBytes rows ++ rest) refl (plain-left row (p .0))
     ∙ ap (_∷_ (flushLeft rollWidth row)) (split-rows rows rest (p .1))
 
--- ---- the lines that begin with a capital, without their blanks
-
-unpadded-blanks : (n : ℕ) → unpadded (blanks n) ≡ []
-unfolding unpadded consUnpadded
-unpadded-blanks zero = refl
-unpadded-blanks (suc n) = ap (consUnpadded byteBlank) (unpadded-blanks n)
-
-consUnpadded-cons : (b : ℕ) (text : List ℕ) → ¬ (kindOf b ≡ other) → consUnpadded b text ≡ b ∷ text
-unfolding consUnpadded kindOf
-consUnpadded-cons b [] n = rw (ne-eqb b byteBlank (λ e. n (ap kindOf e)))
-consUnpadded-cons b (c ∷ text) n = refl
-
-unpadded-append : (text more : List ℕ) → unpadded more ≡ [] → Without other text → unpadded (text ++ more) ≡ text
-unfolding unpadded
-unpadded-append [] more e p = e
-unpadded-append (b ∷ text) more e p =
-    ap (consUnpadded b) (unpadded-append text more e (p .1)) ∙ consUnpadded-cons b text (p .0)
-
-other?-append : (text more : List ℕ) → other? text ≡ true → other? (text ++ more) ≡ true
-unfolding other?
-other?-append [] more e = let z : _≡_ {A = ℕ} 0 1 = cc in absurd (omega arith)
-other?-append (b ∷ text) more e = e
-
--- one line of such a text, with blanks behind it
-others-of-text : (text : List ℕ) (n : ℕ) → other? text ≡ true → Without other text
-    → othersOf ((text ++ blanks n) ∷ []) ≡ text ∷ []
-unfolding othersOf
-others-of-text text n e p =
-    let f = other?-append text (blanks n) e in
-    let g = unpadded-append text (blanks n) (unpadded-blanks n) p in
-    rw (f, g)
-
--- a state has none
+-- a state's are none of those that begin with a capital
 small-not-other : (row more : List ℕ) → BeginsSmall row → other? (row ++ more) ≡ false
 unfolding other?
 small-not-other [] more p = absurd p
@@ -166,21 +135,7 @@ others-of-state (row ∷ rows) p =
     let e = small-not-other row (blanks (rollWidth - length row)) (p .0 .begins) in
     rw e (others-of-state rows (p .1))
 
-othersOf-append : (xs ys : List (List ℕ)) → othersOf (xs ++ ys) ≡ othersOf xs ++ othersOf ys
-unfolding othersOf
-othersOf-append [] ys = refl
-othersOf-append (x ∷ xs) ys = go (other? x) (othersOf-append xs ys)
-  where
-    go : (b : Bool) → othersOf (xs ++ ys) ≡ othersOf xs ++ othersOf ys
-        → cond b (unpadded x ∷ othersOf (xs ++ ys)) (othersOf (xs ++ ys))
-        ≡ cond b (unpadded x ∷ othersOf xs) (othersOf xs) ++ othersOf ys
-    go true ih = ap (_∷_ (unpadded x)) ih
-    go false ih = ih
-
--- what follows the last line end is none
-others-last : (texts : List (List ℕ)) → othersOf (texts ++ ([] ∷ [])) ≡ othersOf texts
-unfolding othersOf other?
-others-last texts = othersOf-append texts ([] ∷ []) ∙ append-nil (othersOf texts)
+-- ---- on the roll
 
 module _ {m : Model} (w : WellFormed m) where
   names-plain : (p : ℕ) → All Plain (lowNames m p)
@@ -237,8 +192,12 @@ module _ {m : Model} (w : WellFormed m) where
     pub split-roll : split lineEnd (rollBytes m lines) ≡ paddedRows m lines ++ ([] ∷ [])
     split-roll = split-lines lines (page-any w x)
 
-    pub roll-others : otherLines (rollBytes m lines) ≡ map lineText (withoutStates lines)
-    roll-others =
+    pub otherLines-roll : otherLines (rollBytes m lines) ≡ map lineText (withoutStates lines)
+    otherLines-roll =
         ap othersOf split-roll
         ∙ others-last (paddedRows m lines)
         ∙ rows-others lines (page-any w x)
+
+    -- the lines of the roll that are no state's are those of the page, in their order
+    pub otherLines-roll-page : otherLines (rollBytes m lines) ≡ otherLines (pageBytes lines)
+    otherLines-roll-page = otherLines-roll ∙ sym (otherLines-page w x)
