@@ -1,2 +1,4 @@
+pub mod Columns
 pub mod Entries
+pub mod Filling
 pub mod RowCount

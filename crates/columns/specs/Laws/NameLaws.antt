@@ -14,6 +14,9 @@ use Rattle.writer.specs.Inner.Writable.{Writable}
 use Rattle.writer.specs.Laws.WritableLaws.{name-bytes-at, actionAt-part}
 use Rattle.columns.specs.LowNames.{nameOf}
 
+pub actions-counted : {s : List ℕ} → Writable s → length (modelAt s .actions) ≡ modelAt s .head .actions
+actions-counted {s} w = Good→Holds s (w .good) .well-formed .action-count
+
 module _ {s : List ℕ} (w : Writable s) (a : ℕ) (l : a < length (modelAt s .actions)) where
   nameOf-stored : actionAt s a .name ≡ nameOf (modelAt s) a
   nameOf-stored = ap (λ (x : ActionLine). x .name) (actionAt-holds s (modelAt s) (Good→Holds s (w .good)) a _ l)

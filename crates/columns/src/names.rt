@@ -1,0 +1,109 @@
+// The names of the low actions with a step from a state.
+use crate::row::Row;
+use crate::row::WIDTH;
+use moves::moves::is_low;
+use text::Action;
+use text::Step;
+ghost use mathlib.Core.List.{[], _∷_, _++_};
+ghost use mathlib.Core.Path.{_≡_};
+ghost use Prim.Native.Nat.{ℕ, _+_, _≤_, _<_};
+ghost use lib.ListN.{length};
+ghost use Rattle.text.specs.All.{All};
+ghost use Rattle.text.specs.Decides.{Decides};
+ghost use Rattle.text.specs.Limits.{actionLimit, nameLimit};
+ghost use Rattle.model.specs.StoredModel.{modelAt};
+ghost use Rattle.model.specs.System.{action, view};
+ghost use Rattle.model.specs.Inner.Roles.{Roles};
+ghost use Rattle.model.specs.Inner.Stored.{Stored};
+ghost use Rattle.writer.specs.Inner.Writable.{Writable};
+ghost use Rattle.writer.specs.Wrote.{Wrote};
+ghost use Rattle.columns.specs.LowNames.{nameOf};
+ghost use Rattle.columns.specs.Rows.{blanks};
+ghost use Rattle.columns.specs.Inner.Filling.{StepFrom, FirstLow, nameAdded, NamesFilled, NameRoom};
+
+// Where a name begins on a next line, whose columns before it are blank.
+const NAME_INDENT: usize = 12;
+
+// Whether step j is low and the first from its state with its action; the steps of that state begin at `from`, and they
+// rise by action.
+fn first_of_low(store: &[u16], roles: &[u16], from: u16, j: Step) -> bool
+    requires { ⌜ Stored (now store) (modelAt (now store)) ⌝ }
+    requires { ⌜ (actionLimit ≤ length (now roles))
+        × Roles (view (modelAt (now store)) .levels) (modelAt (now store) .head .actions) (now roles) ⌝ }
+    requires { ⌜ StepFrom (modelAt (now store)) from (j .0) ⌝ }
+    ensures { λ r. ⌜ Decides r (FirstLow (modelAt (now (store .entry))) (j .0)) ⌝ }
+{
+    let a = model::store::action(store, j);
+    if !is_low(roles, a) {
+        return false;
+    }
+    if j.0 == from {
+        return true;
+    }
+    let before = model::store::action(store, Step(j.0 - 1));
+    if before.0 == a.0 {
+        return false;
+    }
+    true
+}
+
+impl Row {
+    // A name behind some blanks.
+    fn indented(self, out: &mut [u8], indent: usize, name: &[u16]) -> Row
+        requires { ⌜ self .at .at + indent + length (now name) ≤ length (now out) ⌝ }
+        requires { ⌜ All (λ (b : ℕ). b < 256) (now name) ⌝ }
+        ensures { λ r. ⌜ Wrote (now (out .entry)) (self .at .at) (blanks indent ++ now (name .entry)) (now (out .exit))
+            (r .at .at) × (r .begin ≡ self .begin) ⌝ }
+    {
+        let row = self.blanks(out, indent);
+        let at = row.at.name(out, name);
+        Row {
+            at,
+            begin: row.begin,
+        }
+    }
+
+    // One more name: behind a blank, or on a next line if it does not fit whole.
+    fn name(self, out: &mut [u8], name: &[u16]) -> Row
+        requires { ⌜ NameRoom self (length (now name)) (length (now out)) ⌝ }
+        requires { ⌜ (length (now name) ≤ nameLimit) × All (λ (b : ℕ). b < 256) (now name) ⌝ }
+        ensures { λ r. ⌜ NamesFilled (now (name .entry) ∷ []) (now (out .entry)) self (now (out .exit)) r ⌝ }
+    {
+        let used = self.at.at - self.begin;
+        if used + 1 + name.len() <= WIDTH {
+            return self.indented(out, 1, name);
+        }
+        let at = self.end(out);
+        Row::start(at).indented(out, NAME_INDENT, name)
+    }
+
+    // One more name, that of an action.
+    fn action_name(self, out: &mut [u8], store: &[u16], a: Action) -> Row
+        requires { ⌜ Writable (now store) ⌝ }
+        requires { ⌜ a .0 < length (modelAt (now store) .actions) ⌝ }
+        requires { ⌜ NameRoom self (length (nameOf (modelAt (now store)) (a .0))) (length (now out)) ⌝ }
+        ensures { λ r. ⌜ NamesFilled (nameOf (modelAt (now (store .entry))) (a .0) ∷ []) (now (out .entry)) self
+            (now (out .exit)) r ⌝ }
+    {
+        let from = model::store::name_place(a);
+        let to = from + model::store::name_length(store, a) as usize;
+        self.name(out, &store[from..to])
+    }
+
+    // The name of step j's action, if it is low and no step of its state before it has named it.
+    pub fn step_name(self, out: &mut [u8], store: &[u16], roles: &[u16], from: u16, j: Step) -> Row
+        requires { ⌜ Writable (now store) × Stored (now store) (modelAt (now store)) ⌝ }
+        requires { ⌜ (actionLimit ≤ length (now roles))
+            × Roles (view (modelAt (now store)) .levels) (modelAt (now store) .head .actions) (now roles) ⌝ }
+        requires { ⌜ StepFrom (modelAt (now store)) from (j .0) ⌝ }
+        requires { ⌜ (FirstLow (modelAt (now store)) (j .0) → NameRoom self
+            (length (nameOf (modelAt (now store)) (action (modelAt (now store)) (j .0)))) (length (now out))) ⌝ }
+        ensures { λ r. ⌜ NamesFilled (nameAdded (modelAt (now (store .entry))) (j .0)) (now (out .entry)) self
+            (now (out .exit)) r ⌝ }
+    {
+        if !first_of_low(store, roles, from, j) {
+            return self;
+        }
+        self.action_name(out, store, model::store::action(store, j))
+    }
+}
