@@ -1,4 +1,5 @@
 pub mod Entries
+pub mod FormLines
 pub mod LinesWritten
 pub mod Room
 pub mod Leak

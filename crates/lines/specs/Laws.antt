@@ -1,5 +1,8 @@
 pub mod PageLinesLaws
+pub mod RollLaws
+pub mod FormLaws
 pub mod LinesWrittenLaws
+pub mod RoomLaws
 pub mod StateLinesLaws
 pub mod LeakLaws
 pub mod LeakShownLaws

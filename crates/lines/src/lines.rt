@@ -1,4 +1,5 @@
 // The texts of a page's lines, and the line end.
+use columns::row::Row;
 use distances::distances::distance_at;
 use distances::distances::is_unreachable;
 use letters::word::End;
@@ -6,12 +7,10 @@ use text::State;
 use text::Step;
 use verdicts::judging::Verdict;
 use writer::position::Position;
-ghost use mathlib.Core.List.{[], _∷_};
 ghost use mathlib.Core.Path.{_≡_};
-ghost use Prim.Native.Nat.{ℕ, _+_, _≤_, _<_};
+ghost use Prim.Native.Nat.{ℕ, _+_, _-_, _≤_, _<_};
 ghost use lib.ListN.{length};
 ghost use Rattle.text.specs.All.{All};
-ghost use Rattle.text.specs.Bytes.{byteLineEnd};
 ghost use Rattle.text.specs.Limits.{distancesLength};
 ghost use Rattle.model.specs.Text.{field};
 ghost use Rattle.writer.specs.Wrote.{Wrote};
@@ -19,6 +18,7 @@ ghost use Rattle.verdicts.specs.declared.judging.Verdict.the-variants.{Passed, 
 ghost use Rattle.lines.specs.PageLines.{verdict-line, state-line, run-line, word-line, allows-line, branch-line};
 ghost use Rattle.lines.specs.PageLines.{last-line, distanceText, lineText, faultText};
 ghost use Rattle.lines.specs.Inner.Entries.{distanceOf};
+ghost use Rattle.lines.specs.Inner.FormLines.{lineEnding, EndFits};
 
 // The page as it is, or on the receipt roll, whose lines have 42 columns.
 pub enum Form {
@@ -53,13 +53,22 @@ impl PagePosition {
         PagePosition { at }
     }
 
-    // What ends each line.
-    pub fn line_end(self, out: &mut [u8]) -> PagePosition
-        requires { ⌜ self .at .at < length (now out) ⌝ }
-        ensures { λ r. ⌜ Wrote (now (out .entry)) (self .at .at) (byteLineEnd ∷ []) (now (out .exit)) (r .at .at) ⌝ }
+    // What ends each line: on the roll the line that began at place `begin` is padded first.
+    pub fn line_end(self, out: &mut [u8], begin: usize, form: Form) -> PagePosition
+        requires { ⌜ EndFits form begin (self .at .at) (length (now out)) ⌝ }
+        ensures { λ r. ⌜ Wrote (now (out .entry)) (self .at .at) (lineEnding form (self .at .at - begin))
+            (now (out .exit)) (r .at .at) ⌝ }
     {
-        let at = self.at.byte(out, b'\n');
-        PagePosition { at }
+        let at = self.at;
+        match form {
+            Form::Page => PagePosition {
+                at: at.byte(out, b'\n'),
+            },
+            Form::Roll => {
+                let row = Row { at, begin };
+                PagePosition { at: row.end(out) }
+            }
+        }
     }
 
     // `V,pass,rank`

@@ -3,12 +3,14 @@
 use mathlib.Core.List.{List, [], _∷_, _++_, map}
 use mathlib.Core.Logic.{⊎-elim}
 use mathlib.Core.Path.{_≡_, sym, ap, subst, _∙_}
-use Prim.Native.Nat.{ℕ, zero, suc, _*_, _<_}
+use Prim.Native.Nat.{ℕ, zero, suc, _+_, _*_, _≤_, _<_}
 use native.Mathlib.Omega.{arith}
+use native.Mathlib.Nat.{mul-le-mul-left}
 use lib.ListN.{length, getD, take, drop, length-append, List·getD-append}
 use Rattle.lts.specs.Noninterference.{Low}
 use Rattle.text.specs.Faults.{answers, refuses}
 use Rattle.text.specs.Laws.OutcomeLaws.{answers-not-refuses}
+use Rattle.text.specs.Limits.{runLength}
 use Rattle.text.specs.Model.{Model}
 use Rattle.model.specs.System.{source, DeterministicModel, view}
 use Rattle.text.specs.Laws.ListsLaws.{take-filled}
@@ -28,11 +30,13 @@ use Rattle.letters.specs.declared.word.Shown.the-variants.{Word, NotDeterminist
 use Rattle.letters.specs.Words.{endNumber, WordShown}
 use Rattle.letters.specs.WordDone.{shownOutcome, WordDone}
 use Rattle.letters.specs.Laws.WordDoneLaws.{branch-cases, endNumber-injective}
+use Rattle.lines.specs.declared.lines.Form.{Form}
 use Rattle.lines.specs.Page.{nameLine, LeakShown, by-word, by-branch, LeakLines, AfterStates}
 use Rattle.lines.specs.PageLines.{PageLine, run-line, allows-line, branch-line}
 use Rattle.lines.specs.Inner.Leak.{Letters, Spelled, shownLines}
 use Rattle.lines.specs.Inner.LinesWritten.{LinesWritten}
-use Rattle.lines.specs.Inner.Room.{runRoom, shownRoom, leakRoom}
+use Rattle.lines.specs.Inner.Room.{runWidth, allowsWidth, letterWidth, lineRoom, wordRoom, shownRoom, leakRoom}
+use Rattle.lines.specs.Laws.RoomLaws.{lineRoom-le}
 use Rattle.lines.specs.Laws.LinesWrittenLaws.{written-append, written-of}
 
 -- ---- the letters of a low word are actions
@@ -44,17 +48,27 @@ letters-lt m [] x i l = absurd (omega arith)
 letters-lt m (a ∷ w) x zero l = low-lt m a (x .0)
 letters-lt m (a ∷ w) x (suc i) l = letters-lt m w (x .1) i (omega arith)
 
+-- a run in its list has no more lines than the list has places
+pub run-room : {s : List ℕ} {m : Model} {p n : ℕ} {run run′ : List ℕ} → Stored s m → RunWritten m p n run run′
+    → (form : Form) → lineRoom form runWidth * n ≤ lineRoom form runWidth * runLength
+run-room {n = n} st ran form =
+    let l : n ≤ runLength = omega (arith, runTo-length st (ran .run-to), ran .length-is) in
+    mul-le-mul-left (lineRoom form runWidth) l
+
 pub refused-of : {m : Model} {v : Verdict} {j : Step} {depth : ℕ} → v ≡ Refused j depth → Judged m v
     → RefusedAt m (j .0) depth
 refused-of {m} e x = subst (Judged m) e x
 
 -- the lines after the states, of a verdict that refuses
-pub after-refused : {m : Model} {v : Verdict} {j : Step} {depth : ℕ} {run word run′ word′ : List ℕ}
-    {room at next : ℕ} {entry exit : List ℕ} → v ≡ Refused j depth
-    → LinesWritten (LeakLines m (j .0) depth run word run′ word′) room entry at exit next
-    → LinesWritten (AfterStates m v run word run′ word′) room entry at exit next
-after-refused {m} {run = run} {word} {run′} {word′} {room} {at} {next} {entry} {exit} e x =
-    subst (λ (u : Verdict). LinesWritten (AfterStates m u run word run′ word′) room entry at exit next) (sym e) x
+pub after-refused : {form : Form} {m : Model} {v : Verdict} {j : Step} {depth : ℕ} {run word run′ word′ : List ℕ}
+    {at next : ℕ} {entry exit : List ℕ} → v ≡ Refused j depth
+    → LinesWritten form m (LeakLines m (j .0) depth run word run′ word′) (leakRoom form (Refused j depth)) entry at exit
+    next
+    → LinesWritten form m (AfterStates m v run word run′ word′) (leakRoom form v) entry at exit next
+after-refused {form} {m} {run = run} {word} {run′} {word′} {at} {next} {entry} {exit} e x =
+    subst
+    (λ (u : Verdict). LinesWritten form m (AfterStates m u run word run′ word′) (leakRoom form u) entry at exit next)
+    (sym e) x
 
 module _ {s : List ℕ} {m : Model} (st : Stored s m) {j depth : ℕ} (refused : RefusedAt m j depth) where
   pub depth-lt : depth < m .head .states
@@ -139,16 +153,31 @@ module _ {s : List ℕ} {m : Model} (st : Stored s m) {j depth : ℕ} (refused :
     leak-shown-of (NotDeterministic i) done = by-branch-shown done
     leak-shown-of NoLeak done = by-branch-shown done
 
+    -- in no more room than a word of as many letters as the depth says
+    pub shownRoom-le : (form : Form) (shown : Shown) → WordDone m (shownOutcome shown) word word′
+        → shownRoom form shown ≤ wordRoom form depth
+    unfolding shownOutcome
+    shownRoom-le form (Word n end) done =
+        let e : n ≡ depth = word-length end done ∙ word-shown end done .length-is in
+        rw e (omega arith)
+    shownRoom-le form (NotDeterministic i) done =
+        let l : letterWidth ≤ allowsWidth = omega arith in
+        omega (arith, lineRoom-le form l)
+    shownRoom-le form NoLeak done =
+        let l : letterWidth ≤ allowsWidth = omega arith in
+        omega (arith, lineRoom-le form l)
+
     -- the lines of the run, and those
-    pub leak-lines-written : {p n at mid next : ℕ} {run run′ entry middle exit : List ℕ} (shown : Shown)
+    pub leak-lines-written : {form : Form} {p n at mid next : ℕ} {run run′ entry middle exit : List ℕ} (shown : Shown)
         → p ≡ source m j → RunWritten m p n run run′ → WordDone m (shownOutcome shown) word word′
-        → LinesWritten (_≡_ (map run-line (take n run′))) (runRoom * n) entry at middle mid
-        → LinesWritten (_≡_ (shownLines m shown word′)) shownRoom middle mid exit next
-        → LinesWritten (LeakLines m j depth run word run′ word′) leakRoom entry at exit next
-    leak-lines-written {p} {n} {run = run} {run′} shown e ran done x y =
+        → LinesWritten form m (_≡_ (map run-line (take n run′))) (lineRoom form runWidth * n) entry at middle mid
+        → LinesWritten form m (_≡_ (shownLines m shown word′)) (shownRoom form shown) middle mid exit next
+        → LinesWritten form m (LeakLines m j depth run word run′ word′)
+        (lineRoom form runWidth * runLength + wordRoom form depth) entry at exit next
+    leak-lines-written {form} {p} {n} {run = run} {run′} shown e ran done x y =
         let taken = take-filled (ran .steps) _ (ran .list) n (sym (ran .length-is)) in
         written-of (λ (zs : List PageLine) (z : LeakLines m j depth run word run′ word′ zs). z)
-        (omega (arith, runTo-length st (ran .run-to), ran .length-is)) (written-append
+        (omega (arith, run-room st ran form, shownRoom-le form shown done)) (written-append
         (λ us vs (u : map run-line (take n run′) ≡ us) (v : shownLines m shown word′ ≡ vs). record {
           steps = ran .steps;
           run-to = subst (λ (q : ℕ). RunTo m q (ran .steps)) e (ran .run-to);

@@ -2,11 +2,12 @@
 -- Document 01, "The page". Assumes nothing.
 use mathlib.Core.List.{List, [], _∷_}
 use mathlib.Core.Option.{Option}
-use mathlib.Core.Path.{_≡_}
+use mathlib.Core.Path.{_≡_, refl}
 use Prim.Native.Nat.{ℕ, _+_, _≤_}
 use native.Mathlib.Omega.{arith}
 use lib.ListN.{length, length-append}
 use Rattle.text.specs.Bytes.{byteLineEnd}
+use Rattle.text.specs.Limits.{nameLimit}
 use Rattle.text.specs.Numbers.{digits}
 use Rattle.text.specs.Laws.DigitsLaws.{digitsUpTo-length-le}
 use Rattle.verdicts.specs.declared.judging.Verdict.{Verdict}
@@ -17,7 +18,9 @@ use Rattle.lines.specs.PageLines.{branch-line, last-line, distanceText, 
 use Rattle.letters.specs.declared.word.End.{End}
 use Rattle.letters.specs.declared.word.End.the-variants.{Source, Target}
 use Rattle.lines.specs.PageLines.{faultText, faultBytes}
-use Rattle.lines.specs.Inner.Room.{verdictRoom, allowsRoom, letterRoom, faultRoom}
+use Rattle.lines.specs.Roll.{rollRows}
+use Rattle.lines.specs.Inner.FormLines.{TextFits}
+use Rattle.lines.specs.Inner.Room.{verdictWidth, runWidth, nameWidth, allowsWidth, letterWidth, faultRoom}
 
 -- ---- lengths of texts
 
@@ -59,30 +62,56 @@ pub faultBytes-length : (number place : ℕ) → length (faultBytes number place
 faultBytes-length number place = length-append (faultText number place) (byteLineEnd ∷ [])
 
 -- numbers have at most 5 digits
-pub verdict-length-le : (v : Verdict) → length (lineBytes (verdict-line v)) ≤ verdictRoom
-unfolding digits
-verdict-length-le (Passed rank) =
-    omega (arith, lineBytes-length (verdict-line (Passed rank)), passed-length rank, digitsUpTo-length-le 5 rank)
-verdict-length-le (Refused j depth) = omega (
-  arith,
-  lineBytes-length (verdict-line (Refused j depth)),
-  refused-length j depth,
-  digitsUpTo-length-le 5 (j .0),
-  digitsUpTo-length-le 5 depth,
-)
+pub verdict-fits : (v : Verdict) → TextFits (verdict-line v) verdictWidth
+unfolding digits rollRows
+verdict-fits (Passed rank) = record {
+  one-row = λ m. refl;
+  text-le = omega (arith, passed-length rank, digitsUpTo-length-le 5 rank);
+  width-le = omega arith;
+}
+verdict-fits (Refused j depth) = record {
+  one-row = λ m. refl;
+  text-le = omega (
+    arith,
+    refused-length j depth,
+    digitsUpTo-length-le 5 (j .0),
+    digitsUpTo-length-le 5 depth,
+  );
+  width-le = omega arith;
+}
 
-pub allows-length-le : (end : End) → length (lineBytes (allows-line end)) ≤ allowsRoom
+pub run-fits : (j : ℕ) → TextFits (run-line j) runWidth
+unfolding digits rollRows
+run-fits j = record {
+  one-row = λ m. refl;
+  text-le = omega (arith, run-length j, digitsUpTo-length-le 5 j);
+  width-le = omega arith;
+}
+
+pub word-fits : (name : List ℕ) → length name ≤ nameLimit → TextFits (word-line name) nameWidth
+unfolding rollRows
+word-fits name l = record {
+  one-row = λ m. refl;
+  text-le = omega (arith, l, word-length name);
+  width-le = omega arith;
+}
+
+allows-length : (end : End) → length (lineText (allows-line end)) ≤ allowsWidth
 unfolding lineText endText
-allows-length-le Source = omega arith
-allows-length-le Target = omega arith
+allows-length Source = omega arith
+allows-length Target = omega arith
 
-pub branch-length-le : length (lineBytes branch-line) ≤ letterRoom
-unfolding lineText
-branch-length-le = omega arith
+pub allows-fits : (end : End) → TextFits (allows-line end) allowsWidth
+unfolding rollRows
+allows-fits end = record { one-row = λ m. refl; text-le = allows-length end; width-le = omega arith }
 
-pub last-length-le : length (lineBytes last-line) ≤ letterRoom
-unfolding lineText
-last-length-le = omega arith
+pub branch-fits : TextFits branch-line letterWidth
+unfolding lineText rollRows
+branch-fits = record { one-row = λ m. refl; text-le = omega arith; width-le = omega arith }
+
+pub last-fits : TextFits last-line letterWidth
+unfolding lineText rollRows
+last-fits = record { one-row = λ m. refl; text-le = omega arith; width-le = omega arith }
 
 pub fault-length-le : (number place : ℕ) → length (faultBytes number place) ≤ faultRoom
 unfolding digits

@@ -3,8 +3,8 @@
 use mathlib.Core.List.{List, [], _∷_, _++_}
 use mathlib.Core.Logic.{_⊎_, inl, inr}
 use mathlib.Core.Option.{Option, none, some}
-use mathlib.Core.Path.{_≡_, refl, sym, subst}
-use Prim.Native.Nat.{ℕ, suc, _+_, _*_, _≤_, _<_}
+use mathlib.Core.Path.{_≡_, refl, sym, ap, subst}
+use Prim.Native.Nat.{ℕ, suc, _+_, _≤_, _<_}
 use native.Mathlib.Omega.{arith}
 use native.Mathlib.Numerals.{add-one}
 use lib.ListN.{length, getD, length-append}
@@ -18,14 +18,21 @@ use Rattle.writer.specs.Wrote.{Wrote}
 use Rattle.model.specs.Laws.System.StepTestLaws.{distance-lt}
 use Rattle.distances.specs.Laws.DistancesLaws.{list-distance, list-unreachable}
 use Rattle.lines.specs.Page.{DistanceField, unreached, reached, ClassOf, StateLines, no-state, next-state}
-use Rattle.lines.specs.PageLines.{PageLine, state-line, distanceText, lineBytes}
+use Rattle.lines.specs.declared.lines.Form.{Form}
+use Rattle.lines.specs.declared.lines.Form.the-variants.{Page, Roll}
+use Rattle.lines.specs.PageLines.{PageLine, state-line, distanceText}
+use Rattle.lines.specs.Roll.{formBytes}
 use Rattle.verdicts.specs.Inner.ModelLists.{ModelLists}
 use Rattle.lines.specs.Inner.Entries.{distanceOf, LowestZero}
 use Rattle.lines.specs.Inner.LinesWritten.{LinesWritten}
-use Rattle.lines.specs.Inner.Room.{stateRoom}
+use Rattle.lines.specs.Inner.Room.{stateRoom, statesRoom}
+use Rattle.columns.specs.Inner.RowCount.{ShortColumns, NamesFit}
+use Rattle.columns.specs.Laws.RowCountLaws.{stateRows-bytes-length}
+use Rattle.columns.specs.StateRows.{numberWidth}
 use Rattle.lines.specs.Laws.PageLinesLaws.{lineBytes-length, state-length}
 use Rattle.columns.specs.Laws.DistanceOfLaws.{distanceOf-unreachable, distanceOf-reachable}
-use Rattle.lines.specs.Laws.LinesWrittenLaws.{written-line, written-append, written-of}
+use Rattle.lines.specs.Laws.FormLaws.{formBytes-page, formBytes-roll}
+use Rattle.lines.specs.Laws.LinesWrittenLaws.{written-lines, written-append}
 use Rattle.model.specs.System.{IsState, view}
 use Rattle.lts.specs.Noninterference.{LowMove}
 
@@ -58,19 +65,38 @@ module _ {s : List ℕ} {m : Model} {roles distances table : List ℕ} (L : Mode
 
   -- ---- the line
 
-  distanceText-length : (p : ℕ) (d : Option ℕ) → DistanceField m p d → length (distanceText d) ≤ 3
+  distanceText-length : (p : ℕ) (d : Option ℕ) → DistanceField m p d → length (distanceText d) ≤ numberWidth
   unfolding distanceText
   distanceText-length p none (unreached n) = omega arith
   distanceText-length p (some d) (reached x) =
       digits-length-le 3 d (omega (arith, distance-lt (L .stored) x, L .stored .states-le)) (omega arith) (omega arith)
 
-  pub state-length-le : (p : ℕ) (d : Option ℕ) (class : ℕ) → p < m .head .states → DistanceField m p d → class ≤ p
-      → length (lineBytes (state-line p d class)) ≤ stateRoom
-  state-length-le p d class l x k =
-      let a = digits-length-le 3 p (omega (arith, L .stored .states-le)) (omega arith) (omega arith) in
-      let b = distanceText-length p d x in
-      let c = digits-length-le 3 class (omega (arith, L .stored .states-le)) (omega arith) (omega arith) in
-      omega (arith, lineBytes-length (state-line p d class), state-length p d class)
+  module _ (p : ℕ) (d : Option ℕ) (class : ℕ) (l : p < m .head .states) (x : DistanceField m p d) (k : class ≤ p) where
+    short-columns : ShortColumns p d class
+    short-columns = record {
+      state-le = digits-length-le 3 p (omega (arith, L .stored .states-le)) (omega arith) (omega arith);
+      distance-le = distanceText-length p d x;
+      class-le = digits-length-le 3 class (omega (arith, L .stored .states-le)) (omega arith) (omega arith);
+    }
+
+    -- `C,state,distance,class` and its end, or the lines of its columns and names
+    pub state-length-le : (form : Form) → NamesFit m
+        → length (formBytes form m (state-line p d class ∷ [])) ≤ stateRoom form m p
+    unfolding stateRoom
+    state-length-le Page names = omega (
+      arith,
+      ap length (formBytes-page m (state-line p d class) refl),
+      lineBytes-length (state-line p d class),
+      state-length p d class,
+      short-columns .state-le,
+      short-columns .distance-le,
+      short-columns .class-le,
+    )
+    state-length-le Roll names = omega (
+      arith,
+      ap length (formBytes-roll m p d class refl),
+      stateRows-bytes-length m names p d class short-columns,
+    )
 
 -- ---- the class of a state is the lowest number of rank 0 to it, be it a state or not
 
@@ -93,20 +119,21 @@ stateLines-length (next-state {n = n} {lines = lines} {distance = d} {class = c}
     omega (arith, stateLines-length x, length-append lines (state-line n d c ∷ []))
 
 -- one line more
-pub state-lines-next : {m : Model} {i class at mid next : ℕ} {distance : Option ℕ} {entry middle exit : List ℕ}
-    → LinesWritten (StateLines m i) (stateRoom * i) entry at middle mid → DistanceField m i distance → ClassOf m i class
-    → length (lineBytes (state-line i distance class)) ≤ stateRoom
-    → Wrote middle mid (lineBytes (state-line i distance class)) exit next
-    → LinesWritten (StateLines m (i + 1)) (stateRoom * (i + 1)) entry at exit next
-state-lines-next {m} {i} {class} {distance = distance} x f k l w = rw add-one (written-of
-    (λ (xs : List PageLine) (y : StateLines m (suc i) xs). y) (omega arith) (written-append
+pub state-lines-next : {form : Form} {m : Model} {i class at mid next : ℕ} {distance : Option ℕ}
+    {entry middle exit : List ℕ} → LinesWritten form m (StateLines m i) (statesRoom form m i) entry at middle mid
+    → DistanceField m i distance → ClassOf m i class
+    → length (formBytes form m (state-line i distance class ∷ [])) ≤ stateRoom form m i
+    → Wrote middle mid (formBytes form m (state-line i distance class ∷ [])) exit next
+    → LinesWritten form m (StateLines m (i + 1)) (statesRoom form m (i + 1)) entry at exit next
+unfolding statesRoom
+state-lines-next {m = m} {i} {class} {distance = distance} x f k l w = rw add-one (written-append
     (λ xs ys (p : StateLines m i xs) (q : ys ≡ state-line i distance class ∷ []).
     subst (λ (zs : List PageLine). StateLines m (suc i) (xs ++ zs)) (sym q) (next-state p f k)) x
-    (written-line (state-line i distance class) refl l w)))
+    (written-lines (state-line i distance class ∷ []) refl l w))
 
 -- all of them
-pub state-lines-all : {m : Model} {i at next : ℕ} {entry exit : List ℕ} → i ≡ m .head .states
-    → LinesWritten (StateLines m i) (stateRoom * i) entry at exit next
-    → LinesWritten (StateLines m (m .head .states)) (stateRoom * m .head .states) entry at exit next
-state-lines-all {m} {at = at} {next} {entry} {exit} e x =
-    subst (λ (n : ℕ). LinesWritten (StateLines m n) (stateRoom * n) entry at exit next) e x
+pub state-lines-all : {form : Form} {m : Model} {i at next : ℕ} {entry exit : List ℕ} → i ≡ m .head .states
+    → LinesWritten form m (StateLines m i) (statesRoom form m i) entry at exit next
+    → LinesWritten form m (StateLines m (m .head .states)) (statesRoom form m (m .head .states)) entry at exit next
+state-lines-all {form} {m} {at = at} {next} {entry} {exit} e x =
+    subst (λ (n : ℕ). LinesWritten form m (StateLines m n) (statesRoom form m n) entry at exit next) e x

@@ -1,18 +1,21 @@
 -- The run and the word are filled where they are printed from; a passed model has no such lines. Assumes nothing.
 use mathlib.Core.Path.{refl, sym, ap, subst, _∙_}
+use Prim.Native.Nat.{_+_, _*_, _≤_}
 use native.Mathlib.Omega.{arith}
+use lib.ListN.{length}
 use borrow.Author.Needs.{needs}
 use Rattle.text.specs.declared.State.{State}
+use Rattle.text.specs.Limits.{runLength}
 use Rattle.model.specs.StoredModel.{modelAt}
 use Rattle.model.specs.System.{ReachableIn}
-use Rattle.writer.specs.Laws.WroteLaws.{wrote-length}
 use Rattle.verdicts.specs.Verdicts.{RefusedAt}
-use Rattle.distances.specs.Laws.RunsLaws.{runTo-length}
 use Rattle.distances.specs.Laws.RunTailLaws.{runWritten-le}
 use Rattle.model.specs.Laws.System.StoredLaws.{stored-source}
 use Rattle.lines.specs.Page.{NoLeakLines}
-use Rattle.lines.specs.Laws.LinesWrittenLaws.{written-nil}
-use Rattle.lines.specs.Laws.LeakShownLaws.{refused-of, spelled-of, leak-lines-written, after-refused}
+use Rattle.lines.specs.Inner.Room.{runWidth, lineRoom, wordRoom, shownRoom}
+use Rattle.lines.specs.Laws.LinesWrittenLaws.{written-nil, written-rest}
+use Rattle.lines.specs.Laws.LeakShownLaws.{run-room, refused-of, spelled-of, shownRoom-le, leak-lines-written}
+use Rattle.lines.specs.Laws.LeakShownLaws.{after-refused}
 use Rattle.lines.proofs.lines.PagePosition.leak_lines.Statement.{statement}
 use Rattle.lines.proofs.lines.PagePosition.leak_lines.Tie as tie
 
@@ -23,6 +26,15 @@ refused : (c : tie.After-v)
 refused c =
     let s = c .before .before .before .before .before .before .before .before .before .before in
     refused-of (c .v .given .1) (s .pre .0 .showable .verdict)
+
+-- and the room that it gives
+room : (c : tie.After-v)
+    → let s = c .before .before .before .before .before .before .before .before .before .before in
+    s .args .self .at .at + (lineRoom (s .args .form) runWidth * runLength
+    + wordRoom (s .args .form) (c .v .given .0 .1 .0)) ≤ length (s .args .out .now)
+room c =
+    let s = c .before .before .before .before .before .before .before .before .before .before in
+    rw (c .v .given .1) at (s .pre .1)
 
 enum-known-v : tie.Need-enum-known-v
 enum-known-v c = search needs
@@ -66,8 +78,7 @@ run-lines-requires c κs =
     let arm = filled .before .before .before .before in
     let s = arm .before .before .before .before .before .before .before .before .before .before in
     let ran = filled .fill-run .ensures in
-    let fits = runTo-length (s .pre .0 .showable .lists .stored) (ran .run-to) in
-    (runWritten-le ran, omega (arith, fits, ran .length-is, s .pre .1))
+    (runWritten-le ran, omega (arith, run-room (s .pre .0 .showable .lists .stored) ran (s .args .form), room arm))
 
 show-requires : tie.Need-show-requires
 show-requires c κs =
@@ -84,21 +95,14 @@ shown-lines-requires c κs =
     let s = arm .before .before .before .before .before .before .before .before .before .before in
     let J = s .pre .0 in
     let st = J .showable .lists .stored in
-    let ran = filled .fill-run .ensures in
-    let fits = runTo-length st (ran .run-to) in
-    let wrote = run .run-lines .ensures in (
+    let form = s .args .form in
+    let short = run-room st (filled .fill-run .ensures) form in
+    let few = shownRoom-le st (refused arm) form (shown .result) (shown .ensures) in (
       record { long = st .length-le; good = J .good },
       (
         spelled-of st (refused arm) (shown .result) (shown .ensures),
-        omega (
-          arith,
-          fits,
-          ran .length-is,
-          s .pre .1,
-          wrote .wrote .place,
-          wrote .length-le,
-          wrote-length (wrote .wrote),
-        ),
+        written-rest (shownRoom form (shown .result)) (omega (arith, short, few, room arm))
+            (run .run-lines .ensures (modelAt (s .args .store .now))),
       ),
     )
 
@@ -126,7 +130,7 @@ returns-2 c =
     in
     after-refused (arm .v .given .1)
     (leak-lines-written st (refused arm) (shown .show .result) e (filled .fill-run .ensures) (shown .show .ensures)
-    (run .run-lines .ensures) (lines .shown-lines .ensures))
+    (run .run-lines .ensures (modelAt (s .args .store .now))) (lines .shown-lines .ensures))
 
 pub leak-lines-spec : {M : Type 1} → statement M
 leak-lines-spec =

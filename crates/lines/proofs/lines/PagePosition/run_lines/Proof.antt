@@ -1,29 +1,35 @@
--- Behind the loop stand the lines of the first i steps, and each round writes one more. Assumes nothing.
-use mathlib.Core.List.{map}
+-- Behind the loop stand the lines of the first i steps, and each round writes one more; a run's lines are the same for
+-- all models. Assumes nothing.
+use mathlib.Core.List.{[], map}
 use mathlib.Core.Path.{_≡_, refl}
 use Prim.Native.Nat.{_*_, _-_, _≤_}
 use native.Mathlib.Omega.{arith}
 use lib.ListN.{length, getD, take}
 use borrow.Author.Needs.{needs}
+use Rattle.text.specs.Model.{Model}
+use Rattle.model.specs.StoredModel.{modelAt}
 use Rattle.lines.specs.PageLines.{run-line}
 use Rattle.lines.specs.Inner.LinesWritten.{LinesWritten}
-use Rattle.lines.specs.Inner.Room.{runRoom}
-use Rattle.lines.specs.Laws.LinesWrittenLaws.{wrote-line, end-room, written-nil, written-next-le}
-use Rattle.lines.specs.Laws.PageLinesLaws.{lineBytes-length}
-use Rattle.lines.specs.Laws.LeakLaws.{written-next, run-length-le}
+use Rattle.lines.specs.Inner.Room.{runWidth, lineRoom}
+use Rattle.lines.specs.Laws.FormLaws.{text-room, end-room}
+use Rattle.lines.specs.Laws.LinesWrittenLaws.{written-nil, written-room}
+use Rattle.lines.specs.Laws.PageLinesLaws.{run-fits}
+use Rattle.lines.specs.Laws.LeakLaws.{written-next}
 use Rattle.lines.proofs.lines.PagePosition.run_lines.Statement.{statement}
 use Rattle.lines.proofs.lines.PagePosition.run_lines.Tie as tie
 
 abbrev Inv-loop : tie.InvT-loop
-Inv-loop out₀ run n page₀ i₀ out page i =
+Inv-loop out₀ run n form page₀ i₀ out page i =
     (i ≤ n) × (length out ≡ length out₀)
-    × LinesWritten (_≡_ (map run-line (take i run))) (runRoom * i) out₀ (page₀ .at .at) out (page .at .at)
+    × ((m : Model)
+    → LinesWritten form m (_≡_ (map run-line (take i run))) (lineRoom form runWidth * i) out₀ (page₀ .at .at) out
+    (page .at .at))
 
 abbrev μ-loop : tie.MeasureT-loop
-μ-loop out₀ run n page₀ i₀ out page i = n - i
+μ-loop out₀ run n form page₀ i₀ out page i = n - i
 
 loop-holds : tie.Need-loop-holds Inv-loop μ-loop
-loop-holds c = (omega arith, refl, written-nil refl)
+loop-holds c = (omega arith, refl, λ m. written-nil refl)
 
 mul-j : tie.Need-mul-j Inv-loop μ-loop
 mul-j c = search needs
@@ -36,17 +42,9 @@ run-text-requires c κs =
     let in-loop = c .before .before in
     let loop = in-loop .before .loop in
     let s = in-loop .before .before .before .before in
-    let j = getD (s .args .run .now) (loop .i) 0 in
-    let fits = run-length-le j in
-    omega (
-      arith,
-      lineBytes-length (run-line j),
-      fits,
-      in-loop .loop-test .taken,
-      s .pre .1,
-      loop .inv .1,
-      written-next-le (loop .inv .2),
-    )
+    let form = s .args .form in
+    text-room (run-fits (getD (s .args .run .now) (loop .i) 0)) form (loop .page .at .at)
+    (written-room (lineRoom form runWidth) (in-loop .loop-test .taken) (s .pre .1) (loop .inv .2 (modelAt [])))
 
 line-end-requires : tie.Need-line-end-requires Inv-loop μ-loop
 line-end-requires c κs =
@@ -54,9 +52,9 @@ line-end-requires c κs =
     let in-loop = text .before .before .before in
     let loop = in-loop .before .loop in
     let s = in-loop .before .before .before .before in
-    let j = getD (s .args .run .now) (loop .i) 0 in
-    end-room (run-line j) (run-length-le j)
-    (omega (arith, in-loop .loop-test .taken, s .pre .1, loop .inv .1, written-next-le (loop .inv .2)))
+    let form = s .args .form in
+    end-room (run-fits (getD (s .args .run .now) (loop .i) 0)) form
+    (written-room (lineRoom form runWidth) (in-loop .loop-test .taken) (s .pre .1) (loop .inv .2 (modelAt [])))
     (text .run-text .ensures)
 
 add-i : tie.Need-add-i Inv-loop μ-loop
@@ -72,12 +70,11 @@ loop-again c =
     let in-loop = text .before .before .before in
     let loop = in-loop .before .loop in
     let s = in-loop .before .before .before .before in
-    let run = s .args .run .now in
-    let j = getD run (loop .i) 0 in (
+    let run = s .args .run .now in (
       omega (arith, in-loop .loop-test .taken),
       search needs,
-      written-next run-line runRoom run (loop .i) (omega (arith, in-loop .loop-test .taken, s .pre .0))
-          (run-length-le j) (loop .inv .2) (wrote-line (run-line j) (text .run-text .ensures) (end .line-end .ensures)),
+      λ m. written-next run-line run (loop .i) (omega (arith, in-loop .loop-test .taken, s .pre .0))
+          (run-fits (getD run (loop .i) 0)) (loop .inv .2 m) (text .run-text .ensures) (end .line-end .ensures),
     )
 
 same-length : tie.Need-same-length Inv-loop μ-loop

@@ -8,21 +8,21 @@ use borrow.Author.Needs.{needs}
 use Rattle.model.specs.StoredModel.{modelAt}
 use Rattle.lines.specs.Page.{nameLine}
 use Rattle.lines.specs.Inner.LinesWritten.{LinesWritten}
-use Rattle.lines.specs.Inner.Room.{nameRoom}
-use Rattle.lines.specs.Laws.LinesWrittenLaws.{wrote-line, end-room, written-nil, written-next-le}
-use Rattle.lines.specs.Laws.PageLinesLaws.{lineBytes-length}
-use Rattle.lines.specs.Laws.LeakLaws.{written-next, name-line-length-le}
+use Rattle.lines.specs.Inner.Room.{nameWidth, lineRoom}
+use Rattle.lines.specs.Laws.FormLaws.{text-room, end-room}
+use Rattle.lines.specs.Laws.LinesWrittenLaws.{written-nil, written-room}
+use Rattle.lines.specs.Laws.LeakLaws.{written-next, name-line-fits}
 use Rattle.lines.proofs.lines.PagePosition.word_lines.Statement.{statement}
 use Rattle.lines.proofs.lines.PagePosition.word_lines.Tie as tie
 
 abbrev Inv-loop : tie.InvT-loop
-Inv-loop out₀ store word n page₀ i₀ out page i =
+Inv-loop out₀ store word n form page₀ i₀ out page i =
     (i ≤ n) × (length out ≡ length out₀)
-    × LinesWritten (_≡_ (map (nameLine (modelAt store)) (take i word))) (nameRoom * i) out₀ (page₀ .at .at) out
-    (page .at .at)
+    × LinesWritten form (modelAt store) (_≡_ (map (nameLine (modelAt store)) (take i word)))
+    (lineRoom form nameWidth * i) out₀ (page₀ .at .at) out (page .at .at)
 
 abbrev μ-loop : tie.MeasureT-loop
-μ-loop out₀ store word n page₀ i₀ out page i = n - i
+μ-loop out₀ store word n form page₀ i₀ out page i = n - i
 
 loop-holds : tie.Need-loop-holds Inv-loop μ-loop
 loop-holds c = (omega arith, refl, written-nil refl)
@@ -38,20 +38,14 @@ name-text-requires c κs =
     let in-loop = c .before .before in
     let loop = in-loop .before .loop in
     let s = in-loop .before .before .before .before .before in
-    let a = getD (s .args .word .now) (loop .i) 0 in
-    let letter = s .pre .1 .0 .actions (loop .i) (in-loop .loop-test .taken) in (
+    let form = s .args .form in
+    let l = in-loop .loop-test .taken in
+    let letter = s .pre .1 .0 .actions (loop .i) l in (
       s .pre .0,
       (
         letter,
-        omega (
-          arith,
-          lineBytes-length (nameLine (modelAt (s .args .store .now)) a),
-          name-line-length-le (s .pre .0) a letter,
-          in-loop .loop-test .taken,
-          s .pre .1 .1,
-          loop .inv .1,
-          written-next-le (loop .inv .2),
-        ),
+        text-room (name-line-fits (s .pre .0) (getD (s .args .word .now) (loop .i) 0) letter) form (loop .page .at .at)
+            (written-room (lineRoom form nameWidth) l (s .pre .1 .1) (loop .inv .2)),
       ),
     )
 
@@ -61,11 +55,11 @@ line-end-requires c κs =
     let in-loop = text .before .before .before in
     let loop = in-loop .before .loop in
     let s = in-loop .before .before .before .before .before in
-    let a = getD (s .args .word .now) (loop .i) 0 in
-    let letter = s .pre .1 .0 .actions (loop .i) (in-loop .loop-test .taken) in
-    end-room (nameLine (modelAt (s .args .store .now)) a) (name-line-length-le (s .pre .0) a letter)
-    (omega (arith, in-loop .loop-test .taken, s .pre .1 .1, loop .inv .1, written-next-le (loop .inv .2)))
-    (text .name-text .ensures)
+    let form = s .args .form in
+    let l = in-loop .loop-test .taken in
+    let letter = s .pre .1 .0 .actions (loop .i) l in
+    end-room (name-line-fits (s .pre .0) (getD (s .args .word .now) (loop .i) 0) letter) form
+    (written-room (lineRoom form nameWidth) l (s .pre .1 .1) (loop .inv .2)) (text .name-text .ensures)
 
 add-i : tie.Need-add-i Inv-loop μ-loop
 add-i c = search needs
@@ -81,14 +75,13 @@ loop-again c =
     let loop = in-loop .before .loop in
     let s = in-loop .before .before .before .before .before in
     let l = in-loop .loop-test .taken in
-    let line = nameLine (modelAt (s .args .store .now)) in
     let word = s .args .word .now in
-    let a = getD word (loop .i) 0 in (
+    let letter = s .pre .1 .0 .actions (loop .i) l in (
       omega (arith, l),
       search needs,
-      written-next line nameRoom word (loop .i) (omega (arith, l, s .pre .1 .0 .list-le))
-          (name-line-length-le (s .pre .0) a (s .pre .1 .0 .actions (loop .i) l)) (loop .inv .2)
-          (wrote-line (line a) (text .name-text .ensures) (end .line-end .ensures)),
+      written-next (nameLine (modelAt (s .args .store .now))) word (loop .i) (omega (arith, l, s .pre .1 .0 .list-le))
+          (name-line-fits (s .pre .0) (getD word (loop .i) 0) letter) (loop .inv .2) (text .name-text .ensures)
+          (end .line-end .ensures),
     )
 
 same-length : tie.Need-same-length Inv-loop μ-loop
