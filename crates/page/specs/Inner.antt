@@ -2,4 +2,3 @@ pub mod PageLists
 pub mod Refusals
 pub mod StateLinesTest
 pub mod OtherLines
-pub mod StandIn

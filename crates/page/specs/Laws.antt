@@ -4,6 +4,7 @@ pub mod LineTextLaws
 pub mod PageSplitLaws
 pub mod OtherLinesLaws
 pub mod RollSplitLaws
+pub mod RollColumnsLaws
 pub mod PageFieldsLaws
 pub mod ClaimTextsLaws
 pub mod PageClaimLaws

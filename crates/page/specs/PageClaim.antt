@@ -9,17 +9,16 @@ use Prim.Native.Nat.{ℕ, _+_, _<_}
 use lib.ListN.{length, getD, take}
 use Rattle.lts.specs.Noninterference.{INI}
 use Rattle.text.specs.Bytes.{byteComma, byteV, comma, lineEnd}
-use Rattle.text.specs.Faults.{Outcome, answers}
 use Rattle.text.specs.Model.{Model}
 use Rattle.text.specs.Numbers.{numberOf}
 use Rattle.text.specs.Split.{split}
-use Rattle.model.specs.System.{source, HighStep, DeterministicModel, IsState, view}
+use Rattle.model.specs.System.{source, HighStep, IsState, view}
 use Rattle.model.specs.Text.{field}
 use Rattle.ranking.specs.Table.{Greatest}
 use Rattle.verdicts.specs.declared.judging.Verdict.the-variants.{Refused}
 use Rattle.distances.specs.Runs.{RunTo}
 use Rattle.letters.specs.declared.word.End.{End}
-use Rattle.tell.specs.Claim.{States, ShowsLeak}
+use Rattle.tell.specs.Claim.{ShowsLeak}
 use Rattle.lines.specs.PageLines.{PageLine, verdict-line, run-line, allows-line, last-line, passText, refuseText}
 use Rattle.lines.specs.PageLines.{lineText, pageBytes}
 use Rattle.lines.specs.Page.{StateLines, nameLine}

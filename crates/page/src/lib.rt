@@ -2,4 +2,3 @@
 pub mod page;
 pub mod print;
 pub mod printed;
-mod stand_in;

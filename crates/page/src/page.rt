@@ -85,7 +85,18 @@ pub fn page_good(
     let mut begins = [0u16; INDEX_LENGTH];
     let mut roles = [0u16; ROLES_LENGTH];
     let v = judge::judge::judge_good(store, &mut begins, &mut roles, distances, table);
-    crate::stand_in::judged_page(store, &begins, &roles, distances, table, v, run, word, out, form)
+    lines::whole::judged_page(
+        store,
+        &begins,
+        &roles,
+        distances,
+        table,
+        v,
+        run,
+        word,
+        out,
+        form,
+    )
 }
 
 // Fills the distances and the table, the run of a refused model, and the word where it prints one; puts the page in its

@@ -56,7 +56,7 @@ fn refusal_of(read: ReadAnswer) -> Refusal
     }
 }
 
-// The line `F,number,place` of a text that Read refuses.
+// The line `F,number,place` of a text that Read refuses: no line of the page, and not padded on the roll.
 fn fault_line(read: ReadAnswer, out: &mut [u8]) -> PagePosition
     requires { ⌜ Refuses read × (pageLength ≤ length (now out)) ⌝ }
     ensures { λ r. ⌜ FaultWritten (readOutcome read) (now (out .entry)) (now (out .exit)) (r .at .at) ⌝ }
@@ -65,7 +65,7 @@ fn fault_line(read: ReadAnswer, out: &mut [u8]) -> PagePosition
     let start = PagePosition::start();
     start
         .fault_text(out, refusal.number, refusal.place)
-        .line_end(out)
+        .line_end(out, 0, Form::Page)
 }
 
 // Prints the page of a text in a form, or why Read refuses it, where all lists are long enough.

@@ -1,6 +1,6 @@
 // What a program prints of a text.
-use crate::print::print_in_form;
 use crate::print::PrintAnswer;
+use crate::print::print_in_form;
 use lines::lines::Form;
 use text::limits::DISTANCES_LENGTH;
 use text::limits::RUN_LENGTH;

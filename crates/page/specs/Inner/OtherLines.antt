@@ -12,6 +12,7 @@ use Rattle.columns.specs.Rows.{rollWidth, flushLeft}
 use Rattle.lines.specs.PageLines.{PageLine, verdict-line, state-line, run-line, word-line, allows-line, branch-line}
 use Rattle.lines.specs.PageLines.{last-line, lineText}
 use Rattle.lines.specs.Roll.{rollRows}
+use Rattle.lines.specs.Inner.FormLines.{TextFits}
 use Rattle.page.specs.RollClaim.{other?}
 
 -- A line, unless it is a state's.
@@ -35,7 +36,8 @@ Marked text = Without lineEnd text × Without other text
 
 -- A line that is no state's: one line on the roll, its text.
 pub record OtherLine (l : PageLine) : Type 0 where
-  pub one-row : (m : Model) → rollRows m l ≡ lineText l ∷ []
+  pub width : ℕ
+  pub fits : TextFits l width
   pub stays : unlessState l ≡ l ∷ []
   pub begins : other? (lineText l) ≡ true
   pub marked : Marked (lineText l)

@@ -1,4 +1,4 @@
--- The pages of the starred bench models, by evaluation: the joint fact has their verdicts and words, and which are
+-- The pages of the starred bench models, and rolls, by evaluation: the joint fact has their verdicts and words, and which are
 -- deterministic; the `C` lines are computed; and a model has one page.
 -- Document 01, "The page" and "Bench models". Assumes nothing.
 use mathlib.Core.List.{List, [], _∷_, _++_, map}
@@ -24,18 +24,22 @@ use Rattle.letters.specs.declared.word.End.the-variants.{Source, Target}
 use Rattle.letters.specs.Words.{WordOf}
 use Rattle.tell.specs.Bench.{ReadsAndJudged, refusedAt}
 use Rattle.tell.specs.BenchModels.{worked, workedText, scannedOnce, released, closeLow, branching, noSteps, printLoop}
-use Rattle.tell.specs.BenchModels.{unreachedPrint}
+use Rattle.tell.specs.BenchModels.{unreachedPrint, unreachedPrintText}
 use Rattle.tell.specs.Laws.BenchLaws.{joint-fact}
-use Rattle.lines.specs.Examples.{workedLines, worked-bytes}
+use Rattle.columns.specs.LowNames.{passing}
+use Rattle.columns.specs.Rows.{flushLeft, flushRight, rowsBytes, fill}
+use Rattle.columns.specs.StateRows.{distanceText, stateColumns}
+use Rattle.text.specs.Numbers.{digits, digitsUpTo}
+use Rattle.lines.specs.Examples.{workedLines, worked-bytes, worked-roll}
 use Rattle.page.specs.Laws.PagePromiseLaws.{pagePrinted-unique}
 use Rattle.lines.specs.Page.{nameLine, by-word, by-branch, AfterStates}
-use Rattle.lines.specs.PageLines.{PageLine, verdict-line, allows-line, branch-line, last-line}
+use Rattle.lines.specs.PageLines.{PageLine, verdict-line, allows-line, branch-line, last-line, lineText}
 use Rattle.lines.specs.declared.lines.Form.{Form}
-use Rattle.lines.specs.declared.lines.Form.the-variants.{Page}
-use Rattle.lines.specs.Roll.{formBytes}
+use Rattle.lines.specs.declared.lines.Form.the-variants.{Page, Roll}
+use Rattle.lines.specs.Roll.{rollRows, rollBytes, formBytes}
 use Rattle.page.specs.PagePromise.{PagePrinted}
-use Rattle.page.specs.Examples.{PrintsBytes, PagesPrinted, scannedOnceLines, releasedLines, closeLowLines}
-use Rattle.page.specs.Examples.{branchingLines, oneStateLines, unreachedPrintLines}
+use Rattle.page.specs.Examples.{PrintsBytes, PagesPrinted, RollsPrinted, scannedOnceLines, releasedLines, closeLowLines}
+use Rattle.page.specs.Examples.{branchingLines, oneStateLines, unreachedPrintLines, unreachedPrintRows}
 use Rattle.page.specs.Inner.StateLinesTest.{leastPassing, stateLinesOf}
 use Rattle.page.specs.Laws.StateLinesTestLaws.{stateLinesOf-lines}
 
@@ -157,4 +161,19 @@ pages-printed = record {
   no-steps = prints-passed Page (joint-fact .no-steps-passed) (computed .no-steps);
   print-loop = prints-passed Page (joint-fact .print-loop-passed) (computed .print-loop);
   unreached-print = prints-passed Page (joint-fact .unreached-print-passed) (computed .unreached-print);
+}
+
+-- ---- on the roll
+
+unreached-print-rows : formBytes Roll unreachedPrint unreachedPrintLines ≡ rowsBytes unreachedPrintRows
+unfolding formBytes rollBytes rollRows rowsBytes flushLeft flushRight stateColumns fill passing any lineText distanceText digits
+    digitsUpTo unreachedPrintLines unreachedPrintRows
+unreached-print-rows = refl
+
+pub rolls-printed : RollsPrinted
+rolls-printed = record {
+  worked = subst (PrintsBytes Roll workedText) worked-roll (prints-word Roll (joint-fact .worked-refused) refl
+      (joint-fact .worked-deterministic) (joint-fact .worked-word) refl (computed .worked));
+  unreached-print = subst (PrintsBytes Roll unreachedPrintText) unreached-print-rows (prints-passed Roll
+      (joint-fact .unreached-print-passed) (computed .unreached-print));
 }

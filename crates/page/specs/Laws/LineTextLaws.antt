@@ -1,11 +1,9 @@
 -- What the texts of a page's lines are made of: no line but a state's holds anything but digits, letters and commas.
 -- Document 01, "The page". Assumes nothing.
-use mathlib.Core.Bool.{true}
 use mathlib.Core.List.{List, [], _∷_, _++_, map, append-assoc}
 use mathlib.Core.Logic.{inl, inr}
-use mathlib.Core.Option.{Option}
 use mathlib.Core.Path.{_≡_, refl, sym, ap, subst, _∙_}
-use Prim.Native.Nat.{ℕ, _<_}
+use Prim.Native.Nat.{ℕ, _≤_, _<_}
 use native.Mathlib.Omega.{arith}
 use lib.Dec.{T}
 use lib.ListN.{length}
@@ -14,15 +12,15 @@ use Rattle.lts.specs.Noninterference.{Low}
 use Rattle.text.specs.All.{All}
 use Rattle.text.specs.Bytes.{byteV, byteR, byteW, byteB, byteN, byteE}
 use Rattle.text.specs.Bytes.{other, digit, smallLetter, lineEnd, kindOf}
+use Rattle.text.specs.Limits.{nameLimit}
 use Rattle.text.specs.Model.{Model}
 use Rattle.text.specs.Numbers.{digits}
 use Rattle.model.specs.Inner.LineText.{NameByte}
-use Rattle.text.specs.Join.{Without}
 use Rattle.model.specs.Text.{field}
 use Rattle.model.specs.WellFormed.{WellFormed}
 use Rattle.model.specs.Laws.Store.SystemLaws.{low-lt}
 use Rattle.model.specs.Laws.Store.WellFormedLaws.{action-fits}
-use Rattle.model.specs.Laws.Text.ActionLineLaws.{name-bytes}
+use Rattle.model.specs.Laws.Text.ActionLineLaws.{name-bytes, name-length}
 use Rattle.text.specs.Laws.AllLaws.{all-intro, all-append, all-map, all-of-all}
 use Rattle.text.specs.Laws.JoinLaws.{without?, without-test}
 use Rattle.model.specs.Laws.Text.JoinedFieldsLaws.{digits-without}
@@ -34,7 +32,8 @@ use Rattle.lines.specs.PageLines.{PageLine, verdict-line, state-line, run-line,
 use Rattle.lines.specs.PageLines.{last-line, passText, refuseText, endText, lineText}
 use Rattle.lines.specs.Page.{StateLines, no-state, next-state, nameOf, nameLine, LeakShown, by-word, by-branch}
 use Rattle.lines.specs.Page.{AfterStates, PageOf}
-use Rattle.lines.specs.Roll.{rollRows}
+use Rattle.lines.specs.Inner.Room.{verdictWidth, runWidth, nameWidth, allowsWidth, letterWidth}
+use Rattle.lines.specs.Laws.PageLinesLaws.{verdict-fits, run-fits, word-fits, allows-fits, branch-fits, last-fits}
 use Rattle.model.specs.System.{view}
 use Rattle.page.specs.RollClaim.{other?}
 use Rattle.page.specs.Inner.OtherLines.{unlessState, withoutStates, Marked, OtherLine, AnyLine, of-state, of-other}
@@ -67,14 +66,15 @@ marked-number a n p = marked-append a (field (digits n)) p (marked-field (digits
 -- ---- the lines
 
 verdict-other : (v : Verdict) → OtherLine (verdict-line v)
-unfolding lineText rollRows unlessState other? without? kindOf
+unfolding lineText unlessState other? without? kindOf
 verdict-other (Passed rank) =
     let text = (byteV ∷ []) ++ field passText in
-    record { one-row = λ m. refl; stays = refl; begins = refl; marked = marked-number text rank (marked-test text tt tt) }
+    record { width = verdictWidth; fits = verdict-fits (Passed rank); stays = refl; begins = refl; marked = marked-number text rank (marked-test text tt tt) }
 verdict-other (Refused j depth) =
     let text = (byteV ∷ []) ++ field refuseText in
     record {
-      one-row = λ m. refl;
+      width = verdictWidth;
+      fits = verdict-fits (Refused j depth);
       stays = refl;
       begins = refl;
       marked =
@@ -82,18 +82,20 @@ verdict-other (Refused j depth) =
     }
 
 run-other : (j : ℕ) → OtherLine (run-line j)
-unfolding lineText rollRows unlessState other? without? kindOf
+unfolding lineText unlessState other? without? kindOf
 run-other j = record {
-  one-row = λ m. refl;
+  width = runWidth;
+  fits = run-fits j;
   stays = refl;
   begins = refl;
   marked = marked-number (byteR ∷ []) j (marked-test (byteR ∷ []) tt tt);
 }
 
-word-other : (name : List ℕ) → Marked name → OtherLine (word-line name)
-unfolding lineText rollRows unlessState other? without? kindOf
-word-other name p = record {
-  one-row = λ m. refl;
+word-other : (name : List ℕ) → length name ≤ nameLimit → Marked name → OtherLine (word-line name)
+unfolding lineText unlessState other? without? kindOf
+word-other name short p = record {
+  width = nameWidth;
+  fits = word-fits name short;
   stays = refl;
   begins = refl;
   marked =
@@ -101,29 +103,31 @@ word-other name p = record {
 }
 
 allows-other : (end : End) → OtherLine (allows-line end)
-unfolding lineText endText rollRows unlessState other? without? kindOf
+unfolding lineText endText unlessState other? without? kindOf
 allows-other Source = record {
-  one-row = λ m. refl;
+  width = allowsWidth;
+  fits = allows-fits Source;
   stays = refl;
   begins = refl;
   marked = marked-test ((byteB ∷ []) ++ field (endText Source)) tt tt;
 }
 allows-other Target = record {
-  one-row = λ m. refl;
+  width = allowsWidth;
+  fits = allows-fits Target;
   stays = refl;
   begins = refl;
   marked = marked-test ((byteB ∷ []) ++ field (endText Target)) tt tt;
 }
 
 branch-other : OtherLine branch-line
-unfolding lineText rollRows unlessState other? without? kindOf
+unfolding lineText unlessState other? without? kindOf
 branch-other =
-    record { one-row = λ m. refl; stays = refl; begins = refl; marked = marked-test (byteN ∷ []) tt tt }
+    record { width = letterWidth; fits = branch-fits; stays = refl; begins = refl; marked = marked-test (byteN ∷ []) tt tt }
 
 last-other : OtherLine last-line
-unfolding lineText rollRows unlessState other? without? kindOf
+unfolding lineText unlessState other? without? kindOf
 last-other =
-    record { one-row = λ m. refl; stays = refl; begins = refl; marked = marked-test (byteE ∷ []) tt tt }
+    record { width = letterWidth; fits = last-fits; stays = refl; begins = refl; marked = marked-test (byteE ∷ []) tt tt }
 
 -- ---- the lines that are no state's
 
@@ -183,11 +187,14 @@ module _ {m : Model} (w : WellFormed m) where
             (nameOf m a) bytes,
       )
 
+  pub name-short : (a : ℕ) → a < length (m .actions) → length (nameOf m a) ≤ nameLimit
+  name-short a l = name-length (nameOf m a) (action-fits m w a _ l .name) .1
+
   names-other : (word : List ℕ) → Low (view m .levels) word → All (λ a. OtherLine (nameLine m a)) word
   unfolding Low
   names-other [] x = tt
   names-other (a ∷ word) x =
-      (word-other (nameOf m a) (marked-name a (low-lt m a (x .0))), names-other word (x .1))
+      (word-other (nameOf m a) (name-short a (low-lt m a (x .0))) (marked-name a (low-lt m a (x .0))), names-other word (x .1))
 
   leak-other : {j depth : ℕ} {word word′ : List ℕ} {lines : List PageLine} → LeakShown m j depth word word′ lines
       → All OtherLine lines

@@ -1,6 +1,6 @@
 -- The lines of a page give demand 3 on its bytes.
 -- Document 01, "Demand 3 is one claim [..]"; DEMANDS, 3. Assumes nothing.
-use mathlib.Core.List.{List, [], _∷_, _++_, map}
+use mathlib.Core.List.{List, [], _∷_, _++_}
 use mathlib.Core.Option.{some}
 use mathlib.Core.Path.{_≡_, refl, sym, subst}
 use Prim.Native.Nat.{ℕ, _+_, _<_}
@@ -62,4 +62,3 @@ pub run-fields-states : {m : Model} {bytes word : List ℕ} (x : LeakPage m byte
 run-fields-states {bytes = bytes} x i l =
     subst (λ (n : ℕ). numberOf (getD (lineFields (split lineEnd bytes) (1 + n + i)) 1 []) ≡ some (getD (x .texts .run) i 0))
     (stateLines-length (x .state-lines)) (x .texts .run-fields i l)
-

@@ -14,7 +14,7 @@ use Rattle.lines.specs.declared.lines.Form.the-variants.{Page, Roll}
 use Rattle.lines.specs.Page.{PageOf}
 use Rattle.lines.specs.Roll.{formLength}
 use Rattle.page.specs.PagePromise.{PagePrinted}
-use Rattle.page.specs.Inner.StandIn.{LinesWritten}
+use Rattle.lines.specs.Inner.LinesWritten.{LinesWritten}
 
 -- a roll's list is no shorter than a page's
 pub pageLength-le : (form : Form) → pageLength ≤ formLength form

@@ -1,21 +1,20 @@
 -- The bytes of a roll part at their line ends into its lines, of which those that begin with a capital are the page's
 -- own, but for the states'.
 -- Document 02, (ii): "All other lines of the page stand padded in their page order." Assumes nothing.
-use mathlib.Core.Bool.{Bool, true, false, cond}
-use mathlib.Core.List.{List, [], _∷_, _++_, map, map-append, append-assoc, append-nil}
+use mathlib.Core.Bool.{false}
+use mathlib.Core.List.{List, [], _∷_, _++_, map, map-append, append-assoc}
 use mathlib.Core.Logic.{_⊎_, inl, inr}
 use mathlib.Core.Option.{Option}
 use mathlib.Core.Path.{_≡_, refl, sym, ap, subst, _∙_}
 use Prim.Native.Nat.{ℕ, zero, suc, _+_, _-_, _≤_, _<_}
 use native.Mathlib.Omega.{arith}
-use lib.Dec.{eqb}
 use lib.ListN.{length}
 use borrow.Author.Tests.{eqb-false, ne-eqb}
 use Rattle.lts.specs.TestsLaws.{lt-or-le}
 use Rattle.text.specs.All.{All}
 use Rattle.text.specs.Bytes.{byteBlank, byteLineEnd, other, digit, capital, lineEnd, kindOf}
 use Rattle.text.specs.Join.{Without}
-use Rattle.text.specs.Laws.AllLaws.{all-append, all-map, all-of-all, all-replicate}
+use Rattle.text.specs.Laws.AllLaws.{all-map, all-of-all, all-replicate}
 use Rattle.text.specs.Laws.DigitsLaws.{digits-digit}
 use Rattle.text.specs.Laws.JoinLaws.{split-append}
 use Rattle.text.specs.Laws.SplitLaws.{split-nil}
@@ -27,11 +26,11 @@ use Rattle.columns.specs.LowNames.{nameOf, lowFrom?, lowActions, lowNames}
 use Rattle.columns.specs.Rows.{rollWidth, blanks, flushLeft, flushRight, rowBytes, rowsBytes, nameIndent, fill}
 use Rattle.columns.specs.StateRows.{numberWidth, distanceText, stateColumns, stateRows}
 use Rattle.columns.specs.Laws.RowCountLaws.{fill-fits, fill-next, passing-lt}
-use Rattle.lines.specs.PageLines.{PageLine, state-line, lineText, pageBytes}
+use Rattle.lines.specs.PageLines.{PageLine, lineText, pageBytes}
 use Rattle.lines.specs.Page.{PageOf}
 use Rattle.lines.specs.Roll.{rollRows, rollBytes}
-use Rattle.page.specs.RollClaim.{consUnpadded, unpadded, other?, othersOf, otherLines}
-use Rattle.page.specs.Inner.OtherLines.{unlessState, withoutStates, Marked, OtherLine, AnyLine, of-state, of-other}
+use Rattle.page.specs.RollClaim.{other?, othersOf, otherLines}
+use Rattle.page.specs.Inner.OtherLines.{unlessState, withoutStates, AnyLine, of-state, of-other}
 use Rattle.page.specs.Inner.OtherLines.{paddedRows}
 use Rattle.page.specs.Laws.LineTextLaws.{marked-digits, marked-name, page-any}
 use Rattle.page.specs.Laws.PageSplitLaws.{plain-append, plain-distance}
@@ -155,7 +154,7 @@ module _ {m : Model} (w : WellFormed m) where
   unfolding rollRows
   rows-plain _ (of-state p d class) =
       all-of-all StateRow Plain (λ row r. r .plain) (stateRows m p d class) (state-rows p d class)
-  rows-plain l (of-other x) = subst (All Plain) (sym (x .one-row m)) (x .marked .0, tt)
+  rows-plain l (of-other x) = subst (All Plain) (sym (x .fits .one-row m)) (x .marked .0, tt)
 
   split-lines : (lines : List PageLine) → All AnyLine lines
       → split lineEnd (rollBytes m lines) ≡ paddedRows m lines ++ ([] ∷ [])
@@ -173,7 +172,7 @@ module _ {m : Model} (w : WellFormed m) where
   unfolding rollRows unlessState flushLeft
   padded-others _ (of-state p d class) = others-of-state (stateRows m p d class) (state-rows p d class)
   padded-others l (of-other x) =
-      ap (λ (z : List (List ℕ)). othersOf (map (flushLeft rollWidth) z)) (x .one-row m)
+      ap (λ (z : List (List ℕ)). othersOf (map (flushLeft rollWidth) z)) (x .fits .one-row m)
       ∙ others-of-text (lineText l) (rollWidth - length (lineText l)) (x .begins) (x .marked .1)
       ∙ ap (map lineText) (sym (x .stays))
 

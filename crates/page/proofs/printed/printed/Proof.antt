@@ -5,9 +5,6 @@ use borrow.Author.Needs.{needs}
 use Rattle.page.specs.Laws.PrintsLaws.{printed-prints, shortList-not-long}
 use Rattle.page.proofs.printed.printed.Statement.{statement}
 use Rattle.page.proofs.printed.printed.Tie as tie
-use Rattle.page.proofs.printed.printed.Reads as reads
-use Rattle.page.proofs.printed.printed.Lts as lts
-use Rattle.page.proofs.print.print_in_form.Reads as print-in-form-reads
 
 slice-aggregate-print-in-form : tie.Need-slice-aggregate-print-in-form
 slice-aggregate-print-in-form c = search needs
