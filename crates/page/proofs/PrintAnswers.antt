@@ -1,4 +1,4 @@
--- Each answer of `print` keeps its promise and the claim: the lists' lengths decide first, then whether the text is
+-- Each answer of `print_in_form` keeps its promise and the claim: the lists' lengths decide first, then whether the text is
 -- read. Assumes nothing.
 use mathlib.Core.List.{List, [], _∷_, _++_}
 use mathlib.Core.Option.{none, some}
@@ -23,28 +23,30 @@ use Rattle.read_write.specs.Laws.ReadPromiseLaws.{readLists-none}
 use Rattle.model.specs.Laws.Store.StoredModelLaws.{modelAt-storeOf}
 use Rattle.model.specs.Laws.Text.ReadingLaws.{readText-well-formed}
 use Rattle.writer.specs.Laws.WroteLaws.{wrote-start}
+use Rattle.lines.specs.declared.lines.Form.{Form}
 use Rattle.page.specs.declared.print.PrintAnswer.{PrintAnswer}
 use Rattle.page.specs.declared.print.PrintAnswer.the-variants.{Printed, ShortList}
 use Rattle.page.specs.Claim.{PrintClaim}
 use Rattle.page.specs.PrintPromise.{printOutcome, printLists, FaultPrinted, PrintPromise}
 use Rattle.page.specs.Inner.PageLists.{LongLists, FirstShort, PageMade}
 use Rattle.page.specs.Inner.Refusals.{FaultWritten}
-use Rattle.page.specs.Laws.PageClaimLaws.{print-claim}
+use Rattle.page.specs.Laws.PrintClaimLaws.{print-claim}
+use Rattle.page.specs.Laws.PageLaws.{pageLength-le}
 use Rattle.page.specs.Laws.PrintsLaws.{printLists-none}
 use Rattle.page.proofs.ReadRefusals.{refused-store}
 use Rattle.lines.specs.Laws.PageLinesLaws.{fault-length-le}
 
 -- ---- on any lists
 
-module _ (text store distances table run word out : List ℕ) where
+module _ (form : Form) (text store distances table run word out : List ℕ) where
   -- an answer that leaves all lists as they were
   abbrev Refused : PrintAnswer → Type 0
   Refused r =
-      PrintPromise text store distances table run word out (printOutcome r) store distances table run word out
-      × PrintClaim text (printOutcome r) word out
+      PrintPromise form text store distances table run word out (printOutcome r) store distances table run word out
+      × PrintClaim form text (printOutcome r) word out
 
-  place-promised : (place : ℕ) → printLists text store distances table run word out ≡ some place
-      → PrintPromise text store distances table run word out (printOutcome (ShortList place)) store distances table run
+  place-promised : (place : ℕ) → printLists form text store distances table run word out ≡ some place
+      → PrintPromise form text store distances table run word out (printOutcome (ShortList place)) store distances table run
       word out
   unfolding printOutcome
   place-promised place e = record {
@@ -58,13 +60,13 @@ module _ (text store distances table run word out : List ℕ) where
     read = λ h. let z : _≡_ {A = ℕ} 0 1 = cc in absurd (omega arith);
   }
 
-  short-refused : (place : ℕ) → printLists text store distances table run word out ≡ some place
+  short-refused : (place : ℕ) → printLists form text store distances table run word out ≡ some place
       → Refused (ShortList place)
   short-refused place e = let promise = place-promised place e in (promise, print-claim promise)
 
   -- the text is list 1, and Page's lists follow it
   pub short-promised : (r : ℕ)
-      → FirstShort r (length store) (length distances) (length table) (length run) (length word) (length out) → 0 < r
+      → FirstShort form r (length store) (length distances) (length table) (length run) (length word) (length out) → 0 < r
       → Refused (ShortList (r + 1))
   short-promised r x l =
       let any-text : 0 ≤ length text = omega arith in
@@ -75,16 +77,16 @@ module _ (text store distances table run word out : List ℕ) where
 
   -- the bytes that were printed
   pub printed-claimed : (n : ℕ) (store′ distances′ table′ run′ word′ out′ : List ℕ)
-      → PrintPromise text store distances table run word out (answers (n ∷ [])) store′ distances′ table′ run′ word′ out′
-      → PrintPromise text store distances table run word out (printOutcome (Printed n)) store′ distances′ table′ run′
-      word′ out′ × PrintClaim text (printOutcome (Printed n)) word′ out′
+      → PrintPromise form text store distances table run word out (answers (n ∷ [])) store′ distances′ table′ run′ word′ out′
+      → PrintPromise form text store distances table run word out (printOutcome (Printed n)) store′ distances′ table′ run′
+      word′ out′ × PrintClaim form text (printOutcome (Printed n)) word′ out′
   unfolding printOutcome
   printed-claimed n store′ distances′ table′ run′ word′ out′ promise = (promise, print-claim promise)
 
-  module _ (long : LongLists store distances table run word out) where
-    not-short : (k : ℕ) → ¬ (printLists text store distances table run word out ≡ some k)
+  module _ (long : LongLists form store distances table run word out) where
+    not-short : (k : ℕ) → ¬ (printLists form text store distances table run word out ≡ some k)
     not-short k h =
-        let e : none ≡ some k = sym (printLists-none text store distances table run word out long) ∙ h in
+        let e : none ≡ some k = sym (printLists-none form text store distances table run word out long) ∙ h in
         let z : _≡_ {A = ℕ} 0 1 = cc in
         omega arith
 
@@ -99,13 +101,18 @@ module _ (text store distances table run word out : List ℕ) where
           let e = x .outcome-is in
           let i : x .number ≡ number = cc in
           let j : x .place ≡ place = cc in
-          let w = wrote-start (x .wrote) (omega (arith, fault-length-le (x .number) (x .place), long .out-length)) in
+          let w = wrote-start (x .wrote) (omega (
+            arith,
+            fault-length-le (x .number) (x .place),
+            pageLength-le form,
+            long .out-length,
+          )) in
           subst (λ (k : ℕ). FaultPrinted k place (answers (n ∷ [])) out out′) i
           (subst (λ (k : ℕ). FaultPrinted (x .number) k (answers (n ∷ [])) out out′) j
           (record { outcome-is = ap (λ (k : ℕ). answers (k ∷ [])) (w .0); list = w .1 }))
 
       pub unread-promised : (n : ℕ) (out′ : List ℕ) → FaultWritten (readOutcome r) out out′ n
-          → PrintPromise text store distances table run word out (answers (n ∷ [])) store′ distances table run word
+          → PrintPromise form text store distances table run word out (answers (n ∷ [])) store′ distances table run word
           out′
       unfolding readingOutcome
       unread-promised n out′ x = record {
@@ -126,8 +133,8 @@ module _ (text store distances table run word out : List ℕ) where
       }
 
       pub read-promised : r ≡ Done → (n : ℕ) (distances′ table′ run′ word′ out′ : List ℕ)
-          → PageMade (modelAt store′) n distances table run word out distances′ table′ run′ word′ out′
-          → PrintPromise text store distances table run word out (answers (n ∷ [])) store′ distances′ table′ run′ word′
+          → PageMade form (modelAt store′) n distances table run word out distances′ table′ run′ word′ out′
+          → PrintPromise form text store distances table run word out (answers (n ∷ [])) store′ distances′ table′ run′ word′
           out′
       unfolding readOutcome readingOutcome readingStore
       read-promised e n distances′ table′ run′ word′ out′ x = record {
@@ -140,7 +147,7 @@ module _ (text store distances table run word out : List ℕ) where
             let model : modelAt store′ ≡ m =
             ap modelAt filled ∙ modelAt-storeOf m (drop storeLength store) (readText-well-formed text m f) in
             let made =
-            subst (λ (z : Model). PageMade z n distances table run word out distances′ table′ run′ word′ out′) model x
+            subst (λ (z : Model). PageMade form z n distances table run word out distances′ table′ run′ word′ out′) model x
             in
             record { store-filled = filled; filled = made .filled; printed = made .printed };
       }

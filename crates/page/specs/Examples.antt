@@ -1,6 +1,6 @@
--- The worked example and the other starred bench models, from their texts to the bytes of their pages: what the promise
--- of `print` makes of each.
--- Document 01, "The page": "Input, then the output whole"; "Bench models". Assumes nothing.
+-- The worked example and the other starred bench models, from their texts to the bytes of their pages, and two to those
+-- of their rolls: what the promise of the path from a text makes of each.
+-- Document 01, "The page": "Input, then the output whole"; "Bench models"; document 02, (ii). Assumes nothing.
 use mathlib.Core.List.{List, [], _∷_}
 use mathlib.Core.Option.{none, some}
 use mathlib.Core.Path.{_≡_}
@@ -12,9 +12,12 @@ use Rattle.letters.specs.declared.word.End.the-variants.{Target}
 use Rattle.tell.specs.Bench.{refusedAt}
 use Rattle.tell.specs.BenchModels.{workedText, scannedOnceText, releasedText, closeLowText, branchingText, noStepsText}
 use Rattle.tell.specs.BenchModels.{printLoopText, unreachedPrintText}
-use Rattle.lines.specs.Examples.{workedPage}
+use Rattle.columns.specs.Rows.{rowsBytes}
+use Rattle.lines.specs.Examples.{workedPage, workedRoll}
 use Rattle.lines.specs.PageLines.{PageLine, verdict-line, state-line, word-line, allows-line, branch-line, last-line}
 use Rattle.lines.specs.PageLines.{pageBytes}
+use Rattle.lines.specs.declared.lines.Form.{Form}
+use Rattle.lines.specs.declared.lines.Form.the-variants.{Page, Roll}
 use Rattle.page.specs.PrintPromise.{printLists, PrintPromise}
 
 -- The bytes stand at the front of `out`, the answer is how many they are, and behind them stands what stood there.
@@ -24,11 +27,11 @@ pub record BytesPrinted (bytes : List ℕ) (outcome : Outcome) (out out′ : Lis
   pub kept : drop (length bytes) out′ ≡ drop (length bytes) out
 
 -- Whatever the lists held, if none is too short the promise gives these bytes for the text.
-pub record PrintsPage (text bytes : List ℕ) : Type 0 where
+pub record PrintsBytes (form : Form) (text bytes : List ℕ) : Type 0 where
   pub by-promise : {store distances table run word out : List ℕ} {outcome : Outcome}
       {store′ distances′ table′ run′ word′ out′ : List ℕ}
-      → printLists text store distances table run word out ≡ none
-      → PrintPromise text store distances table run word out outcome store′ distances′ table′ run′ word′ out′
+      → printLists form text store distances table run word out ≡ none
+      → PrintPromise form text store distances table run word out outcome store′ distances′ table′ run′ word′ out′
       → BytesPrinted bytes outcome out out′
 
 -- ---- the pages of the other models; document 01 gives their verdicts alone
@@ -89,15 +92,37 @@ unreachedPrintLines =
     ∷ last-line
     ∷ []
 
+-- ---- a roll, line by line without its padding
+
+--     V,pass,1
+--       0   0   0
+--       1   -   0
+--       2   -   2 scan
+--     E
+unfoldable pub unreachedPrintRows : List (List ℕ)
+unreachedPrintRows =
+    (86 ∷ 44 ∷ 112 ∷ 97 ∷ 115 ∷ 115 ∷ 44 ∷ 49 ∷ [])
+    ∷ (32 ∷ 32 ∷ 48 ∷ 32 ∷ 32 ∷ 32 ∷ 48 ∷ 32 ∷ 32 ∷ 32 ∷ 48 ∷ [])
+    ∷ (32 ∷ 32 ∷ 49 ∷ 32 ∷ 32 ∷ 32 ∷ 45 ∷ 32 ∷ 32 ∷ 32 ∷ 48 ∷ [])
+    ∷ (32 ∷ 32 ∷ 50 ∷ 32 ∷ 32 ∷ 32 ∷ 45 ∷ 32 ∷ 32 ∷ 32 ∷ 50 ∷ 32 ∷ 115 ∷ 99 ∷ 97 ∷ 110 ∷ [])
+    ∷ (69 ∷ [])
+    ∷ []
+
 -- ---- the facts
 
 pub record PagesPrinted : Type 0 where
   -- "Input, then the output whole", byte by byte
-  pub worked : PrintsPage workedText workedPage
-  pub scanned-once : PrintsPage scannedOnceText (pageBytes scannedOnceLines)
-  pub released : PrintsPage releasedText (pageBytes releasedLines)
-  pub close-low : PrintsPage closeLowText (pageBytes closeLowLines)
-  pub branching : PrintsPage branchingText (pageBytes branchingLines)
-  pub no-steps : PrintsPage noStepsText (pageBytes oneStateLines)
-  pub print-loop : PrintsPage printLoopText (pageBytes oneStateLines)
-  pub unreached-print : PrintsPage unreachedPrintText (pageBytes unreachedPrintLines)
+  pub worked : PrintsBytes Page workedText workedPage
+  pub scanned-once : PrintsBytes Page scannedOnceText (pageBytes scannedOnceLines)
+  pub released : PrintsBytes Page releasedText (pageBytes releasedLines)
+  pub close-low : PrintsBytes Page closeLowText (pageBytes closeLowLines)
+  pub branching : PrintsBytes Page branchingText (pageBytes branchingLines)
+  pub no-steps : PrintsBytes Page noStepsText (pageBytes oneStateLines)
+  pub print-loop : PrintsBytes Page printLoopText (pageBytes oneStateLines)
+  pub unreached-print : PrintsBytes Page unreachedPrintText (pageBytes unreachedPrintLines)
+
+pub record RollsPrinted : Type 0 where
+  -- byte by byte
+  pub worked : PrintsBytes Roll workedText workedRoll
+  -- states that are not reachable
+  pub unreached-print : PrintsBytes Roll unreachedPrintText (rowsBytes unreachedPrintRows)

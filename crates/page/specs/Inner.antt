@@ -1,3 +1,4 @@
 pub mod PageLists
 pub mod Refusals
 pub mod StateLinesTest
+pub mod OtherLines

@@ -1,8 +1,15 @@
 pub mod PageLaws
 pub mod PagePromiseLaws
+pub mod LineTextLaws
 pub mod PageSplitLaws
+pub mod OtherLinesLaws
+pub mod RollSplitLaws
+pub mod RollColumnsLaws
 pub mod PageFieldsLaws
+pub mod ClaimTextsLaws
 pub mod PageClaimLaws
+pub mod RollClaimLaws
+pub mod PrintClaimLaws
 pub mod PageCallsLaws
 pub mod PrintPromiseLaws
 pub mod PrintsLaws

@@ -2,6 +2,8 @@ pub mod Inner
 pub mod Laws
 pub mod PagePromise
 pub mod PrintPromise
+pub mod PageClaim
+pub mod RollClaim
 pub mod Claim
 pub mod PageCalls
 pub mod Prints

@@ -1,6 +1,7 @@
-// `print`, the path from a text to its page: what Read reads is printed as Page does.
+// `print` and `print_roll`, the path from a text to its page or roll: what Read reads is printed as Page or Roll does.
 use crate::page::first_short;
 use crate::page::page_good;
+use lines::lines::Form;
 use lines::lines::PagePosition;
 use read_write::read::ReadAnswer;
 ghost use mathlib.Core.List.{[], _∷_};
@@ -10,12 +11,13 @@ ghost use lib.ListN.{length};
 ghost use Rattle.text.specs.Faults.{answers, refuses};
 ghost use Rattle.text.specs.Limits.{pageLength};
 ghost use Rattle.read_write.specs.ReadPromise.{readOutcome};
+ghost use Rattle.lines.specs.declared.lines.Form.the-variants.{Page, Roll};
 ghost use Rattle.page.specs.Inner.PageLists.{LongLists};
 ghost use Rattle.page.specs.Claim.{PrintClaim};
 ghost use Rattle.page.specs.PrintPromise.{printOutcome, PrintPromise};
 ghost use Rattle.page.specs.Inner.Refusals.{Refuses, FaultWritten};
 
-// What `print` answers: the bytes written.
+// What `print` and `print_roll` answer: the bytes written.
 pub enum PrintAnswer {
     Printed(usize),
     ShortList(usize),
@@ -54,7 +56,7 @@ fn refusal_of(read: ReadAnswer) -> Refusal
     }
 }
 
-// The line `F,number,place` of a text that Read refuses.
+// The line `F,number,place` of a text that Read refuses: no line of the page, and not padded on the roll.
 fn fault_line(read: ReadAnswer, out: &mut [u8]) -> PagePosition
     requires { ⌜ Refuses read × (pageLength ≤ length (now out)) ⌝ }
     ensures { λ r. ⌜ FaultWritten (readOutcome read) (now (out .entry)) (now (out .exit)) (r .at .at) ⌝ }
@@ -63,10 +65,10 @@ fn fault_line(read: ReadAnswer, out: &mut [u8]) -> PagePosition
     let start = PagePosition::start();
     start
         .fault_text(out, refusal.number, refusal.place)
-        .line_end(out)
+        .line_end(out, 0, Form::Page)
 }
 
-// Prints the page of a text, or why Read refuses it, where all lists are long enough.
+// Prints the page of a text in a form, or why Read refuses it, where all lists are long enough.
 fn print_text(
     text: &[u8],
     store: &mut [u16],
@@ -75,20 +77,57 @@ fn print_text(
     run: &mut [u16],
     word: &mut [u16],
     out: &mut [u8],
+    form: Form,
 ) -> PagePosition
-    requires { ⌜ LongLists (now store) (now distances) (now table) (now run) (now word) (now out) ⌝ }
-    ensures { λ r. ⌜ PrintPromise (now (text .entry)) (now (store .entry)) (now (distances .entry)) (now (table .entry))
-        (now (run .entry)) (now (word .entry)) (now (out .entry)) (answers (r .at .at ∷ [])) (now (store .exit))
-        (now (distances .exit)) (now (table .exit)) (now (run .exit)) (now (word .exit)) (now (out .exit)) ⌝ }
+    requires { ⌜ LongLists form (now store) (now distances) (now table) (now run) (now word) (now out) ⌝ }
+    ensures { λ r. ⌜ PrintPromise form (now (text .entry)) (now (store .entry)) (now (distances .entry))
+        (now (table .entry)) (now (run .entry)) (now (word .entry)) (now (out .entry)) (answers (r .at .at ∷ []))
+        (now (store .exit)) (now (distances .exit)) (now (table .exit)) (now (run .exit)) (now (word .exit))
+        (now (out .exit)) ⌝ }
 {
     let read = read_write::read::read(text, store);
     match read {
-        ReadAnswer::Done => page_good(store, distances, table, run, word, out),
+        ReadAnswer::Done => page_good(store, distances, table, run, word, out, form),
         _ => fault_line(read, out),
     }
 }
 
-// Reads a text and prints its page, or why Read refuses it.
+// Reads a text and prints its page in a form, or why Read refuses it.
+pub fn print_in_form(
+    text: &[u8],
+    store: &mut [u16],
+    distances: &mut [u16],
+    table: &mut [u8],
+    run: &mut [u16],
+    word: &mut [u16],
+    out: &mut [u8],
+    form: Form,
+) -> PrintAnswer
+    ensures { λ r. ⌜ PrintPromise form (now (text .entry)) (now (store .entry)) (now (distances .entry))
+        (now (table .entry)) (now (run .entry)) (now (word .entry)) (now (out .entry)) (printOutcome r)
+        (now (store .exit)) (now (distances .exit)) (now (table .exit)) (now (run .exit)) (now (word .exit))
+        (now (out .exit)) ⌝ }
+    ensures { λ r. ⌜ PrintClaim form (now (text .entry)) (printOutcome r) (now (word .exit)) (now (out .exit)) ⌝ }
+{
+    let short = first_short(
+        store.len(),
+        distances.len(),
+        table.len(),
+        run.len(),
+        word.len(),
+        out.len(),
+        form,
+    );
+    if 0 < short {
+        // The text, of no least length, is list 1.
+        let place = short + 1;
+        return PrintAnswer::ShortList(place);
+    }
+    let printed = print_text(text, store, distances, table, run, word, out, form);
+    let at = printed.at;
+    PrintAnswer::Printed(at.at)
+}
+
 pub fn print(
     text: &[u8],
     store: &mut [u16],
@@ -98,25 +137,29 @@ pub fn print(
     word: &mut [u16],
     out: &mut [u8],
 ) -> PrintAnswer
-    ensures { λ r. ⌜ PrintPromise (now (text .entry)) (now (store .entry)) (now (distances .entry)) (now (table .entry))
-        (now (run .entry)) (now (word .entry)) (now (out .entry)) (printOutcome r) (now (store .exit))
-        (now (distances .exit)) (now (table .exit)) (now (run .exit)) (now (word .exit)) (now (out .exit)) ⌝ }
-    ensures { λ r. ⌜ PrintClaim (now (text .entry)) (printOutcome r) (now (word .exit)) (now (out .exit)) ⌝ }
+    ensures { λ r. ⌜ PrintPromise Page (now (text .entry)) (now (store .entry)) (now (distances .entry))
+        (now (table .entry)) (now (run .entry)) (now (word .entry)) (now (out .entry)) (printOutcome r)
+        (now (store .exit)) (now (distances .exit)) (now (table .exit)) (now (run .exit)) (now (word .exit))
+        (now (out .exit)) ⌝ }
+    ensures { λ r. ⌜ PrintClaim Page (now (text .entry)) (printOutcome r) (now (word .exit)) (now (out .exit)) ⌝ }
 {
-    let short = first_short(
-        store.len(),
-        distances.len(),
-        table.len(),
-        run.len(),
-        word.len(),
-        out.len(),
-    );
-    if 0 < short {
-        // The text, of no least length, is list 1.
-        let place = short + 1;
-        return PrintAnswer::ShortList(place);
-    }
-    let printed = print_text(text, store, distances, table, run, word, out);
-    let at = printed.at;
-    PrintAnswer::Printed(at.at)
+    print_in_form(text, store, distances, table, run, word, out, Form::Page)
+}
+
+pub fn print_roll(
+    text: &[u8],
+    store: &mut [u16],
+    distances: &mut [u16],
+    table: &mut [u8],
+    run: &mut [u16],
+    word: &mut [u16],
+    out: &mut [u8],
+) -> PrintAnswer
+    ensures { λ r. ⌜ PrintPromise Roll (now (text .entry)) (now (store .entry)) (now (distances .entry))
+        (now (table .entry)) (now (run .entry)) (now (word .entry)) (now (out .entry)) (printOutcome r)
+        (now (store .exit)) (now (distances .exit)) (now (table .exit)) (now (run .exit)) (now (word .exit))
+        (now (out .exit)) ⌝ }
+    ensures { λ r. ⌜ PrintClaim Roll (now (text .entry)) (printOutcome r) (now (word .exit)) (now (out .exit)) ⌝ }
+{
+    print_in_form(text, store, distances, table, run, word, out, Form::Roll)
 }

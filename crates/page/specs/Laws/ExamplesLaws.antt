@@ -1,4 +1,4 @@
--- The pages of the starred bench models, by evaluation: the joint fact has their verdicts and words, and which are
+-- The pages of the starred bench models, and rolls, by evaluation: the joint fact has their verdicts and words, and which are
 -- deterministic; the `C` lines are computed; and a model has one page.
 -- Document 01, "The page" and "Bench models". Assumes nothing.
 use mathlib.Core.List.{List, [], _∷_, _++_, map}
@@ -24,15 +24,22 @@ use Rattle.letters.specs.declared.word.End.the-variants.{Source, Target}
 use Rattle.letters.specs.Words.{WordOf}
 use Rattle.tell.specs.Bench.{ReadsAndJudged, refusedAt}
 use Rattle.tell.specs.BenchModels.{worked, workedText, scannedOnce, released, closeLow, branching, noSteps, printLoop}
-use Rattle.tell.specs.BenchModels.{unreachedPrint}
+use Rattle.tell.specs.BenchModels.{unreachedPrint, unreachedPrintText}
 use Rattle.tell.specs.Laws.BenchLaws.{joint-fact}
-use Rattle.lines.specs.Examples.{workedLines, worked-bytes}
+use Rattle.columns.specs.LowNames.{passing}
+use Rattle.columns.specs.Rows.{flushLeft, flushRight, rowsBytes, fill}
+use Rattle.columns.specs.StateRows.{distanceText, stateColumns}
+use Rattle.text.specs.Numbers.{digits, digitsUpTo}
+use Rattle.lines.specs.Examples.{workedLines, worked-bytes, worked-roll}
 use Rattle.page.specs.Laws.PagePromiseLaws.{pagePrinted-unique}
 use Rattle.lines.specs.Page.{nameLine, by-word, by-branch, AfterStates}
-use Rattle.lines.specs.PageLines.{PageLine, verdict-line, allows-line, branch-line, last-line, pageBytes}
+use Rattle.lines.specs.PageLines.{PageLine, verdict-line, allows-line, branch-line, last-line, lineText}
+use Rattle.lines.specs.declared.lines.Form.{Form}
+use Rattle.lines.specs.declared.lines.Form.the-variants.{Page, Roll}
+use Rattle.lines.specs.Roll.{rollRows, rollBytes, formBytes}
 use Rattle.page.specs.PagePromise.{PagePrinted}
-use Rattle.page.specs.Examples.{PrintsPage, PagesPrinted, scannedOnceLines, releasedLines, closeLowLines}
-use Rattle.page.specs.Examples.{branchingLines, oneStateLines, unreachedPrintLines}
+use Rattle.page.specs.Examples.{PrintsBytes, PagesPrinted, RollsPrinted, scannedOnceLines, releasedLines, closeLowLines}
+use Rattle.page.specs.Examples.{branchingLines, oneStateLines, unreachedPrintLines, unreachedPrintRows}
 use Rattle.page.specs.Inner.StateLinesTest.{leastPassing, stateLinesOf}
 use Rattle.page.specs.Laws.StateLinesTestLaws.{stateLinesOf-lines}
 
@@ -73,13 +80,13 @@ computed = record {
 -- ---- and so the promise says
 
 -- No page of these fills the run; `word′` is how it leaves the word.
-module _ {text : List ℕ} {m : Model} {v : Verdict} (x : ReadsAndJudged text m v) (after : List PageLine)
+module _ (form : Form) {text : List ℕ} {m : Model} {v : Verdict} (x : ReadsAndJudged text m v) (after : List PageLine)
     {lines : List PageLine} (e : pageWith m v after ≡ lines) (word′ : List ℕ → List ℕ)
     (after-states : (run word : List ℕ) → AfterStates m v run word run (word′ word) after) where
   abbrev bytes : List ℕ
-  bytes = pageBytes lines
+  bytes = formBytes form m lines
 
-  pagePrinted-lines : (run word out : List ℕ) → PagePrinted m (answers (length bytes ∷ [])) run word out run
+  pagePrinted-lines : (run word out : List ℕ) → PagePrinted form m (answers (length bytes ∷ [])) run word out run
       (word′ word) (bytes ++ drop (length bytes) out)
   pagePrinted-lines run word out = record {
     lines = lines;
@@ -97,7 +104,7 @@ module _ {text : List ℕ} {m : Model} {v : Verdict} (x : ReadsAndJudged text m 
     list = refl;
   }
 
-  prints-lines : PrintsPage text (pageBytes lines)
+  prints-lines : PrintsBytes form text bytes
   prints-lines = record {
     by-promise = λ {run = run} {word = word} {out = out} long p.
         let same = pagePrinted-unique (p .read long m (x .reads) .printed) (pagePrinted-lines run word out) in
@@ -108,19 +115,19 @@ module _ {text : List ℕ} {m : Model} {v : Verdict} (x : ReadsAndJudged text m 
         };
   }
 
-module _ {text : List ℕ} {m : Model} where
+module _ (form : Form) {text : List ℕ} {m : Model} where
   prints-passed : {top : ℕ} {lines : List PageLine} → ReadsAndJudged text m (Passed top)
-      → pageWith m (Passed top) [] ≡ lines → PrintsPage text (pageBytes lines)
+      → pageWith m (Passed top) [] ≡ lines → PrintsBytes form text (formBytes form m lines)
   prints-passed x e =
-      prints-lines x [] e (λ word. word) (λ run word. record { run-kept = refl; word-kept = refl; lines-are = refl })
+      prints-lines form x [] e (λ word. word) (λ run word. record { run-kept = refl; word-kept = refl; lines-are = refl })
 
   -- the step leaves the start, so that the run to its source is empty
   module _ {j depth : ℕ} (x : ReadsAndJudged text m (refusedAt j depth)) (s : view m .Start (source m j)) where
     prints-word : {w : List ℕ} {end : End} {lines : List PageLine} → DeterministicModel m → WordOf m j w end
         → length w ≡ depth → pageWith m (refusedAt j depth) (wordLines m w end) ≡ lines
-        → PrintsPage text (pageBytes lines)
+        → PrintsBytes form text (formBytes form m lines)
     prints-word {w} {end} d y l e =
-        prints-lines x (wordLines m w end) e (λ word. w ++ drop (length w) word) (λ run word. record {
+        prints-lines form x (wordLines m w end) e (λ word. w ++ drop (length w) word) (λ run word. record {
           steps = [];
           run-to = at-start s;
           run-list = refl;
@@ -130,8 +137,8 @@ module _ {text : List ℕ} {m : Model} where
         })
 
     prints-branch : {lines : List PageLine} → ¬ (DeterministicModel m)
-        → pageWith m (refusedAt j depth) (branch-line ∷ []) ≡ lines → PrintsPage text (pageBytes lines)
-    prints-branch n e = prints-lines x (branch-line ∷ []) e (λ word. word) (λ run word. record {
+        → pageWith m (refusedAt j depth) (branch-line ∷ []) ≡ lines → PrintsBytes form text (formBytes form m lines)
+    prints-branch n e = prints-lines form x (branch-line ∷ []) e (λ word. word) (λ run word. record {
       steps = [];
       run-to = at-start s;
       run-list = refl;
@@ -141,16 +148,32 @@ module _ {text : List ℕ} {m : Model} where
     })
 
 pub pages-printed : PagesPrinted
+unfolding formBytes
 pages-printed = record {
-  worked = subst (PrintsPage workedText) worked-bytes (prints-word (joint-fact .worked-refused) refl
+  worked = subst (PrintsBytes Page workedText) worked-bytes (prints-word Page (joint-fact .worked-refused) refl
       (joint-fact .worked-deterministic) (joint-fact .worked-word) refl (computed .worked));
-  scanned-once = prints-passed (joint-fact .scanned-once-passed) (computed .scanned-once);
-  released = prints-passed (joint-fact .released-passed) (computed .released);
-  close-low = prints-word (joint-fact .close-low-refused) refl (joint-fact .close-low-deterministic)
+  scanned-once = prints-passed Page (joint-fact .scanned-once-passed) (computed .scanned-once);
+  released = prints-passed Page (joint-fact .released-passed) (computed .released);
+  close-low = prints-word Page (joint-fact .close-low-refused) refl (joint-fact .close-low-deterministic)
       (joint-fact .close-low-word) refl (computed .close-low);
-  branching = prints-branch (joint-fact .branching-refused) refl (joint-fact .branching-not-deterministic)
+  branching = prints-branch Page (joint-fact .branching-refused) refl (joint-fact .branching-not-deterministic)
       (computed .branching);
-  no-steps = prints-passed (joint-fact .no-steps-passed) (computed .no-steps);
-  print-loop = prints-passed (joint-fact .print-loop-passed) (computed .print-loop);
-  unreached-print = prints-passed (joint-fact .unreached-print-passed) (computed .unreached-print);
+  no-steps = prints-passed Page (joint-fact .no-steps-passed) (computed .no-steps);
+  print-loop = prints-passed Page (joint-fact .print-loop-passed) (computed .print-loop);
+  unreached-print = prints-passed Page (joint-fact .unreached-print-passed) (computed .unreached-print);
+}
+
+-- ---- on the roll
+
+unreached-print-rows : formBytes Roll unreachedPrint unreachedPrintLines ≡ rowsBytes unreachedPrintRows
+unfolding formBytes rollBytes rollRows rowsBytes flushLeft flushRight stateColumns fill passing any lineText distanceText digits
+    digitsUpTo unreachedPrintLines unreachedPrintRows
+unreached-print-rows = refl
+
+pub rolls-printed : RollsPrinted
+rolls-printed = record {
+  worked = subst (PrintsBytes Roll workedText) worked-roll (prints-word Roll (joint-fact .worked-refused) refl
+      (joint-fact .worked-deterministic) (joint-fact .worked-word) refl (computed .worked));
+  unreached-print = subst (PrintsBytes Roll unreachedPrintText) unreached-print-rows (prints-passed Roll
+      (joint-fact .unreached-print-passed) (computed .unreached-print));
 }

@@ -1,6 +1,6 @@
--- Whoever calls Read and then Page has demand 3 on the page's bytes; and on one good store the page tells what Judge
--- and Word answer.
--- Document 01, "Demand 3 is one claim [..]"; DEMANDS, 3. Assumes nothing.
+-- Whoever calls Read and then Page, or Roll, has demand 3 on the bytes; and on one good store the page and the roll tell
+-- what Judge and Word answer.
+-- Document 01, "Demand 3 is one claim [..]"; document 02, (ii); DEMANDS, 3. Assumes nothing.
 use mathlib.Core.List.{List, [], _∷_, _++_, map}
 use mathlib.Core.Path.{_≡_, refl, sym, ap, _∙_}
 use Prim.Native.Nat.{ℕ}
@@ -24,21 +24,26 @@ use Rattle.letters.specs.Words.{endNumber, WordShown}
 use Rattle.tell.specs.Claim.{States, NotShort}
 use Rattle.tell.specs.Laws.ReadTextLaws.{lists-of-notShort, states→readText, read-holds}
 use Rattle.lines.specs.Page.{LeakShown, by-word, by-branch, AfterStates, StateLines}
-use Rattle.lines.specs.PageLines.{PageLine, verdict-line, run-line, last-line, pageBytes}
-use Rattle.page.specs.PagePromise.{pageLists, PagePrinted, PagePromise}
-use Rattle.page.specs.Claim.{PageTells}
-use Rattle.page.specs.Laws.PageClaimLaws.{page-tells, printed-bytes}
+use Rattle.lines.specs.PageLines.{PageLine, verdict-line, run-line, last-line}
+use Rattle.lines.specs.declared.lines.Form.{Form}
+use Rattle.lines.specs.declared.lines.Form.the-variants.{Page, Roll}
+use Rattle.lines.specs.Roll.{formBytes}
+use Rattle.page.specs.PagePromise.{pageLists, PagePrinted, FormPromise, PagePromise, RollPromise}
+use Rattle.page.specs.PageClaim.{PageTells}
+use Rattle.page.specs.RollClaim.{RollTells}
+use Rattle.page.specs.Claim.{FormTells}
+use Rattle.page.specs.Laws.PrintClaimLaws.{form-tells, printed-bytes}
 use Rattle.page.specs.PageCalls.{JudgeOnPage, WordOnPage}
 
 -- ---- the sequence and the end
 
-module _ {m : Model} (det : DeterministicModel m) {word : Outcome} {entry exit : List ℕ}
+module _ (form : Form) {m : Model} (det : DeterministicModel m) {word : Outcome} {entry exit : List ℕ}
     (done : WordDone m word entry exit) {bytes : List ℕ} where
   word-of-leak : {word₀ word₁ : List ℕ} (v : Verdict) (j depth : ℕ) (states rest run : List PageLine) (steps : List ℕ)
       → StateLines m (m .head .states) states → LeakShown m j depth word₀ word₁ rest
       → WordShown m j depth word entry exit → run ≡ map run-line steps ++ rest
-      → bytes ≡ pageBytes ((verdict-line v ∷ []) ++ states ++ run ++ (last-line ∷ []))
-      → WordOnPage m bytes word exit
+      → bytes ≡ formBytes form m ((verdict-line v ∷ []) ++ states ++ run ++ (last-line ∷ []))
+      → WordOnPage form m bytes word exit
   word-of-leak v j depth states _ run steps state-lines (by-branch n k) y f e = absurd (n det)
   word-of-leak v j depth states _ run steps state-lines (by-word {w = w} {end = end} d x l k) y f e =
       let told : WordShown m j depth (answers (depth ∷ endNumber end ∷ [])) entry (w ++ drop (length w) entry) =
@@ -54,14 +59,15 @@ module _ {m : Model} (det : DeterministicModel m) {word : Outcome} {entry exit :
         state-lines = state-lines;
         run = steps;
         bytes-are =
-            e ∙ ap (λ (z : List PageLine). pageBytes ((verdict-line v ∷ []) ++ states ++ z ++ (last-line ∷ []))) f;
+            e ∙ ap (λ (z : List PageLine). formBytes form m ((verdict-line v ∷ []) ++ states ++ z ++ (last-line ∷ [])))
+            f;
       }
 
   word-of-verdict : (run₀ word₀ run₁ word₁ : List ℕ) (v : Verdict) (states after : List PageLine)
       → StateLines m (m .head .states) states → Judged m v
       → AfterStates m v run₀ word₀ run₁ word₁ after
-      → bytes ≡ pageBytes ((verdict-line v ∷ []) ++ states ++ after ++ (last-line ∷ []))
-      → (values : List ℕ) → word ≡ answers values → WordOnPage m bytes word exit
+      → bytes ≡ formBytes form m ((verdict-line v ∷ []) ++ states ++ after ++ (last-line ∷ []))
+      → (values : List ℕ) → word ≡ answers values → WordOnPage form m bytes word exit
   word-of-verdict run₀ word₀ run₁ word₁ (Passed rank) states after state-lines judged x e values f =
       absurd (answers-not-refuses (sym f ∙ done .passed det (judged .bnid) .0))
   word-of-verdict run₀ word₀ run₁ word₁ (Refused j depth) states after state-lines judged x e values f =
@@ -70,22 +76,22 @@ module _ {m : Model} (det : DeterministicModel m) {word : Outcome} {entry exit :
 
 -- ---- on a good store
 
-module _ {store distances table run word out distances′ table′ run′ word′ out′ : List ℕ} {page : Outcome}
-    (pages : PagePromise store distances table run word out page distances′ table′ run′ word′ out′) (n : ℕ)
+module _ {form : Form} {store distances table run word out distances′ table′ run′ word′ out′ : List ℕ} {page : Outcome}
+    (pages : FormPromise form store distances table run word out page distances′ table′ run′ word′ out′) (n : ℕ)
     (e : page ≡ answers (n ∷ [])) (g : Good store) where
-  printed : PagePrinted (g .model) page run word out run′ word′ out′
+  printed : PagePrinted form (g .model) page run word out run′ word′ out′
   printed =
-      pages .good (lists-of-notShort (pageLists store distances table run word out) (λ k h. pages .short k h .0)
+      pages .good (lists-of-notShort (pageLists form store distances table run word out) (λ k h. pages .short k h .0)
       (λ k h. answers-not-refuses (sym e ∙ h))) g .1
 
   -- the bytes, by the page's lines
-  bytes-are : take n out′ ≡ pageBytes ((verdict-line (printed .page .verdict) ∷ []) ++ printed .page .states
-      ++ printed .page .after ++ (last-line ∷ []))
-  bytes-are = printed-bytes n e printed ∙ ap pageBytes (printed .page .lines-are)
+  bytes-are : take n out′ ≡ formBytes form (g .model) ((verdict-line (printed .page .verdict) ∷ [])
+      ++ printed .page .states ++ printed .page .after ++ (last-line ∷ []))
+  bytes-are = printed-bytes n e printed ∙ ap (formBytes form (g .model)) (printed .page .lines-are)
 
   -- Judge answers the verdict of the `V` line
   pub judge-on-page : {d t d′ t′ : List ℕ} {judge : Outcome} → JudgePromise store d t judge d′ t′ → NotShort judge
-      → JudgeOnPage (take n out′) judge
+      → JudgeOnPage form (g .model) (take n out′) judge
   judge-on-page {d} {t} judges told =
       let x = judges .good (lists-of-notShort (judgeLists store d t) (λ k h. judges .short k h .0) told) g in
       let p = printed .page in
@@ -99,25 +105,35 @@ module _ {store distances table run word out distances′ table′ run′ word�
   -- Word shows the sequence of the `W` lines and names the end of the `B` line; on a passed model it shows none
   pub word-on-page : {d t w d′ t′ w′ : List ℕ} {outcome : Outcome} → WordPromise store d t w outcome d′ t′ w′
       → DeterministicModel (g .model) → (values : List ℕ) → outcome ≡ answers values
-      → WordOnPage (g .model) (take n out′) outcome w′
+      → WordOnPage form (g .model) (take n out′) outcome w′
   word-on-page {d} {t} {w} words det values f =
       let lists = lists-of-notShort (wordLists store d t w) (λ k h. words .short k h .0)
       (λ k h. answers-not-refuses (sym f ∙ h)) in
       let p = printed .page in
-      word-of-verdict det (words .good lists g .1) run word run′ word′ (p .verdict) (p .states) (p .after)
+      word-of-verdict form det (words .good lists g .1) run word run′ word′ (p .verdict) (p .states) (p .after)
       (p .state-lines) (p .judged) (p .after-states) bytes-are values f
 
 -- ---- after a successful Read
 
 module _ {text store₀ store : List ℕ} (reads : ReadPromise text store₀ (answers []) store) (m : Model)
-    (s : States text m) where
+    (s : States text m) (det : DeterministicModel m) where
   -- the store that Read leaves is good, and its model is the text's
   abbrev good-of-read : Good store
   good-of-read = record { text = text; model = m; reads = states→readText s; stored = read-holds reads m s .stored }
 
-  -- demand 3 on the page, from the two calls
-  pub page-tells-of-read : DeterministicModel m
-      → {distances table run word out distances′ table′ run′ word′ out′ : List ℕ} {page : Outcome}
-      → PagePromise store distances table run word out page distances′ table′ run′ word′ out′
-      → (n : ℕ) → page ≡ answers (n ∷ []) → PageTells m (take n out′) word′
-  page-tells-of-read det pages n e = page-tells (s .well-formed) det n e (printed pages n e good-of-read)
+  module _ {distances table run word out distances′ table′ run′ word′ out′ : List ℕ} {page : Outcome} where
+    -- demand 3, from the two calls
+    form-tells-of-read : (form : Form)
+        → FormPromise form store distances table run word out page distances′ table′ run′ word′ out′
+        → (n : ℕ) → page ≡ answers (n ∷ []) → FormTells form m (take n out′) word′
+    form-tells-of-read form pages n e = form-tells form (s .well-formed) det n e (printed pages n e good-of-read)
+
+    -- on the page
+    pub page-tells-of-read : PagePromise store distances table run word out page distances′ table′ run′ word′ out′
+        → (n : ℕ) → page ≡ answers (n ∷ []) → PageTells m (take n out′) word′
+    page-tells-of-read = form-tells-of-read Page
+
+    -- on the roll
+    pub roll-tells-of-read : RollPromise store distances table run word out page distances′ table′ run′ word′ out′
+        → (n : ℕ) → page ≡ answers (n ∷ []) → RollTells m (take n out′) word′
+    roll-tells-of-read = form-tells-of-read Roll

@@ -8,7 +8,7 @@ use native.Mathlib.Omega.{arith}
 use lib.ListN.{length, getD}
 use borrow.Author.Tests.{eqb-false}
 use Rattle.text.specs.All.{All}
-use Rattle.text.specs.Bytes.{byteComma, byteV, byteR, digit, comma, lineEnd, kindOf}
+use Rattle.text.specs.Bytes.{byteComma, byteV, byteR, digit, comma, kindOf}
 use Rattle.text.specs.Numbers.{numberOf, digits}
 use Rattle.text.specs.Split.{split}
 use Rattle.text.specs.Join.{join, Without}
@@ -17,7 +17,7 @@ use Rattle.text.specs.Laws.JoinLaws.{split-join, without?, without-test}
 use Rattle.model.specs.Laws.Text.JoinedFieldsLaws.{digits-without}
 use Rattle.verdicts.specs.declared.judging.Verdict.the-variants.{Passed, Refused}
 use Rattle.lines.specs.PageLines.{PageLine, verdict-line, run-line, passText, refuseText, lineText}
-use Rattle.page.specs.Claim.{lineFields, PassFields, RefuseFields}
+use Rattle.page.specs.PageClaim.{lineFields, PassFields, RefuseFields}
 
 -- ---- a line
 
@@ -61,18 +61,18 @@ run-number [] (j ∷ run) rest after more (suc i) zero small l e = absurd (omega
 run-number [] (j ∷ run) rest after more (suc i) (suc k) small l e =
     run-number [] run rest after more i k (small .1) (omega arith) (omega arith)
 
--- ---- a page
+-- ---- some lines, and what follows them
 
-module _ (bytes : List ℕ) {lines : List PageLine} (parted : split lineEnd bytes ≡ map lineText lines ++ ([] ∷ [])) where
-  -- line i of the page
+module _ (texts more : List (List ℕ)) {lines : List PageLine} (parted : texts ≡ map lineText lines ++ more) where
+  -- line i of them
   line-fields : (lines′ : List PageLine) (i : ℕ) → lines ≡ lines′
-      → lineFields bytes i ≡ split comma (getD (map lineText lines′ ++ ([] ∷ [])) i [])
+      → lineFields texts i ≡ split comma (getD (map lineText lines′ ++ more) i [])
   line-fields lines′ i e =
-      ap (λ (texts : List (List ℕ)). split comma (getD texts i []))
-      (parted ∙ ap (λ (z : List PageLine). map lineText z ++ ([] ∷ [])) e)
+      ap (λ (z : List (List ℕ)). split comma (getD z i []))
+      (parted ∙ ap (λ (z : List PageLine). map lineText z ++ more) e)
 
   pub pass-fields : (rank : ℕ) (rest : List PageLine) → rank < 100000 → lines ≡ verdict-line (Passed rank) ∷ rest
-      → PassFields bytes rank
+      → PassFields texts rank
   pass-fields rank rest l e =
       let f = line-fields (verdict-line (Passed rank) ∷ rest) 0 e ∙ passed-fields rank in
       record {
@@ -83,7 +83,7 @@ module _ (bytes : List ℕ) {lines : List PageLine} (parted : split lineEnd byte
       }
 
   pub refuse-fields : (j depth : ℕ) (rest : List PageLine) → j < 100000 → depth < 100000
-      → lines ≡ verdict-line (Refused (record { 0 = j }) depth) ∷ rest → RefuseFields bytes j depth
+      → lines ≡ verdict-line (Refused (record { 0 = j }) depth) ∷ rest → RefuseFields texts j depth
   refuse-fields j depth rest l k e =
       let f = line-fields (verdict-line (Refused (record { 0 = j }) depth) ∷ rest) 0 e ∙ refused-fields j depth in
       record {
@@ -96,8 +96,8 @@ module _ (bytes : List ℕ) {lines : List PageLine} (parted : split lineEnd byte
 
   pub run-fields : (head : List PageLine) (run : List ℕ) (rest after : List PageLine) {n : ℕ}
       → lines ≡ head ++ (map run-line run ++ rest) ++ after → length head ≡ n → All (λ j. j < 100000) run → (i : ℕ)
-      → i < length run → numberOf (getD (lineFields bytes (n + i)) 1 []) ≡ some (getD run i 0)
+      → i < length run → numberOf (getD (lineFields texts (n + i)) 1 []) ≡ some (getD run i 0)
   run-fields head run rest after {n} e len small i l =
       ap (λ (fields : List (List ℕ)). numberOf (getD fields 1 []))
       (line-fields (head ++ (map run-line run ++ rest) ++ after) (n + i) e)
-      ∙ run-number head run rest after ([] ∷ []) i (n + i) small l (omega (arith, len))
+      ∙ run-number head run rest after more i (n + i) small l (omega (arith, len))

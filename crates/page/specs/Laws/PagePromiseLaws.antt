@@ -1,5 +1,5 @@
--- Page's promise pins its answer and the content of each list: a model has one page.
--- Document 01, operation 7. Assumes nothing.
+-- The promise of Page and Roll pins the answer and the content of each list: a model has one page, and one roll.
+-- Document 01, operation 7; document 02, (ii). Assumes nothing.
 use mathlib.Core.Bool.{cond}
 use mathlib.Core.List.{List, [], _∷_, _++_, map}
 use mathlib.Core.Option.{Option, some}
@@ -22,12 +22,15 @@ use Rattle.distances.specs.Laws.RunsLaws.{runTo-unique}
 use Rattle.verdicts.specs.Laws.VerdictsLaws.{judged-unique}
 use Rattle.letters.specs.declared.word.End.{End}
 use Rattle.letters.specs.Laws.WordDoneLaws.{wordOf-unique}
-use Rattle.lines.specs.PageLines.{PageLine, verdict-line, run-line, allows-line, last-line, pageBytes}
+use Rattle.lines.specs.PageLines.{PageLine, verdict-line, run-line, allows-line, last-line}
 use Rattle.lines.specs.Page.{DistanceField, unreached, reached, ClassOf, StateLines, no-state, next-state}
 use Rattle.lines.specs.Page.{nameLine, LeakShown, by-word, by-branch, AfterStates, PageOf}
 use Rattle.page.specs.declared.page.PageAnswer.{PageAnswer}
 use Rattle.page.specs.declared.page.PageAnswer.the-variants.{Printed, ShortList, NotGood}
-use Rattle.page.specs.PagePromise.{pageOutcome, PagePrinted, PagePromise}
+use Rattle.lines.specs.declared.lines.Form.{Form}
+use Rattle.lines.specs.declared.lines.Form.the-variants.{Page, Roll}
+use Rattle.lines.specs.Roll.{formBytes}
+use Rattle.page.specs.PagePromise.{pageOutcome, PagePrinted, FormPromise, PagePromise, RollPromise}
 use Rattle.model.specs.System.{view}
 
 -- ---- the `C` lines
@@ -101,31 +104,51 @@ pageOf-unique {m} {run} {word} {run″ = run″} {word″} x y =
         → (verdict-line v ∷ []) ++ a ++ c ++ (last-line ∷ []) ≡ (verdict-line u ∷ []) ++ b ++ d ++ (last-line ∷ [])
     whole e f g = rw (e, f, g)
 
-pub pagePrinted-unique : {m : Model} {t u : Outcome} {run word out run′ word′ out′ run″ word″ out″ : List ℕ}
-    → PagePrinted m t run word out run′ word′ out′ → PagePrinted m u run word out run″ word″ out″
+pub pagePrinted-unique : {form : Form} {m : Model} {t u : Outcome}
+    {run word out run′ word′ out′ run″ word″ out″ : List ℕ}
+    → PagePrinted form m t run word out run′ word′ out′ → PagePrinted form m u run word out run″ word″ out″
     → (t ≡ u) × (run′ ≡ run″) × (word′ ≡ word″) × (out′ ≡ out″)
-pagePrinted-unique {out = out} x y =
+pagePrinted-unique {form} {m} {out = out} x y =
     let e = pageOf-unique (x .page) (y .page) in (
-      x .outcome-is ∙ ap (λ (z : List PageLine). answers (length (pageBytes z) ∷ [])) (e .0) ∙ sym (y .outcome-is),
+      x .outcome-is ∙ ap (λ (z : List PageLine). answers (length (formBytes form m z) ∷ [])) (e .0)
+          ∙ sym (y .outcome-is),
       e .1,
       e .2,
-      x .list ∙ ap (λ (z : List PageLine). pageBytes z ++ drop (length (pageBytes z)) out) (e .0) ∙ sym (y .list),
+      x .list ∙ ap (λ (z : List PageLine). formBytes form m z ++ drop (length (formBytes form m z)) out) (e .0)
+          ∙ sym (y .list),
     )
 
-pub pagePromise-unique : (store distances table run word out : List ℕ) (t u : Outcome)
-    (d′ t′ r′ w′ o′ d″ t″ r″ w″ o″ : List ℕ)
-    → PagePromise store distances table run word out t d′ t′ r′ w′ o′
-    → PagePromise store distances table run word out u d″ t″ r″ w″ o″
-    → (t ≡ u) × (d′ ≡ d″) × (t′ ≡ t″) × (r′ ≡ r″) × (w′ ≡ w″) × (o′ ≡ o″)
-pagePromise-unique store distances table run word out t u d′ t′ r′ w′ o′ d″ t″ r″ w″ o″ x y =
-    let e = onStore-unique {Same = (d′ ≡ d″) × (t′ ≡ t″) × (r′ ≡ r″) × (w′ ≡ w″) × (o′ ≡ o″)}
-    (λ a b.
-    (a .0 ∙ sym (b .0), a .1 ∙ sym (b .1), a .2 ∙ sym (b .2), a .3 ∙ sym (b .3), a .4 ∙ sym (b .4)))
-    (λ g a b.
-    let f = filled-unique (good-stored store g) distances table d′ t′ d″ t″ (a .0) (b .0) in
-    let h = pagePrinted-unique (a .1) (b .1) in
-    (h .0, (f .0, f .1, h .1, h .2, h .3))) x y in
-    (e .0, e .1 .0, e .1 .1, e .1 .2, e .1 .3, e .1 .4)
+-- ---- the promise
+
+module _ (form : Form) (store distances table run word out : List ℕ) (t u : Outcome)
+    (d′ t′ r′ w′ o′ d″ t″ r″ w″ o″ : List ℕ) where
+  -- one answer, and one content of each list
+  abbrev Same : Type 0
+  Same = (t ≡ u) × (d′ ≡ d″) × (t′ ≡ t″) × (r′ ≡ r″) × (w′ ≡ w″) × (o′ ≡ o″)
+
+  pub formPromise-unique : FormPromise form store distances table run word out t d′ t′ r′ w′ o′
+      → FormPromise form store distances table run word out u d″ t″ r″ w″ o″ → Same
+  formPromise-unique x y =
+      let e = onStore-unique {Same = (d′ ≡ d″) × (t′ ≡ t″) × (r′ ≡ r″) × (w′ ≡ w″) × (o′ ≡ o″)}
+      (λ a b.
+      (a .0 ∙ sym (b .0), a .1 ∙ sym (b .1), a .2 ∙ sym (b .2), a .3 ∙ sym (b .3), a .4 ∙ sym (b .4)))
+      (λ g a b.
+      let f = filled-unique (good-stored store g) distances table d′ t′ d″ t″ (a .0) (b .0) in
+      let h = pagePrinted-unique (a .1) (b .1) in
+      (h .0, (f .0, f .1, h .1, h .2, h .3))) x y in
+      (e .0, e .1 .0, e .1 .1, e .1 .2, e .1 .3, e .1 .4)
+
+module _ (store distances table run word out : List ℕ) (t u : Outcome)
+    (d′ t′ r′ w′ o′ d″ t″ r″ w″ o″ : List ℕ) where
+  pub pagePromise-unique : PagePromise store distances table run word out t d′ t′ r′ w′ o′
+      → PagePromise store distances table run word out u d″ t″ r″ w″ o″
+      → (t ≡ u) × (d′ ≡ d″) × (t′ ≡ t″) × (r′ ≡ r″) × (w′ ≡ w″) × (o′ ≡ o″)
+  pagePromise-unique = formPromise-unique Page store distances table run word out t u d′ t′ r′ w′ o′ d″ t″ r″ w″ o″
+
+  pub rollPromise-unique : RollPromise store distances table run word out t d′ t′ r′ w′ o′
+      → RollPromise store distances table run word out u d″ t″ r″ w″ o″
+      → (t ≡ u) × (d′ ≡ d″) × (t′ ≡ t″) × (r′ ≡ r″) × (w′ ≡ w″) × (o′ ≡ o″)
+  rollPromise-unique = formPromise-unique Roll store distances table run word out t u d′ t′ r′ w′ o′ d″ t″ r″ w″ o″
 
 -- ---- equal outcomes are equal answers
 

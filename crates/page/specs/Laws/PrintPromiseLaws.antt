@@ -1,5 +1,5 @@
--- The promise of `print` pins its answer and the content of each list.
--- Document 01, "The page". Assumes nothing.
+-- The promise of the path from a text to its page or roll pins the answer and the content of each list.
+-- Document 01, "The page"; document 02, (ii). Assumes nothing.
 use mathlib.Core.List.{List}
 use mathlib.Core.Logic.{_⊎_, inl, inr}
 use mathlib.Core.Option.{none, some}
@@ -14,6 +14,7 @@ use Rattle.model.specs.Laws.OnStoreLaws.{option-cases}
 use Rattle.model.specs.Laws.Text.ReadingLaws.{readText-well-formed}
 use Rattle.model.specs.Laws.System.GoodStoredLaws.{well-formed-stored}
 use Rattle.verdicts.specs.Laws.JudgeFilledLaws.{filled-unique}
+use Rattle.lines.specs.declared.lines.Form.{Form}
 use Rattle.page.specs.declared.print.PrintAnswer.{PrintAnswer}
 use Rattle.page.specs.declared.print.PrintAnswer.the-variants.{Printed, ShortList}
 use Rattle.page.specs.PrintPromise.{printOutcome, printLists, Unchanged, FaultPrinted, PrintPromise}
@@ -23,10 +24,10 @@ faultPrinted-unique : {number place : ℕ} {t u : Outcome} {out out′ out″ : 
     → FaultPrinted number place t out out′ → FaultPrinted number place u out out″ → (t ≡ u) × (out′ ≡ out″)
 faultPrinted-unique x y = (x .outcome-is ∙ sym (y .outcome-is), x .list ∙ sym (y .list))
 
-module _ {text store distances table run word out : List ℕ} {t u : Outcome}
+module _ {form : Form} {text store distances table run word out : List ℕ} {t u : Outcome}
     {s′ d′ t′ r′ w′ o′ s″ d″ t″ r″ w″ o″ : List ℕ}
-    (x : PrintPromise text store distances table run word out t s′ d′ t′ r′ w′ o′)
-    (y : PrintPromise text store distances table run word out u s″ d″ t″ r″ w″ o″) where
+    (x : PrintPromise form text store distances table run word out t s′ d′ t′ r′ w′ o′)
+    (y : PrintPromise form text store distances table run word out u s″ d″ t″ r″ w″ o″) where
   -- one answer, and one content of each list
   abbrev Same : Type 0
   Same = (t ≡ u) × (s′ ≡ s″) × (d′ ≡ d″) × (t′ ≡ t″) × (r′ ≡ r″) × (w′ ≡ w″) × (o′ ≡ o″)
@@ -43,7 +44,7 @@ module _ {text store distances table run word out : List ℕ} {t u : Outcome}
     f,
   )
 
-  unread-same : printLists text store distances table run word out ≡ none → (number place : ℕ)
+  unread-same : printLists form text store distances table run word out ≡ none → (number place : ℕ)
       → readingOutcome (readText text) ≡ refuses number place → Same
   unread-same long number place e =
       let a = x .unread long number place e in
@@ -51,7 +52,7 @@ module _ {text store distances table run word out : List ℕ} {t u : Outcome}
       let f = faultPrinted-unique (a .1) (b .1) in
       unchanged-same (a .0) (b .0) (f .0) (f .1)
 
-  read-same : printLists text store distances table run word out ≡ none → (r : Reading) → readText text ≡ r → Same
+  read-same : printLists form text store distances table run word out ≡ none → (r : Reading) → readText text ≡ r → Same
   unfolding readingOutcome
   read-same long (done m) e =
       let a = x .read long m e in
@@ -64,10 +65,10 @@ module _ {text store distances table run word out : List ℕ} {t u : Outcome}
   read-same long (faulty fault line) e = unread-same long (faultNumber fault) line (ap readingOutcome e)
 
   pub printPromise-unique : Same
-  printPromise-unique = go (option-cases (printLists text store distances table run word out))
+  printPromise-unique = go (option-cases (printLists form text store distances table run word out))
     where
-      go : ((k : ℕ) × (printLists text store distances table run word out ≡ some k))
-          ⊎ (printLists text store distances table run word out ≡ none) → Same
+      go : ((k : ℕ) × (printLists form text store distances table run word out ≡ some k))
+          ⊎ (printLists form text store distances table run word out ≡ none) → Same
       go (inl (k, e)) =
           let a = x .short k e in
           let b = y .short k e in

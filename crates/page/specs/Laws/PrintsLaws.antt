@@ -14,18 +14,21 @@ use Rattle.read_write.specs.ReadPromise.{readingOutcome}
 use Rattle.model.specs.Reading.{Reading, done, tooLong, faulty, readText}
 use Rattle.tell.specs.Laws.ReadTextLaws.{states→readText}
 use Rattle.page.specs.Inner.PageLists.{LongLists}
-use Rattle.lines.specs.PageLines.{pageBytes, faultBytes}
+use Rattle.lines.specs.PageLines.{faultBytes}
+use Rattle.lines.specs.declared.lines.Form.{Form}
+use Rattle.lines.specs.Roll.{formBytes}
 use Rattle.page.specs.declared.print.PrintAnswer.{PrintAnswer}
 use Rattle.page.specs.declared.print.PrintAnswer.the-variants.{Printed, ShortList}
 use Rattle.page.specs.Prints.{Prints}
 use Rattle.page.specs.PrintPromise.{printOutcome, printLists, PrintPromise}
-use Rattle.page.specs.Laws.PageClaimLaws.{lists-none, page-tells, same-number}
+use Rattle.page.specs.Laws.PrintClaimLaws.{lists-none, form-tells, same-number}
 
 -- ---- lists that are long enough
 
-pub printLists-none : (text store distances table run word out : List ℕ)
-    → LongLists store distances table run word out → printLists text store distances table run word out ≡ none
-printLists-none text store distances table run word out long =
+pub printLists-none : (form : Form) (text store distances table run word out : List ℕ)
+    → LongLists form store distances table run word out
+    → printLists form text store distances table run word out ≡ none
+printLists-none form text store distances table run word out long =
     let any-text : 0 ≤ length text = omega arith in
     none-short-seven any-text (long .store-length) (long .distances-length) (long .table-length) (long .run-length)
     (long .word-length) (long .out-length)
@@ -43,14 +46,14 @@ module _ (n : ℕ) (bytes out : List ℕ) {out′ : List ℕ} (e : answers (n �
 
 -- ---- the promise
 
-module _ {text store distances table run word out : List ℕ} (n : ℕ)
+module _ {form : Form} {text store distances table run word out : List ℕ} (n : ℕ)
     {store′ distances′ table′ run′ word′ out′ : List ℕ}
-    (p : PrintPromise text store distances table run word out (answers (n ∷ [])) store′ distances′ table′ run′ word′
+    (p : PrintPromise form text store distances table run word out (answers (n ∷ [])) store′ distances′ table′ run′ word′
     out′) where
-  abbrev long : printLists text store distances table run word out ≡ none
+  abbrev long : printLists form text store distances table run word out ≡ none
   long = lists-none p n refl
 
-  pub prints-of-promise : Prints text (take n out′)
+  pub prints-of-promise : Prints form text (take n out′)
   prints-of-promise = record {
     unread = λ number place e.
         let x = p .unread long number place e .1 in
@@ -64,10 +67,10 @@ module _ {text store distances table run word out : List ℕ} (n : ℕ)
           word′ = word′;
           lines = x .lines;
           page = x .page;
-          bytes-are = front-bytes n (pageBytes (x .lines)) out (x .outcome-is) (x .list);
+          bytes-are = front-bytes n (formBytes form m (x .lines)) out (x .outcome-is) (x .list);
         };
     tells = λ m s det.
-        (word′, page-tells (s .well-formed) det n refl (p .read long m (states→readText s) .printed));
+        (word′, form-tells form (s .well-formed) det n refl (p .read long m (states→readText s) .printed));
   }
 
   pub printed-le : n ≤ length out′
@@ -82,23 +85,23 @@ module _ {text store distances table run word out : List ℕ} (n : ℕ)
       go : (r : Reading) → readText text ≡ r → n ≤ length out′
       go (done m) e =
           let x = p .read long m e .printed in
-          front-le n (pageBytes (x .lines)) out (x .outcome-is) (x .list)
+          front-le n (formBytes form m (x .lines)) out (x .outcome-is) (x .list)
       go tooLong e = unread 1 0 (ap readingOutcome e)
       go (faulty fault line) e = unread (faultNumber fault) line (ap readingOutcome e)
 
 -- ---- the answer
 
-module _ (text store distances table run word out : List ℕ) (answer : PrintAnswer)
+module _ (form : Form) (text store distances table run word out : List ℕ) (answer : PrintAnswer)
     {store′ distances′ table′ run′ word′ out′ : List ℕ}
-    (p : PrintPromise text store distances table run word out (printOutcome answer) store′ distances′ table′ run′ word′
+    (p : PrintPromise form text store distances table run word out (printOutcome answer) store′ distances′ table′ run′ word′
     out′) (k : ℕ) where
   abbrev As : PrintAnswer → Type 0
   As x =
-      PrintPromise text store distances table run word out (printOutcome x) store′ distances′ table′ run′ word′ out′
+      PrintPromise form text store distances table run word out (printOutcome x) store′ distances′ table′ run′ word′ out′
 
   -- so many bytes stand in the list, and they are what is printed
   pub printed-prints : answer ≡ Printed k
-      → (k ≤ length out′) × (k ≡ length (take k out′)) × Prints text (take k out′)
+      → (k ≤ length out′) × (k ≡ length (take k out′)) × Prints form text (take k out′)
   unfolding printOutcome
   printed-prints e =
       let q = subst As e p in
@@ -108,15 +111,15 @@ module _ (text store distances table run word out : List ℕ) (answer : PrintAns
       (le, all, prints-of-promise k q)
 
   -- lists that are long enough are not refused
-  pub shortList-not-long : answer ≡ ShortList k → ¬ (LongLists store distances table run word out)
+  pub shortList-not-long : answer ≡ ShortList k → ¬ (LongLists form store distances table run word out)
   unfolding printOutcome readingOutcome
   shortList-not-long e l = go (readText text) refl
     where
       q : As (ShortList k)
       q = subst As e p
 
-      long : printLists text store distances table run word out ≡ none
-      long = printLists-none text store distances table run word out l
+      long : printLists form text store distances table run word out ≡ none
+      long = printLists-none form text store distances table run word out l
 
       unread : (number place : ℕ) → ¬ (readingOutcome (readText text) ≡ refuses number place)
       unread number place f = answers-not-refuses (sym (q .unread long number place f .1 .outcome-is))

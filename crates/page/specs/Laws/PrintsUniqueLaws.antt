@@ -1,5 +1,5 @@
--- A text has one print: a page does not depend on what the lists held.
--- Document 01, "nothing is left to the program's choice". Assumes nothing.
+-- A text has one print in each form: a page or a roll does not depend on what the lists held.
+-- Document 01, "nothing is left to the program's choice"; document 02, (ii). Assumes nothing.
 use mathlib.Core.List.{List, [], _∷_, _++_}
 use mathlib.Core.Path.{_≡_, refl, sym, ap, _∙_}
 use Prim.Native.Nat.{ℕ}
@@ -13,9 +13,11 @@ use Rattle.verdicts.specs.declared.judging.Verdict.{Verdict}
 use Rattle.verdicts.specs.declared.judging.Verdict.the-variants.{Passed, Refused}
 use Rattle.page.specs.Laws.PagePromiseLaws.{pagePrinted-unique}
 use Rattle.lines.specs.Page.{LeakShown, by-word, by-branch, AfterStates, PageOf}
-use Rattle.lines.specs.PageLines.{PageLine, pageBytes}
+use Rattle.lines.specs.PageLines.{PageLine}
+use Rattle.lines.specs.declared.lines.Form.{Form}
+use Rattle.lines.specs.Roll.{formBytes}
 use Rattle.page.specs.PagePromise.{PagePrinted}
-use Rattle.page.specs.Laws.PageClaimLaws.{same-number}
+use Rattle.page.specs.Laws.PrintClaimLaws.{same-number}
 use Rattle.page.specs.Prints.{PageBytesOf, Prints}
 
 -- ---- the same lines, on other lists
@@ -65,25 +67,26 @@ module _ (m : Model) (run word : List ℕ) where
 -- ---- one page
 
 -- a page, in an empty list
-alone : {m : Model} {run word run′ word′ : List ℕ} (lines : List PageLine) → PageOf m run word run′ word′ lines
-    → PagePrinted m (answers (length (pageBytes lines) ∷ [])) run word [] run′ word′
-    (pageBytes lines ++ drop (length (pageBytes lines)) [])
-alone lines x = record { lines = lines; page = x; outcome-is = refl; list = refl }
+alone : (form : Form) {m : Model} {run word run′ word′ : List ℕ} (lines : List PageLine)
+    → PageOf m run word run′ word′ lines
+    → PagePrinted form m (answers (length (formBytes form m lines) ∷ [])) run word [] run′ word′
+    (formBytes form m lines ++ drop (length (formBytes form m lines)) [])
+alone form lines x = record { lines = lines; page = x; outcome-is = refl; list = refl }
 
-pub pageBytesOf-unique : {m : Model} {a b : List ℕ} → PageBytesOf m a → PageBytesOf m b → a ≡ b
-pageBytesOf-unique {m} x y =
-    let one = pageBytes (x .lines) in
-    let other = pageBytes (y .lines) in
-    let same = pagePrinted-unique (alone (x .lines) (x .page))
-    (alone (y .lines) (pageOf-any m (x .run) (x .word) (y .page) .2)) in
+pub pageBytesOf-unique : {form : Form} {m : Model} {a b : List ℕ} → PageBytesOf form m a → PageBytesOf form m b → a ≡ b
+pageBytesOf-unique {form} {m} x y =
+    let one = formBytes form m (x .lines) in
+    let other = formBytes form m (y .lines) in
+    let same = pagePrinted-unique (alone form (x .lines) (x .page))
+    (alone form (y .lines) (pageOf-any m (x .run) (x .word) (y .page) .2)) in
     x .bytes-are ∙ sym (take-filled one _ refl (length one) refl) ∙ ap (take (length one)) (same .3)
     ∙ take-filled other _ refl (length one) (same-number (same .0)) ∙ sym (y .bytes-are)
 
 -- ---- one print
 
-pub prints-unique : {text a b : List ℕ} → Prints text a → Prints text b → a ≡ b
+pub prints-unique : {form : Form} {text a b : List ℕ} → Prints form text a → Prints form text b → a ≡ b
 unfolding readingOutcome
-prints-unique {text} {a} {b} x y = go (readText text) refl
+prints-unique {text = text} {a} {b} x y = go (readText text) refl
   where
     unread : (number place : ℕ) → readingOutcome (readText text) ≡ refuses number place → a ≡ b
     unread number place e = x .unread number place e ∙ sym (y .unread number place e)

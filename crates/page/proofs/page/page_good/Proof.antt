@@ -84,7 +84,7 @@ returns c =
     let lent = judged .before .before .before .before .before .before .before .before .before .before .before .pre in
     record {
       filled = judged .judge-good .ensures .filled;
-      printed = page-printed (lent .long .out-length) (page .judged-page .ensures);
+      printed = page-printed _ (lent .long .out-length) (page .judged-page .ensures);
     }
 
 pub page-good-spec : {M : Type 1} → statement M

@@ -1,7 +1,9 @@
 -- What Read left is printed as Page does, or why it refused. Assumes nothing.
+use native.Mathlib.Omega.{arith}
 use borrow.Author.Needs.{needs}
 use Rattle.read_write.proofs.ReadAnswers.{not-done}
 use Rattle.tell.proofs.TextAnswers.{read-long-good}
+use Rattle.page.specs.Laws.PageLaws.{pageLength-le}
 use Rattle.page.proofs.PrintAnswers.{unread-promised, read-promised}
 use Rattle.page.proofs.ReadRefusals.{refuses-of}
 use Rattle.page.proofs.print.print_text.Statement.{statement}
@@ -37,7 +39,7 @@ fault-line-requires c κs =
     let read = other .before .before .before in
     let long = read .before .before .before .before .before .before .before .before .before .pre in (
       refuses-of (read .read .ensures .0) (long .store-length) (not-done (read .read .result) (other .match .keys2)),
-      long .out-length,
+      omega (arith, pageLength-le (read .before .before .before .before .before .before .before .before .before .args .form), long .out-length),
     )
 
 same-length : tie.Need-same-length
@@ -64,7 +66,7 @@ returns c =
     let done = page .before .before .before .before .before .before .before in
     let read = done .before .before .before .before in
     let long = read .before .before .before .before .before .before .before .before .before .pre in
-    read-promised _ _ _ _ _ _ _ long (read .read .result) (read .read .ensures .0) (done .enum-told .given .1) _ _ _ _ _
+    read-promised _ _ _ _ _ _ _ _ long (read .read .result) (read .read .ensures .0) (done .enum-told .given .1) _ _ _ _ _
     _ (page .page-good .ensures)
 
 same-length-7 : tie.Need-same-length-7
@@ -78,7 +80,7 @@ returns-2 c =
     let page = c .before .before in
     let read = page .before .before .before .before .before in
     let long = read .before .before .before .before .before .before .before .before .before .pre in
-    unread-promised _ _ _ _ _ _ _ long (read .read .result) (read .read .ensures .0) _ _ (page .fault-line .ensures)
+    unread-promised _ _ _ _ _ _ _ _ long (read .read .result) (read .read .ensures .0) _ _ (page .fault-line .ensures)
 
 pub print-text-spec : {M : Type 1} → statement M
 print-text-spec =

@@ -3,8 +3,8 @@
 use native.Mathlib.Omega.{arith}
 use borrow.Author.Needs.{needs}
 use Rattle.page.proofs.PrintAnswers.{short-promised, printed-claimed}
-use Rattle.page.proofs.print.print.Statement.{statement}
-use Rattle.page.proofs.print.print.Tie as tie
+use Rattle.page.proofs.print.print_in_form.Statement.{statement}
+use Rattle.page.proofs.print.print_in_form.Tie as tie
 
 first-short-requires : tie.Need-first-short-requires
 first-short-requires c κs = search needs
@@ -15,7 +15,7 @@ add-place c = omega (arith, c .before .first-short .ensures .place-le)
 returns : tie.Need-returns
 returns c =
     let short = c .before .first-short in
-    short-promised _ _ _ _ _ _ _ (short .result) (short .ensures) (c .if1 .taken)
+    short-promised _ _ _ _ _ _ _ _ (short .result) (short .ensures) (c .if1 .taken)
 
 print-text-requires : tie.Need-print-text-requires
 print-text-requires c κs =
@@ -44,10 +44,10 @@ returns-2 : tie.Need-returns-2
 returns-2 c =
     let printed = c .before .before .before .before .before .before .before .before .before .before .before .before
     .before in
-    printed-claimed _ _ _ _ _ _ _ _ _ _ _ _ _ _ (printed .print-text .ensures)
+    printed-claimed _ _ _ _ _ _ _ _ _ _ _ _ _ _ _ (printed .print-text .ensures)
 
-pub print-spec : {M : Type 1} → statement M
-print-spec =
+pub print-in-form-spec : {M : Type 1} → statement M
+print-in-form-spec =
     tie.close
     (tie.spec
     first-short-requires

@@ -3,8 +3,8 @@ use native.Mathlib.Omega.{arith}
 use Rattle.text.specs.Laws.DecidesLaws.{decides-passed, decides-refused}
 use Rattle.page.proofs.PageAnswers.{short-promised, not-good-promised, printed-promised}
 use borrow.Author.Needs.{needs}
-use Rattle.page.proofs.page.page.Statement.{statement}
-use Rattle.page.proofs.page.page.Tie as tie
+use Rattle.page.proofs.page.page_in_form.Statement.{statement}
+use Rattle.page.proofs.page.page_in_form.Tie as tie
 
 first-short-requires : tie.Need-first-short-requires
 first-short-requires c κs = search needs
@@ -12,7 +12,7 @@ first-short-requires c κs = search needs
 returns : tie.Need-returns
 returns c =
     let short = c .before .first-short in
-    short-promised _ _ _ _ _ _ (short .result) (short .ensures) (c .if1 .taken)
+    short-promised _ _ _ _ _ _ _ (short .result) (short .ensures) (c .if1 .taken)
 
 good-requires : tie.Need-good-requires
 good-requires c κs = c .before .first-short .ensures .none-short (omega (arith, c .if1 .left)) .store-length
@@ -21,7 +21,7 @@ returns-2 : tie.Need-returns-2
 returns-2 c =
     let tested = c .before .good2 in
     let long = c .before .before in
-    not-good-promised _ _ _ _ _ _ (long .before .first-short .ensures .none-short (omega (arith, long .if1 .left)))
+    not-good-promised _ _ _ _ _ _ _ (long .before .first-short .ensures .none-short (omega (arith, long .if1 .left)))
     (decides-refused (tested .result) _ (tested .ensures) (c .if2 .taken))
 
 page-good-requires : tie.Need-page-good-requires
@@ -55,11 +55,11 @@ returns-3 c =
     let is-good = page .before .before .before .before .before .before in
     let tested = is-good .before .good2 in
     let long = is-good .before .before in
-    printed-promised _ _ _ _ _ _ (long .before .first-short .ensures .none-short (omega (arith, long .if1 .left)))
+    printed-promised _ _ _ _ _ _ _ (long .before .first-short .ensures .none-short (omega (arith, long .if1 .left)))
     (decides-passed (tested .result) _ (tested .ensures) (is-good .if2 .left)) _ _ _ _ _ _ (page .page-good .ensures)
 
-pub page-spec : {M : Type 1} → statement M
-page-spec =
+pub page-in-form-spec : {M : Type 1} → statement M
+page-in-form-spec =
     tie.close
     (tie.spec
     first-short-requires

@@ -1,0 +1,53 @@
+-- The lines of a page that are no state's, and what their texts are made of. Only laws cite it.
+-- Document 01, "The page"; document 02, (ii).
+use mathlib.Core.Bool.{true}
+use mathlib.Core.List.{List, [], _∷_, _++_, map}
+use mathlib.Core.Option.{Option}
+use mathlib.Core.Path.{_≡_}
+use Prim.Native.Nat.{ℕ}
+use Rattle.text.specs.Bytes.{other, lineEnd}
+use Rattle.text.specs.Join.{Without}
+use Rattle.text.specs.Model.{Model}
+use Rattle.columns.specs.Rows.{rollWidth, flushLeft}
+use Rattle.lines.specs.PageLines.{PageLine, verdict-line, state-line, run-line, word-line, allows-line, branch-line}
+use Rattle.lines.specs.PageLines.{last-line, lineText}
+use Rattle.lines.specs.Roll.{rollRows}
+use Rattle.lines.specs.Inner.FormLines.{TextFits}
+use Rattle.page.specs.RollClaim.{other?}
+
+-- A line, unless it is a state's.
+unfoldable pub unlessState : PageLine → List PageLine
+unlessState (state-line p distance class) = []
+unlessState (verdict-line v) = verdict-line v ∷ []
+unlessState (run-line j) = run-line j ∷ []
+unlessState (word-line name) = word-line name ∷ []
+unlessState (allows-line end) = allows-line end ∷ []
+unlessState branch-line = branch-line ∷ []
+unlessState last-line = last-line ∷ []
+
+-- The lines that are no state's.
+unfoldable pub withoutStates : List PageLine → List PageLine
+withoutStates [] = []
+withoutStates (l ∷ lines) = unlessState l ++ withoutStates lines
+
+-- A text of digits, letters and commas: without a line end, and without a blank.
+abbrev pub Marked : List ℕ → Type 0
+Marked text = Without lineEnd text × Without other text
+
+-- A line that is no state's: one line on the roll, its text.
+pub record OtherLine (l : PageLine) : Type 0 where
+  pub width : ℕ
+  pub fits : TextFits l width
+  pub stays : unlessState l ≡ l ∷ []
+  pub begins : other? (lineText l) ≡ true
+  pub marked : Marked (lineText l)
+
+-- A line of a page.
+pub data AnyLine : PageLine → Type 0 where
+  of-state : (p : ℕ) (distance : Option ℕ) (class : ℕ) → AnyLine (state-line p distance class)
+  of-other : {l : PageLine} → OtherLine l → AnyLine l
+
+-- The lines of the roll, each padded.
+unfoldable pub paddedRows : Model → List PageLine → List (List ℕ)
+paddedRows m [] = []
+paddedRows m (l ∷ lines) = map (flushLeft rollWidth) (rollRows m l) ++ paddedRows m lines

@@ -1,0 +1,202 @@
+-- The bytes of a roll part at their line ends into its lines, of which those that begin with a capital are the page's
+-- own, but for the states'.
+-- Document 02, (ii): "All other lines of the page stand padded in their page order." Assumes nothing.
+use mathlib.Core.Bool.{false}
+use mathlib.Core.List.{List, [], _∷_, _++_, map, map-append, append-assoc}
+use mathlib.Core.Logic.{_⊎_, inl, inr}
+use mathlib.Core.Option.{Option}
+use mathlib.Core.Path.{_≡_, refl, sym, ap, subst, _∙_}
+use Prim.Native.Nat.{ℕ, zero, suc, _+_, _-_, _≤_, _<_}
+use native.Mathlib.Omega.{arith}
+use lib.ListN.{length}
+use borrow.Author.Tests.{eqb-false, ne-eqb}
+use Rattle.lts.specs.TestsLaws.{lt-or-le}
+use Rattle.text.specs.All.{All}
+use Rattle.text.specs.Bytes.{byteBlank, byteLineEnd, other, digit, capital, lineEnd, kindOf}
+use Rattle.text.specs.Join.{Without}
+use Rattle.text.specs.Laws.AllLaws.{all-map, all-of-all, all-replicate}
+use Rattle.text.specs.Laws.DigitsLaws.{digits-digit}
+use Rattle.text.specs.Laws.JoinLaws.{split-append}
+use Rattle.text.specs.Laws.SplitLaws.{split-nil}
+use Rattle.text.specs.Model.{Model}
+use Rattle.text.specs.Numbers.{digits}
+use Rattle.text.specs.Split.{split}
+use Rattle.model.specs.WellFormed.{WellFormed}
+use Rattle.columns.specs.LowNames.{nameOf, lowFrom?, lowActions, lowNames}
+use Rattle.columns.specs.Rows.{rollWidth, blanks, flushLeft, flushRight, rowBytes, rowsBytes, nameIndent, fill}
+use Rattle.columns.specs.StateRows.{numberWidth, distanceText, stateColumns, stateRows}
+use Rattle.columns.specs.Laws.RowCountLaws.{fill-fits, fill-next, passing-lt}
+use Rattle.lines.specs.PageLines.{PageLine, lineText, pageBytes}
+use Rattle.lines.specs.Page.{PageOf}
+use Rattle.lines.specs.Roll.{rollRows, rollBytes}
+use Rattle.page.specs.RollClaim.{other?, othersOf, otherLines}
+use Rattle.page.specs.Inner.OtherLines.{unlessState, withoutStates, AnyLine, of-state, of-other}
+use Rattle.page.specs.Inner.OtherLines.{paddedRows}
+use Rattle.page.specs.Laws.LineTextLaws.{marked-digits, marked-name, page-any}
+use Rattle.page.specs.Laws.PageSplitLaws.{plain-append, plain-distance}
+use Rattle.page.specs.Laws.OtherLinesLaws.{others-of-text, othersOf-append, others-last, otherLines-page}
+
+-- ---- a state's lines
+
+abbrev Plain : List ℕ → Type 0
+Plain = Without lineEnd
+
+-- A text that begins with no capital.
+abbrev BeginsSmall : List ℕ → Type 0
+BeginsSmall [] = ⊥
+BeginsSmall (b ∷ text) = ¬ (kindOf b ≡ capital)
+
+record StateRow (row : List ℕ) : Type 0 where
+  plain : Plain row
+  begins : BeginsSmall row
+
+begins-append : (a b : List ℕ) → BeginsSmall a → BeginsSmall (a ++ b)
+begins-append (x ∷ a) b p = p
+
+row-append : {row : List ℕ} (more : List ℕ) → StateRow row → Plain more → StateRow (row ++ more)
+row-append {row} more r p =
+    record { plain = plain-append row more (r .plain) p; begins = begins-append row more (r .begins) }
+
+plain-blanks : (n : ℕ) → Plain (blanks n)
+unfolding kindOf
+plain-blanks n = all-replicate (λ x. kindOf x ≡ lineEnd → ⊥) n byteBlank (λ e. omega arith)
+
+-- a next line, and a name behind its blanks
+next-row : (name : List ℕ) → Plain name → StateRow (blanks nameIndent ++ name)
+unfolding kindOf
+next-row name p =
+    row-append {row = blanks nameIndent} name
+    (record { plain = plain-blanks nameIndent; begins = λ e. omega arith }) p
+
+fill-rows : (row : List ℕ) (names : List (List ℕ)) → StateRow row → All Plain names → All StateRow (fill row names)
+unfolding fill
+fill-rows row [] r p = (r, tt)
+fill-rows row (name ∷ names) r p =
+    go (lt-or-le rollWidth (length row + 1 + length name)) (λ r′ h. fill-rows r′ names h (p .1))
+  where
+    go : (rollWidth < length row + 1 + length name) ⊎ (length row + 1 + length name ≤ rollWidth)
+        → ((r′ : List ℕ) → StateRow r′ → All StateRow (fill r′ names)) → All StateRow (fill row (name ∷ names))
+    go (inl l) ih = rw (fill-next row name names l) (r, ih (blanks nameIndent ++ name) (next-row name (p .0)))
+    go (inr l) ih = rw (fill-fits row name names l) (ih (row ++ (byteBlank ∷ name)) (row-append (byteBlank ∷ name) r (plain-blanks 1 .0, p .0)))
+
+plain-right : (width : ℕ) (text : List ℕ) → Plain text → Plain (flushRight width text)
+unfolding flushRight
+plain-right width text p = plain-append (blanks (width - length text)) text (plain-blanks (width - length text)) p
+
+-- a number flush right begins with a blank or with a digit
+number-begins : (l : List ℕ) → All (λ b. kindOf b ≡ digit) l → BeginsSmall (blanks (numberWidth - length l) ++ l)
+unfolding kindOf
+number-begins [] h = λ e. omega arith
+number-begins (b ∷ l) h = go (numberWidth - length (b ∷ l))
+  where
+    go : (n : ℕ) → BeginsSmall (blanks n ++ (b ∷ l))
+    go zero = λ e. eqb-false digit capital refl (sym (h .0) ∙ e)
+    go (suc n) = λ e. omega arith
+
+columns-row : (p : ℕ) (d : Option ℕ) (class : ℕ) → StateRow (stateColumns p d class)
+unfolding stateColumns flushRight
+columns-row p d class =
+    let state = plain-right numberWidth (digits p) (marked-digits p .0) in
+    let first : StateRow (flushRight numberWidth (digits p)) =
+    record { plain = state; begins = number-begins (digits p) (digits-digit p) } in
+    let blank = plain-blanks 1 in
+    row-append (flushRight numberWidth (digits class)) (row-append (byteBlank ∷ [])
+    (row-append (flushRight numberWidth (distanceText d)) (row-append (byteBlank ∷ []) first blank)
+    (plain-right numberWidth (distanceText d) (plain-distance d))) blank)
+    (plain-right numberWidth (digits class) (marked-digits class .0))
+
+-- ---- lines of the roll, parted
+
+plain-left : (row : List ℕ) → Plain row → Plain (flushLeft rollWidth row)
+unfolding flushLeft
+plain-left row p = plain-append row (blanks (rollWidth - length row)) p (plain-blanks (rollWidth - length row))
+
+split-rows : (rows : List (List ℕ)) (rest : List ℕ) → All Plain rows
+    → split lineEnd (rowsBytes rows ++ rest) ≡ map (flushLeft rollWidth) rows ++ split lineEnd rest
+unfolding rowsBytes kindOf
+split-rows [] rest p = refl
+split-rows (row ∷ rows) rest p =
+    ap (split lineEnd) (append-assoc (rowBytes row) (rowsBytes rows) rest
+    ∙ append-assoc (flushLeft rollWidth row) (byteLineEnd ∷ []) (rowsBytes rows ++ rest))
+    ∙ split-append lineEnd byteLineEnd (flushLeft rollWidth row) (rowsBytes rows ++ rest) refl (plain-left row (p .0))
+    ∙ ap (_∷_ (flushLeft rollWidth row)) (split-rows rows rest (p .1))
+
+-- a state's are none of those that begin with a capital
+small-not-other : (row more : List ℕ) → BeginsSmall row → other? (row ++ more) ≡ false
+unfolding other?
+small-not-other [] more p = absurd p
+small-not-other (b ∷ row) more p = rw (ne-eqb (kindOf b) capital p)
+
+others-of-state : (rows : List (List ℕ)) → All StateRow rows → othersOf (map (flushLeft rollWidth) rows) ≡ []
+unfolding othersOf flushLeft
+others-of-state [] p = refl
+others-of-state (row ∷ rows) p =
+    let e = small-not-other row (blanks (rollWidth - length row)) (p .0 .begins) in
+    rw e (others-of-state rows (p .1))
+
+-- ---- on the roll
+
+module _ {m : Model} (w : WellFormed m) where
+  names-plain : (p : ℕ) → All Plain (lowNames m p)
+  names-plain p =
+      all-map Plain (nameOf m) (lowActions m p)
+      (all-of-all (λ (a : ℕ). a < length (m .actions)) (λ (a : ℕ). Plain (nameOf m a)) (λ a l. marked-name w a l .0)
+      (lowActions m p) (passing-lt (length (m .actions)) (lowFrom? m p (length (m .steps)))))
+
+  state-rows : (p : ℕ) (d : Option ℕ) (class : ℕ) → All StateRow (stateRows m p d class)
+  state-rows p d class =
+      fill-rows (stateColumns p d class) (lowNames m p)
+      (columns-row p d class) (names-plain p)
+
+  -- ---- parted at the line ends
+
+  rows-plain : (l : PageLine) → AnyLine l → All Plain (rollRows m l)
+  unfolding rollRows
+  rows-plain _ (of-state p d class) =
+      all-of-all StateRow Plain (λ row r. r .plain) (stateRows m p d class) (state-rows p d class)
+  rows-plain l (of-other x) = subst (All Plain) (sym (x .fits .one-row m)) (x .marked .0, tt)
+
+  split-lines : (lines : List PageLine) → All AnyLine lines
+      → split lineEnd (rollBytes m lines) ≡ paddedRows m lines ++ ([] ∷ [])
+  unfolding rollBytes paddedRows
+  split-lines [] p = split-nil lineEnd
+  split-lines (l ∷ lines) p =
+      split-rows (rollRows m l) (rollBytes m lines) (rows-plain l (p .0))
+      ∙ ap (λ (z : List (List ℕ)). map (flushLeft rollWidth) (rollRows m l) ++ z) (split-lines lines (p .1))
+      ∙ sym (append-assoc (map (flushLeft rollWidth) (rollRows m l)) (paddedRows m lines) ([] ∷ []))
+
+  -- ---- the lines that are no state's
+
+  padded-others : (l : PageLine) → AnyLine l
+      → othersOf (map (flushLeft rollWidth) (rollRows m l)) ≡ map lineText (unlessState l)
+  unfolding rollRows unlessState flushLeft
+  padded-others _ (of-state p d class) = others-of-state (stateRows m p d class) (state-rows p d class)
+  padded-others l (of-other x) =
+      ap (λ (z : List (List ℕ)). othersOf (map (flushLeft rollWidth) z)) (x .fits .one-row m)
+      ∙ others-of-text (lineText l) (rollWidth - length (lineText l)) (x .begins) (x .marked .1)
+      ∙ ap (map lineText) (sym (x .stays))
+
+  rows-others : (lines : List PageLine) → All AnyLine lines
+      → othersOf (paddedRows m lines) ≡ map lineText (withoutStates lines)
+  unfolding paddedRows withoutStates othersOf
+  rows-others [] p = refl
+  rows-others (l ∷ lines) p =
+      othersOf-append (map (flushLeft rollWidth) (rollRows m l)) (paddedRows m lines)
+      ∙ ap (λ (z : List (List ℕ)). z ++ othersOf (paddedRows m lines)) (padded-others l (p .0))
+      ∙ ap (λ (z : List (List ℕ)). map lineText (unlessState l) ++ z) (rows-others lines (p .1))
+      ∙ sym (map-append lineText (unlessState l) (withoutStates lines))
+
+  module _ {run word run′ word′ : List ℕ} {lines : List PageLine} (x : PageOf m run word run′ word′ lines) where
+    -- whoever parts the roll at its line ends has its lines
+    pub split-roll : split lineEnd (rollBytes m lines) ≡ paddedRows m lines ++ ([] ∷ [])
+    split-roll = split-lines lines (page-any w x)
+
+    pub otherLines-roll : otherLines (rollBytes m lines) ≡ map lineText (withoutStates lines)
+    otherLines-roll =
+        ap othersOf split-roll
+        ∙ others-last (paddedRows m lines)
+        ∙ rows-others lines (page-any w x)
+
+    -- the lines of the roll that are no state's are those of the page, in their order
+    pub otherLines-roll-page : otherLines (rollBytes m lines) ≡ otherLines (pageBytes lines)
+    otherLines-roll-page = otherLines-roll ∙ sym (otherLines-page w x)

@@ -1,0 +1,69 @@
+-- Demand 3 on the bytes of the roll: its `V`, `W` and `B` lines tell what Judge and Word answer, as the page's do.
+-- Document 02, (ii): "All other lines of the page stand padded in their page order."; DEMANDS, 3. Assumes nothing.
+use mathlib.Core.Bool.{Bool, false, cond, not, _&&_}
+use mathlib.Core.List.{List, [], _∷_, _++_, map}
+use mathlib.Core.Path.{_≡_}
+use Prim.Native.Nat.{ℕ}
+use lib.Dec.{eqb}
+use lib.ListN.{length}
+use Rattle.text.specs.All.{All}
+use Rattle.text.specs.Bytes.{byteBlank, byteC, capital, lineEnd, kindOf}
+use Rattle.text.specs.Model.{Model}
+use Rattle.text.specs.Split.{split}
+use Rattle.verdicts.specs.declared.judging.Verdict.the-variants.{Passed}
+use Rattle.columns.specs.Rows.{rollWidth}
+use Rattle.lines.specs.PageLines.{PageLine, verdict-line, last-line, lineText}
+use Rattle.page.specs.PageClaim.{PassTexts, LeakTexts, BytesTell}
+
+-- ---- the lines that are no state's
+
+-- A byte before a text: left out where it is a blank and nothing follows it.
+unfoldable pub consUnpadded : ℕ → List ℕ → List ℕ
+consUnpadded b [] = cond (eqb b byteBlank) [] (b ∷ [])
+consUnpadded b (c ∷ text) = b ∷ c ∷ text
+
+-- A text without the blanks at its end.
+unfoldable pub unpadded : List ℕ → List ℕ
+unpadded [] = []
+unpadded (b ∷ text) = consUnpadded b (unpadded text)
+
+-- A line begins with a capital other than `C`. A state's begins with `C` on the page, with a blank or a digit on the
+-- roll.
+unfoldable pub other? : List ℕ → Bool
+other? [] = false
+other? (b ∷ text) = eqb (kindOf b) capital && not (eqb b byteC)
+
+-- Of some texts those that begin so, each without the blanks at its end.
+unfoldable pub othersOf : List (List ℕ) → List (List ℕ)
+othersOf [] = []
+othersOf (text ∷ texts) = cond (other? text) (unpadded text ∷ othersOf texts) (othersOf texts)
+
+-- The lines of a page or a roll that are no state's: the bytes part at the line ends.
+abbrev pub otherLines : List ℕ → List (List ℕ)
+otherLines bytes = othersOf (split lineEnd bytes)
+
+-- ---- what they tell
+
+-- What the roll of a passed model tells: the greatest rank, and that there is no leak to show.
+pub record PassRoll (m : Model) (bytes : List ℕ) : Type 0 where
+  pub rank : ℕ
+  pub texts : PassTexts m (otherLines bytes) rank
+  pub parted : otherLines bytes ≡ map lineText (verdict-line (Passed rank) ∷ last-line ∷ [])
+
+-- What the roll of a refused deterministic model tells, as its page does.
+pub record LeakRoll (m : Model) (bytes word : List ℕ) : Type 0 where
+  pub lines : List PageLine
+  pub texts : LeakTexts m (otherLines bytes) [] lines word
+  pub parted : otherLines bytes ≡ map lineText lines
+
+-- What the roll of a deterministic model tells.
+abbrev pub RollTells : Model → List ℕ → List ℕ → Type 0
+RollTells m bytes word = BytesTell m bytes (PassRoll m bytes) (LeakRoll m bytes word)
+
+-- ---- its columns
+
+-- "Each line has exactly 42 columns before its line end": the bytes part at the line ends into such lines.
+pub record Columns (bytes : List ℕ) : Type 0 where
+  pub rows : List (List ℕ)
+  pub parted : split lineEnd bytes ≡ rows ++ ([] ∷ [])
+  pub widths : All (λ (row : List ℕ). length row ≡ rollWidth) rows
