@@ -15,6 +15,8 @@ pub const RUN: usize = 127;
 pub const WORD: usize = 127;
 /// Least length of the list that takes a page.
 pub const PAGE: usize = 5_000;
+/// Least length of the list that takes a receipt roll.
+pub const ROLL: usize = 35_840;
 /// Least length of the list that takes a written text.
 pub const WRITTEN: usize = 14_420;
 
@@ -130,6 +132,11 @@ impl Model {
 
     pub fn level(&self, action: u16) -> Level {
         self.actions[usize::from(action)].level
+    }
+
+    pub fn name(&self, action: u16) -> String {
+        let name = &self.actions[usize::from(action)].name;
+        String::from_utf8_lossy(name).into_owned()
     }
 
     /// Action and target of each low step, listed by source.
