@@ -12,6 +12,7 @@ mod rng;
 mod stores;
 mod texts;
 mod variants;
+mod wide;
 
 mod cases;
 
@@ -26,6 +27,7 @@ pub use rng::Rng;
 pub use stores::{bad_stores, mutated_store, scrap_store};
 pub use texts::{bad_lines, faults, mutated_text, scrap_text, BadLine, Fault, Kind};
 pub use variants::{shuffle, with_twin, with_unreachable};
+pub use wide::{greatest_roll, wide_model};
 
 use std::collections::BTreeSet;
 

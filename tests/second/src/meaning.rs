@@ -7,12 +7,14 @@ mod answers;
 mod interference;
 mod pages;
 mod ranks;
+mod rolls;
 mod runs;
 mod sequences;
 
 pub use interference::{Deterministic, Interference};
 pub use pages::page_holds;
 pub use ranks::{ranks_hold, verdict_of, Alike};
+pub use rolls::roll_holds;
 pub use runs::{distances_hold, run_holds};
 pub use sequences::{deterministic, ends, possible, reachable, thin};
 

@@ -8,7 +8,12 @@ use std::process::{Command, Stdio};
 use common::{till, EXAMPLE, EXAMPLE_PAGE};
 
 fn printed(text: &[u8]) -> Vec<u8> {
+    output(&[], text)
+}
+
+fn output(arguments: &[&str], text: &[u8]) -> Vec<u8> {
     let mut child = Command::new(env!("CARGO_BIN_EXE_second"))
+        .args(arguments)
         .stdin(Stdio::piped())
         .stdout(Stdio::piped())
         .spawn()
@@ -31,4 +36,23 @@ fn pages_and_refusals() {
     assert_eq!(printed(&[b'\n'; 16_385]), b"F,1,0\n");
     assert_eq!(printed(&[b'\n'; 200_000]), b"F,1,0\n");
     assert_eq!(printed(&till(129, &[])), b"F,3,1\n");
+}
+
+#[test]
+fn rolls_and_refusals() {
+    let roll = output(&["--roll"], EXAMPLE);
+    assert_eq!(roll, second::roll_program(EXAMPLE));
+    assert_eq!(roll.len(), 9 * 43);
+    assert_eq!(output(&["--roll"], b""), b"F,32,1\n");
+    assert_eq!(output(&["--roll"], &till(129, &[])), b"F,3,1\n");
+}
+
+#[test]
+fn other_arguments() {
+    for arguments in [&["--rol"][..], &[""], &["--roll", "--roll"]] {
+        let mut command = Command::new(env!("CARGO_BIN_EXE_second"));
+        let output = command.args(arguments).output();
+        let output = output.expect("the program ends");
+        assert!(!output.status.success() && output.stdout.is_empty());
+    }
 }

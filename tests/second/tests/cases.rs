@@ -50,6 +50,7 @@ fn every_model_has_a_high_action() {
     );
     models.extend((1..=127).map(|depth| gen::branching_deep_model(&mut rng, depth)));
     models.extend((0..4_000).map(|_| gen::any_model(&mut rng)));
+    models.extend((0..400).map(|round| gen::wide_model(&mut rng, round % 2 == 0)));
     for model in models {
         let _case = gen::model_case(&model);
         let is_high = |action: &Action| action.level == Level::High;

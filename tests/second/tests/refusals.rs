@@ -8,7 +8,7 @@ use common::{refusal, store_of, till, Lists, CLOSE, EXAMPLE, LONGER, PRINT, SCAN
 use second::gen;
 use second::store::{DISTANCES, STORE};
 use second::text::{parse_or_cause, Cause};
-use second::{judge, page, program, rank, reach, read, run, word, write, Refusal, Verdict};
+use second::{judge, page, program, rank, reach, read, roll, run, word, write, Refusal, Verdict};
 
 #[test]
 fn lines_that_are_absent_or_not_ended() {
@@ -195,6 +195,7 @@ on_stores! {
     run(distances, run; 9_999);
     word(distances, table, word);
     page(distances, table, run, word, out);
+    roll(distances, table, run, word, paper);
     write(written);
 }
 
@@ -379,7 +380,7 @@ fn no_store_panics() {
     }
 }
 
-/// Judge, Run, Word and Page on a store that may be damaged.
+/// Judge, Run, Word, Page and Roll on a store that may be damaged.
 fn answers_agree(store: &[u16], state: u16) {
     let mut lists = Lists::new();
     let answer = judge(store, &mut lists.distances, &mut lists.table);
@@ -391,6 +392,8 @@ fn answers_agree(store: &[u16], state: u16) {
         &mut lists.word,
     );
     let shown = lists.page(store);
+    let rolled = lists.roll(store);
+    assert_eq!(rolled.err(), shown.err());
     match answer {
         Err(refusal) => {
             assert_eq!(refusal, Refusal::new(22, 0));

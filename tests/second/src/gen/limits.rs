@@ -5,6 +5,7 @@ use std::collections::BTreeSet;
 use super::deep::{chain, chain_behind_releases, deep_model};
 use super::models::{passing_model, random_model};
 use super::parts::{Steps, NAME_BYTES};
+use super::wide::greatest_roll;
 use super::Rng;
 use crate::store::{Action, Level, Model, Step, LONGEST_NAME, MOST_ACTIONS, MOST_STEPS};
 
@@ -22,6 +23,7 @@ pub fn limit_models(rng: &mut Rng) -> Vec<(&'static str, Model)> {
         ("longest run", longest_run()),
         ("longest word", chain_behind_releases(0)),
         ("long run and word", chain_behind_releases(63)),
+        ("greatest roll", greatest_roll()),
     ]);
     models
 }

@@ -3,7 +3,7 @@
 use std::collections::BTreeSet;
 
 use super::deep::deep_model;
-use super::parts::{actions, names, of_level, Steps};
+use super::parts::{actions, actions_of, names, of_level, Steps};
 use super::variants::{shuffle, with_twin, with_unreachable};
 use super::Rng;
 use crate::store::{Action, Level, Model, Step, MOST_ACTIONS, MOST_STEPS};
@@ -60,11 +60,7 @@ pub fn narrow_model(rng: &mut Rng, deterministic: bool) -> Model {
         &[Level::High, Level::Release],
     ]
     .concat();
-    let actions = names(rng, levels.len())
-        .into_iter()
-        .zip(levels)
-        .map(|(name, level)| Action { level, name })
-        .collect();
+    let actions = actions_of(rng, &levels);
     let mut steps = Steps::new(deterministic);
     for action in 0..low {
         let missing = rng.below(states);

@@ -54,6 +54,15 @@ pub(super) fn actions(rng: &mut Rng, count: usize) -> Vec<Action> {
     actions
 }
 
+/// Actions of these levels, with random names.
+pub(super) fn actions_of(rng: &mut Rng, levels: &[Level]) -> Vec<Action> {
+    let names = names(rng, levels.len()).into_iter();
+    let actions = names.zip(levels);
+    actions
+        .map(|(name, &level)| Action { level, name })
+        .collect()
+}
+
 pub(super) fn named(level: Level, name: &str) -> Action {
     Action {
         level,

@@ -1,8 +1,8 @@
 //! Lists to lend, and what the operations must leave in them.
 #![allow(dead_code)]
 
-use second::store::{DISTANCES, PAGE, RUN, STORE, TABLE, WORD, WRITTEN};
-use second::{gen, page, program, read, Model};
+use second::store::{DISTANCES, PAGE, ROLL, RUN, STORE, TABLE, WORD, WRITTEN};
+use second::{gen, page, program, read, roll, roll_program, Model};
 
 /// How many elements more than need be each list has.
 pub const LONGER: usize = 3;
@@ -14,7 +14,10 @@ pub struct Lists {
     pub table: Vec<u8>,
     pub run: Vec<u16>,
     pub word: Vec<u16>,
+    /// Page's out.
     pub out: Vec<u8>,
+    /// Roll's out.
+    pub paper: Vec<u8>,
     pub written: Vec<u8>,
 }
 
@@ -26,6 +29,7 @@ impl Lists {
             run: vec![7_778; RUN + LONGER],
             word: vec![7_779; WORD + LONGER],
             out: vec![b'~'; PAGE + LONGER],
+            paper: vec![b'^'; ROLL + LONGER],
             written: vec![b'!'; WRITTEN + LONGER],
         }
     }
@@ -40,6 +44,17 @@ impl Lists {
             &mut self.out,
         )
     }
+
+    pub fn roll(&mut self, store: &[u16]) -> Result<usize, second::Refusal> {
+        roll(
+            store,
+            &mut self.distances,
+            &mut self.table,
+            &mut self.run,
+            &mut self.word,
+            &mut self.paper,
+        )
+    }
 }
 
 /// The store that a text reads to.
@@ -50,7 +65,8 @@ pub fn store_of(text: &[u8]) -> Vec<u16> {
 }
 
 /// Reads a text that must be refused, and checks that the store is kept and
-/// that the program prints the refusal: its number and its place.
+/// that the program prints the refusal, for a roll too: its number and its
+/// place.
 pub fn refusal(text: &[u8]) -> (u16, u64) {
     let _case = gen::text_case(text);
     let old = vec![4_321; STORE + 1];
@@ -59,6 +75,7 @@ pub fn refusal(text: &[u8]) -> (u16, u64) {
     assert_eq!(store, old);
     let line = format!("F,{},{}\n", refusal.number, refusal.place);
     assert_eq!(program(text), line.as_bytes());
+    assert_eq!(roll_program(text), line.as_bytes());
     (refusal.number, refusal.place)
 }
 
