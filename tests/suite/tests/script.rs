@@ -221,8 +221,8 @@ fn ways_to_start() {
 
 // ---- with another kit
 
-/// Stands in for the kit: each program that it makes passes each text, and tells the source's number as the rank. Of
-/// what it makes the names are noted.
+/// Stands in for the kit: each program that it makes passes each text, and tells the source's number as the rank. It
+/// notes the name of each.
 const KIT: &str = r#"#!/bin/sh
 kit=$(dirname "$0")
 case $1 in
@@ -234,7 +234,7 @@ check)
     [ ! -f "$kit/broken" ] || { echo "rt: FAILED: a" && exit 1; }
     columns=1
     [ "$2" = till ] || columns=42
-    printf '#!/bin/sh\ncat >/dev/null\nprintf "%%%%-%ss\\n" V,pass,%s E\n' $columns "$rank" >"target/bin/$2"
+    printf '#!/bin/sh\ncat >/dev/null\nprintf "%%-%ss\\n" V,pass,%s E\n' $columns "$rank" >"target/bin/$2"
     chmod +x "target/bin/$2"
     [ ! -f "$kit/edit" ] || mv "$kit/edit" crates/a/src/lib.rt
     ;;
