@@ -1,10 +1,12 @@
 //! Roll against the second checker, and beside Page: both leave the same in the lists that they share, and the roll
 //! tells the page.
+use std::fs;
+
 use second::gen::{self, Rng};
 use second::meaning;
 use second::store::{DISTANCES, TABLE};
 use second::{text, Model};
-use suite::bench::{rolls, text_of, worked_distances, worked_roll, worked_table, WORKED};
+use suite::bench::{rolls, root, text_of, worked_distances, worked_roll, worked_table, WORKED};
 use suite::lists::{Lists, LEAST};
 use suite::operations::{PAGE, ROLL};
 use suite::stores::Store;
@@ -75,6 +77,22 @@ fn the_examples() {
         }
     }
     assert!(wraps > 1 && unreached > 0, "{wraps} {unreached}");
+}
+
+/// The README shows the worked roll, and lines of another whose names go to next lines. What stands past the 42 columns
+/// are remarks.
+#[test]
+fn the_readme() {
+    let readme = fs::read_to_string(root().join("README.md")).expect("the README");
+    let readme: Vec<String> = readme.lines().map(|line| format!("{line:<46}")).collect();
+    for (name, shown) in [("worked.roll", 0..9), ("wrapping.roll", 2..7)] {
+        let roll = fs::read_to_string(root().join("examples").join(name)).expect("a roll");
+        let lines: Vec<String> = roll.lines().map(|line| format!("    {line}")).collect();
+        let lines = &lines[shown];
+        let same =
+            |part: &[String]| (part.iter().zip(lines)).all(|(part, line)| part.starts_with(line));
+        assert!(readme.windows(lines.len()).any(same), "{name}");
+    }
 }
 
 /// The names of a state in rows, each with the lengths of its names.
