@@ -1,2 +1,4 @@
 pub mod DistanceOfLaws
 pub mod NameLaws
+pub mod RoomLaws
+pub mod RowCountLaws

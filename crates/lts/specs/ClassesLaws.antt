@@ -36,7 +36,7 @@ module _ (Move : Moves) where
 -- ---- the classes, counted
 
 module _ (Move : Moves) (n : ℕ) (round : (ℕ → ℕ → Bool) → ℕ → ℕ → Bool) (G : Game Move n round) where
-  lowest?→¬Alike : (k i : ℕ) → T (lowest? round k i) → (q : ℕ) → q < i → ¬ (Alike Move k q i)
+  pub lowest?→¬Alike : (k i : ℕ) → T (lowest? round k i) → (q : ℕ) → q < i → ¬ (Alike Move k q i)
   lowest?→¬Alike k i t q l = not-alike?→¬Alike Move n round G k q i (all→Each i (λ q. not (alike? round k q i)) t q l)
 
   ¬Alike→lowest? : (k i : ℕ) → ((q : ℕ) → q < i → ¬ (Alike Move k q i)) → T (lowest? round k i)
@@ -100,7 +100,7 @@ module _ (Move : Moves) (n : ℕ) (round : (ℕ → ℕ → Bool) → ℕ → �
       (Each→all 0 (λ q. not (alike? round 0 q 0)) (λ i l. absurd (not-suc-le-zero l)))
 
   -- After k separating rounds there are more than k classes.
-  classes-gt : 0 < n → (k : ℕ) → ((j : ℕ) → j < k → Separates Move n j) → k < classes round n k
+  pub classes-gt : 0 < n → (k : ℕ) → ((j : ℕ) → j < k → Separates Move n j) → k < classes round n k
   classes-gt pos zero h = classes-pos pos
   classes-gt pos (suc k) h =
       omega (arith, classes-gt pos k (λ j l. h j (omega arith)), classes-lt k (h k (omega arith)))

@@ -1,5 +1,6 @@
 pub mod Tests
 pub mod TestsLaws
+pub mod CountLaws
 pub mod Alike
 pub mod AlikeLaws
 pub mod Game
@@ -25,5 +26,6 @@ pub mod DistanceLaws
 pub mod WithinLaws
 pub mod Checked
 pub mod CheckedLaws
+pub mod MovingLaws
 pub mod FirstWordExistsLaws
 pub mod Examples

@@ -31,6 +31,11 @@ unfoldable pub count : ℕ → (ℕ → Bool) → ℕ
 count zero f = zero
 count (suc n) f = count n f + bit (f n)
 
+-- How many pairs of a number below n and one below l pass f.
+unfoldable pub countPairs : ℕ → ℕ → (ℕ → ℕ → Bool) → ℕ
+countPairs zero l f = zero
+countPairs (suc n) l f = countPairs n l f + count l (f n)
+
 -- m is the least number that passes f.
 pub record Least (f : ℕ → Bool) (m : ℕ) : Type 0 where
   pub passes : T (f m)

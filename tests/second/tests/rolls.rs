@@ -272,7 +272,7 @@ fn the_greatest_roll() {
     assert_eq!(verdict, Verdict::Refused { step, depth });
 
     assert_eq!(lists.roll(&store), Ok(832 * 43));
-    assert!(833 * 43 <= ROLL && ROLL < 834 * 43);
+    assert_eq!((ROLL, ROLL / 43), (35_840, 833));
     let lines = lines_of(&text);
     assert_eq!(lines.len(), 832);
     let count = |letter: &str| lines.iter().filter(|line| line.starts_with(letter)).count();
@@ -410,8 +410,9 @@ fn changed_rolls_do_not_hold() {
     }
 }
 
-/// A roll with high actions among the names, flush left, of 41 columns, with
-/// a name cut at the last column, or with a name put back where it fits.
+/// A roll with a high action among the names, flush left, of 41 columns, with
+/// a name cut at the last column or standing past it, with a name on the next
+/// line though it fits, or with names out of order, apart or twice.
 #[test]
 fn wrong_rolls_do_not_hold() {
     let text = include_bytes!("../../../examples/wrapping.txt");
@@ -431,6 +432,10 @@ fn wrong_rolls_do_not_hold() {
         (
             "weighproduce scan\n            clear",
             "weighproduce scan clear\n",
+        ),
+        (
+            "cash card                     ",
+            "cash                          \n            card                          ",
         ),
         ("cash card", "card cash"),
         ("cash card ", "cash  card"),

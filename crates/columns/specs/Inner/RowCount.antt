@@ -1,10 +1,16 @@
 -- How many lines states have on the roll. Only the contracts of inner functions and laws on room cite it.
 -- Document 02, (ii).
-use Prim.Native.Nat.{ℕ, zero, suc, _+_}
+use mathlib.Core.List.{List}
+use mathlib.Core.Option.{Option}
+use Prim.Native.Nat.{ℕ, zero, suc, _+_, _≤_, _<_}
 use lib.ListN.{length}
+use Rattle.text.specs.All.{All}
+use Rattle.text.specs.Limits.{nameLimit}
 use Rattle.text.specs.Model.{Model}
-use Rattle.columns.specs.LowNames.{lowNames}
-use Rattle.columns.specs.Rows.{blanks, fill}
+use Rattle.text.specs.Numbers.{digits}
+use Rattle.columns.specs.LowNames.{nameOf, lowNames}
+use Rattle.columns.specs.Rows.{rollWidth, blanks, fill}
+use Rattle.columns.specs.StateRows.{distanceText, numberWidth}
 
 -- The columns of the state, its distance and its class, with a blank between two: names stand behind them.
 abbrev pub columnsWidth : ℕ
@@ -18,3 +24,35 @@ rowCount m p = length (fill (blanks columnsWidth) (lowNames m p))
 unfoldable pub rowsBelow : Model → ℕ → ℕ
 rowsBelow m zero = zero
 rowsBelow m (suc n) = rowsBelow m n + rowCount m n
+
+-- ---- what fits
+
+-- Names of at most 12 bytes, and lines of at most 42 columns.
+abbrev pub ShortNames : List (List ℕ) → Type 0
+ShortNames names = All (λ (name : List ℕ). length name ≤ nameLimit) names
+
+abbrev pub ShortRows : List (List ℕ) → Type 0
+ShortRows rows = All (λ (row : List ℕ). length row ≤ rollWidth) rows
+
+-- A state, its distance and its class have at most 3 digits.
+pub record ShortColumns (p : ℕ) (distance : Option ℕ) (class : ℕ) : Type 0 where
+  pub state-le : length (digits p) ≤ numberWidth
+  pub distance-le : length (distanceText distance) ≤ numberWidth
+  pub class-le : length (digits class) ≤ numberWidth
+
+-- "A name is 1 to 12 bytes" (document 01, "The text"): each name of the model fits.
+abbrev pub NamesFit : Model → Type 0
+NamesFit m = (a : ℕ) → a < length (m .actions) → length (nameOf m a) ≤ nameLimit
+
+-- ---- the room of the roll
+
+-- The lines of all states, at most. Each line but the last of a state has two names, and each name has a low step of
+-- its own: twice the lines are at most the low steps and the states, with one more for each state without a name. That
+-- is 1,024 + 128 + 128.
+abbrev pub passedRows : ℕ
+passedRows = 640
+
+-- With the lines of the sequence. A refused model has a high step, and as many states with a name as the depth, which
+-- is at most 127: twice the lines are at most 1,023 + 128 + 128 - 127 and twice 127.
+abbrev pub refusedRows : ℕ
+refusedRows = 703
