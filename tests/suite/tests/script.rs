@@ -222,7 +222,7 @@ fn ways_to_start() {
 // ---- with another kit
 
 /// Stands in for the kit: each program that it makes passes each text, and tells the source's number as the rank. It
-/// notes the name of each.
+/// notes the name of each, and as the kit does it links none whose stamp is that of the source.
 const KIT: &str = r#"#!/bin/sh
 kit=$(dirname "$0")
 case $1 in
@@ -232,10 +232,12 @@ check)
     rank=$(cat crates/a/src/lib.rt)
     while [ -f "$kit/hold" ]; do sleep 0.01; done
     [ ! -f "$kit/broken" ] || { echo "rt: FAILED: a" && exit 1; }
+    [ "$rank" != "$(cat "target/stamp/$2" 2>/dev/null)" ] || exit 0
     columns=1
     [ "$2" = till ] || columns=42
     printf '#!/bin/sh\ncat >/dev/null\nprintf "%%-%ss\\n" V,pass,%s E\n' $columns "$rank" >"target/bin/$2"
     chmod +x "target/bin/$2"
+    mkdir -p target/stamp && echo "$rank" >"target/stamp/$2"
     [ ! -f "$kit/edit" ] || mv "$kit/edit" crates/a/src/lib.rt
     ;;
 esac
@@ -473,13 +475,16 @@ fn without_the_kit() {
         let file = files.find(|file| file.exists());
         symlink(file.expect(name), tools.join(name)).expect("a link");
     }
-    let without = || {
+    let without_kit = |options: &[&str]| {
         let mut command = Command::new("bash");
         command.arg(checkout.file("till")).env("PATH", &tools);
-        run(&mut command, b"")
+        run(command.args(options), b"")
     };
+    let without = || without_kit(&[]);
+    checkout.rolls(1, 1);
+    prints(without_kit(&["--roll"]), 0, &roll(1));
     fails(without(), "the Rattle kit is missing");
-    checkout.passes(1, 1);
+    checkout.passes(1, 2);
     prints(without(), 0, &page(1));
     for name in names.split(' ').filter(|&name| name != "bash") {
         let (tool, away) = (tools.join(name), checkout.file("away"));
