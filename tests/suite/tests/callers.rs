@@ -210,8 +210,8 @@ fn read_only_kilobytes() -> usize {
     header
 }
 
-/// What the header says for firmware: the symbols that the archive needs, its writable data, its code with its constants,
-/// and the stack.
+/// What the header says for firmware: the symbols that the archive needs, its writable data, its code with its
+/// constants, and the stack.
 #[test]
 fn the_needs() {
     let symbols = output("nm target/staticlib/libtill_c.a", &root());

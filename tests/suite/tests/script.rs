@@ -407,8 +407,8 @@ fn edited_meanwhile() {
     checkout.passes(1, 3);
 }
 
-/// One of several first runs makes a program. The others wait for it, and say so: it is not made before they do. Of four
-/// runs two print a roll, and each program is made once.
+/// One of several first runs makes a program. The others wait for it, and say so: it is not made before they do. Two of
+/// the four print a roll, and each program is made once.
 #[test]
 fn four_first_runs() {
     let checkout = Checkout::new("four_first_runs");
