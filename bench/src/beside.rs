@@ -1,5 +1,6 @@
 //! The operations of this archive beside those of another, which is linked to a second build of this program. The two
-//! programs take turns on each model, so that other work on the machine slows neither of them alone.
+//! programs take turns on each model, so that other work on the machine slows neither of them alone. What the other
+//! archive lacks is left out.
 use std::env;
 use std::process::{Command, Stdio};
 
@@ -8,20 +9,21 @@ use crate::tables::{digits, table};
 use crate::times::{least, operations, Each, Timed, TURNS};
 
 /// One turn of the operations on a model: a time to a line.
-pub fn turn(name: &str) -> String {
+pub fn turn(name: &str, lacking: &[&str]) -> String {
     let shapes = shapes::shapes();
     let (_, model) = shapes
         .iter()
         .find(|shape| shape.0 == name)
         .expect("a model");
-    let times = Timed::of(model).operations();
+    let times = Timed::without(model, lacking).operations();
     times.iter().map(|time| format!("{time}\n")).collect()
 }
 
 /// One turn of a program.
-fn turn_of(program: &str, name: &str) -> Each {
+fn turn_of(program: &str, name: &str, lacking: &[&str]) -> Each {
     let mut command = Command::new(program);
-    command.args(["--turn", name]).stderr(Stdio::inherit());
+    command.args(["--turn", name]).args(lacking);
+    command.stderr(Stdio::inherit());
     let output = command
         .output()
         .unwrap_or_else(|error| panic!("{program}: {error}"));
@@ -32,11 +34,11 @@ fn turn_of(program: &str, name: &str) -> Each {
 }
 
 /// Each operation's time on a model, and in brackets our time by the other archive's.
-fn row(programs: &[&str; 2], name: &str) -> Vec<String> {
-    let mut times = programs.map(|program| turn_of(program, name));
+fn row(programs: &[&str; 2], name: &str, lacking: &[&str]) -> Vec<String> {
+    let mut times = programs.map(|program| turn_of(program, name, lacking));
     for _ in 1..TURNS {
         for (best, program) in times.iter_mut().zip(programs) {
-            least(best, &turn_of(program, name));
+            least(best, &turn_of(program, name, lacking));
         }
     }
     let [ours, others] = times;
@@ -47,16 +49,23 @@ fn row(programs: &[&str; 2], name: &str) -> Vec<String> {
 }
 
 /// The table of all models.
-pub fn table_of(other: &str) -> String {
+pub fn table_of(other: &str, lacking: &[&str]) -> String {
     let own = env::current_exe().expect("this program");
     let programs = [own.to_str().expect("a path"), other];
-    let head: Vec<&str> = ["model"].into_iter().chain(operations()).collect();
+    let names = operations(lacking);
+    let names = names.iter().map(|operation| operation.name());
+    let head: Vec<&str> = ["model"].into_iter().chain(names).collect();
     let rows = shapes::shapes()
         .into_iter()
-        .map(|(name, _)| row(&programs, name));
+        .map(|(name, _)| row(&programs, name, lacking));
     let rows: Vec<Vec<String>> = rows.collect();
+    let left_out = match lacking {
+        [] => String::new(),
+        _ => format!("The other archive lacks {}.\n", lacking.join(", ")),
+    };
     format!(
-        "Microseconds, the best of many calls in {TURNS} turns; in brackets: our time by the other archive's.\n\n{}",
+        "Microseconds, the best of many calls in {TURNS} turns; in brackets: our time by the other archive's.\n\
+         {left_out}\n{}",
         table(&head, rows)
     )
 }

@@ -1,7 +1,8 @@
 //! Times of the proved operations and of the program, beside those of the second checker and of a plain ranking, all in
 //! one run. Prints the tables; with `--write` it also writes them to TABLE.md, the plot beside it, and a short table
-//! into the README. With `--beside PROGRAM` it measures the operations beside those of another archive: PROGRAM is this
-//! program, linked with that archive. Both are then called with `--turn MODEL`, which prints the times of one turn.
+//! into the README. With `--beside PROGRAM FUNCTION..` it measures the operations beside those of another archive that
+//! lacks these functions: PROGRAM is this program, linked with that archive. Both are then called with
+//! `--turn MODEL FUNCTION..`, which prints the times of one turn.
 mod beside;
 mod growth;
 mod plain;
@@ -33,8 +34,8 @@ fn main() {
     let arguments: Vec<String> = std::env::args().skip(1).collect();
     let arguments: Vec<&str> = arguments.iter().map(String::as_str).collect();
     match arguments[..] {
-        ["--beside", other] => print!("{}", beside::table_of(other)),
-        ["--turn", model] => print!("{}", beside::turn(model)),
+        ["--beside", other, ref lacking @ ..] => print!("{}", beside::table_of(other, lacking)),
+        ["--turn", model, ref lacking @ ..] => print!("{}", beside::turn(model, lacking)),
         _ => measure(arguments == ["--write"]),
     }
 }

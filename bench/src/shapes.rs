@@ -1,7 +1,7 @@
 //! The models that are measured.
 use std::collections::BTreeSet;
 
-use second::gen::Rng;
+use second::gen::{greatest_roll, Rng};
 use second::{Action, Level, Model, Step};
 
 const SEED: u64 = 0x7113;
@@ -140,6 +140,7 @@ pub fn shapes() -> Vec<(&'static str, Model)> {
         ("two states of 63 steps", two_states_of_63_steps()),
         ("dense random", dense(128, 1_023)),
         ("dense deterministic", dense_deterministic()),
+        ("greatest roll", greatest_roll()),
         ("typical", typical()),
     ]
 }
@@ -149,6 +150,7 @@ pub const LEGEND: &str = "\
 Chain: from each state to the next. Fan: from i to i+1 up to i+8. On and back: from i to i+1 and to 0 up to 6. Two
 states of 400 steps: they lead to each state of a chain of 100 with 4 actions; two of 63 steps: to states of such a
 chain, as wide as 64 actions allow without branching. Dense: 128 states, 1,023 random steps. These have one high step,
-from the start to the state after it. Typical: a till of 20 stages of a sale, its printer free or busy, 40 states; its
-leak is 10 steps from the start.
+from the start to the state after it. Greatest roll: a ring with 7 or 9 actions from each state to the next, whose roll
+has 832 lines; its leak is 127 steps from the start. Typical: a till of 20 stages of a sale, its printer free or busy,
+40 states; its leak is 10 steps from the start.
 ";

@@ -10,6 +10,8 @@ struct Measured {
     states: u16,
     steps: usize,
     letters: Result<usize, u16>,
+    /// The lines of the roll.
+    lines: usize,
     times: Times,
 }
 
@@ -27,6 +29,7 @@ pub fn measure() -> Report {
             states: model.states,
             steps: model.steps.len(),
             letters: timed.letters,
+            lines: lines(&second::roll_program(&model.to_text())),
             times: timed.times(),
         }
     };
@@ -35,6 +38,10 @@ pub fn measure() -> Report {
         models: shapes::shapes().into_iter().map(measured).collect(),
         empty: [process::PROGRAM, process::SECOND].map(empty),
     }
+}
+
+fn lines(roll: &[u8]) -> usize {
+    roll.iter().filter(|&&byte| byte == b'\n').count()
 }
 
 /// A table; the first column stands left, the others right.
@@ -49,10 +56,10 @@ pub fn table(head: &[&str], rows: impl IntoIterator<Item = Vec<String>>) -> Stri
 
 /// Three digits, or all that stand before the point.
 pub fn digits(value: f64) -> String {
-    match value {
-        _ if value >= 100.0 => format!("{value:.0}"),
-        _ if value >= 10.0 => format!("{value:.1}"),
-        _ if value >= 1.0 => format!("{value:.2}"),
+    match value.abs() {
+        size if size >= 100.0 => format!("{value:.0}"),
+        size if size >= 10.0 => format!("{value:.1}"),
+        size if size >= 1.0 => format!("{value:.2}"),
         _ => format!("{value:.3}"),
     }
 }
@@ -112,6 +119,18 @@ impl Measured {
         self.times.ours[column("Rank")]
     }
 
+    /// What Roll takes more than Page.
+    fn more(&self) -> f64 {
+        self.times.ours[column("Roll")] - self.times.ours[column("Page")]
+    }
+
+    fn roll_row(&self) -> Vec<String> {
+        let [page, roll] = ["Page", "Roll"].map(|name| self.ours(column(name)));
+        let lines = self.lines.to_string();
+        let more = digits(self.more());
+        vec![self.name.to_string(), lines, page, roll, more]
+    }
+
     fn program(&self) -> f64 {
         self.times.ours[column("program")]
     }
@@ -138,7 +157,7 @@ const COLUMNS: &str = "\
 Letters: the length of the word that Word shows. *: the model branches and has no word, and Word's time is that of its
 refusal, 23; the row below it has its deterministic variant, which is refused with a word. Run goes to a reachable state
 as far from the start as any. Print is the way from the text to the page in one call, and tell is Read, Judge and Word
-in one; program is print with its process, from its start to its end.
+in one; program is `till`: print with its process, from its start to its end.
 ";
 
 const RATIOS: &str = "\
@@ -152,14 +171,15 @@ written for speed in Rust, is not proved, and takes a good store for granted.
 ";
 
 /// The models that the README shows, and what it calls them.
-const SHORT: [(&str, &str); 3] = [
+const SHORT: [(&str, &str); 4] = [
     ("typical", "a typical till"),
     ("chain of 128, 8 actions", "the largest chain"),
     ("dense random", "dense, at random"),
+    ("greatest roll", "the greatest roll"),
 ];
 
 /// What the README shows of them.
-const SHORT_COLUMNS: [&str; 4] = ["Read", "Judge", "Page", "program"];
+const SHORT_COLUMNS: [&str; 5] = ["Read", "Judge", "Page", "Roll", "program"];
 
 impl Report {
     /// The times of the proved operations and of the program.
@@ -187,6 +207,15 @@ impl Report {
         models.find(|model| model.name == name).expect("a model")
     }
 
+    /// The greatest of some times of all models.
+    fn most(&self, time: fn(&Measured) -> f64) -> f64 {
+        self.models
+            .iter()
+            .map(time)
+            .reduce(f64::max)
+            .expect("some model")
+    }
+
     /// What the README shows: a few rows, and what they mean.
     pub fn short(&self) -> String {
         let row = |(name, called): (&str, &str)| {
@@ -201,13 +230,13 @@ impl Report {
         };
         let head = [&["model", "states", "steps"], &SHORT_COLUMNS[..]].concat();
         let times = table(&head, SHORT.map(row));
-        let programs = self.models.iter().map(Measured::program);
-        let slowest = digits(programs.reduce(f64::max).expect("some model"));
+        let slowest = digits(self.most(Measured::program));
+        let more = digits(self.most(Measured::more));
         let [process, _] = self.empty.map(digits);
         format!(
             "Microseconds, the best of many calls, on {}:\n\n{times}\n\
-             The program answers on every model of the benchmark within {slowest}; {process} of that go to its \
-             process, as an empty text shows.\n\
+             The program `till` answers on every model of the benchmark within {slowest}; {process} of that go to its \
+             process, as\nan empty text shows. Roll takes at most {more} more than Page.\n\
              `bench/TABLE.md` has every model and operation, and beside them the times of the second checker \
              and of a plain ranking.\n",
             machine()
@@ -220,6 +249,9 @@ impl Report {
         let second = table(&head, self.models.iter().map(Measured::second_row));
         let head = ["model", "Rank", "plain", "Rank / plain"];
         let plain = table(&head, self.models.iter().map(Measured::plain_row));
+        let head = ["model", "lines of the roll", "Page", "Roll", "Roll - Page"];
+        let rolls = table(&head, self.models.iter().map(Measured::roll_row));
+        let more = digits(self.most(Measured::more));
         let [program, second_program] = self.empty.map(digits);
         let how = format!(
             "Microseconds, the best of many calls, all in one run, on {}. No list is cleared\n\
@@ -232,6 +264,8 @@ impl Report {
             "# Times\n\nMade by `bash bench/run --write`.\n\n{parts}\n\
              A process alone: on an empty text the program takes {program}, the second checker's {second_program}.\n\n\
              ## The second checker (in brackets: our time by its time)\n\n{second}\n\
+             ## Roll beside Page\n\n\
+             What Roll takes more than Page is to stay below 100. On these models it is at most {more}.\n\n{rolls}\n\
              ## Rank beside the plain ranking\n\n{plain}\n"
         )
     }

@@ -22,14 +22,16 @@ pub const TURNS: usize = 5;
 
 const UNREACHABLE: u16 = 65_535;
 
-/// The operations, in the order of the tables.
-pub fn operations() -> impl Iterator<Item = &'static str> {
-    ALL.iter().map(|operation| operation.name())
+/// The operations, in the order of the tables, of an archive that lacks these functions.
+pub fn operations(lacking: &[&str]) -> Vec<&'static dyn AnyOperation> {
+    let has = |operation: &&dyn AnyOperation| !lacking.contains(&operation.function());
+    ALL.iter().copied().filter(has).collect()
 }
 
 /// What is timed, in the order of the tables.
 pub fn names() -> Vec<&'static str> {
-    operations().chain(["program"]).collect()
+    let names = ALL.iter().map(|operation| operation.name());
+    names.chain(["program"]).collect()
 }
 
 /// The place of a name among them.
@@ -76,6 +78,7 @@ pub struct Times {
 
 /// A model and its lists, which are filled over and over.
 pub struct Timed {
+    operations: Vec<&'static dyn AnyOperation>,
     /// Run goes to a reachable state as far from the start as any.
     input: Input,
     lists: Lists,
@@ -86,7 +89,13 @@ pub struct Timed {
 impl Timed {
     /// Lists of least length, filled once.
     pub fn of(model: &Model) -> Timed {
+        Timed::without(model, &[])
+    }
+
+    /// The same with an archive that lacks these functions, which are not called.
+    pub fn without(model: &Model, lacking: &[&str]) -> Timed {
         let mut timed = Timed {
+            operations: operations(lacking),
             input: Input {
                 store: Store::of(model),
                 ..Input::from(&model.to_text())
@@ -125,7 +134,7 @@ impl Timed {
 
     /// Each operation does what the second checker's does, and none but Word is timed on a refusal.
     fn compare(&self) {
-        for operation in ALL {
+        for operation in &self.operations {
             let (refusal, _) = operation.refusal(&self.input, &self.lists);
             let name = operation.name();
             assert!(refusal.is_none() || name == WORD.name, "{name}");
@@ -157,7 +166,7 @@ impl Timed {
     pub fn operations(&mut self) -> Each {
         let Timed { input, lists, .. } = self;
         let call = |operation: &&dyn AnyOperation| best(|| operation.call_proved(input, lists));
-        ALL.iter().map(call).collect()
+        self.operations.iter().map(call).collect()
     }
 
     /// One turn of the proved operations and the program.
@@ -171,7 +180,7 @@ impl Timed {
     fn second(&mut self) -> Each {
         let Timed { input, lists, .. } = self;
         let call = |operation: &&dyn AnyOperation| best(|| operation.call_second(input, lists));
-        let mut each: Each = ALL.iter().map(call).collect();
+        let mut each: Each = self.operations.iter().map(call).collect();
         each.push(best(|| process::run(process::SECOND, &input.text)));
         each
     }

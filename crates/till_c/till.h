@@ -57,6 +57,7 @@ extern "C" {
 #define TILL_RUN (TILL_STATE_LIMIT - 1)
 #define TILL_WORD (TILL_STATE_LIMIT - 1)
 #define TILL_PAGE 5000
+#define TILL_ROLL 35840
 #define TILL_WRITTEN 14420
 
 /* The distance of a state that cannot be reached, and of places past the states. */
@@ -137,6 +138,12 @@ TillAnswer till_word(const uint16_t *store, size_t store_len, uint16_t *distance
 /* Fills distances and ranks, the run to the source of Judge's step if the model is refused, the word if the page has a
    `B` line, and the page. One value: the bytes of the page. */
 TillAnswer till_page(const uint16_t *store, size_t store_len, uint16_t *distances, size_t distances_len,
+                     uint8_t *table, size_t table_len, uint16_t *run, size_t run_len, uint16_t *word, size_t word_len,
+                     uint8_t *out, size_t out_len);
+
+/* The same on receipt paper: fills the lists as till_page does, but out with the roll, each of whose lines has 42
+   columns. One value: the bytes of the roll. */
+TillAnswer till_roll(const uint16_t *store, size_t store_len, uint16_t *distances, size_t distances_len,
                      uint8_t *table, size_t table_len, uint16_t *run, size_t run_len, uint16_t *word, size_t word_len,
                      uint8_t *out, size_t out_len);
 

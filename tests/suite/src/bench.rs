@@ -15,6 +15,22 @@ pub const WORKED: &[u8] =
 pub const WORKED_PAGE: &[u8] =
     b"V,refuse,1,2\nC,0,0,0\nC,1,1,0\nC,2,1,2\nC,3,2,3\nW,scan\nW,scan\nB,source\nE\n";
 
+/// Its roll: each line has 42 columns.
+pub fn worked_roll() -> String {
+    let lines = [
+        "V,refuse,1,2",
+        "  0   0   0 scan",
+        "  1   1   0 scan",
+        "  2   1   2 scan",
+        "  3   2   3",
+        "W,scan",
+        "W,scan",
+        "B,source",
+        "E",
+    ];
+    lines.map(|line| format!("{line:<42}\n")).concat()
+}
+
 /// The distances of the worked example.
 pub fn worked_distances() -> Vec<u16> {
     let mut distances = vec![65_535; DISTANCES];
@@ -105,19 +121,39 @@ pub fn root() -> PathBuf {
     Path::new(env!("CARGO_MANIFEST_DIR")).join("../..")
 }
 
-/// The file, the text and the page of each example.
-pub fn examples() -> Vec<(PathBuf, Vec<u8>, Vec<u8>)> {
+/// The files of the examples with this ending, at least so many.
+fn files(ending: &str, least: usize) -> Vec<PathBuf> {
     let folder = fs::read_dir(root().join("examples")).expect("the examples' folder");
     let mut files: Vec<PathBuf> = folder.map(|entry| entry.expect("a file").path()).collect();
-    files.retain(|file| file.extension().is_some_and(|end| end == "txt"));
+    files.retain(|file| file.extension().is_some_and(|end| end == ending));
     files.sort();
-    assert!(files.len() > 10, "{files:?}");
+    assert!(files.len() >= least, "{files:?}");
+    files
+}
+
+/// The file, the text and the page of each example.
+pub fn examples() -> Vec<(PathBuf, Vec<u8>, Vec<u8>)> {
     let with_page = |file: PathBuf| {
         let text = fs::read(&file).expect("a text");
         let page = fs::read(file.with_extension("page")).expect("a page beside each text");
         (file, text, page)
     };
-    files.into_iter().map(with_page).collect()
+    files("txt", 11).into_iter().map(with_page).collect()
+}
+
+/// The file, the text and what the roll's program prints of each example that has a roll, and of each that is not read:
+/// there it is the line of the page.
+pub fn rolls() -> Vec<(PathBuf, Vec<u8>, Vec<u8>)> {
+    let with_text = |roll: PathBuf| {
+        let printed = fs::read(&roll).expect("a roll");
+        let file = roll.with_extension("txt");
+        let text = fs::read(&file).expect("a text beside each roll");
+        (file, text, printed)
+    };
+    let mut rolls: Vec<_> = files("roll", 4).into_iter().map(with_text).collect();
+    let not_read = examples().into_iter();
+    rolls.extend(not_read.filter(|(_, _, page)| page.starts_with(b"F,")));
+    rolls
 }
 
 /// A folder of a test's own, which goes with this value.

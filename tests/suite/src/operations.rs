@@ -68,6 +68,7 @@ operations! {
     RUN: "Run" till_run(store; distances, run; state) -> usize, second::run;
     WORD: "Word" till_word(store; distances, table, word) -> (usize, End), second::word;
     PAGE: "Page" till_page(store; distances, table, run, word, page) -> usize, second::page;
+    ROLL: "Roll" till_roll(store; distances, table, run, word, roll) -> usize, second::roll;
     WRITE: "Write" till_write(store; written) -> usize, second::write;
     PRINT: "print" till_print(text; store, distances, table, run, word, page) -> usize, expected_print;
     TELL: "tell" till_tell(text; store, distances, table, word) -> Told, expected_tell;

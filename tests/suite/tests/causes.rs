@@ -1,5 +1,5 @@
 //! What is told of a text that is not read: the number and the place of its first bad line. In a line 32 is tested
-//! first, then 2, then 31, then 3, then 4 or 5, each over the whole line. By the operations, the program, the script.
+//! first, then 2, then 31, then 3, then 4 or 5, each over the whole line. By the operations, the programs, the script.
 use std::collections::BTreeSet;
 use std::fs;
 use std::process::Command;
@@ -204,10 +204,12 @@ fn refused(text: &[u8], expected: Refusal, before: &Lists) {
     assert_eq!(&after.page[..line.len()], line.as_bytes());
 }
 
-fn printed_by_the_program(text: &[u8], expected: Refusal) {
+fn printed_by_the_programs(text: &[u8], expected: Refusal) {
     let _case = gen::text_case(text);
-    let mut program = Command::new(root().join("target/bin/till"));
-    prints(run(&mut program, text), 0, &line_of(expected));
+    for program in ["till", "till_roll"] {
+        let mut program = Command::new(root().join("target/bin").join(program));
+        prints(run(&mut program, text), 0, &line_of(expected));
+    }
 }
 
 #[test]
@@ -219,9 +221,9 @@ fn by_the_operations() {
 }
 
 #[test]
-fn by_the_program() {
+fn by_the_programs() {
     for (text, expected) in cases() {
-        printed_by_the_program(&text, expected);
+        printed_by_the_programs(&text, expected);
     }
 }
 
@@ -283,11 +285,11 @@ fn every_cause_and_every_pair() {
 }
 
 #[test]
-fn every_cause_and_every_pair_by_the_program() {
+fn every_cause_and_every_pair_by_the_programs() {
     let model = text::parse(WORKED).expect("the text is good");
     let bad_lines = gen::bad_lines(&model);
     for bad in &bad_lines {
-        printed_by_the_program(&bad.fault.text, bad.fault.refusal);
+        printed_by_the_programs(&bad.fault.text, bad.fault.refusal);
     }
     let number = |bad: &BadLine| (bad.fault.refusal.number, bad.also.map(|also| also.number()));
     let seen: BTreeSet<_> = bad_lines.iter().map(number).collect();

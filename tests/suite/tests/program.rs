@@ -1,9 +1,9 @@
-//! The program against the second checker.
+//! The programs against the second checker.
 use std::process::Command;
 use std::time::Duration;
 
 use second::gen::{self, shown, Fault, Rng};
-use suite::bench::{examples, root, WORKED, WORKED_PAGE};
+use suite::bench::{examples, rolls, root, worked_roll, WORKED, WORKED_PAGE};
 use suite::command::run_in_pieces;
 use suite::texts::{models_to_damage, one_of_each};
 
@@ -12,47 +12,79 @@ const SEED: u64 = 7_500;
 /// The most bytes that a text may have.
 const LONGEST: usize = 16_384;
 
-fn in_pieces(pieces: &[&[u8]], pause: Duration) -> Vec<u8> {
-    let mut program = Command::new(root().join("target/bin/till"));
-    let output = run_in_pieces(&mut program, pieces, pause);
-    assert!(output.status.success(), "{output:?}");
-    assert!(output.stderr.is_empty(), "{output:?}");
-    output.stdout
+/// A program, and what the second checker prints in its place.
+struct Program {
+    name: &'static str,
+    second: fn(&[u8]) -> Vec<u8>,
 }
 
-fn printed(text: &[u8]) -> Vec<u8> {
-    in_pieces(&[text], Duration::ZERO)
-}
+const TILL: Program = Program {
+    name: "till",
+    second: second::program,
+};
+const TILL_ROLL: Program = Program {
+    name: "till_roll",
+    second: second::roll_program,
+};
+const BOTH: [Program; 2] = [TILL, TILL_ROLL];
 
-/// The program prints what the second checker prints.
-fn same(text: &[u8]) -> Vec<u8> {
-    same_in_pieces(&[text], Duration::ZERO)
-}
+impl Program {
+    fn in_pieces(&self, pieces: &[&[u8]], pause: Duration) -> Vec<u8> {
+        let mut program = Command::new(root().join("target/bin").join(self.name));
+        let output = run_in_pieces(&mut program, pieces, pause);
+        assert!(output.status.success(), "{output:?}");
+        assert!(output.stderr.is_empty(), "{output:?}");
+        output.stdout
+    }
 
-fn same_in_pieces(pieces: &[&[u8]], pause: Duration) -> Vec<u8> {
-    let text = pieces.concat();
-    let lengths = || pieces.iter().map(|piece| piece.len()).collect::<Vec<_>>();
-    let _case = gen::case(|| format!("text: {}\nin pieces of {:?}", shown(&text), lengths()));
-    let page = in_pieces(pieces, pause);
-    let expected = second::program(&text);
-    assert!(
-        page == expected,
-        "printed:\n{}\nexpected:\n{}",
-        shown(&page),
-        shown(&expected)
-    );
-    page
+    fn printed(&self, text: &[u8]) -> Vec<u8> {
+        self.in_pieces(&[text], Duration::ZERO)
+    }
+
+    /// The program prints what the second checker prints.
+    fn same(&self, text: &[u8]) -> Vec<u8> {
+        self.same_in_pieces(&[text], Duration::ZERO)
+    }
+
+    fn same_in_pieces(&self, pieces: &[&[u8]], pause: Duration) -> Vec<u8> {
+        let (name, text) = (self.name, pieces.concat());
+        let lengths = || pieces.iter().map(|piece| piece.len()).collect::<Vec<_>>();
+        let _case = gen::case(|| {
+            let (text, lengths) = (shown(&text), lengths());
+            format!("{name}, text: {text}\nin pieces of {lengths:?}")
+        });
+        let printed = self.in_pieces(pieces, pause);
+        let expected = (self.second)(&text);
+        assert!(
+            printed == expected,
+            "printed:\n{}\nexpected:\n{}",
+            shown(&printed),
+            shown(&expected)
+        );
+        printed
+    }
 }
 
 #[test]
 fn the_examples() {
     for (file, text, page) in examples() {
-        assert_eq!(same(&text), page, "{}", file.display());
+        assert_eq!(TILL.same(&text), page, "{}", file.display());
+        TILL_ROLL.same(&text);
+    }
+    for (file, text, roll) in rolls() {
+        assert_eq!(TILL_ROLL.same(&text), roll, "{}", file.display());
     }
 }
 
 #[test]
 fn sizes() {
+    for program in BOTH {
+        sizes_of(&program);
+    }
+}
+
+fn sizes_of(program: &Program) {
+    let same = |text: &[u8]| program.same(text);
     assert_eq!(same(b""), b"F,32,1\n");
     for (byte, line) in [
         (b'\n', &b"F,2,1\n"[..]),
@@ -65,10 +97,11 @@ fn sizes() {
         assert_eq!(same(&[byte; 20_000]), b"F,1,0\n");
     }
     let mut rng = gen::seeded("program::sizes", SEED);
-    for (_, model) in gen::limit_models(&mut rng) {
+    let limits = gen::limit_models(&mut rng).into_iter();
+    for model in limits.map(|(_, model)| model).chain([gen::greatest_roll()]) {
         let mut text = model.to_text();
-        let page = same(&text);
-        assert!(page.starts_with(b"V,"));
+        let printed = same(&text);
+        assert!(printed.starts_with(b"V,"));
         let after_end = 1 + model.actions.len() + model.steps.len() + 2;
         text.resize(LONGEST, b'\n');
         assert_eq!(same(&text), format!("F,32,{after_end}\n").into_bytes());
@@ -92,6 +125,12 @@ fn cut<'a>(rng: &mut Rng, text: &'a [u8], most: usize) -> Vec<&'a [u8]> {
 
 #[test]
 fn a_slow_pipe() {
+    slow_pipe_to(&TILL, WORKED_PAGE);
+    slow_pipe_to(&TILL_ROLL, worked_roll().as_bytes());
+}
+
+fn slow_pipe_to(program: &Program, worked: &[u8]) {
+    let same_in_pieces = |pieces: &[&[u8]], pause| program.same_in_pieces(pieces, pause);
     let mut rng = gen::seeded("program::a_slow_pipe", SEED + 1);
     let pause = Duration::from_millis(7);
     let mut texts: Vec<Vec<u8>> = [LONGEST, LONGEST + 1, 20_000]
@@ -107,12 +146,12 @@ fn a_slow_pipe() {
     // nothing at all, each byte by itself, and bytes that come after all else
     assert_eq!(same_in_pieces(&[b"", b""], pause), b"F,32,1\n");
     let bytes: Vec<&[u8]> = WORKED.chunks(1).collect();
-    assert_eq!(same_in_pieces(&bytes, pause), WORKED_PAGE);
+    assert_eq!(same_in_pieces(&bytes, pause), worked);
     assert_eq!(same_in_pieces(&[WORKED, b"\n"], pause), b"F,32,10\n");
     let full = [b'\n'; LONGEST];
     assert_eq!(same_in_pieces(&[&full, b"\n"], pause), b"F,1,0\n");
     let (first, last) = WORKED.split_at(WORKED.len() - 1);
-    assert_eq!(same_in_pieces(&[first, last], pause), WORKED_PAGE);
+    assert_eq!(same_in_pieces(&[first, last], pause), worked);
 }
 
 /// The depth that a page tells, 0 if it is a page of a passed model.
@@ -137,10 +176,26 @@ fn random_models() {
             2..=4 => gen::deterministic_model(&mut rng),
             _ => gen::any_model(&mut rng),
         };
-        depths[depth(&same(&model.to_text()))] += 1;
+        depths[depth(&TILL.same(&model.to_text()))] += 1;
     }
     assert!(depths[0] > 800, "{} are passed", depths[0]);
     assert!(depths.iter().all(|&count| count > 3), "{depths:?}");
+}
+
+#[test]
+fn random_rolls() {
+    let mut rng = gen::seeded("program::random_rolls", SEED + 5);
+    let mut refused = 0;
+    for round in 0..2_000 {
+        let model = match round % 4 {
+            0 => gen::deep_model(&mut rng, 1 + round / 4 % 127),
+            1 => gen::any_model(&mut rng),
+            _ => gen::wide_model(&mut rng, round % 4 == 2),
+        };
+        let roll = TILL_ROLL.same(&model.to_text());
+        refused += usize::from(roll.starts_with(b"V,refuse,"));
+    }
+    assert!((800..1_900).contains(&refused), "{refused}");
 }
 
 #[test]
@@ -152,14 +207,21 @@ fn damaged_texts() {
             0 => gen::scrap_text(&mut rng),
             _ => gen::mutated_text(&mut rng, &text),
         };
-        let _ = same(&text);
+        TILL.same(&text);
+        if round % 4 == 0 {
+            TILL_ROLL.same(&text);
+        }
     }
 }
 
+/// Both programs print the same line, which is not padded.
 fn refused(fault: &Fault) {
     let _case = gen::text_case(&fault.text);
     let line = format!("F,{},{}\n", fault.refusal.number, fault.refusal.place);
-    assert_eq!(printed(&fault.text), line.into_bytes(), "{}", fault.what);
+    for program in BOTH {
+        let printed = String::from_utf8(program.printed(&fault.text)).expect("a line");
+        assert_eq!(printed, line, "{}: {}", program.name, fault.what);
+    }
 }
 
 /// Every fault of two texts, and one of each kind at each kind of line of many more.

@@ -1,4 +1,5 @@
-//! The script `till`: what it prints, its statuses, and when it makes the program. And `tests/run` where it fails.
+//! The script `till`: what it prints, its statuses, and when it makes the programs. And `tests/run` where it fails.
+use std::collections::BTreeSet;
 use std::fs::{self, File};
 use std::os::fd::OwnedFd;
 use std::os::unix::fs::{symlink, PermissionsExt};
@@ -9,7 +10,7 @@ use std::process::{Child, Command, Output, Stdio};
 use std::thread::sleep;
 use std::time::{Duration, Instant};
 
-use suite::bench::{examples, root, Folder};
+use suite::bench::{examples, rolls, root, Folder};
 use suite::command::{prints, run};
 
 /// Status 3: the script says why and prints nothing.
@@ -20,24 +21,26 @@ fn fails(output: Output, why: &str) {
     assert!(said.starts_with("till: ") && said.contains(why), "{said}");
 }
 
-// ---- with the program
+// ---- with the programs
 
 fn script() -> Command {
     Command::new(root().join("till"))
 }
 
-/// An example with its page and the status that its page stands for.
-fn pages() -> Vec<(PathBuf, Vec<u8>, String, i32)> {
-    let status = |page: &str| match page {
-        _ if page.starts_with("F,") => 2,
-        _ if page.starts_with("V,refuse,") => 1,
+/// An example with what is printed of it and the status that this stands for.
+type Example = (PathBuf, Vec<u8>, String, i32);
+
+fn with_status((file, text, printed): (PathBuf, Vec<u8>, Vec<u8>)) -> Example {
+    let printed = String::from_utf8(printed).expect("a page or a roll");
+    let status = match &printed {
+        _ if printed.starts_with("F,") => 2,
+        _ if printed.starts_with("V,refuse,") => 1,
         _ => 0,
     };
-    let with_status = |(file, text, page)| {
-        let page = String::from_utf8(page).expect("a page");
-        let status = status(&page);
-        (file, text, page, status)
-    };
+    (file, text, printed, status)
+}
+
+fn pages() -> Vec<Example> {
     examples().into_iter().map(with_status).collect()
 }
 
@@ -53,10 +56,29 @@ fn one_file_or_standard_input() {
     }
 }
 
+/// The status is the page's, whichever is printed; where there is no page, its line stands as it is.
+#[test]
+fn rolls_of_one_file_or_standard_input() {
+    let mut statuses = BTreeSet::new();
+    for (file, text, roll, status) in rolls().into_iter().map(with_status) {
+        prints(run(script().arg("--roll").arg(&file), b""), status, &roll);
+        prints(run(script().arg(&file).arg("--roll"), b""), status, &roll);
+        prints(run(script().arg("--roll"), &text), status, &roll);
+        statuses.insert(status);
+    }
+    assert!(statuses.into_iter().eq([0, 1, 2]));
+    let none = example("none.txt");
+    fails(run(script().arg("--roll").arg(none), b""), "no such file");
+    for files in [["worked.txt", "worked.txt"], ["none.txt", "worked.txt"]] {
+        let output = run(script().arg("--roll").args(files.map(example)), b"");
+        fails(output, "a roll is printed alone");
+    }
+}
+
 /// A line for each file; the worst status counts.
 #[test]
 fn several_files() {
-    let line = |(file, _, page, _): &(PathBuf, Vec<u8>, String, i32)| {
+    let line = |(file, _, page, _): &Example| {
         let first = page.lines().next().expect("a line");
         format!("{}: {first}\n", file.display())
     };
@@ -122,7 +144,9 @@ fn no_text() {
     of_a_folder.stdin(File::open(&folder.0).expect("a folder"));
     let output = of_a_folder.output().expect("the script starts");
     fails(output, "standard input cannot be read");
-    fails(shell("exec \"$0\" <&-"), "standard input cannot be read");
+    for line in ["exec \"$0\" <&-", "exec \"$0\" --roll <&-"] {
+        fails(shell(line), "standard input cannot be read");
+    }
 }
 
 /// What a line of a shell makes of the script and a model that passes.
@@ -135,7 +159,7 @@ fn shell(line: &str) -> Output {
 #[test]
 fn no_place_to_print() {
     for to in ["/dev/full", "&-"] {
-        for words in ["\"$1\"", "\"$1\" \"$1\"", "--help"] {
+        for words in ["\"$1\"", "--roll \"$1\"", "\"$1\" \"$1\"", "--help"] {
             let output = shell(&format!("exec \"$0\" {words} >{to}"));
             fails(output, "nothing can be printed");
         }
@@ -149,17 +173,21 @@ fn readers_that_leave() {
     let lines = |line: &str| {
         let mut shell = Command::new("bash");
         shell.args(["-o", "pipefail", "-c", line]);
-        shell.arg(root().join("till")).arg(example("worked.txt"));
+        shell.arg(root().join("till"));
+        shell.args(["worked.txt", "roll_832.txt"].map(example));
         run(&mut shell, b"")
     };
     prints(lines("\"$0\" \"$1\" | head -n 1"), 1, "V,refuse,1,2\n");
+    let first = "\"$0\" --roll \"$2\" | head -n 1 | cut -c 1-9";
+    prints(lines(first), 1, "V,refuse,\n");
     prints(lines("\"$0\" -h | head -n 1 | cut -c 1-6"), 0, "usage:\n");
-    for word in ["examples/worked.txt", "--help"] {
+    let worked = "examples/worked.txt";
+    for words in [&[worked][..], &["--roll", worked], &["--help"]] {
         let (reader, writer) = UnixStream::pair().expect("two ends");
         drop(reader);
         let mut unread = script();
         unread.stdout(OwnedFd::from(writer)).current_dir(root());
-        let output = unread.arg(word).output().expect("the script starts");
+        let output = unread.args(words).output().expect("the script starts");
         assert_eq!(output.status.signal(), Some(13), "{output:?}");
         assert!(output.stderr.is_empty(), "{output:?}");
     }
@@ -193,18 +221,23 @@ fn ways_to_start() {
 
 // ---- with another kit
 
-/// Stands in for the kit: the program that it makes passes each text, and tells the source's number as the rank.
+/// Stands in for the kit: each program that it makes passes each text, and tells the source's number as the rank. It
+/// notes the name of each, and as the kit does it links none whose stamp is that of the source.
 const KIT: &str = r#"#!/bin/sh
 kit=$(dirname "$0")
 case $1 in
 version) cat "$kit/version" ;;
 check)
-    echo making >>"$kit/makings"
+    echo "$2" >>"$kit/makings"
     rank=$(cat crates/a/src/lib.rt)
     while [ -f "$kit/hold" ]; do sleep 0.01; done
     [ ! -f "$kit/broken" ] || { echo "rt: FAILED: a" && exit 1; }
-    printf '#!/bin/sh\ncat >/dev/null\necho V,pass,%s\necho E\n' "$rank" >target/bin/till
-    chmod +x target/bin/till
+    [ "$rank" != "$(cat "target/stamp/$2" 2>/dev/null)" ] || exit 0
+    columns=1
+    [ "$2" = till ] || columns=42
+    printf '#!/bin/sh\ncat >/dev/null\nprintf "%%-%ss\\n" V,pass,%s E\n' $columns "$rank" >"target/bin/$2"
+    chmod +x "target/bin/$2"
+    mkdir -p target/stamp && echo "$rank" >"target/stamp/$2"
     [ ! -f "$kit/edit" ] || mv "$kit/edit" crates/a/src/lib.rt
     ;;
 esac
@@ -267,7 +300,11 @@ impl Checkout {
 
     /// The script's output on a text that the program does not look at.
     fn run(&self) -> Output {
-        run(&mut self.script("till"), b"")
+        self.run_with(&[])
+    }
+
+    fn run_with(&self, options: &[&str]) -> Output {
+        run(self.script("till").args(options), b"")
     }
 
     fn makings(&self) -> usize {
@@ -275,13 +312,31 @@ impl Checkout {
         makings.map_or(0, |makings| makings.lines().count())
     }
 
-    /// The script passes a text with this rank; by now the program has been made so many times.
+    /// The script passes a text with this rank; by now programs have been made so many times.
     fn passes(&self, rank: u16, makings: usize) {
-        let output = self.run();
+        self.passes_with(&[], page(rank), makings);
+    }
+
+    /// The same with a roll.
+    fn rolls(&self, rank: u16, makings: usize) {
+        self.passes_with(&["--roll"], roll(rank), makings);
+    }
+
+    fn passes_with(&self, options: &[&str], printed: String, makings: usize) {
+        let output = self.run_with(options);
         assert_eq!(output.status.code(), Some(0), "{output:?}");
-        assert_eq!(output.stdout, format!("V,pass,{rank}\nE\n").into_bytes());
+        assert_eq!(String::from_utf8_lossy(&output.stdout), printed);
         assert_eq!(self.makings(), makings, "{output:?}");
     }
+}
+
+/// What that kit's programs print.
+fn page(rank: u16) -> String {
+    format!("V,pass,{rank}\nE\n")
+}
+
+fn roll(rank: u16) -> String {
+    format!("{:<42}\n{:<42}\n", format!("V,pass,{rank}"), "E")
 }
 
 /// What counts are the contents of the sources, the kit and the program, and not the times of files.
@@ -305,6 +360,43 @@ fn made_by_contents() {
     checkout.passes(2, 6);
 }
 
+/// Each program is made when it is used first, and noted by itself; `--make` makes both.
+#[test]
+fn two_programs() {
+    let checkout = Checkout::new("two_programs");
+    let files = ["crates.txt", "crates.txt"].map(|name| checkout.file(name));
+    let mut several = checkout.script("till");
+    let output = run(several.arg("--roll").args(files), b"");
+    fails(output, "a roll is printed alone");
+    assert_eq!(checkout.makings(), 0);
+    checkout.rolls(1, 1);
+    checkout.passes(1, 2);
+    checkout.rolls(1, 2);
+    checkout.write("target/bin/till_roll", "#!/bin/sh\necho V,pass,7\necho E\n");
+    checkout.passes(1, 2);
+    checkout.rolls(1, 3);
+    checkout.write("crates/a/src/lib.rt", "2\n");
+    checkout.passes(2, 4);
+    checkout.rolls(2, 5);
+    let made = |makings| {
+        let output = checkout.run_with(&["--make"]);
+        assert_eq!(output.status.code(), Some(0), "{output:?}");
+        assert!(output.stdout.is_empty(), "{output:?}");
+        assert_eq!(checkout.makings(), makings, "{output:?}");
+    };
+    made(5);
+    fs::remove_file(checkout.file("target/bin/till.made")).expect("a note");
+    made(6);
+    checkout.write("crates/a/src/lib.rt", "3\n");
+    made(8);
+    checkout.passes(3, 8);
+    checkout.rolls(3, 8);
+    let makings = fs::read_to_string(checkout.file("kit/makings")).expect("names");
+    let names: Vec<&str> = makings.lines().collect();
+    let (till, roll) = ("till", "till_roll");
+    assert_eq!(names, [roll, till, roll, till, roll, till, till, roll]);
+}
+
 /// An edit made while the program is proved is not lost: nor is it when it is taken back.
 #[test]
 fn edited_meanwhile() {
@@ -315,19 +407,22 @@ fn edited_meanwhile() {
     checkout.passes(1, 3);
 }
 
-/// One of several first runs makes the program. The others wait for it, and say so: it is not made before they do.
+/// One of several first runs makes a program. The others wait for it, and say so: it is not made before they do. Two of
+/// the four print a roll, and each program is made once.
 #[test]
 fn four_first_runs() {
     let checkout = Checkout::new("four_first_runs");
     checkout.write("kit/hold", "");
     let said = [0, 1, 2, 3].map(|run| checkout.file(&format!("said{run}")));
-    let start = |said: &PathBuf| -> Child {
+    let options: [&[&str]; 4] = [&[], &["--roll"], &["--roll"], &[]];
+    let start = |index: usize| -> Child {
         let mut script = checkout.script("till");
+        script.args(options[index]);
         script.stdin(Stdio::null()).stdout(Stdio::piped());
-        script.stderr(File::create(said).expect("a file"));
+        script.stderr(File::create(&said[index]).expect("a file"));
         script.spawn().expect("the script starts")
     };
-    let runs = said.each_ref().map(start);
+    let runs = [0, 1, 2, 3].map(start);
     let waits = |said: &&PathBuf| {
         let said = fs::read_to_string(said).expect("a file");
         said.starts_with("till: waiting for another run")
@@ -338,11 +433,12 @@ fn four_first_runs() {
         sleep(Duration::from_millis(10));
     }
     fs::remove_file(checkout.file("kit/hold")).expect("a file");
-    for run in runs {
+    for (run, options) in runs.into_iter().zip(options) {
         let output = run.wait_with_output().expect("the script ends");
-        assert_eq!(output.stdout, b"V,pass,1\nE\n", "{output:?}");
+        let printed = if options.is_empty() { page(1) } else { roll(1) };
+        assert_eq!(String::from_utf8_lossy(&output.stdout), printed);
     }
-    assert_eq!(checkout.makings(), 1);
+    assert_eq!(checkout.makings(), 2);
 }
 
 #[test]
@@ -379,14 +475,17 @@ fn without_the_kit() {
         let file = files.find(|file| file.exists());
         symlink(file.expect(name), tools.join(name)).expect("a link");
     }
-    let without = || {
+    let without_kit = |options: &[&str]| {
         let mut command = Command::new("bash");
         command.arg(checkout.file("till")).env("PATH", &tools);
-        run(&mut command, b"")
+        run(command.args(options), b"")
     };
+    let without = || without_kit(&[]);
+    checkout.rolls(1, 1);
+    prints(without_kit(&["--roll"]), 0, &roll(1));
     fails(without(), "the Rattle kit is missing");
-    checkout.passes(1, 1);
-    prints(without(), 0, "V,pass,1\nE\n");
+    checkout.passes(1, 2);
+    prints(without(), 0, &page(1));
     for name in names.split(' ').filter(|&name| name != "bash") {
         let (tool, away) = (tools.join(name), checkout.file("away"));
         fs::rename(&tool, &away).expect("a tool");
@@ -421,25 +520,34 @@ fn tests_without_the_archive() {
     assert!(!checkout.file("kit/went_on").exists(), "the tests went on");
 }
 
-/// A page that is cut short, or that comes with a failure, is no verdict.
+/// A page or a roll that is cut short, or that comes with a failure, is no verdict.
 #[test]
 fn a_program_that_fails() {
     let checkout = Checkout::new("a_program_that_fails");
-    let programs = [
-        ("echo V,pass,1; echo E; exit 1", "the program failed"),
-        ("kill -9 $$", "the program failed"),
-        ("printf 'V,pass,1\\nE'", "no whole page"),
-        ("echo V,pass,1", "no whole page"),
-        ("printf F,2,1", "no whole page"),
-        ("true", "no whole page"),
+    let columns = "printf '%-42s\\n' V,pass,1";
+    let [fails, unended, one_short] = ["E; exit 1", "; printf %-42s E", "; printf '%-41s\\n' E"]
+        .map(|end| format!("{columns} {end}"));
+    let programs: [(&[&str], &str, &str); 12] = [
+        (&[], "echo V,pass,1; echo E; exit 1", "the program failed"),
+        (&[], "kill -9 $$", "the program failed"),
+        (&[], "printf 'V,pass,1\\nE'", "no whole page"),
+        (&[], "echo V,pass,1", "no whole page"),
+        (&[], "printf F,2,1", "no whole page"),
+        (&[], "true", "no whole page"),
+        (&["--roll"], &fails, "the program failed"),
+        (&["--roll"], &unended, "no whole roll"),
+        (&["--roll"], &one_short, "no whole roll"),
+        (&["--roll"], columns, "no whole roll"),
+        (&["--roll"], "printf F,2,1", "no whole roll"),
+        (&["--roll"], "true", "no whole roll"),
     ];
-    for (program, why) in programs {
+    for (options, program, why) in programs {
         let made = format!("#!/bin/sh\ncat >/dev/null\n{program}\n");
         checkout.write("program", &made);
-        let kit = KIT.replace("    chmod", "    cp program target/bin/till\n    chmod");
+        let kit = KIT.replace("    chmod", "    cp program \"target/bin/$2\"\n    chmod");
         checkout.write("kit/rt", &kit);
         checkout.write("crates/a/src/lib.rt", program);
-        let output = checkout.run();
+        let output = checkout.run_with(options);
         let said = String::from_utf8_lossy(&output.stderr).into_owned();
         assert_eq!(output.status.code(), Some(3), "{program}: {output:?}");
         assert!(

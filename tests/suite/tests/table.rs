@@ -19,9 +19,13 @@ fn header() -> BTreeSet<String> {
 
 #[test]
 fn the_header_declares_the_table() {
-    // Page and Write both call their own list out.
-    let out = |line: String| line.replace("*page, size_t page", "*out, size_t out");
-    let out = |line: String| out(line).replace("*written, size_t written", "*out, size_t out");
+    // Page, Roll and Write each call their own list out.
+    let out = |line: String| {
+        let renamed = |line: String, list: &str| {
+            line.replace(&format!("*{list}, size_t {list}"), "*out, size_t out")
+        };
+        ["page", "roll", "written"].into_iter().fold(line, renamed)
+    };
     let table = ALL.iter().map(|operation| out(operation.declared()));
     assert_eq!(header(), table.collect());
 }

@@ -16,6 +16,7 @@ _Static_assert(TILL_TABLE == 16384, "table");
 _Static_assert(TILL_RUN == 127, "run");
 _Static_assert(TILL_WORD == 127, "word");
 _Static_assert(TILL_PAGE == 5000, "page");
+_Static_assert(TILL_ROLL == 35840, "roll");
 _Static_assert(TILL_WRITTEN == 14420, "written");
 _Static_assert(TILL_TOO_LONG == 1 && TILL_FORM == 2 && TILL_RANGE == 3, "refusals of a text");
 _Static_assert(TILL_REPEATED == 4 && TILL_ORDER == 5, "refusals of a text");
@@ -25,12 +26,17 @@ static const char text[] = "M,4,3,4,0\nA,L,scan\nA,H,print\nA,D,close\n"
                            "S,0,0,1\nS,0,1,2\nS,1,0,1\nS,2,0,3\nE\n";
 static const char page[] = "V,refuse,1,2\nC,0,0,0\nC,1,1,0\nC,2,1,2\nC,3,2,3\n"
                            "W,scan\nW,scan\nB,source\nE\n";
+/* Each line has 42 columns. */
+static const char *const rolled[] = {"V,refuse,1,2", "  0   0   0 scan", "  1   1   0 scan", "  2   1   2 scan",
+                                     "  3   2   3",  "W,scan",           "W,scan",           "B,source",
+                                     "E"};
 #define TEXT_LENGTH (sizeof text - 1)
 #define PAGE_LENGTH (sizeof page - 1)
+#define ROLL_LENGTH (sizeof rolled / sizeof *rolled * 43)
 
 /* One element more than need be, which must stay as it is. */
 static uint16_t store[TILL_STORE + 1], distances[TILL_DISTANCES + 1], run[TILL_RUN + 1], word[TILL_WORD + 1];
-static uint8_t table[TILL_TABLE + 1], out[TILL_WRITTEN + 1];
+static uint8_t table[TILL_TABLE + 1], out[TILL_ROLL + 1];
 
 static void expect(const char *what, uint64_t is, uint64_t expected) {
     if (is != expected) {
@@ -168,6 +174,22 @@ static void shows(void) {
     expect_word();
     expect("the first step", run[0], 0x0707);
     expect_out(page, PAGE_LENGTH);
+    forget();
+    char roll[ROLL_LENGTH + 1];
+    for (size_t i = 0; i < sizeof rolled / sizeof *rolled; i++) snprintf(roll + 43 * i, 44, "%-42s\n", rolled[i]);
+    answers("Roll",
+            till_roll(store, TILL_STORE, distances, TILL_DISTANCES, table, TILL_TABLE, run, TILL_RUN, word, TILL_WORD,
+                      out, TILL_ROLL),
+            1, ROLL_LENGTH, 0);
+    expect_distances();
+    expect_table();
+    expect_word();
+    expect("the first step", run[0], 0x0707);
+    expect_out(roll, ROLL_LENGTH);
+    refuses("Roll",
+            till_roll(store, TILL_STORE, distances, TILL_DISTANCES, table, TILL_TABLE, run, TILL_RUN, word, TILL_WORD,
+                      out, TILL_ROLL - 1),
+            TILL_SHORT_LIST, 6);
     forget();
     answers("Write", till_write(store, TILL_STORE, out, TILL_WRITTEN), 1, TEXT_LENGTH, 0);
     expect_out(text, TEXT_LENGTH);
