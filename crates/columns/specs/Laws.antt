@@ -1,7 +1,9 @@
 pub mod ColumnsLaws
 pub mod DistanceOfLaws
 pub mod FillingLaws
+pub mod FirstLowLaws
 pub mod LowNamesLaws
 pub mod NameLaws
 pub mod RoomLaws
+pub mod PassingLaws
 pub mod RowCountLaws

@@ -79,8 +79,8 @@ impl Row {
     // `-`, flush right.
     pub fn dash(self, out: &mut [u8]) -> Row
         requires { ⌜ self .at .at + numberWidth ≤ length (now out) ⌝ }
-        ensures { λ r. ⌜ Wrote (now (out .entry)) (self .at .at) (flushRight numberWidth (byteDash ∷ [])) (now (out .exit))
-            (r .at .at) × (r .begin ≡ self .begin) ⌝ }
+        ensures { λ r. ⌜ Wrote (now (out .entry)) (self .at .at) (flushRight numberWidth (byteDash ∷ []))
+            (now (out .exit)) (r .at .at) × (r .begin ≡ self .begin) ⌝ }
     {
         let row = self.blanks(out, NUMBER_WIDTH - 1);
         let at = row.at.byte(out, b'-');

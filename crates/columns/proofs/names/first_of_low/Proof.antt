@@ -7,7 +7,7 @@ use Rattle.text.specs.declared.Action.{Action}
 use Rattle.text.specs.Laws.DecidesLaws.{decides-passed, decides-refused}
 use Rattle.model.specs.Laws.System.RolesLaws.{low-of-role, role-of-low}
 use Rattle.model.specs.Laws.System.StoredLaws.{stored-action}
-use Rattle.columns.specs.Laws.LowNamesLaws.{firstLow-begin, firstLow-change, not-firstLow}
+use Rattle.columns.specs.Laws.FirstLowLaws.{firstLow-begin, firstLow-change, not-firstLow}
 use Rattle.columns.proofs.names.first_of_low.Statement.{statement}
 use Rattle.columns.proofs.names.first_of_low.Tie as tie
 
@@ -79,7 +79,8 @@ returns-4 c =
     ∙ stored-action (s .pre .0) (s .args .j .0 - 1) (omega (arith, n, step .number-lt)) in
     let z = decides-passed (tested .is-low .result) _ (tested .is-low .ensures) (low .if1 .left) in
     let t = low-of-role (s .pre .1 .0 .1) e (s .pre .0 .action-lt _ (step .number-lt)) z in
-    firstLow-change (s .pre .0) (step .number-lt) (step .begins) n (omega (arith, step .from-le, not-begin .if2 .left)) t
+    firstLow-change (s .pre .0) (step .number-lt) (step .begins) n
+    (omega (arith, step .from-le, not-begin .if2 .left)) t
     (λ d. c .if3 .left (f ∙ d ∙ sym e))
 
 pub first-of-low-spec : {M : Type 1} → statement M

@@ -41,7 +41,8 @@ returns-3 : tie.Need-returns-3
 unfolding digits
 returns-3 c =
     let n = c .before .before .args .n in
-    let e = length-le 4 n 2 (omega arith) (length-le 3 (n / 10) 1 (omega arith) (length-lt 2 (n / 10 / 10) (omega arith))) in
+    let two = length-le 3 (n / 10) 1 (omega arith) (length-lt 2 (n / 10 / 10) (omega arith)) in
+    let e = length-le 4 n 2 (omega arith) two in
     omega (arith, e)
 
 pub digit-count-spec : {M : Type 1} → statement M

@@ -8,7 +8,7 @@ use lib.ListN.{length, getD}
 use borrow.Author.Needs.{needs}
 use denote.Ref.{now}
 use Rattle.model.specs.StoredModel.{modelAt}
-use Rattle.model.specs.Laws.System.IndexLaws.{begins-le, begins-at}
+use Rattle.model.specs.Laws.System.IndexLaws.{begins-at}
 use Rattle.letters.specs.Laws.LettersLaws.{own-of-index}
 use Rattle.columns.specs.Inner.Entries.{distanceOf}
 use Rattle.columns.specs.Inner.Filling.{lowNamesTo, Filling, NamesFilled}
@@ -17,8 +17,8 @@ use Rattle.columns.specs.StateRows.{stateColumns}
 use Rattle.columns.specs.Laws.ColumnsLaws.{list-fits, columns-short}
 use Rattle.columns.specs.Laws.FillingLaws.{filling-start, filling-room, filling-end-room, filling-end, rows-room}
 use Rattle.columns.specs.Laws.FillingLaws.{filled-nil, filled-append}
-use Rattle.columns.specs.Laws.LowNamesLaws.{lowNames-begin, lowNames-end, lowNames-next, lowNames-split}
-use Rattle.columns.specs.Laws.NameLaws.{actions-counted}
+use Rattle.columns.specs.Laws.LowNamesLaws.{steps-begin-le, lowNames-begin, lowNames-end, lowNames-next}
+use Rattle.columns.specs.Laws.LowNamesLaws.{lowNames-split}
 use Rattle.columns.specs.Laws.RowCountLaws.{stateColumns-length}
 use Rattle.columns.proofs.states.state_rows.Statement.{statement}
 use Rattle.columns.proofs.states.state_rows.Tie as tie
@@ -31,17 +31,21 @@ Inv-loop out₀ store begins roles distances of end from row₀ j₀ out row j =
 abbrev μ-loop : tie.MeasureT-loop
 μ-loop out₀ store begins roles distances of end from row₀ j₀ out row j = end - j
 
+-- where the function began, from where the loop stands
+abbrev begin-of : tie.At-loop Inv-loop μ-loop → tie.Start Inv-loop μ-loop
+begin-of c =
+    c .before .before .before .before .before .before .before .before .before .before .before .before .before .before
+
 -- what is filled in where the loop stands
 filling-at : (c : tie.At-loop Inv-loop μ-loop)
-    → let s = c .before .before .before .before .before .before .before .before .before .before .before .before .before
-    .before in
+    → let s = begin-of c in
     Filling (stateColumns (s .args .p .0) (distanceOf (now (s .args .distances)) (s .args .p .0)) (s .args .class .0))
     (lowNamesTo (modelAt (now (s .args .store))) (s .args .p .0) (c .loop .j)) (now (s .args .out)) (s .args .at .at)
     (c .loop .out) (c .loop .row)
 filling-at c =
     let columns = c .before .before .before in
     let start = columns .before .before .start in
-    let s = columns .before .before .before .before .before .before .before .before .before .before .before in
+    let s = begin-of c in
     let fits = list-fits (s .pre .1 .0 .stored) (s .pre .1 .1 .0) (s .pre .1 .1 .1 .0 .0) in
     let n = stateColumns-length _ _ _ (columns-short fits (s .pre .1 .1 .1 .0 .1)) in
     c .loop .inv .3 .filling _ [] _ _
@@ -49,23 +53,16 @@ filling-at c =
 
 -- when it ends, these are all names
 all-names : (c : tie.After-loop Inv-loop μ-loop)
-    → let s = c .before .before .before .before .before .before .before .before .before .before .before .before .before
-    .before .before in
+    → let s = begin-of (c .before) in
     lowNames (modelAt (now (s .args .store))) (s .args .p .0)
     ≡ lowNamesTo (modelAt (now (s .args .store))) (s .args .p .0) (c .before .loop .j)
 all-names c =
     let at-loop = c .before in
-    let s = at-loop .before .before .before .before .before .before .before .before .before .before .before .before
-    .before .before in
-    let index = s .pre .1 .0 .index in
-    let p = s .args .p .0 in
-    let l = s .pre .1 .1 .1 .0 .0 in
-    let b = index .at p (omega (arith, l)) in
-    let e = index .at (p + 1) (omega (arith, l)) in
-    let j : getD (now (s .args .begins)) (p + 1) 0 ≡ at-loop .loop .j =
+    let s = begin-of at-loop in
+    let j : getD (now (s .args .begins)) (s .args .p .0 + 1) 0 ≡ at-loop .loop .j =
     omega (arith, at-loop .loop .inv .1, c .loop-test .left) in
-    sym (lowNames-end (s .pre .1 .0 .stored) (actions-counted (s .pre .0)) b e)
-    ∙ ap (lowNamesTo (modelAt (now (s .args .store))) p) j
+    sym (lowNames-end (s .pre .0) (s .pre .1 .0) (s .pre .1 .1 .1 .0 .0))
+    ∙ ap (lowNamesTo (modelAt (now (s .args .store))) (s .args .p .0)) j
 
 cast-of : tie.Need-cast-of Inv-loop μ-loop
 cast-of c = search needs
@@ -100,15 +97,11 @@ columns-requires c κs =
 loop-holds : tie.Need-loop-holds Inv-loop μ-loop
 loop-holds c =
     let s = c .before .before .before .before .before .before .before .before .before .before .before .before .before in
-    let index = s .pre .1 .0 .index in
-    let p = s .args .p .0 in
-    let l = s .pre .1 .1 .1 .0 .0 in
-    let b = index .at p (omega (arith, l)) in
-    let e = index .at (p + 1) (omega (arith, l)) in (
+    let l = s .pre .1 .1 .1 .0 .0 in (
       omega arith,
-      begins-le b e,
+      steps-begin-le (s .pre .0) (s .pre .1 .0) l,
       refl,
-      rw (lowNames-begin (s .pre .1 .0 .stored) (actions-counted (s .pre .0)) b e) filled-nil,
+      rw (lowNames-begin (s .pre .0) (s .pre .1 .0) l) filled-nil,
     )
 
 step-name-requires : tie.Need-step-name-requires Inv-loop μ-loop
@@ -116,21 +109,18 @@ step-name-requires c κs =
     let at-loop = c .before .before in
     let inv = at-loop .loop .inv in
     let k = c .before .loop-test .taken in
-    let s = at-loop .before .before .before .before .before .before .before .before .before .before .before .before
-    .before .before in
+    let s = begin-of at-loop in
     let L = s .pre .1 .0 in
-    let p = s .args .p .0 in
     let l = s .pre .1 .1 .1 .0 .0 in
-    let b = L .index .at p (omega (arith, l)) in
-    let e = L .index .at (p + 1) (omega (arith, l)) in
-    let own = own-of-index (L .index) l (at-loop .loop .j) (inv .0) k in (
+    let own = own-of-index (L .index) l (at-loop .loop .j) (inv .0) k in
+    let b = L .index .at (s .args .p .0) (omega (arith, l)) in (
       (s .pre .0, L .stored),
       (
         (L .roles-length, L .roles-are),
         (
           record { from-le = inv .0; number-lt = own .0; begins = begins-at (sym (own .1)) b },
           λ x.
-              let split = lowNames-split (L .stored) (actions-counted (s .pre .0)) b e (at-loop .loop .j) (inv .0) k x in
+              let split = lowNames-split (s .pre .0) L l (at-loop .loop .j) (inv .0) k x in
               filling-room (filling-at at-loop) _ (split .0) (split .1) (s .pre .1 .1 .1 .1),
         ),
       ),
@@ -140,8 +130,7 @@ add-j : tie.Need-add-j Inv-loop μ-loop
 add-j c =
     let in-loop = c .before .before .before .before in
     let at-loop = in-loop .before in
-    let s = at-loop .before .before .before .before .before .before .before .before .before .before .before .before
-    .before .before in
+    let s = begin-of at-loop in
     let L = s .pre .1 .0 in
     let own = own-of-index (L .index) (s .pre .1 .1 .1 .0 .0) (at-loop .loop .j) (at-loop .loop .inv .0)
     (in-loop .loop-test .taken) in
@@ -157,14 +146,8 @@ loop-again c =
     let at-loop = in-loop .before in
     let inv = at-loop .loop .inv in
     let k = in-loop .loop-test .taken in
-    let s = at-loop .before .before .before .before .before .before .before .before .before .before .before .before
-    .before .before in
-    let L = s .pre .1 .0 in
-    let p = s .args .p .0 in
-    let l = s .pre .1 .1 .1 .0 .0 in
-    let b = L .index .at p (omega (arith, l)) in
-    let e = L .index .at (p + 1) (omega (arith, l)) in
-    let next = lowNames-next (L .stored) (actions-counted (s .pre .0)) b e (at-loop .loop .j) (inv .0) k in (
+    let s = begin-of at-loop in
+    let next = lowNames-next (s .pre .0) (s .pre .1 .0) (s .pre .1 .1 .1 .0 .0) (at-loop .loop .j) (inv .0) k in (
       omega (arith, inv .0),
       omega (arith, k),
       search needs,
@@ -174,8 +157,7 @@ loop-again c =
 end-requires : tie.Need-end-requires Inv-loop μ-loop
 end-requires c κs =
     let at-loop = c .before .before in
-    let s = at-loop .before .before .before .before .before .before .before .before .before .before .before .before
-    .before .before in
+    let s = begin-of at-loop in
     let room = filling-end-room (filling-at at-loop) (all-names (c .before)) (s .pre .1 .1 .1 .1) in
     ((room .0, room .1), room .2)
 

@@ -36,7 +36,8 @@ loop-again c =
       search needs,
       search needs,
       omega arith,
-      rw (← replicate-append-replicate (loop .i) 1 byteBlank) (wrote-append (loop .inv .3) (c .before .before .byte .ensures)),
+      rw (← replicate-append-replicate (loop .i) 1 byteBlank)
+          (wrote-append (loop .inv .3) (c .before .before .byte .ensures)),
     )
 
 same-length : tie.Need-same-length Inv-loop μ-loop

@@ -27,7 +27,8 @@ distance-requires c κs =
     let short = columns-short (s .pre .0) (s .pre .1 .0) in
     let w = state .number .ensures .0 in
     let x = first .blanks .ensures .0 in
-    (s .pre .0, omega (arith, s .pre .1 .1, column-place _ w (short .state-le), x .place, wrote-length (wrote-append w x)))
+    let same = wrote-length (wrote-append w x) in
+    (s .pre .0, omega (arith, s .pre .1 .1, column-place _ w (short .state-le), x .place, same))
 
 blanks-requires-2 : tie.Need-blanks-requires-2
 blanks-requires-2 c κs =
@@ -85,10 +86,12 @@ returns c =
     let state = first .before .before .before .before in (
       wrote-append
           (wrote-append
-          (wrote-append (wrote-append (state .number .ensures .0) (first .blanks .ensures .0)) (distance .distance .ensures .0))
+          (wrote-append (wrote-append (state .number .ensures .0) (first .blanks .ensures .0))
+          (distance .distance .ensures .0))
           (second .blanks2 .ensures .0))
           (class .number2 .ensures .0),
-      class .number2 .ensures .1 ∙ second .blanks2 .ensures .1 ∙ distance .distance .ensures .1 ∙ first .blanks .ensures .1
+      class .number2 .ensures .1 ∙ second .blanks2 .ensures .1 ∙ distance .distance .ensures .1
+          ∙ first .blanks .ensures .1
           ∙ state .number .ensures .1,
     )
 

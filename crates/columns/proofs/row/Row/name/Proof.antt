@@ -28,7 +28,8 @@ returns c =
     let name = c .before .before in
     let fits = name .before .before in
     let s = fits .before .before .before .before in
-    filled-fits (s .pre .1 .0) (omega (arith, fits .if1 .taken)) (name .indented .ensures .1) (name .indented .ensures .0)
+    filled-fits (s .pre .1 .0) (omega (arith, fits .if1 .taken)) (name .indented .ensures .1)
+    (name .indented .ensures .0)
 
 end-requires : tie.Need-end-requires
 end-requires c κs = search needs

@@ -18,7 +18,8 @@ digit-count-requires c κs = search needs
 sub-blanks : tie.Need-sub-blanks
 sub-blanks c =
     let s = c .before .before .before in
-    omega (arith, c .digit-count .ensures, digits-length-le numberWidth (s .args .n) (s .pre .0) (lit< tt) (omega arith))
+    let l = digits-length-le numberWidth (s .args .n) (s .pre .0) (lit< tt) (omega arith) in
+    omega (arith, c .digit-count .ensures, l)
 
 blanks-requires : tie.Need-blanks-requires
 blanks-requires c κs = search needs
@@ -48,7 +49,8 @@ unfolding flushRight
 returns c =
     let number = c .before .before in
     let blanks = number .before .before .before .before in (
-      rw (blanks .before .digit-count .ensures) at (wrote-append (blanks .blanks .ensures .0) (number .number .ensures)),
+      rw (blanks .before .digit-count .ensures) at
+          (wrote-append (blanks .blanks .ensures .0) (number .number .ensures)),
       blanks .blanks .ensures .1,
     )
 

@@ -9,7 +9,7 @@ use Rattle.model.specs.StoredModel.{modelAt}
 use Rattle.model.specs.System.{action}
 use Rattle.model.specs.Laws.System.StoredLaws.{stored-action}
 use Rattle.columns.specs.Laws.FillingLaws.{filled-nil}
-use Rattle.columns.specs.Laws.LowNamesLaws.{nameAdded-first, nameAdded-none}
+use Rattle.columns.specs.Laws.FirstLowLaws.{nameAdded-first, nameAdded-none}
 use Rattle.columns.specs.Laws.NameLaws.{actions-counted}
 use Rattle.columns.proofs.row.Row.step_name.Statement.{statement}
 use Rattle.columns.proofs.row.Row.step_name.Tie as tie
