@@ -2,8 +2,8 @@ pub mod PageLinesLaws
 pub mod RollLaws
 pub mod FormLaws
 pub mod LinesWrittenLaws
-pub mod RoomLaws
 pub mod StateLinesLaws
 pub mod LeakLaws
 pub mod LeakShownLaws
+pub mod RoomLaws
 pub mod PageLaws

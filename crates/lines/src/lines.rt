@@ -40,7 +40,7 @@ fn distance_field(at: Position, out: &mut [u8], distances: &[u16], p: State) -> 
 }
 
 // How far the page is written, by value: each writer takes it and hands back where it ended. Each asks for room for
-// just its own bytes. A line is its text, then the line end.
+// just its own bytes. A line is its text, then what ends it.
 pub struct PagePosition {
     pub at: Position,
 }

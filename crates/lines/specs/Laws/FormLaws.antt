@@ -57,6 +57,12 @@ formBytes-roll m p distance class e = rw e (rollBytes-line m (state-line p dista
 
 -- ---- a line that is no state's
 
+-- a shorter text needs no more
+pub lineRoom-le : (form : Form) {a b : ℕ} → a ≤ b → lineRoom form a ≤ lineRoom form b
+unfolding lineRoom
+lineRoom-le Page h = omega arith
+lineRoom-le Roll h = omega arith
+
 lineEnding-length : (form : Form) {used width : ℕ} → used ≤ width → width ≤ rollWidth
     → used + length (lineEnding form used) ≤ lineRoom form width
 unfolding lineRoom

@@ -36,7 +36,7 @@ use Rattle.lines.specs.PageLines.{PageLine, run-line, allows-line, branc
 use Rattle.lines.specs.Inner.Leak.{Letters, Spelled, shownLines}
 use Rattle.lines.specs.Inner.LinesWritten.{LinesWritten}
 use Rattle.lines.specs.Inner.Room.{runWidth, allowsWidth, letterWidth, lineRoom, wordRoom, shownRoom, leakRoom}
-use Rattle.lines.specs.Laws.RoomLaws.{lineRoom-le}
+use Rattle.lines.specs.Laws.FormLaws.{lineRoom-le}
 use Rattle.lines.specs.Laws.LinesWrittenLaws.{written-append, written-of}
 
 -- ---- the letters of a low word are actions

@@ -8,7 +8,6 @@ use native.Mathlib.Omega.{arith}
 use Rattle.lts.specs.TestsLaws.{eq-or-not}
 use Rattle.text.specs.Model.{Model}
 use Rattle.model.specs.Inner.Stored.{Stored}
-use Rattle.model.specs.Laws.System.RankBoundLaws.{stored-rank-lt}
 use Rattle.verdicts.specs.declared.judging.Verdict.{Verdict}
 use Rattle.verdicts.specs.declared.judging.Verdict.the-variants.{Passed, Refused}
 use Rattle.verdicts.specs.Verdicts.{Judged}
@@ -20,12 +19,7 @@ use Rattle.lines.specs.declared.lines.Form.the-variants.{Page, Roll}
 use Rattle.lines.specs.Roll.{formLength}
 use Rattle.lines.specs.Inner.Room.{verdictWidth, stateWidth, letterWidth, lineRoom, stateRoom, statesRoom}
 use Rattle.lines.specs.Inner.Room.{leakRoom}
-
--- a shorter text needs no more
-pub lineRoom-le : (form : Form) {a b : ℕ} → a ≤ b → lineRoom form a ≤ lineRoom form b
-unfolding lineRoom
-lineRoom-le Page h = omega arith
-lineRoom-le Roll h = omega arith
+use Rattle.lines.specs.Laws.LeakShownLaws.{depth-lt}
 
 -- ---- the states
 
@@ -53,18 +47,15 @@ statesRoom-roll m (suc n) = omega (arith, statesRoom-roll m n)
 
 -- ---- the whole
 
--- on a page 21 bytes, 14 per state, 2,930, and 2 for `E`; on the roll 833 lines
-pub formRoom-le : (form : Form) {s : List ℕ} {m : Model} → Stored s m → NamesFit m → (v : Verdict)
-    → Judged m v
+-- on a page at most 21 bytes, 14 per state, 2,930, and 2 for `E`; on the roll at most 833 lines
+pub formRoom-le : (form : Form) {s : List ℕ} {m : Model} → Stored s m → NamesFit m → (v : Verdict) → Judged m v
     → lineRoom form verdictWidth + statesRoom form m (m .head .states) + leakRoom form v + lineRoom form letterWidth
     ≤ formLength form
 unfolding lineRoom
 formRoom-le Page {m = m} st names (Passed rank) judged =
     omega (arith, statesRoom-page m (m .head .states), st .states-le)
 formRoom-le Page {m = m} st names (Refused j depth) judged =
-    let l = judged .leak .high-step .number-lt in
-    let short = stored-rank-lt st (st .source-lt (j .0) l) (st .target-lt (j .0) l) (judged .leak .rank) in
-    omega (arith, statesRoom-page m (m .head .states), st .states-le, short)
+    omega (arith, statesRoom-page m (m .head .states), st .states-le, depth-lt st judged)
 formRoom-le Roll {m = m} st names (Passed rank) judged =
     omega (arith, statesRoom-roll m (m .head .states), rows-passed st names)
 formRoom-le Roll {m = m} st names (Refused j depth) judged =

@@ -1,5 +1,5 @@
--- The `C` lines: what their fields say, and one more of them.
--- Document 01, "The page". Assumes nothing.
+-- The lines of the states: what their fields say, and one more of them, in either form.
+-- Document 01, "The page"; document 02, (ii). Assumes nothing.
 use mathlib.Core.List.{List, [], _∷_, _++_}
 use mathlib.Core.Logic.{_⊎_, inl, inr}
 use mathlib.Core.Option.{Option, none, some}

@@ -19,6 +19,19 @@ use Rattle.lines.specs.Laws.PageLaws.{page-room, page-written}
 use Rattle.lines.proofs.whole.judged_page.Statement.{statement}
 use Rattle.lines.proofs.whole.judged_page.Tie as tie
 
+-- ---- the start, from where the verdict, the states and what follows them end
+
+abbrev of-verdict : tie.After-line-end → tie.Start
+of-verdict c =
+    c .before .before .before .before .before .before .before .before .before .before .before .before .before .before
+    .before
+
+abbrev of-states : tie.After-state-lines → tie.Start
+of-states c = of-verdict (c .before .before .before .before)
+
+abbrev of-leak : tie.After-leak-lines → tie.Start
+of-leak c = of-states (c .before .before .before .before .before .before)
+
 -- ---- the room from the states on, from what follows them on, and for the end
 
 abbrev end-rest : tie.Start → ℕ
@@ -44,8 +57,7 @@ start-room s =
 -- ---- the lines so far, and the room behind them
 
 verdict-written : (c : tie.After-line-end)
-    → let s = c .before .before .before .before .before .before .before .before .before .before .before .before .before
-    .before .before in
+    → let s = of-verdict c in
     let form = s .args .form in
     LinesWritten form (modelAt (s .args .store .now)) (_≡_ (verdict-line (s .args .v) ∷ []))
     (lineRoom form verdictWidth) (s .args .out .now) 0 (c .line-end .last .1 .0) (c .line-end .result .at .at)
@@ -56,32 +68,26 @@ verdict-written c =
     (rw (text .before .before .start .ensures) at (text .verdict-text .ensures)) (c .line-end .ensures)
 
 states-room : (c : tie.After-line-end)
-    → let s = c .before .before .before .before .before .before .before .before .before .before .before .before .before
-    .before .before in
+    → let s = of-verdict c in
     c .line-end .result .at .at + states-rest s ≤ length (c .line-end .last .1 .0)
 states-room c =
-    let s = c .before .before .before .before .before .before .before .before .before .before .before .before .before
-    .before .before in
+    let s = of-verdict c in
     written-rest (states-rest s) (omega (arith, start-room s)) (verdict-written c)
 
 leak-room : (c : tie.After-state-lines)
-    → let s = c .before .before .before .before .before .before .before .before .before .before .before .before .before
-    .before .before .before .before .before .before in
+    → let s = of-states c in
     c .state-lines .result .at .at + leak-rest s ≤ length (c .state-lines .last .1 .0)
 leak-room c =
     let end = c .before .before .before .before in
-    let s = end .before .before .before .before .before .before .before .before .before .before .before .before .before
-    .before .before in
+    let s = of-verdict end in
     written-rest (leak-rest s) (states-room end) (c .state-lines .ensures)
 
 last-room : (c : tie.After-leak-lines)
-    → let s = c .before .before .before .before .before .before .before .before .before .before .before .before .before
-    .before .before .before .before .before .before .before .before .before .before .before .before in
+    → let s = of-leak c in
     c .leak-lines .result .at .at + end-rest s ≤ length (c .leak-lines .last .1 .0)
 last-room c =
     let states = c .before .before .before .before .before .before in
-    let s = states .before .before .before .before .before .before .before .before .before .before .before .before
-    .before .before .before .before .before .before .before in
+    let s = of-states states in
     written-rest (end-rest s) (leak-room states) (c .leak-lines .ensures)
 
 -- ---- what the calls require
@@ -107,8 +113,7 @@ line-end-requires c κs =
 state-lines-requires : tie.Need-state-lines-requires
 state-lines-requires c κs =
     let end = c .before .before .before in
-    let s = end .before .before .before .before .before .before .before .before .before .before .before .before .before
-    .before .before in
+    let s = of-verdict end in
     let showable = s .pre .0 .showable in
     let lists = showable .lists in (
       writable s,
@@ -127,23 +132,20 @@ state-lines-requires c κs =
 leak-lines-requires : tie.Need-leak-lines-requires
 leak-lines-requires c κs =
     let states = c .before .before .before .before .before in
-    let s = states .before .before .before .before .before .before .before .before .before .before .before .before
-    .before .before .before .before .before .before .before in
+    let s = of-states states in
     (s .pre .0, omega (arith, leak-room states))
 
 last-text-requires : tie.Need-last-text-requires
 last-text-requires c κs =
     let leak = c .before .before .before .before .before .before .before in
-    let s = leak .before .before .before .before .before .before .before .before .before .before .before .before .before
-    .before .before .before .before .before .before .before .before .before .before .before .before in
+    let s = of-leak leak in
     text-room last-fits (s .args .form) (leak .leak-lines .result .at .at) (last-room leak)
 
 line-end-requires-2 : tie.Need-line-end-requires-2
 line-end-requires-2 c κs =
     let last = c .before .before .before in
     let leak = last .before .before .before .before .before .before .before .before in
-    let s = leak .before .before .before .before .before .before .before .before .before .before .before .before .before
-    .before .before .before .before .before .before .before .before .before .before .before .before in
+    let s = of-leak leak in
     end-room last-fits (s .args .form) (last-room leak) (last .last-text .ensures)
 
 same-length : tie.Need-same-length
@@ -170,8 +172,7 @@ returns c =
     let leak = last .before .before .before .before .before .before .before .before in
     let states = leak .before .before .before .before .before .before in
     let end = states .before .before .before .before in
-    let s = end .before .before .before .before .before .before .before .before .before .before .before .before .before
-    .before .before in
+    let s = of-verdict end in
     let showable = s .pre .0 .showable in
     page-written (s .args .v) (showable .lists .stored) (name-length-le (writable s)) (showable .verdict)
     (verdict-written end) (states .state-lines .ensures) (leak .leak-lines .ensures)
