@@ -1,6 +1,6 @@
 // The names of the low actions with a step from a state.
-use crate::row::Row;
-use crate::row::WIDTH;
+use crate::line::RollLine;
+use crate::line::WIDTH;
 use moves::moves::is_low;
 use text::Action;
 use text::Step;
@@ -48,9 +48,9 @@ fn first_of_low(store: &[u16], roles: &[u16], from: u16, j: Step) -> bool
     true
 }
 
-impl Row {
+impl RollLine {
     // A name behind some blanks.
-    fn indented(self, out: &mut [u8], indent: usize, name: &[u16]) -> Row
+    fn indented(self, out: &mut [u8], indent: usize, name: &[u16]) -> RollLine
         requires { ⌜ self .at .at + indent + length (now name) ≤ length (now out) ⌝ }
         requires { ⌜ All (λ (b : ℕ). b < 256) (now name) ⌝ }
         ensures { λ r. ⌜ Wrote (now (out .entry)) (self .at .at) (blanks indent ++ now (name .entry)) (now (out .exit))
@@ -58,14 +58,14 @@ impl Row {
     {
         let row = self.blanks(out, indent);
         let at = row.at.name(out, name);
-        Row {
+        RollLine {
             at,
             begin: row.begin,
         }
     }
 
     // One more name: behind a blank, or on a next line if it does not fit whole.
-    fn name(self, out: &mut [u8], name: &[u16]) -> Row
+    fn name(self, out: &mut [u8], name: &[u16]) -> RollLine
         requires { ⌜ NameRoom self (length (now name)) (length (now out)) ⌝ }
         requires { ⌜ (length (now name) ≤ nameLimit) × All (λ (b : ℕ). b < 256) (now name) ⌝ }
         ensures { λ r. ⌜ NamesFilled (now (name .entry) ∷ []) (now (out .entry)) self (now (out .exit)) r ⌝ }
@@ -75,11 +75,11 @@ impl Row {
             return self.indented(out, 1, name);
         }
         let at = self.end(out);
-        Row::start(at).indented(out, NAME_INDENT, name)
+        RollLine::start(at).indented(out, NAME_INDENT, name)
     }
 
     // One more name, that of an action.
-    fn action_name(self, out: &mut [u8], store: &[u16], a: Action) -> Row
+    fn action_name(self, out: &mut [u8], store: &[u16], a: Action) -> RollLine
         requires { ⌜ Writable (now store) ⌝ }
         requires { ⌜ a .0 < length (modelAt (now store) .actions) ⌝ }
         requires { ⌜ NameRoom self (length (nameOf (modelAt (now store)) (a .0))) (length (now out)) ⌝ }
@@ -92,7 +92,14 @@ impl Row {
     }
 
     // The name of step j's action, if it is low and no step of its state before it has named it.
-    pub fn step_name(self, out: &mut [u8], store: &[u16], roles: &[u16], from: u16, j: Step) -> Row
+    pub fn step_name(
+        self,
+        out: &mut [u8],
+        store: &[u16],
+        roles: &[u16],
+        from: u16,
+        j: Step,
+    ) -> RollLine
         requires { ⌜ Writable (now store) × Stored (now store) (modelAt (now store)) ⌝ }
         requires { ⌜ (actionLimit ≤ length (now roles))
             × Roles (view (modelAt (now store)) .levels) (modelAt (now store) .head .actions) (now roles) ⌝ }

@@ -1,5 +1,5 @@
 // The lines of a state on the receipt roll.
-use crate::row::Row;
+use crate::line::RollLine;
 use text::State;
 use text::Step;
 use writer::position::Position;
@@ -18,9 +18,9 @@ ghost use Rattle.columns.specs.Inner.Columns.{DistanceFits};
 ghost use Rattle.columns.specs.Inner.Entries.{distanceOf};
 ghost use Rattle.columns.specs.Inner.RowCount.{columnsWidth};
 
-impl Row {
+impl RollLine {
     // The distance of a state, or `-`.
-    fn distance(self, out: &mut [u8], distances: &[u16], p: State) -> Row
+    fn distance(self, out: &mut [u8], distances: &[u16], p: State) -> RollLine
         requires { ⌜ DistanceFits (now distances) (p .0) ⌝ }
         requires { ⌜ self .at .at + numberWidth ≤ length (now out) ⌝ }
         ensures { λ r. ⌜ Wrote (now (out .entry)) (self .at .at)
@@ -34,7 +34,7 @@ impl Row {
     }
 
     // A state, its distance and its class, with a blank between two.
-    fn columns(self, out: &mut [u8], distances: &[u16], p: State, class: State) -> Row
+    fn columns(self, out: &mut [u8], distances: &[u16], p: State, class: State) -> RollLine
         requires { ⌜ DistanceFits (now distances) (p .0) ⌝ }
         requires { ⌜ (class .0 ≤ p .0) × (self .at .at + columnsWidth ≤ length (now out)) ⌝ }
         ensures { λ r. ⌜ Wrote (now (out .entry)) (self .at .at)
@@ -70,7 +70,7 @@ pub fn state_rows(
     let of = p.0 as usize;
     let end = begins[of + 1];
     let from = begins[of];
-    let mut row = Row::start(at).columns(out, distances, p, class);
+    let mut row = RollLine::start(at).columns(out, distances, p, class);
     let mut j = from;
     while j < end {
         row = row.step_name(out, store, roles, from, Step(j));

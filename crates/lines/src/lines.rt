@@ -1,5 +1,5 @@
 // The texts of a page's lines, and the line end.
-use columns::row::Row;
+use columns::line::RollLine;
 use distances::distances::distance_at;
 use distances::distances::is_unreachable;
 use letters::word::End;
@@ -65,7 +65,7 @@ impl PagePosition {
                 at: at.byte(out, b'\n'),
             },
             Form::Roll => {
-                let row = Row { at, begin };
+                let row = RollLine { at, begin };
                 PagePosition { at: row.end(out) }
             }
         }

@@ -12,7 +12,7 @@ use Rattle.text.specs.Model.{Model}
 use Rattle.model.specs.System.{source, action, view}
 use Rattle.model.specs.Inner.Index.{Begins}
 use Rattle.writer.specs.Wrote.{Wrote}
-use Rattle.columns.specs.declared.row.Row.{Row}
+use Rattle.columns.specs.declared.line.RollLine.{RollLine}
 use Rattle.columns.specs.LowNames.{nameOf, leaves?, lowFrom?, passing}
 use Rattle.columns.specs.Rows.{rollWidth, rowsBytes, fill}
 
@@ -44,7 +44,7 @@ lowNamesTo m p n = map (nameOf m) (passing (length (m .actions)) (lowFrom? m p n
 
 -- Names were filled into lines behind `head`, which was written from place `from` of `entry` on: lines that ended, and
 -- the one that goes on. `filled` says that more names go on from there.
-pub record Filling (head : List ℕ) (names : List (List ℕ)) (entry : List ℕ) (from : ℕ) (exit : List ℕ) (row : Row)
+pub record Filling (head : List ℕ) (names : List (List ℕ)) (entry : List ℕ) (from : ℕ) (exit : List ℕ) (row : RollLine)
     : Type 0 where
   pub closed : List (List ℕ)
   pub last : List ℕ
@@ -54,13 +54,13 @@ pub record Filling (head : List ℕ) (names : List (List ℕ)) (entry : List ℕ
   pub last-le : length last ≤ rollWidth
 
 -- A writer that took the line `row` and handed back `next` filled in these names, whatever stood on the line.
-pub record NamesFilled (names : List (List ℕ)) (entry : List ℕ) (row : Row) (exit : List ℕ) (next : Row)
+pub record NamesFilled (names : List (List ℕ)) (entry : List ℕ) (row : RollLine) (exit : List ℕ) (next : RollLine)
     : Type 0 where
   pub filling : (head : List ℕ) (before : List (List ℕ)) (first : List ℕ) (from : ℕ)
       → Filling head before first from entry row → Filling head (before ++ names) first from exit next
 
 -- There is room for the line up to its end, and for a next one if a name of n bytes goes there.
-pub record NameRoom (row : Row) (n room : ℕ) : Type 0 where
+pub record NameRoom (row : RollLine) (n room : ℕ) : Type 0 where
   pub begin-le : row .begin ≤ row .at .at
   pub at-le : row .at .at ≤ row .begin + rollWidth
   pub line-lt : row .begin + rollWidth < room

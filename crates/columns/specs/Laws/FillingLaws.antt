@@ -10,7 +10,7 @@ use Rattle.text.specs.Bytes.{byteBlank, byteLineEnd}
 use Rattle.text.specs.Limits.{nameLimit}
 use Rattle.writer.specs.Wrote.{Wrote}
 use Rattle.writer.specs.Laws.WroteLaws.{wrote-append, wrote-length}
-use Rattle.columns.specs.declared.row.Row.{Row}
+use Rattle.columns.specs.declared.line.RollLine.{RollLine}
 use Rattle.columns.specs.Rows.{rollWidth, blanks, flushLeft, rowBytes, rowsBytes, nameIndent, fill}
 use Rattle.columns.specs.Inner.Filling.{Filling, NamesFilled, NameRoom}
 use Rattle.columns.specs.Laws.RowCountLaws.{fill-fits, fill-next, fill-pos, rowsBytes-append}
@@ -55,7 +55,7 @@ ended-place {begin = begin} {at = at} h k w =
 
 -- ---- the first line, before any name
 
-pub filling-start : {head entry exit : List ℕ} {from : ℕ} {start row : Row} → length head ≤ rollWidth
+pub filling-start : {head entry exit : List ℕ} {from : ℕ} {start row : RollLine} → length head ≤ rollWidth
     → (start .at .at ≡ from) × (start .begin ≡ from) → Wrote entry (start .at .at) head exit (row .at .at)
     → row .begin ≡ start .begin → Filling head [] entry from exit row
 unfolding rowsBytes
@@ -70,7 +70,7 @@ filling-start {head} l begun w e = record {
 
 -- ---- where the line stands
 
-module _ {head entry exit : List ℕ} {names : List (List ℕ)} {from : ℕ} {row : Row}
+module _ {head entry exit : List ℕ} {names : List (List ℕ)} {from : ℕ} {row : RollLine}
     (f : Filling head names entry from exit row) where
   pub filling-used : row .at .at ≡ row .begin + length (f .last)
   filling-used = omega (arith, f .wrote .place, f .begin-is, length-append (rowsBytes (f .closed)) (f .last))
@@ -136,13 +136,13 @@ rows-room head names at l = omega (arith, l, rowsBytes-length-le (fill head name
 
 -- ---- one more name
 
-pub filled-nil : {entry : List ℕ} {row : Row} → NamesFilled [] entry row entry row
+pub filled-nil : {entry : List ℕ} {row : RollLine} → NamesFilled [] entry row entry row
 filled-nil {entry} {row} = record {
   filling = λ head before first from f.
       subst (λ (names : List (List ℕ)). Filling head names first from entry row) (sym (append-nil before)) f;
 }
 
-pub filled-append : {names more : List (List ℕ)} {entry middle exit : List ℕ} {row between next : Row}
+pub filled-append : {names more : List (List ℕ)} {entry middle exit : List ℕ} {row between next : RollLine}
     → NamesFilled names entry row middle between → NamesFilled more middle between exit next
     → NamesFilled (names ++ more) entry row exit next
 filled-append {names} {more} {exit = exit} {next = next} x y = record {
@@ -156,7 +156,7 @@ split : (before : List (List ℕ)) (name : List ℕ) (more : List (List ℕ))
     → before ++ (name ∷ []) ++ more ≡ before ++ (name ∷ more)
 split before name more = append-assoc before (name ∷ []) more
 
-module _ {name entry exit : List ℕ} {row next : Row} (n : length name ≤ nameLimit) where
+module _ {name entry exit : List ℕ} {row next : RollLine} (n : length name ≤ nameLimit) where
   -- behind a blank
   pub filled-fits : row .at .at - row .begin + 1 + length name ≤ rollWidth → next .begin ≡ row .begin
       → Wrote entry (row .at .at) (blanks 1 ++ name) exit (next .at .at)
@@ -177,7 +177,7 @@ module _ {name entry exit : List ℕ} {row next : Row} (n : length name ≤ name
   }
 
   -- on a next line, once this one is padded and ended
-  pub filled-next : {middle : List ℕ} {at : ℕ} {start : Row} → rollWidth < row .at .at - row .begin + 1 + length name
+  pub filled-next : {middle : List ℕ} {at : ℕ} {start : RollLine} → rollWidth < row .at .at - row .begin + 1 + length name
       → Wrote entry (row .at .at) (blanks (rollWidth - (row .at .at - row .begin)) ++ (byteLineEnd ∷ [])) middle at
       → (start .at .at ≡ at) × (start .begin ≡ at) → next .begin ≡ start .begin
       → Wrote middle (start .at .at) (blanks nameIndent ++ name) exit (next .at .at)

@@ -1,13 +1,17 @@
 -- The numbers below n that pass a test, where another test is the same or has one number more.
 -- Document 02, (ii): "in action order". Assumes nothing.
-use mathlib.Core.Bool.{Bool, true, false}
+use mathlib.Core.Bool.{Bool, true, false, cond}
 use mathlib.Core.List.{[], _∷_, _++_, append-nil}
 use mathlib.Core.Logic.{_⊎_, inl, inr}
-use mathlib.Core.Path.{_≡_, refl, sym}
+use mathlib.Core.Path.{_≡_, refl, sym, _∙_}
 use Prim.Native.Nat.{ℕ, zero, suc, _≤_, _<_}
 use native.Mathlib.Omega.{arith}
 use lib.Dec.{T}
+use lib.ListN.{length, length-append}
+use Rattle.lts.specs.Tests.{bit, count}
 use Rattle.lts.specs.TestsLaws.{T→true, lt-suc-cases}
+use Rattle.text.specs.All.{All}
+use Rattle.text.specs.Laws.AllLaws.{all-append, all-of-all}
 use Rattle.columns.specs.LowNames.{passing}
 
 pub test-eq : (a b : Bool) → (T a → T b) → (T b → T a) → a ≡ b
@@ -40,3 +44,27 @@ passing-next (suc n) f g a l t low none-f none-g = go (passing-next n f g a) (lt
         rw (last, none-f n (omega arith), append-nil, passing-same n f g (λ i k. low i (omega arith)), e)
     go ih (inr k) = rw (none-f n (omega arith), none-g n k, append-nil (passing n g), append-nil (passing n f))
         (ih k t low none-f none-g)
+
+-- ---- how many pass, and that they are below n
+
+pub passing-length : (n : ℕ) (f : ℕ → Bool) → length (passing n f) ≡ count n f
+unfolding passing count
+passing-length zero f = refl
+passing-length (suc n) f =
+    length-append (passing n f) (cond (f n) (n ∷ []) []) ∙ omega (arith, passing-length n f, last (f n))
+  where
+    last : (b : Bool) → length (cond b (n ∷ []) []) ≡ bit b
+    last true = refl
+    last false = refl
+
+pub passing-lt : (n : ℕ) (f : ℕ → Bool) → All (λ (i : ℕ). i < n) (passing n f)
+unfolding passing
+passing-lt zero f = tt
+passing-lt (suc n) f =
+    all-append (λ (i : ℕ). i < suc n) (passing n f) (cond (f n) (n ∷ []) [])
+    (all-of-all (λ (i : ℕ). i < n) (λ (i : ℕ). i < suc n) (λ i l. omega arith) (passing n f) (passing-lt n f))
+    (last (f n))
+  where
+    last : (b : Bool) → All (λ (i : ℕ). i < suc n) (cond b (n ∷ []) [])
+    last true = (omega arith, tt)
+    last false = tt

@@ -27,7 +27,8 @@ use Rattle.model.specs.System.{source, action, target, view, ReachableIn}
 use Rattle.verdicts.specs.Verdicts.{RefusedAt}
 use Rattle.columns.specs.Inner.RowCount.{rowCount, rowsBelow, NamesFit, passedRows, refusedRows}
 use Rattle.columns.specs.LowNames.{nameOf, leaves?, lowFrom?, lowActions, lowNames}
-use Rattle.columns.specs.Laws.RowCountLaws.{passing-length, rowCount-le, rowCount-unnamed}
+use Rattle.columns.specs.Laws.PassingLaws.{passing-length}
+use Rattle.columns.specs.Laws.RowCountLaws.{rowCount-le, rowCount-unnamed}
 
 module _ (m : Model) where
   -- The number of actions and of steps, and the tests of low actions and steps, for short.

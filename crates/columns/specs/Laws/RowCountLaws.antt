@@ -1,6 +1,6 @@
 -- Lines of the roll, counted: a line that is not the last of its state has at least two names.
 -- Document 02, (ii). Assumes nothing.
-use mathlib.Core.Bool.{Bool, true, false, cond}
+use mathlib.Core.Bool.{Bool, cond}
 use mathlib.Core.List.{List, [], _∷_, _++_, append-assoc}
 use mathlib.Core.Logic.{_⊎_, inl, inr}
 use mathlib.Core.Option.{Option}
@@ -9,17 +9,16 @@ use Prim.Native.Nat.{ℕ, zero, suc, _+_, _*_, _≤_, _<_}
 use native.Mathlib.Omega.{arith}
 use borrow.Author.Tests.{le-leb, lt-leb}
 use lib.ListN.{length, length-append, length-replicate}
-use Rattle.lts.specs.Tests.{bit, count}
 use Rattle.lts.specs.TestsLaws.{lt-or-le, lt-suc-cases}
-use Rattle.text.specs.All.{All}
 use Rattle.text.specs.Bytes.{byteBlank}
-use Rattle.text.specs.Laws.AllLaws.{all-append, all-map, all-of-all}
+use Rattle.text.specs.Laws.AllLaws.{all-map, all-of-all}
 use Rattle.text.specs.Limits.{nameLimit}
 use Rattle.text.specs.Model.{Model}
 use Rattle.text.specs.Numbers.{digits}
 use Rattle.columns.specs.Inner.RowCount.{columnsWidth, rowCount, rowsBelow, ShortNames, ShortRows, ShortColumns}
 use Rattle.columns.specs.Inner.RowCount.{NamesFit}
-use Rattle.columns.specs.LowNames.{nameOf, lowFrom?, passing, lowActions, lowNames}
+use Rattle.columns.specs.LowNames.{nameOf, lowFrom?, lowActions, lowNames}
+use Rattle.columns.specs.Laws.PassingLaws.{passing-lt}
 use Rattle.columns.specs.Rows.{rollWidth, blanks, flushLeft, flushRight, rowBytes, rowsBytes, nameIndent, fill}
 use Rattle.columns.specs.StateRows.{distanceText, numberWidth, stateColumns, stateRows}
 
@@ -146,30 +145,6 @@ rowsBytes-length (row ∷ rows) s =
 pub flushRight-length : (width : ℕ) (text : List ℕ) → length text ≤ width → length (flushRight width text) ≡ width
 unfolding flushRight
 flushRight-length width text l = simp (length-append, length-replicate) (omega arith)
-
--- ---- the numbers that pass a test
-
-pub passing-length : (n : ℕ) (f : ℕ → Bool) → length (passing n f) ≡ count n f
-unfolding passing count
-passing-length zero f = refl
-passing-length (suc n) f =
-    length-append (passing n f) (cond (f n) (n ∷ []) []) ∙ omega (arith, passing-length n f, last (f n))
-  where
-    last : (b : Bool) → length (cond b (n ∷ []) []) ≡ bit b
-    last true = refl
-    last false = refl
-
-pub passing-lt : (n : ℕ) (f : ℕ → Bool) → All (λ (i : ℕ). i < n) (passing n f)
-unfolding passing
-passing-lt zero f = tt
-passing-lt (suc n) f =
-    all-append (λ (i : ℕ). i < suc n) (passing n f) (cond (f n) (n ∷ []) [])
-    (all-of-all (λ (i : ℕ). i < n) (λ (i : ℕ). i < suc n) (λ i l. omega arith) (passing n f) (passing-lt n f))
-    (last (f n))
-  where
-    last : (b : Bool) → All (λ (i : ℕ). i < suc n) (cond b (n ∷ []) [])
-    last true = (omega arith, tt)
-    last false = tt
 
 -- ---- the lines of a state
 

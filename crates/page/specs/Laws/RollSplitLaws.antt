@@ -25,7 +25,8 @@ use Rattle.model.specs.WellFormed.{WellFormed}
 use Rattle.columns.specs.LowNames.{nameOf, lowFrom?, lowActions, lowNames}
 use Rattle.columns.specs.Rows.{rollWidth, blanks, flushLeft, flushRight, rowBytes, rowsBytes, nameIndent, fill}
 use Rattle.columns.specs.StateRows.{numberWidth, distanceText, stateColumns, stateRows}
-use Rattle.columns.specs.Laws.RowCountLaws.{fill-fits, fill-next, passing-lt}
+use Rattle.columns.specs.Laws.PassingLaws.{passing-lt}
+use Rattle.columns.specs.Laws.RowCountLaws.{fill-fits, fill-next}
 use Rattle.lines.specs.PageLines.{PageLine, lineText, pageBytes}
 use Rattle.lines.specs.Page.{PageOf}
 use Rattle.lines.specs.Roll.{rollRows, rollBytes}

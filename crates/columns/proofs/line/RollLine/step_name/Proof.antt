@@ -11,8 +11,8 @@ use Rattle.model.specs.Laws.System.StoredLaws.{stored-action}
 use Rattle.columns.specs.Laws.FillingLaws.{filled-nil}
 use Rattle.columns.specs.Laws.FirstLowLaws.{nameAdded-first, nameAdded-none}
 use Rattle.columns.specs.Laws.NameLaws.{actions-counted}
-use Rattle.columns.proofs.row.Row.step_name.Statement.{statement}
-use Rattle.columns.proofs.row.Row.step_name.Tie as tie
+use Rattle.columns.proofs.line.RollLine.step_name.Statement.{statement}
+use Rattle.columns.proofs.line.RollLine.step_name.Tie as tie
 
 first-of-low-requires : tie.Need-first-of-low-requires
 first-of-low-requires c κs = search needs

@@ -16,7 +16,7 @@ pub const WIDTH: usize = 42;
 const NUMBER_WIDTH: usize = 3;
 
 // A line that is being written, by value: how far it is written, and where it began.
-pub struct Row {
+pub struct RollLine {
     pub at: Position,
     pub begin: usize,
 }
@@ -35,17 +35,17 @@ fn digit_count(n: u16) -> usize
     3
 }
 
-impl Row {
+impl RollLine {
     // A line that begins where the last one ended.
-    pub fn start(at: Position) -> Row
+    pub fn start(at: Position) -> RollLine
         ensures { λ r. ⌜ (r .at .at ≡ at .at) × (r .begin ≡ at .at) ⌝ }
     {
         let begin = at.at;
-        Row { at, begin }
+        RollLine { at, begin }
     }
 
     // n blanks.
-    pub fn blanks(self, out: &mut [u8], n: usize) -> Row
+    pub fn blanks(self, out: &mut [u8], n: usize) -> RollLine
         requires { ⌜ self .at .at + n ≤ length (now out) ⌝ }
         ensures { λ r. ⌜ Wrote (now (out .entry)) (self .at .at) (blanks n) (now (out .exit)) (r .at .at)
             × (r .begin ≡ self .begin) ⌝ }
@@ -56,35 +56,35 @@ impl Row {
             at = at.byte(out, b' ');
             i += 1;
         }
-        Row {
+        RollLine {
             at,
             begin: self.begin,
         }
     }
 
     // A number of at most three digits, flush right.
-    pub fn number(self, out: &mut [u8], n: u16) -> Row
+    pub fn number(self, out: &mut [u8], n: u16) -> RollLine
         requires { ⌜ (n < 1000) × (self .at .at + numberWidth ≤ length (now out)) ⌝ }
         ensures { λ r. ⌜ Wrote (now (out .entry)) (self .at .at) (flushRight numberWidth (digits n)) (now (out .exit))
             (r .at .at) × (r .begin ≡ self .begin) ⌝ }
     {
         let row = self.blanks(out, NUMBER_WIDTH - digit_count(n));
         let at = row.at.number(out, n);
-        Row {
+        RollLine {
             at,
             begin: row.begin,
         }
     }
 
     // `-`, flush right.
-    pub fn dash(self, out: &mut [u8]) -> Row
+    pub fn dash(self, out: &mut [u8]) -> RollLine
         requires { ⌜ self .at .at + numberWidth ≤ length (now out) ⌝ }
         ensures { λ r. ⌜ Wrote (now (out .entry)) (self .at .at) (flushRight numberWidth (byteDash ∷ []))
             (now (out .exit)) (r .at .at) × (r .begin ≡ self .begin) ⌝ }
     {
         let row = self.blanks(out, NUMBER_WIDTH - 1);
         let at = row.at.byte(out, b'-');
-        Row {
+        RollLine {
             at,
             begin: row.begin,
         }

@@ -4,8 +4,8 @@ use lib.ListN.{length-replicate}
 use borrow.Author.Needs.{needs}
 use Rattle.text.specs.Bytes.{byteBlank}
 use Rattle.writer.specs.Laws.WroteLaws.{wrote-append, wrote-length}
-use Rattle.columns.proofs.row.Row.indented.Statement.{statement}
-use Rattle.columns.proofs.row.Row.indented.Tie as tie
+use Rattle.columns.proofs.line.RollLine.indented.Statement.{statement}
+use Rattle.columns.proofs.line.RollLine.indented.Tie as tie
 
 blanks-requires : tie.Need-blanks-requires
 blanks-requires c κs = search needs

@@ -3,8 +3,8 @@ use native.Mathlib.Omega.{arith}
 use borrow.Author.Needs.{needs}
 use Rattle.writer.specs.Laws.WroteLaws.{wrote-length}
 use Rattle.columns.specs.Laws.FillingLaws.{ended-place, filled-fits, filled-next}
-use Rattle.columns.proofs.row.Row.name.Statement.{statement}
-use Rattle.columns.proofs.row.Row.name.Tie as tie
+use Rattle.columns.proofs.line.RollLine.name.Statement.{statement}
+use Rattle.columns.proofs.line.RollLine.name.Tie as tie
 
 sub-used : tie.Need-sub-used
 sub-used c = search needs

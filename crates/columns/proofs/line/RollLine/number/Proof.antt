@@ -9,8 +9,8 @@ use Rattle.text.specs.Laws.DigitsLaws.{digits-length-le}
 use Rattle.writer.specs.Laws.WroteLaws.{wrote-append, wrote-length}
 use Rattle.columns.specs.Rows.{flushRight}
 use Rattle.columns.specs.StateRows.{numberWidth}
-use Rattle.columns.proofs.row.Row.number.Statement.{statement}
-use Rattle.columns.proofs.row.Row.number.Tie as tie
+use Rattle.columns.proofs.line.RollLine.number.Statement.{statement}
+use Rattle.columns.proofs.line.RollLine.number.Tie as tie
 
 digit-count-requires : tie.Need-digit-count-requires
 digit-count-requires c κs = search needs

@@ -9,8 +9,8 @@ use Rattle.text.specs.All.{All}
 use Rattle.writer.specs.Laws.WritableLaws.{actions-le, name-bytes-at}
 use Rattle.columns.specs.Inner.Filling.{NameRoom}
 use Rattle.columns.specs.Laws.NameLaws.{name-action-lt, name-part, name-length-le, name-bytes-lt}
-use Rattle.columns.proofs.row.Row.action_name.Statement.{statement}
-use Rattle.columns.proofs.row.Row.action_name.Tie as tie
+use Rattle.columns.proofs.line.RollLine.action_name.Statement.{statement}
+use Rattle.columns.proofs.line.RollLine.action_name.Tie as tie
 
 name-place-requires : tie.Need-name-place-requires
 name-place-requires c κs =

@@ -5,8 +5,8 @@ use denote.Ref.{now}
 use Rattle.text.specs.Laws.DecidesLaws.{decides-true, decides-false}
 use Rattle.columns.specs.StateRows.{distanceText}
 use Rattle.columns.specs.Laws.DistanceOfLaws.{distanceOf-unreachable, distanceOf-reachable}
-use Rattle.columns.proofs.row.Row.distance.Statement.{statement}
-use Rattle.columns.proofs.row.Row.distance.Tie as tie
+use Rattle.columns.proofs.line.RollLine.distance.Statement.{statement}
+use Rattle.columns.proofs.line.RollLine.distance.Tie as tie
 
 is-unreachable-requires : tie.Need-is-unreachable-requires
 is-unreachable-requires c κs = search needs

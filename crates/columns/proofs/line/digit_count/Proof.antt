@@ -8,8 +8,8 @@ use borrow.Author.Needs.{needs}
 use Rattle.text.specs.Bytes.{byteZero}
 use Rattle.text.specs.Numbers.{digits, digitsUpTo}
 use Rattle.text.specs.Laws.DigitsLaws.{digitsUpTo-lt, digitsUpTo-le}
-use Rattle.columns.proofs.row.digit_count.Statement.{statement}
-use Rattle.columns.proofs.row.digit_count.Tie as tie
+use Rattle.columns.proofs.line.digit_count.Statement.{statement}
+use Rattle.columns.proofs.line.digit_count.Tie as tie
 
 -- ---- the number of digits, one by one
 

@@ -6,8 +6,8 @@ use borrow.Author.Needs.{needs}
 use Rattle.text.specs.Bytes.{byteBlank}
 use Rattle.writer.specs.Laws.WroteLaws.{wrote-append, wrote-length}
 use Rattle.columns.specs.Rows.{rollWidth}
-use Rattle.columns.proofs.row.Row.end.Statement.{statement}
-use Rattle.columns.proofs.row.Row.end.Tie as tie
+use Rattle.columns.proofs.line.RollLine.end.Statement.{statement}
+use Rattle.columns.proofs.line.RollLine.end.Tie as tie
 
 sub-used : tie.Need-sub-used
 sub-used c = search needs

@@ -8,8 +8,8 @@ use Rattle.text.specs.Bytes.{byteBlank}
 use Rattle.writer.specs.Wrote.{Wrote}
 use Rattle.writer.specs.Laws.WroteLaws.{wrote-nil, wrote-append}
 use Rattle.columns.specs.Rows.{blanks}
-use Rattle.columns.proofs.row.Row.blanks.Statement.{statement}
-use Rattle.columns.proofs.row.Row.blanks.Tie as tie
+use Rattle.columns.proofs.line.RollLine.blanks.Statement.{statement}
+use Rattle.columns.proofs.line.RollLine.blanks.Tie as tie
 
 abbrev Inv-loop : tie.InvT-loop
 Inv-loop self out₀ n at₀ i₀ out at i =

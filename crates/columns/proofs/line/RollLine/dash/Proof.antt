@@ -2,8 +2,8 @@
 use borrow.Author.Needs.{needs}
 use Rattle.writer.specs.Laws.WroteLaws.{wrote-append}
 use Rattle.columns.specs.Rows.{flushRight}
-use Rattle.columns.proofs.row.Row.dash.Statement.{statement}
-use Rattle.columns.proofs.row.Row.dash.Tie as tie
+use Rattle.columns.proofs.line.RollLine.dash.Statement.{statement}
+use Rattle.columns.proofs.line.RollLine.dash.Tie as tie
 
 sub-blanks : tie.Need-sub-blanks
 sub-blanks c = search needs

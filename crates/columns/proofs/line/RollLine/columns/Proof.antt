@@ -5,8 +5,8 @@ use borrow.Author.Needs.{needs}
 use Rattle.writer.specs.Laws.WroteLaws.{wrote-append, wrote-length}
 use Rattle.columns.specs.StateRows.{stateColumns}
 use Rattle.columns.specs.Laws.ColumnsLaws.{columns-short, column-place}
-use Rattle.columns.proofs.row.Row.columns.Statement.{statement}
-use Rattle.columns.proofs.row.Row.columns.Tie as tie
+use Rattle.columns.proofs.line.RollLine.columns.Statement.{statement}
+use Rattle.columns.proofs.line.RollLine.columns.Tie as tie
 
 number-requires : tie.Need-number-requires
 number-requires c κs = search needs
