@@ -29,7 +29,9 @@ use Rattle.tell.specs.Laws.BenchLaws.{joint-fact}
 use Rattle.columns.specs.LowNames.{passing}
 use Rattle.columns.specs.Rows.{flushLeft, flushRight, rowsBytes, fill}
 use Rattle.columns.specs.StateRows.{distanceText, stateColumns}
+use Rattle.text.specs.Bytes.{kindOf}
 use Rattle.text.specs.Numbers.{digits, digitsUpTo}
+use Rattle.text.specs.Split.{consFirst, split}
 use Rattle.lines.specs.Examples.{workedLines, worked-bytes, worked-roll}
 use Rattle.page.specs.Laws.PagePromiseLaws.{pagePrinted-unique}
 use Rattle.lines.specs.Page.{nameLine, by-word, by-branch, AfterStates}
@@ -37,6 +39,7 @@ use Rattle.lines.specs.PageLines.{PageLine, verdict-line, allows-line, branch-l
 use Rattle.lines.specs.declared.lines.Form.{Form}
 use Rattle.lines.specs.declared.lines.Form.the-variants.{Page, Roll}
 use Rattle.lines.specs.Roll.{rollRows, rollBytes, formBytes}
+use Rattle.page.specs.RollClaim.{consUnpadded, unpadded, other?, othersOf}
 use Rattle.page.specs.PagePromise.{PagePrinted}
 use Rattle.page.specs.Examples.{PrintsBytes, PagesPrinted, RollsPrinted, scannedOnceLines, releasedLines}
 use Rattle.page.specs.Examples.{closeLowLines, branchingLines, oneStateLines, unreachedPrintLines}
@@ -173,9 +176,11 @@ unfolding formBytes rollBytes rollRows rowsBytes flushLeft flushRight stateColum
 unreached-print-rows = refl
 
 pub rolls-printed : RollsPrinted
+unfolding split consFirst kindOf othersOf other? unpadded consUnpadded rowsBytes flushLeft unreachedPrintRows
 rolls-printed = record {
   worked = subst (PrintsBytes Roll workedText) worked-roll (prints-word Roll (joint-fact .worked-refused) refl
       (joint-fact .worked-deterministic) (joint-fact .worked-word) refl (computed .worked));
   unreached-print = subst (PrintsBytes Roll unreachedPrintText) unreached-print-rows (prints-passed Roll
       (joint-fact .unreached-print-passed) (computed .unreached-print));
+  unreached-print-others = refl;
 }
