@@ -21,7 +21,7 @@ use Rattle.lines.specs.PageLines.{PageLine, state-line}
 use Rattle.lines.specs.Page.{DistanceField, ClassOf, StateLines, no-state, next-state, PageOf}
 use Rattle.lines.specs.Roll.{rollRows, rollBytes}
 use Rattle.lines.specs.Laws.StateLinesLaws.{short-columns}
-use Rattle.page.specs.RollClaim.{Columns}
+use Rattle.page.specs.RollClaim.{RollColumns}
 use Rattle.page.specs.Inner.OtherLines.{OtherLine, paddedRows}
 use Rattle.page.specs.Laws.LineTextLaws.{name-short, page-all}
 use Rattle.page.specs.Laws.RollSplitLaws.{split-roll}
@@ -73,7 +73,7 @@ module _ {s : List ℕ} {m : Model} (st : Stored s m) where
 
 module _ {m : Model} (w : WellFormed m) where
   pub roll-columns : {run word run′ word′ : List ℕ} {lines : List PageLine} → PageOf m run word run′ word′ lines
-      → Columns (rollBytes m lines)
+      → RollColumns (rollBytes m lines)
   roll-columns {lines = lines} x =
       let states = states-short (well-formed-stored w) (name-short w) (omega arith) (x .state-lines) in
       record {
