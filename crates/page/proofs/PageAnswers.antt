@@ -17,7 +17,8 @@ use Rattle.page.specs.Inner.PageLists.{LongLists, FirstShort, PageMade}
 
 module _ (form : Form) (store distances table run word out : List ℕ) where
   pub short-promised : (r : ℕ)
-      → FirstShort form r (length store) (length distances) (length table) (length run) (length word) (length out) → 0 < r
+      → FirstShort form r (length store) (length distances) (length table) (length run) (length word) (length out)
+      → 0 < r
       → FormPromise form store distances table run word out (pageOutcome (ShortList r)) distances table run word out
   unfolding pageOutcome
   short-promised r x l = onStore-short (x .some-short l) refl (refl, refl, refl, refl, refl)
@@ -35,7 +36,8 @@ module _ (form : Form) (store distances table run word out : List ℕ) where
 
     pub printed-promised : Good store → (n : ℕ) (distances′ table′ run′ word′ out′ : List ℕ)
         → PageMade form (modelAt store) n distances table run word out distances′ table′ run′ word′ out′
-        → FormPromise form store distances table run word out (pageOutcome (Printed n)) distances′ table′ run′ word′ out′
+        → FormPromise form store distances table run word out (pageOutcome (Printed n)) distances′ table′ run′ word′
+        out′
     unfolding pageOutcome
     printed-promised good n distances′ table′ run′ word′ out′ made =
         onStore-model (λ m. JudgeFilled m distances table distances′ table′

@@ -1,5 +1,5 @@
--- Each answer of `print_in_form` keeps its promise and the claim: the lists' lengths decide first, then whether the text is
--- read. Assumes nothing.
+-- Each answer of `print_in_form` keeps its promise and the claim: the lists' lengths decide first, then whether the
+-- text is read. Assumes nothing.
 use mathlib.Core.List.{List, [], _∷_, _++_}
 use mathlib.Core.Option.{none, some}
 use mathlib.Core.Path.{_≡_, refl, sym, ap, subst, _∙_}
@@ -46,8 +46,8 @@ module _ (form : Form) (text store distances table run word out : List ℕ) wher
       × PrintClaim form text (printOutcome r) word out
 
   place-promised : (place : ℕ) → printLists form text store distances table run word out ≡ some place
-      → PrintPromise form text store distances table run word out (printOutcome (ShortList place)) store distances table run
-      word out
+      → PrintPromise form text store distances table run word out (printOutcome (ShortList place)) store distances table
+      run word out
   unfolding printOutcome
   place-promised place e = record {
     short = λ k h.
@@ -66,7 +66,8 @@ module _ (form : Form) (text store distances table run word out : List ℕ) wher
 
   -- the text is list 1, and Page's lists follow it
   pub short-promised : (r : ℕ)
-      → FirstShort form r (length store) (length distances) (length table) (length run) (length word) (length out) → 0 < r
+      → FirstShort form r (length store) (length distances) (length table) (length run) (length word) (length out)
+      → 0 < r
       → Refused (ShortList (r + 1))
   short-promised r x l =
       let any-text : 0 ≤ length text = omega arith in
@@ -77,9 +78,10 @@ module _ (form : Form) (text store distances table run word out : List ℕ) wher
 
   -- the bytes that were printed
   pub printed-claimed : (n : ℕ) (store′ distances′ table′ run′ word′ out′ : List ℕ)
-      → PrintPromise form text store distances table run word out (answers (n ∷ [])) store′ distances′ table′ run′ word′ out′
-      → PrintPromise form text store distances table run word out (printOutcome (Printed n)) store′ distances′ table′ run′
-      word′ out′ × PrintClaim form text (printOutcome (Printed n)) word′ out′
+      → PrintPromise form text store distances table run word out (answers (n ∷ [])) store′ distances′ table′ run′ word′
+      out′
+      → PrintPromise form text store distances table run word out (printOutcome (Printed n)) store′ distances′ table′
+      run′ word′ out′ × PrintClaim form text (printOutcome (Printed n)) word′ out′
   unfolding printOutcome
   printed-claimed n store′ distances′ table′ run′ word′ out′ promise = (promise, print-claim promise)
 
@@ -134,8 +136,8 @@ module _ (form : Form) (text store distances table run word out : List ℕ) wher
 
       pub read-promised : r ≡ Done → (n : ℕ) (distances′ table′ run′ word′ out′ : List ℕ)
           → PageMade form (modelAt store′) n distances table run word out distances′ table′ run′ word′ out′
-          → PrintPromise form text store distances table run word out (answers (n ∷ [])) store′ distances′ table′ run′ word′
-          out′
+          → PrintPromise form text store distances table run word out (answers (n ∷ [])) store′ distances′ table′ run′
+          word′ out′
       unfolding readOutcome readingOutcome readingStore
       read-promised e n distances′ table′ run′ word′ out′ x = record {
         short = λ k h. absurd (not-short k h);
@@ -147,7 +149,7 @@ module _ (form : Form) (text store distances table run word out : List ℕ) wher
             let model : modelAt store′ ≡ m =
             ap modelAt filled ∙ modelAt-storeOf m (drop storeLength store) (readText-well-formed text m f) in
             let made =
-            subst (λ (z : Model). PageMade form z n distances table run word out distances′ table′ run′ word′ out′) model x
-            in
+            subst (λ (z : Model). PageMade form z n distances table run word out distances′ table′ run′ word′ out′)
+            model x in
             record { store-filled = filled; filled = made .filled; printed = made .printed };
       }

@@ -24,7 +24,7 @@ use Rattle.lines.specs.PageLines.{lineText, pageBytes}
 use Rattle.lines.specs.Page.{StateLines, nameLine}
 use Rattle.lts.specs.Noninterference.{LowMove}
 
--- The page begins with `V,pass,`, or with `V,refuse,`.
+-- The page, or the roll, begins with `V,pass,`, or with `V,refuse,`.
 abbrev pub SaysPass : List ℕ → Type 0
 SaysPass bytes = take 7 bytes ≡ (byteV ∷ []) ++ field passText ++ (byteComma ∷ [])
 

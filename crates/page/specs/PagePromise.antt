@@ -43,6 +43,7 @@ pub record PagePrinted (form : Form) (m : Model) (outcome : Outcome) (run word o
   pub outcome-is : outcome ≡ answers (length (formBytes form m lines) ∷ [])
   pub list : out′ ≡ formBytes form m lines ++ drop (length (formBytes form m lines)) out
 
+-- A good store's lists are filled as Judge, Run and Word do, and the lines printed in the form; else nothing changes.
 abbrev pub FormPromise : Form → List ℕ → List ℕ → List ℕ → List ℕ → List ℕ → List ℕ → Outcome
     → List ℕ → List ℕ → List ℕ → List ℕ → List ℕ → Type 0
 FormPromise form store distances table run word out outcome distances′ table′ run′ word′ out′ =

@@ -63,7 +63,7 @@ RollTells m bytes word = BytesTell m bytes (PassRoll m bytes) (LeakRoll m bytes 
 -- ---- its columns
 
 -- "Each line has exactly 42 columns before its line end": the bytes part at the line ends into such lines.
-pub record Columns (bytes : List ℕ) : Type 0 where
+pub record RollColumns (bytes : List ℕ) : Type 0 where
   pub rows : List (List ℕ)
   pub parted : split lineEnd bytes ≡ rows ++ ([] ∷ [])
   pub widths : All (λ (row : List ℕ). length row ≡ rollWidth) rows

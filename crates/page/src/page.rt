@@ -134,6 +134,7 @@ fn page_in_form(
     PageAnswer::Printed(at.at)
 }
 
+// Page: in at least 5,000 bytes.
 pub fn page(
     store: &[u16],
     distances: &mut [u16],
@@ -149,6 +150,7 @@ pub fn page(
     page_in_form(store, distances, table, run, word, out, Form::Page)
 }
 
+// Roll: the same lines on the receipt roll, in at least 35,840 bytes.
 pub fn roll(
     store: &[u16],
     distances: &mut [u16],

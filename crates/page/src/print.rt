@@ -128,6 +128,7 @@ pub fn print_in_form(
     PrintAnswer::Printed(at.at)
 }
 
+// The page of a text.
 pub fn print(
     text: &[u8],
     store: &mut [u16],
@@ -146,6 +147,7 @@ pub fn print(
     print_in_form(text, store, distances, table, run, word, out, Form::Page)
 }
 
+// The roll of a text.
 pub fn print_roll(
     text: &[u8],
     store: &mut [u16],

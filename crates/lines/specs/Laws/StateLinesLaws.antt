@@ -15,6 +15,8 @@ use Rattle.text.specs.Limits.{pairPlace, unreachable}
 use Rattle.text.specs.Model.{Model}
 use Rattle.text.specs.Laws.DigitsLaws.{digits-length-le}
 use Rattle.writer.specs.Wrote.{Wrote}
+use Rattle.text.specs.Numbers.{digits}
+use Rattle.model.specs.Inner.Stored.{Stored}
 use Rattle.model.specs.Laws.System.StepTestLaws.{distance-lt}
 use Rattle.distances.specs.Laws.DistancesLaws.{list-distance, list-unreachable}
 use Rattle.lines.specs.Page.{DistanceField, unreached, reached, ClassOf, StateLines, no-state, next-state}
@@ -35,6 +37,26 @@ use Rattle.lines.specs.Laws.FormLaws.{formBytes-page, formBytes-roll}
 use Rattle.lines.specs.Laws.LinesWrittenLaws.{written-lines, written-append}
 use Rattle.model.specs.System.{IsState, view}
 use Rattle.lts.specs.Noninterference.{LowMove}
+
+-- ---- the columns
+
+-- numbers of states, and distances, have at most 3 digits
+module _ {s : List ℕ} {m : Model} (st : Stored s m) where
+  digits-short : (n : ℕ) → n < m .head .states → length (digits n) ≤ numberWidth
+  digits-short n l = digits-length-le 3 n (omega (arith, st .states-le)) (omega arith) (omega arith)
+
+  distanceText-short : (p : ℕ) (d : Option ℕ) → DistanceField m p d → length (distanceText d) ≤ numberWidth
+  unfolding distanceText
+  distanceText-short p none (unreached n) = omega arith
+  distanceText-short p (some d) (reached x) = digits-short d (distance-lt st x)
+
+  pub short-columns : (p : ℕ) (d : Option ℕ) (class : ℕ) → p < m .head .states → DistanceField m p d
+      → class < m .head .states → ShortColumns p d class
+  short-columns p d class l x k = record {
+    state-le = digits-short p l;
+    distance-le = distanceText-short p d x;
+    class-le = digits-short class k;
+  }
 
 module _ {s : List ℕ} {m : Model} {roles distances table : List ℕ} (L : ModelLists m s roles distances table) where
   -- ---- the distance
@@ -65,19 +87,9 @@ module _ {s : List ℕ} {m : Model} {roles distances table : List ℕ} (L : Mode
 
   -- ---- the line
 
-  distanceText-length : (p : ℕ) (d : Option ℕ) → DistanceField m p d → length (distanceText d) ≤ numberWidth
-  unfolding distanceText
-  distanceText-length p none (unreached n) = omega arith
-  distanceText-length p (some d) (reached x) =
-      digits-length-le 3 d (omega (arith, distance-lt (L .stored) x, L .stored .states-le)) (omega arith) (omega arith)
-
   module _ (p : ℕ) (d : Option ℕ) (class : ℕ) (l : p < m .head .states) (x : DistanceField m p d) (k : class ≤ p) where
-    short-columns : ShortColumns p d class
-    short-columns = record {
-      state-le = digits-length-le 3 p (omega (arith, L .stored .states-le)) (omega arith) (omega arith);
-      distance-le = distanceText-length p d x;
-      class-le = digits-length-le 3 class (omega (arith, L .stored .states-le)) (omega arith) (omega arith);
-    }
+    columns : ShortColumns p d class
+    columns = short-columns (L .stored) p d class l x (omega (arith, l, k))
 
     -- `C,state,distance,class` and its end, or the lines of its columns and names
     pub state-length-le : (form : Form) → NamesFit m
@@ -88,14 +100,14 @@ module _ {s : List ℕ} {m : Model} {roles distances table : List ℕ} (L : Mode
       ap length (formBytes-page m (state-line p d class) refl),
       lineBytes-length (state-line p d class),
       state-length p d class,
-      short-columns .state-le,
-      short-columns .distance-le,
-      short-columns .class-le,
+      columns .state-le,
+      columns .distance-le,
+      columns .class-le,
     )
     state-length-le Roll names = omega (
       arith,
       ap length (formBytes-roll m p d class refl),
-      stateRows-bytes-length m names p d class short-columns,
+      stateRows-bytes-length m names p d class columns,
     )
 
 -- ---- the class of a state is the lowest number of rank 0 to it, be it a state or not

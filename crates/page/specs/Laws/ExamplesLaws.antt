@@ -1,6 +1,6 @@
--- The pages of the starred bench models, and rolls, by evaluation: the joint fact has their verdicts and words, and which are
--- deterministic; the `C` lines are computed; and a model has one page.
--- Document 01, "The page" and "Bench models". Assumes nothing.
+-- The pages of the starred bench models, and rolls, by evaluation: the joint fact has their verdicts and words, and
+-- which are deterministic; the `C` lines are computed; and a model has one page in each form.
+-- Document 01, "The page" and "Bench models"; document 02, (ii). Assumes nothing.
 use mathlib.Core.List.{List, [], _∷_, _++_, map}
 use mathlib.Core.Path.{_≡_, refl, sym, ap, subst, _∙_}
 use Prim.Native.Nat.{ℕ}
@@ -29,7 +29,9 @@ use Rattle.tell.specs.Laws.BenchLaws.{joint-fact}
 use Rattle.columns.specs.LowNames.{passing}
 use Rattle.columns.specs.Rows.{flushLeft, flushRight, rowsBytes, fill}
 use Rattle.columns.specs.StateRows.{distanceText, stateColumns}
+use Rattle.text.specs.Bytes.{kindOf}
 use Rattle.text.specs.Numbers.{digits, digitsUpTo}
+use Rattle.text.specs.Split.{consFirst, split}
 use Rattle.lines.specs.Examples.{workedLines, worked-bytes, worked-roll}
 use Rattle.page.specs.Laws.PagePromiseLaws.{pagePrinted-unique}
 use Rattle.lines.specs.Page.{nameLine, by-word, by-branch, AfterStates}
@@ -37,9 +39,11 @@ use Rattle.lines.specs.PageLines.{PageLine, verdict-line, allows-line, branch-l
 use Rattle.lines.specs.declared.lines.Form.{Form}
 use Rattle.lines.specs.declared.lines.Form.the-variants.{Page, Roll}
 use Rattle.lines.specs.Roll.{rollRows, rollBytes, formBytes}
+use Rattle.page.specs.RollClaim.{consUnpadded, unpadded, other?, othersOf}
 use Rattle.page.specs.PagePromise.{PagePrinted}
-use Rattle.page.specs.Examples.{PrintsBytes, PagesPrinted, RollsPrinted, scannedOnceLines, releasedLines, closeLowLines}
-use Rattle.page.specs.Examples.{branchingLines, oneStateLines, unreachedPrintLines, unreachedPrintRows}
+use Rattle.page.specs.Examples.{PrintsBytes, PagesPrinted, RollsPrinted, scannedOnceLines, releasedLines}
+use Rattle.page.specs.Examples.{closeLowLines, branchingLines, oneStateLines, unreachedPrintLines}
+use Rattle.page.specs.Examples.{unreachedPrintRows}
 use Rattle.page.specs.Inner.StateLinesTest.{leastPassing, stateLinesOf}
 use Rattle.page.specs.Laws.StateLinesTestLaws.{stateLinesOf-lines}
 
@@ -119,7 +123,8 @@ module _ (form : Form) {text : List ℕ} {m : Model} where
   prints-passed : {top : ℕ} {lines : List PageLine} → ReadsAndJudged text m (Passed top)
       → pageWith m (Passed top) [] ≡ lines → PrintsBytes form text (formBytes form m lines)
   prints-passed x e =
-      prints-lines form x [] e (λ word. word) (λ run word. record { run-kept = refl; word-kept = refl; lines-are = refl })
+      prints-lines form x [] e (λ word. word)
+      (λ run word. record { run-kept = refl; word-kept = refl; lines-are = refl })
 
   -- the step leaves the start, so that the run to its source is empty
   module _ {j depth : ℕ} (x : ReadsAndJudged text m (refusedAt j depth)) (s : view m .Start (source m j)) where
@@ -166,14 +171,16 @@ pages-printed = record {
 -- ---- on the roll
 
 unreached-print-rows : formBytes Roll unreachedPrint unreachedPrintLines ≡ rowsBytes unreachedPrintRows
-unfolding formBytes rollBytes rollRows rowsBytes flushLeft flushRight stateColumns fill passing any lineText distanceText digits
-    digitsUpTo unreachedPrintLines unreachedPrintRows
+unfolding formBytes rollBytes rollRows rowsBytes flushLeft flushRight stateColumns fill passing any lineText
+    distanceText digits digitsUpTo unreachedPrintLines unreachedPrintRows
 unreached-print-rows = refl
 
 pub rolls-printed : RollsPrinted
+unfolding split consFirst kindOf othersOf other? unpadded consUnpadded rowsBytes flushLeft unreachedPrintRows
 rolls-printed = record {
   worked = subst (PrintsBytes Roll workedText) worked-roll (prints-word Roll (joint-fact .worked-refused) refl
       (joint-fact .worked-deterministic) (joint-fact .worked-word) refl (computed .worked));
   unreached-print = subst (PrintsBytes Roll unreachedPrintText) unreached-print-rows (prints-passed Roll
       (joint-fact .unreached-print-passed) (computed .unreached-print));
+  unreached-print-others = refl;
 }

@@ -1,5 +1,6 @@
 -- What the texts of a page's lines are made of: no line but a state's holds anything but digits, letters and commas.
 -- Document 01, "The page". Assumes nothing.
+use mathlib.Core.Bool.{true}
 use mathlib.Core.List.{List, [], _∷_, _++_, map, append-assoc}
 use mathlib.Core.Logic.{inl, inr}
 use mathlib.Core.Path.{_≡_, refl, sym, ap, subst, _∙_}
@@ -16,6 +17,7 @@ use Rattle.text.specs.Limits.{nameLimit}
 use Rattle.text.specs.Model.{Model}
 use Rattle.text.specs.Numbers.{digits}
 use Rattle.model.specs.Inner.LineText.{NameByte}
+use Rattle.text.specs.Join.{Without}
 use Rattle.model.specs.Text.{field}
 use Rattle.model.specs.WellFormed.{WellFormed}
 use Rattle.model.specs.Laws.Store.SystemLaws.{low-lt}
@@ -32,11 +34,12 @@ use Rattle.lines.specs.PageLines.{PageLine, verdict-line, state-line, run-line,
 use Rattle.lines.specs.PageLines.{last-line, passText, refuseText, endText, lineText}
 use Rattle.lines.specs.Page.{StateLines, no-state, next-state, nameOf, nameLine, LeakShown, by-word, by-branch}
 use Rattle.lines.specs.Page.{AfterStates, PageOf}
-use Rattle.lines.specs.Inner.Room.{verdictWidth, runWidth, nameWidth, allowsWidth, letterWidth}
+use Rattle.lines.specs.Inner.FormLines.{TextFits}
 use Rattle.lines.specs.Laws.PageLinesLaws.{verdict-fits, run-fits, word-fits, allows-fits, branch-fits, last-fits}
 use Rattle.model.specs.System.{view}
 use Rattle.page.specs.RollClaim.{other?}
-use Rattle.page.specs.Inner.OtherLines.{unlessState, withoutStates, Marked, OtherLine, AnyLine, of-state, of-other}
+use Rattle.page.specs.Inner.OtherLines.{unlessState, withoutStates, Marked, OtherLine, AnyLine, of-state}
+use Rattle.page.specs.Inner.OtherLines.{of-other}
 
 -- ---- texts of digits, letters and commas
 
@@ -65,69 +68,45 @@ marked-number a n p = marked-append a (field (digits n)) p (marked-field (digits
 
 -- ---- the lines
 
+other-line : {l : PageLine} {width : ℕ} → TextFits l width → unlessState l ≡ l ∷ [] → other? (lineText l) ≡ true
+    → Marked (lineText l) → OtherLine l
+other-line {width = width} fits stays begins marked =
+    record { width = width; fits = fits; stays = stays; begins = begins; marked = marked }
+
 verdict-other : (v : Verdict) → OtherLine (verdict-line v)
 unfolding lineText unlessState other? without? kindOf
 verdict-other (Passed rank) =
     let text = (byteV ∷ []) ++ field passText in
-    record { width = verdictWidth; fits = verdict-fits (Passed rank); stays = refl; begins = refl; marked = marked-number text rank (marked-test text tt tt) }
+    other-line (verdict-fits (Passed rank)) refl refl (marked-number text rank (marked-test text tt tt))
 verdict-other (Refused j depth) =
     let text = (byteV ∷ []) ++ field refuseText in
-    record {
-      width = verdictWidth;
-      fits = verdict-fits (Refused j depth);
-      stays = refl;
-      begins = refl;
-      marked =
-          marked-number (text ++ field (digits (j .0))) depth (marked-number text (j .0) (marked-test text tt tt));
-    }
+    other-line (verdict-fits (Refused j depth)) refl refl
+    (marked-number (text ++ field (digits (j .0))) depth (marked-number text (j .0) (marked-test text tt tt)))
 
 run-other : (j : ℕ) → OtherLine (run-line j)
 unfolding lineText unlessState other? without? kindOf
-run-other j = record {
-  width = runWidth;
-  fits = run-fits j;
-  stays = refl;
-  begins = refl;
-  marked = marked-number (byteR ∷ []) j (marked-test (byteR ∷ []) tt tt);
-}
+run-other j = other-line (run-fits j) refl refl (marked-number (byteR ∷ []) j (marked-test (byteR ∷ []) tt tt))
 
 word-other : (name : List ℕ) → length name ≤ nameLimit → Marked name → OtherLine (word-line name)
 unfolding lineText unlessState other? without? kindOf
-word-other name short p = record {
-  width = nameWidth;
-  fits = word-fits name short;
-  stays = refl;
-  begins = refl;
-  marked =
-      marked-append (byteW ∷ []) (field name) (marked-test (byteW ∷ []) tt tt) (marked-field name p);
-}
+word-other name short p =
+    other-line (word-fits name short) refl refl
+    (marked-append (byteW ∷ []) (field name) (marked-test (byteW ∷ []) tt tt) (marked-field name p))
 
 allows-other : (end : End) → OtherLine (allows-line end)
 unfolding lineText endText unlessState other? without? kindOf
-allows-other Source = record {
-  width = allowsWidth;
-  fits = allows-fits Source;
-  stays = refl;
-  begins = refl;
-  marked = marked-test ((byteB ∷ []) ++ field (endText Source)) tt tt;
-}
-allows-other Target = record {
-  width = allowsWidth;
-  fits = allows-fits Target;
-  stays = refl;
-  begins = refl;
-  marked = marked-test ((byteB ∷ []) ++ field (endText Target)) tt tt;
-}
+allows-other Source =
+    other-line (allows-fits Source) refl refl (marked-test ((byteB ∷ []) ++ field (endText Source)) tt tt)
+allows-other Target =
+    other-line (allows-fits Target) refl refl (marked-test ((byteB ∷ []) ++ field (endText Target)) tt tt)
 
 branch-other : OtherLine branch-line
 unfolding lineText unlessState other? without? kindOf
-branch-other =
-    record { width = letterWidth; fits = branch-fits; stays = refl; begins = refl; marked = marked-test (byteN ∷ []) tt tt }
+branch-other = other-line branch-fits refl refl (marked-test (byteN ∷ []) tt tt)
 
 last-other : OtherLine last-line
 unfolding lineText unlessState other? without? kindOf
-last-other =
-    record { width = letterWidth; fits = last-fits; stays = refl; begins = refl; marked = marked-test (byteE ∷ []) tt tt }
+last-other = other-line last-fits refl refl (marked-test (byteE ∷ []) tt tt)
 
 -- ---- the lines that are no state's
 
@@ -171,21 +150,23 @@ states-any (next-state {n = n} {lines = lines} {distance = d} {class = c} x f k)
     all-append AnyLine lines (state-line n d c ∷ []) (states-any x) (of-state n d c, tt)
 
 module _ {m : Model} (w : WellFormed m) where
-  nameByte-not : (kind b : ℕ) → (digit ≡ kind → ⊥) → (smallLetter ≡ kind → ⊥) → NameByte b → kindOf b ≡ kind → ⊥
-  nameByte-not kind b n k (inl e) h = n (sym e ∙ h)
-  nameByte-not kind b n k (inr e) h = k (sym e ∙ h)
+  nameByte-not : (kind : ℕ) → (digit ≡ kind → ⊥) → (smallLetter ≡ kind → ⊥) → (b : ℕ) → NameByte b → kindOf b ≡ kind
+      → ⊥
+  nameByte-not kind n k b (inl e) h = n (sym e ∙ h)
+  nameByte-not kind n k b (inr e) h = k (sym e ∙ h)
+
+  name-without : (kind : ℕ) → (digit ≡ kind → ⊥) → (smallLetter ≡ kind → ⊥) → (a : ℕ) → a < length (m .actions)
+      → Without kind (nameOf m a)
+  name-without kind n k a l =
+      all-of-all NameByte (λ b. kindOf b ≡ kind → ⊥) (nameByte-not kind n k) (nameOf m a)
+      (name-bytes (nameOf m a) (action-fits m w a _ l .name))
 
   -- a name has digits and small letters
   pub marked-name : (a : ℕ) → a < length (m .actions) → Marked (nameOf m a)
-  marked-name a l =
-      let bytes = name-bytes (nameOf m a) (action-fits m w a _ l .name) in (
-        all-of-all NameByte (λ b. kindOf b ≡ lineEnd → ⊥)
-            (λ b. nameByte-not lineEnd b (λ e. eqb-false digit lineEnd refl e) (λ e. eqb-false smallLetter lineEnd refl e))
-            (nameOf m a) bytes,
-        all-of-all NameByte (λ b. kindOf b ≡ other → ⊥)
-            (λ b. nameByte-not other b (λ e. eqb-false digit other refl e) (λ e. eqb-false smallLetter other refl e))
-            (nameOf m a) bytes,
-      )
+  marked-name a l = (
+    name-without lineEnd (λ e. eqb-false digit lineEnd refl e) (λ e. eqb-false smallLetter lineEnd refl e) a l,
+    name-without other (λ e. eqb-false digit other refl e) (λ e. eqb-false smallLetter other refl e) a l,
+  )
 
   pub name-short : (a : ℕ) → a < length (m .actions) → length (nameOf m a) ≤ nameLimit
   name-short a l = name-length (nameOf m a) (action-fits m w a _ l .name) .1
@@ -194,7 +175,8 @@ module _ {m : Model} (w : WellFormed m) where
   unfolding Low
   names-other [] x = tt
   names-other (a ∷ word) x =
-      (word-other (nameOf m a) (name-short a (low-lt m a (x .0))) (marked-name a (low-lt m a (x .0))), names-other word (x .1))
+      let l = low-lt m a (x .0) in
+      (word-other (nameOf m a) (name-short a l) (marked-name a l), names-other word (x .1))
 
   leak-other : {j depth : ℕ} {word word′ : List ℕ} {lines : List PageLine} → LeakShown m j depth word word′ lines
       → All OtherLine lines

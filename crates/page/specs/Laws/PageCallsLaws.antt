@@ -1,5 +1,5 @@
--- Whoever calls Read and then Page, or Roll, has demand 3 on the bytes; and on one good store the page and the roll tell
--- what Judge and Word answer.
+-- Whoever calls Read and then Page, or Roll, has demand 3 on the bytes; and on one good store the page and the roll
+-- tell what Judge and Word answer.
 -- Document 01, "Demand 3 is one claim [..]"; document 02, (ii); DEMANDS, 3. Assumes nothing.
 use mathlib.Core.List.{List, [], _∷_, _++_, map}
 use mathlib.Core.Path.{_≡_, refl, sym, ap, _∙_}

@@ -58,7 +58,9 @@ module _ {m : Model} (w : WellFormed m) (det : DeterministicModel m) {run word r
 -- the `R` lines, counted by the states: there are as many `C` lines
 pub run-fields-states : {m : Model} {bytes word : List ℕ} (x : LeakPage m bytes word) (i : ℕ)
     → i < length (x .texts .run)
-    → numberOf (getD (lineFields (split lineEnd bytes) (1 + m .head .states + i)) 1 []) ≡ some (getD (x .texts .run) i 0)
+    → numberOf (getD (lineFields (split lineEnd bytes) (1 + m .head .states + i)) 1 [])
+    ≡ some (getD (x .texts .run) i 0)
 run-fields-states {bytes = bytes} x i l =
-    subst (λ (n : ℕ). numberOf (getD (lineFields (split lineEnd bytes) (1 + n + i)) 1 []) ≡ some (getD (x .texts .run) i 0))
+    subst
+    (λ (n : ℕ). numberOf (getD (lineFields (split lineEnd bytes) (1 + n + i)) 1 []) ≡ some (getD (x .texts .run) i 0))
     (stateLines-length (x .state-lines)) (x .texts .run-fields i l)

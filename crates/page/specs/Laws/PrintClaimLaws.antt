@@ -85,7 +85,8 @@ fault-begins {number} {place} n e x v =
 
 module _ {form : Form} {text store distances table run word out : List ℕ} {outcome : Outcome}
     {store′ distances′ table′ run′ word′ out′ : List ℕ}
-    (p : PrintPromise form text store distances table run word out outcome store′ distances′ table′ run′ word′ out′) where
+    (p : PrintPromise form text store distances table run word out outcome store′ distances′ table′ run′ word′
+    out′) where
   pub lists-none : (n : ℕ) → outcome ≡ answers (n ∷ []) → printLists form text store distances table run word out ≡ none
   lists-none n e =
       lists-of-notShort (printLists form text store distances table run word out) (λ k h. p .short k h .0)

@@ -1,5 +1,5 @@
--- The promise of `print` and an answer give what is printed of the text, and a text has one such print.
--- Document 01, "The page". Assumes nothing.
+-- The promise of the path from a text and an answer give what is printed of the text.
+-- Document 01, "The page"; document 02, (ii). Assumes nothing.
 use mathlib.Core.List.{List, [], _∷_, _++_}
 use mathlib.Core.Option.{none}
 use mathlib.Core.Path.{_≡_, refl, sym, ap, subst, _∙_}
@@ -48,8 +48,8 @@ module _ (n : ℕ) (bytes out : List ℕ) {out′ : List ℕ} (e : answers (n �
 
 module _ {form : Form} {text store distances table run word out : List ℕ} (n : ℕ)
     {store′ distances′ table′ run′ word′ out′ : List ℕ}
-    (p : PrintPromise form text store distances table run word out (answers (n ∷ [])) store′ distances′ table′ run′ word′
-    out′) where
+    (p : PrintPromise form text store distances table run word out (answers (n ∷ [])) store′ distances′ table′ run′
+    word′ out′) where
   abbrev long : printLists form text store distances table run word out ≡ none
   long = lists-none p n refl
 
@@ -93,11 +93,12 @@ module _ {form : Form} {text store distances table run word out : List ℕ} (n :
 
 module _ (form : Form) (text store distances table run word out : List ℕ) (answer : PrintAnswer)
     {store′ distances′ table′ run′ word′ out′ : List ℕ}
-    (p : PrintPromise form text store distances table run word out (printOutcome answer) store′ distances′ table′ run′ word′
-    out′) (k : ℕ) where
+    (p : PrintPromise form text store distances table run word out (printOutcome answer) store′ distances′ table′ run′
+    word′ out′) (k : ℕ) where
   abbrev As : PrintAnswer → Type 0
   As x =
-      PrintPromise form text store distances table run word out (printOutcome x) store′ distances′ table′ run′ word′ out′
+      PrintPromise form text store distances table run word out (printOutcome x) store′ distances′ table′ run′ word′
+      out′
 
   -- so many bytes stand in the list, and they are what is printed
   pub printed-prints : answer ≡ Printed k

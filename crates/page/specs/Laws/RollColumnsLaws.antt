@@ -1,29 +1,27 @@
 -- Each line of a roll has 42 columns: numbers and names are short, so that padding fills each line and nothing is cut.
 -- Document 02, (ii): "Each line has exactly 42 columns before its line end, padded with blanks." Assumes nothing.
 use mathlib.Core.List.{List, [], _∷_, map}
-use mathlib.Core.Option.{Option, none, some}
+use mathlib.Core.Option.{Option}
 use mathlib.Core.Path.{_≡_, sym, subst}
 use Prim.Native.Nat.{ℕ, _≤_, _<_}
 use native.Mathlib.Omega.{arith}
 use lib.ListN.{length, length-append, length-replicate}
 use Rattle.text.specs.All.{All}
 use Rattle.text.specs.Laws.AllLaws.{all-append, all-map, all-of-all}
-use Rattle.text.specs.Laws.DigitsLaws.{digits-length-le}
 use Rattle.text.specs.Model.{Model}
-use Rattle.text.specs.Numbers.{digits}
 use Rattle.model.specs.Inner.Stored.{Stored}
 use Rattle.model.specs.WellFormed.{WellFormed}
 use Rattle.model.specs.Laws.System.GoodStoredLaws.{well-formed-stored}
-use Rattle.model.specs.Laws.System.StepTestLaws.{distance-lt}
-use Rattle.columns.specs.Inner.RowCount.{ShortRows, ShortColumns, NamesFit}
+use Rattle.columns.specs.Inner.RowCount.{ShortRows, NamesFit}
 use Rattle.columns.specs.LowNames.{lowNames}
 use Rattle.columns.specs.Rows.{rollWidth, flushLeft}
-use Rattle.columns.specs.StateRows.{distanceText, numberWidth, stateColumns}
+use Rattle.columns.specs.StateRows.{stateColumns}
 use Rattle.columns.specs.Laws.RowCountLaws.{fill-short, stateColumns-length, lowNames-short}
 use Rattle.lines.specs.PageLines.{PageLine, state-line}
-use Rattle.lines.specs.Page.{DistanceField, unreached, reached, ClassOf, StateLines, no-state, next-state, PageOf}
+use Rattle.lines.specs.Page.{DistanceField, ClassOf, StateLines, no-state, next-state, PageOf}
 use Rattle.lines.specs.Roll.{rollRows, rollBytes}
-use Rattle.page.specs.RollClaim.{Columns}
+use Rattle.lines.specs.Laws.StateLinesLaws.{short-columns}
+use Rattle.page.specs.RollClaim.{RollColumns}
 use Rattle.page.specs.Inner.OtherLines.{OtherLine, paddedRows}
 use Rattle.page.specs.Laws.LineTextLaws.{name-short, page-all}
 use Rattle.page.specs.Laws.RollSplitLaws.{split-roll}
@@ -58,23 +56,11 @@ unfolding ShortLine
 other-short m l x = subst ShortRows (sym (x .fits .one-row m)) (omega (arith, x .fits .text-le, x .fits .width-le), tt)
 
 module _ {s : List ℕ} {m : Model} (st : Stored s m) where
-  digits-short : (n : ℕ) → n < m .head .states → length (digits n) ≤ numberWidth
-  digits-short n l = digits-length-le 3 n (omega (arith, st .states-le)) (omega arith) (omega arith)
-
-  distance-short : (p : ℕ) (d : Option ℕ) → DistanceField m p d → length (distanceText d) ≤ numberWidth
-  unfolding distanceText
-  distance-short p none (unreached n) = omega arith
-  distance-short p (some d) (reached x) = digits-short d (distance-lt st x)
-
   state-short : NamesFit m → (p : ℕ) (d : Option ℕ) (class : ℕ) → p < m .head .states → DistanceField m p d
       → ClassOf m p class → ShortLine m (state-line p d class)
   unfolding ShortLine rollRows
   state-short names p d class l x k =
-      let short : ShortColumns p d class = record {
-        state-le = digits-short p l;
-        distance-le = distance-short p d x;
-        class-le = digits-short class (k .class-among);
-      } in
+      let short = short-columns st p d class l x (k .class-among) in
       fill-short (stateColumns p d class) (lowNames m p) (omega (arith, stateColumns-length p d class short))
       (lowNames-short m names p)
 
@@ -87,7 +73,7 @@ module _ {s : List ℕ} {m : Model} (st : Stored s m) where
 
 module _ {m : Model} (w : WellFormed m) where
   pub roll-columns : {run word run′ word′ : List ℕ} {lines : List PageLine} → PageOf m run word run′ word′ lines
-      → Columns (rollBytes m lines)
+      → RollColumns (rollBytes m lines)
   roll-columns {lines = lines} x =
       let states = states-short (well-formed-stored w) (name-short w) (omega arith) (x .state-lines) in
       record {

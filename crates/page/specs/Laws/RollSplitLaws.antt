@@ -78,7 +78,9 @@ fill-rows row (name ∷ names) r p =
     go : (rollWidth < length row + 1 + length name) ⊎ (length row + 1 + length name ≤ rollWidth)
         → ((r′ : List ℕ) → StateRow r′ → All StateRow (fill r′ names)) → All StateRow (fill row (name ∷ names))
     go (inl l) ih = rw (fill-next row name names l) (r, ih (blanks nameIndent ++ name) (next-row name (p .0)))
-    go (inr l) ih = rw (fill-fits row name names l) (ih (row ++ (byteBlank ∷ name)) (row-append (byteBlank ∷ name) r (plain-blanks 1 .0, p .0)))
+    go (inr l) ih =
+        let longer = row-append (byteBlank ∷ name) r (plain-blanks 1 .0, p .0) in
+        rw (fill-fits row name names l) (ih (row ++ (byteBlank ∷ name)) longer)
 
 plain-right : (width : ℕ) (text : List ℕ) → Plain text → Plain (flushRight width text)
 unfolding flushRight

@@ -37,9 +37,10 @@ fault-line-requires : tie.Need-fault-line-requires
 fault-line-requires c κs =
     let other = c .before in
     let read = other .before .before .before in
-    let long = read .before .before .before .before .before .before .before .before .before .pre in (
+    let start = read .before .before .before .before .before .before .before .before .before in
+    let long = start .pre in (
       refuses-of (read .read .ensures .0) (long .store-length) (not-done (read .read .result) (other .match .keys2)),
-      omega (arith, pageLength-le (read .before .before .before .before .before .before .before .before .before .args .form), long .out-length),
+      omega (arith, pageLength-le (start .args .form), long .out-length),
     )
 
 same-length : tie.Need-same-length
@@ -66,8 +67,8 @@ returns c =
     let done = page .before .before .before .before .before .before .before in
     let read = done .before .before .before .before in
     let long = read .before .before .before .before .before .before .before .before .before .pre in
-    read-promised _ _ _ _ _ _ _ _ long (read .read .result) (read .read .ensures .0) (done .enum-told .given .1) _ _ _ _ _
-    _ (page .page-good .ensures)
+    read-promised _ _ _ _ _ _ _ _ long (read .read .result) (read .read .ensures .0) (done .enum-told .given .1) _ _ _ _
+    _ _ (page .page-good .ensures)
 
 same-length-7 : tie.Need-same-length-7
 same-length-7 c = search needs
