@@ -282,7 +282,8 @@ fn the_greatest_roll() {
     assert_eq!(lines.len() - counts.iter().sum::<usize>(), 575);
 }
 
-/// Roll fills Page's lists as Page does, and nothing past its answer.
+/// Roll fills Page's lists as Page does, and nothing past its answer. Both go by
+/// one function here; `tests/suite` holds the proved two to each other.
 #[test]
 fn lists_are_filled_as_by_page() {
     let mut rng = gen::seeded("second::rolls::lists_are_filled_as_by_page", 401);

@@ -62,7 +62,7 @@ fn offer(rng: &mut Rng, low: usize) -> Vec<u16> {
 ///
 /// A low ring with 9 names of 12 bytes at 63 of its states and 7 at the other
 /// 65: 5 lines each, and 4. The run goes round from 2 to 1, and from 1 and 66,
-/// halfway round, it takes 127 letters to tell that the longer offers come at
+/// about halfway round, it takes 127 letters to tell that the longer offers come at
 /// different times.
 pub fn greatest_roll() -> Model {
     let mut steps = Vec::new();
