@@ -3,3 +3,4 @@ pub mod Laws
 pub mod Rows
 pub mod LowNames
 pub mod StateRows
+pub mod Examples

@@ -26,5 +26,6 @@ passing (suc n) f = passing n f ++ cond (f n) (n ∷ []) []
 abbrev pub lowActions : Model → ℕ → List ℕ
 lowActions m p = passing (length (m .actions)) (lowFrom? m p (length (m .steps)))
 
+-- Their names.
 abbrev pub lowNames : Model → ℕ → List (List ℕ)
 lowNames m p = map (nameOf m) (lowActions m p)

@@ -11,6 +11,7 @@ use Rattle.text.specs.Bytes.{byteBlank, byteLineEnd}
 abbrev pub rollWidth : ℕ
 rollWidth = 42
 
+-- n blanks
 abbrev pub blanks : ℕ → List ℕ
 blanks n = replicate n byteBlank
 

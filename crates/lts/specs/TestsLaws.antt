@@ -1,6 +1,6 @@
 -- What the tests over the numbers below n say, with the laws on Bool and on the order that every crate needs.
 -- Assumes nothing.
-use mathlib.Core.Path.{_≡_, refl, subst}
+use mathlib.Core.Path.{_≡_, refl, sym, subst}
 use mathlib.Core.Logic.{_⊎_, inl, inr}
 use mathlib.Core.Bool.{Bool, true, false, not, _&&_, _||_}
 use Prim.Native.Nat.{ℕ, zero, suc, _≤_, _<_}
@@ -30,6 +30,12 @@ T→true false t = absurd t
 pub not-T→false : (b : Bool) → T (not b) → b ≡ false
 not-T→false true t = absurd t
 not-T→false false t = refl
+
+-- Tests that pass together are one.
+pub test-eq : (a b : Bool) → (T a → T b) → (T b → T a) → a ≡ b
+test-eq true b f g = sym (T→true b (f tt))
+test-eq false true f g = absurd (g tt)
+test-eq false false f g = refl
 
 pub and-intro : (a b : Bool) → T a → T b → T (a && b)
 and-intro true b t u = u

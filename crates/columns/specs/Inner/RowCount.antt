@@ -47,13 +47,13 @@ NamesFit m = (a : ℕ) → a < length (m .actions) → length (nameOf m a) ≤ n
 
 -- ---- the room of the roll
 
--- The lines of all states, at most. Each line but the last of a state has two names, and each name has a low step of
--- its own: twice the lines are at most the low steps and the states, with one more for each state without a name. That
+-- The lines of all states, at most. Each line but the last of a state has at least two names, and each name a low step
+-- of its own: twice the lines are at most the low steps and the states, with one more for each state without a name. That
 -- is 1,024 + 128 + 128.
 abbrev pub passedRows : ℕ
 passedRows = 640
 
--- With the lines of the sequence. A refused model has a high step, and as many states with a name as the depth, which
--- is at most 127: twice the lines are at most 1,023 + 128 + 128 - 127 and twice 127.
+-- With the lines of the sequence. A refused model has a high step, and at least as many states with a name as the
+-- depth, which is at most 127: twice the lines are at most 1,023 + 128 + 128 - 127 and twice 127.
 abbrev pub refusedRows : ℕ
 refusedRows = 703

@@ -13,17 +13,13 @@ use Rattle.writer.specs.Laws.WroteLaws.{wrote-append, wrote-length}
 use Rattle.columns.specs.declared.line.RollLine.{RollLine}
 use Rattle.columns.specs.Rows.{rollWidth, blanks, flushLeft, rowBytes, rowsBytes, nameIndent, fill}
 use Rattle.columns.specs.Inner.Filling.{Filling, NamesFilled, NameRoom}
-use Rattle.columns.specs.Laws.RowCountLaws.{fill-fits, fill-next, fill-pos, rowsBytes-append}
+use Rattle.columns.specs.Laws.RowCountLaws.{fill-fits, fill-next, fill-pos, rowsBytes-append, rowsBytes-row}
 
 -- ---- the bytes of lines
 
-rowsBytes-one : (row : List ℕ) → rowsBytes (row ∷ []) ≡ rowBytes row
-unfolding rowsBytes
-rowsBytes-one row = append-nil (rowBytes row)
-
 rowsBytes-last : (rows : List (List ℕ)) (row : List ℕ) → rowsBytes (rows ++ (row ∷ [])) ≡ rowsBytes rows ++ rowBytes row
 rowsBytes-last rows row =
-    rowsBytes-append rows (row ∷ []) ∙ ap (λ (t : List ℕ). rowsBytes rows ++ t) (rowsBytes-one row)
+    rowsBytes-append rows (row ∷ []) ∙ ap (λ (t : List ℕ). rowsBytes rows ++ t) (rowsBytes-row row)
 
 -- lines of any length take 43 bytes each, or more
 rowsBytes-length-le : (rows : List (List ℕ)) → (rollWidth + 1) * length rows ≤ length (rowsBytes rows)
@@ -152,9 +148,9 @@ filled-append {names} {more} {exit = exit} {next = next} x y = record {
 }
 
 -- a name and those after it
-split : (before : List (List ℕ)) (name : List ℕ) (more : List (List ℕ))
+before-more : (before : List (List ℕ)) (name : List ℕ) (more : List (List ℕ))
     → before ++ (name ∷ []) ++ more ≡ before ++ (name ∷ more)
-split before name more = append-assoc before (name ∷ []) more
+before-more before name more = append-assoc before (name ∷ []) more
 
 module _ {name entry exit : List ℕ} {row next : RollLine} (n : length name ≤ nameLimit) where
   -- behind a blank
@@ -166,7 +162,7 @@ module _ {name entry exit : List ℕ} {row next : RollLine} (n : length name ≤
       closed = f .closed;
       last = f .last ++ (byteBlank ∷ name);
       filled = λ more.
-          ap (fill head) (split before name more)
+          ap (fill head) (before-more before name more)
           ∙ f .filled (name ∷ more)
           ∙ ap (λ (rows : List (List ℕ)). f .closed ++ rows)
           (fill-fits (f .last) name more (omega (arith, l, filling-used f)));
@@ -177,7 +173,8 @@ module _ {name entry exit : List ℕ} {row next : RollLine} (n : length name ≤
   }
 
   -- on a next line, once this one is padded and ended
-  pub filled-next : {middle : List ℕ} {at : ℕ} {start : RollLine} → rollWidth < row .at .at - row .begin + 1 + length name
+  pub filled-next : {middle : List ℕ} {at : ℕ} {start : RollLine}
+      → rollWidth < row .at .at - row .begin + 1 + length name
       → Wrote entry (row .at .at) (blanks (rollWidth - (row .at .at - row .begin)) ++ (byteLineEnd ∷ [])) middle at
       → (start .at .at ≡ at) × (start .begin ≡ at) → next .begin ≡ start .begin
       → Wrote middle (start .at .at) (blanks nameIndent ++ name) exit (next .at .at)
@@ -193,7 +190,7 @@ module _ {name entry exit : List ℕ} {row next : RollLine} (n : length name ≤
           closed = closed;
           last = blanks nameIndent ++ name;
           filled = λ more.
-              ap (fill head) (split before name more)
+              ap (fill head) (before-more before name more)
               ∙ f .filled (name ∷ more)
               ∙ ap (λ (rows : List (List ℕ)). f .closed ++ rows)
               (fill-next (f .last) name more (omega (arith, l, filling-used f)))

@@ -11,7 +11,7 @@ use lib.Dec.{T, T-not, not-T}
 use lib.ListN.{length, getD}
 use Rattle.lts.specs.Tests.{any}
 use Rattle.lts.specs.TestsLaws.{T-cases, T→true, not-T→false, and-intro, and-left, and-right, any→Some, Some→any}
-use Rattle.lts.specs.TestsLaws.{lt-suc-cases, lt-or-le, eq-or-not}
+use Rattle.lts.specs.TestsLaws.{test-eq, lt-suc-cases, lt-or-le, eq-or-not}
 use Rattle.text.specs.Model.{Model}
 use Rattle.model.specs.StoredModel.{modelAt}
 use Rattle.model.specs.System.{source, action, view, nameOf}
@@ -25,7 +25,7 @@ use Rattle.columns.specs.Inner.Filling.{FirstLow, firstLow?, nameAdded, 
 use Rattle.columns.specs.Laws.FirstLowLaws.{leaves?-intro, leaves?-source, leaves?-action}
 use Rattle.columns.specs.Laws.FirstLowLaws.{firstLow?→FirstLow, FirstLow→firstLow?, nameAdded-first}
 use Rattle.writer.specs.Laws.NameLaws.{actions-counted}
-use Rattle.columns.specs.Laws.PassingLaws.{test-eq, passing-same, passing-nil, passing-next}
+use Rattle.columns.specs.Laws.PassingLaws.{passing-same, passing-nil, passing-next}
 
 -- ---- the low actions of the first n steps
 

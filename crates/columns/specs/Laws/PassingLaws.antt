@@ -3,21 +3,15 @@
 use mathlib.Core.Bool.{Bool, true, false, cond}
 use mathlib.Core.List.{[], _∷_, _++_, append-nil}
 use mathlib.Core.Logic.{_⊎_, inl, inr}
-use mathlib.Core.Path.{_≡_, refl, sym, _∙_}
+use mathlib.Core.Path.{_≡_, refl, _∙_}
 use Prim.Native.Nat.{ℕ, zero, suc, _≤_, _<_}
 use native.Mathlib.Omega.{arith}
-use lib.Dec.{T}
 use lib.ListN.{length, length-append}
 use Rattle.lts.specs.Tests.{bit, count}
-use Rattle.lts.specs.TestsLaws.{T→true, lt-suc-cases}
+use Rattle.lts.specs.TestsLaws.{lt-suc-cases}
 use Rattle.text.specs.All.{All}
 use Rattle.text.specs.Laws.AllLaws.{all-append, all-of-all}
 use Rattle.columns.specs.LowNames.{passing}
-
-pub test-eq : (a b : Bool) → (T a → T b) → (T b → T a) → a ≡ b
-test-eq true b f g = sym (T→true b (f tt))
-test-eq false true f g = absurd (g tt)
-test-eq false false f g = refl
 
 pub passing-same : (n : ℕ) (f g : ℕ → Bool) → ((i : ℕ) → i < n → f i ≡ g i) → passing n f ≡ passing n g
 unfolding passing

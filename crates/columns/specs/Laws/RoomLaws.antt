@@ -7,7 +7,7 @@ use mathlib.Core.Logic.{_⊎_, inl, inr}
 use mathlib.Core.Path.{_≡_, sym}
 use Prim.Native.Nat.{ℕ, zero, suc, _+_, _*_, _-_, _≤_, _<_}
 use native.Mathlib.Omega.{arith}
-use lib.Dec.{T, not-T, eqb, eqb→eq, ltb, ltb→lt, lt→ltb, nltb→le}
+use lib.Dec.{T, not-T, ltb, ltb→lt, lt→ltb, nltb→le}
 use lib.ListN.{length, length-map}
 use Rattle.lts.specs.CountLaws.{count-not, count-lt, countPairs-none, countPairs-le, countPairs-le-suc}
 use Rattle.lts.specs.Decided.{within?}
@@ -15,18 +15,19 @@ use Rattle.lts.specs.MovingLaws.{rank-le-moving-reachable}
 use Rattle.lts.specs.Noninterference.{LowMove}
 use Rattle.lts.specs.Run.{onward}
 use Rattle.lts.specs.Tests.{any, bit, count, countPairs}
-use Rattle.lts.specs.TestsLaws.{T-eqb, and-intro, and-left, and-right, or-cases, Some→any}
+use Rattle.lts.specs.TestsLaws.{and-intro, and-left, and-right, or-cases, Some→any}
 use Rattle.lts.specs.TestsLaws.{count-le, count-le-count, count-pos}
 use Rattle.text.specs.Model.{Model}
 use Rattle.model.specs.Inner.StepTest.{tests}
 use Rattle.model.specs.Inner.Stored.{Stored}
 use Rattle.model.specs.Laws.Store.SystemLaws.{own-step, low-lt}
-use Rattle.model.specs.Laws.System.RankBoundLaws.{stored-rank-lt}
 use Rattle.model.specs.Laws.System.StepTestLaws.{decided-view}
 use Rattle.model.specs.System.{source, action, target, view, ReachableIn, nameOf}
 use Rattle.verdicts.specs.Verdicts.{RefusedAt}
+use Rattle.verdicts.specs.Laws.VerdictsLaws.{depth-lt}
 use Rattle.columns.specs.Inner.RowCount.{rowCount, rowsBelow, NamesFit, passedRows, refusedRows}
 use Rattle.columns.specs.LowNames.{leaves?, lowFrom?, lowActions, lowNames}
+use Rattle.columns.specs.Laws.FirstLowLaws.{leaves?-intro, leaves?-source, leaves?-action}
 use Rattle.columns.specs.Laws.PassingLaws.{passing-length}
 use Rattle.columns.specs.Laws.RowCountLaws.{rowCount-le, rowCount-unnamed}
 
@@ -69,9 +70,8 @@ module _ (m : Model) where
           → T (lowFrom? m p n a) ⊎ (T (lowStep? n) × (p ≡ source m n) × (a ≡ action m n))
       go u (inl x) = inl (and-intro (low? a) (any n (leaves? m p a)) u x)
       go u (inr x) =
-          let s = eqb→eq (source m n) p (and-left (eqb (source m n) p) (eqb (action m n) a) x) in
-          let e : action m n ≡ a = eqb→eq (action m n) a (and-right (eqb (source m n) p) (eqb (action m n) a) x) in
-          inr (rw e u, sym s, sym e)
+          let e = leaves?-action m p a n x in
+          inr (rw e u, sym (leaves?-source m p a n x), sym e)
 
   names-le : (states n : ℕ) → countPairs states l (λ p. lowFrom? m p n) ≤ count n lowStep?
   unfolding any count
@@ -129,8 +129,7 @@ module _ (m : Model) where
   named : (p a q : ℕ) → LowMove (view m) p a q → T (named? p)
   named p a q (t, x) =
       let j = x .number in
-      let u = Some→any k (leaves? m p a) j (x .number-lt) (and-intro (eqb (source m j) p) (eqb (action m j) a)
-      (T-eqb (x .source-is)) (T-eqb (x .action-is))) in
+      let u = Some→any k (leaves? m p a) j (x .number-lt) (leaves?-intro m p a j (x .source-is) (x .action-is)) in
       let c = count-pos l (lowFrom? m p k) a (low-lt m a t) (and-intro (low? a) (any k (leaves? m p a)) t u) in
       lt→ltb 0 (length (lowActions m p)) (omega (arith, lowActions-length p))
 
@@ -174,17 +173,14 @@ module _ {s : List ℕ} {m : Model} (st : Stored s m) (short : NamesFit m) where
 
     -- the lines of the states, with a line for each letter of the word
     pub rows-refused : rowsBelow m (m .head .states) + depth ≤ refusedRows
-    rows-refused =
-        let h = r .leak .high-step in
-        let lt : depth < states =
-        stored-rank-lt st (st .source-lt j (h .number-lt)) (st .target-lt j (h .number-lt)) (r .leak .rank) in
-        omega (
-          arith,
-          rowsBelow-bound m short states,
-          names-le m states (k m),
-          low-steps-lt,
-          depth-le-named,
-          count-not states (named? m),
-          st .steps-le,
-          st .states-le,
-        )
+    rows-refused = omega (
+      arith,
+      rowsBelow-bound m short states,
+      names-le m states (k m),
+      low-steps-lt,
+      depth-lt st r,
+      depth-le-named,
+      count-not states (named? m),
+      st .steps-le,
+      st .states-le,
+    )

@@ -1,22 +1,22 @@
 -- Lines of the roll, counted: a line that is not the last of its state has at least two names.
 -- Document 02, (ii). Assumes nothing.
 use mathlib.Core.Bool.{Bool, cond}
-use mathlib.Core.List.{List, [], _∷_, _++_, append-assoc}
+use mathlib.Core.List.{List, [], _∷_, _++_, append-assoc, append-nil}
 use mathlib.Core.Logic.{_⊎_, inl, inr}
 use mathlib.Core.Option.{Option}
 use mathlib.Core.Path.{_≡_, refl, sym, ap, _∙_}
-use Prim.Native.Nat.{ℕ, zero, suc, _+_, _*_, _≤_, _<_}
+use Prim.Native.Nat.{ℕ, _+_, _*_, _≤_, _<_}
 use native.Mathlib.Omega.{arith}
 use borrow.Author.Tests.{le-leb, lt-leb}
 use lib.ListN.{length, length-append, length-replicate}
-use Rattle.lts.specs.TestsLaws.{lt-or-le, lt-suc-cases}
+use Rattle.lts.specs.TestsLaws.{lt-or-le}
 use Rattle.text.specs.Bytes.{byteBlank}
 use Rattle.text.specs.Laws.AllLaws.{all-map, all-of-all}
 use Rattle.text.specs.Limits.{nameLimit}
 use Rattle.text.specs.Model.{Model}
 use Rattle.text.specs.Numbers.{digits}
 use Rattle.model.specs.System.{nameOf}
-use Rattle.columns.specs.Inner.RowCount.{columnsWidth, rowCount, rowsBelow, ShortNames, ShortRows, ShortColumns}
+use Rattle.columns.specs.Inner.RowCount.{columnsWidth, rowCount, ShortNames, ShortRows, ShortColumns}
 use Rattle.columns.specs.Inner.RowCount.{NamesFit}
 use Rattle.columns.specs.LowNames.{lowFrom?, lowActions, lowNames}
 use Rattle.columns.specs.Laws.PassingLaws.{passing-lt}
@@ -125,6 +125,10 @@ fill-length-le row (name ∷ names) s pos l =
 
 -- ---- the bytes of lines
 
+pub rowsBytes-row : (row : List ℕ) → rowsBytes (row ∷ []) ≡ rowBytes row
+unfolding rowsBytes
+rowsBytes-row row = append-nil (rowBytes row)
+
 pub rowsBytes-append : (xs ys : List (List ℕ)) → rowsBytes (xs ++ ys) ≡ rowsBytes xs ++ rowsBytes ys
 unfolding rowsBytes
 rowsBytes-append [] ys = refl
@@ -142,6 +146,10 @@ rowsBytes-length [] s = refl
 rowsBytes-length (row ∷ rows) s =
     let e = length-append (rowBytes row) (rowsBytes rows) in
     omega (arith, rowBytes-length row (s .0), rowsBytes-length rows (s .1))
+
+pub flushLeft-length : (width : ℕ) (text : List ℕ) → length text ≤ width → length (flushLeft width text) ≡ width
+unfolding flushLeft
+flushLeft-length width text l = simp (length-append, length-replicate) (omega arith)
 
 pub flushRight-length : (width : ℕ) (text : List ℕ) → length text ≤ width → length (flushRight width text) ≡ width
 unfolding flushRight
@@ -183,9 +191,6 @@ module _ (m : Model) (short : NamesFit m) (p : ℕ) where
 
 -- ---- lines counted
 
-pub rowCount-pos : (m : Model) (p : ℕ) → 1 ≤ rowCount m p
-rowCount-pos m p = fill-pos (blanks columnsWidth) (lowNames m p)
-
 -- "A state with none has one line."
 pub rowCount-unnamed : (m : Model) (p : ℕ) → length (lowNames m p) ≡ 0 → rowCount m p ≡ 1
 unfolding fill
@@ -194,20 +199,3 @@ rowCount-unnamed m p e = go (lowNames m p) e
     go : (names : List (List ℕ)) → length names ≡ 0 → length (fill (blanks columnsWidth) names) ≡ 1
     go [] e = refl
     go (name ∷ names) e = absurd (omega arith)
-
-pub rowsBelow-lt : (m : Model) {i : ℕ} (n : ℕ) → i < n → rowsBelow m i + rowCount m i ≤ rowsBelow m n
-unfolding rowsBelow
-rowsBelow-lt m zero l = absurd (omega arith)
-rowsBelow-lt m {i} (suc n) l = go (rowsBelow-lt m n) (lt-suc-cases l)
-  where
-    go : (i < n → rowsBelow m i + rowCount m i ≤ rowsBelow m n) → (i ≡ n) ⊎ (i < n)
-        → rowsBelow m i + rowCount m i ≤ rowsBelow m (suc n)
-    go ih (inl e) = rw e (omega arith)
-    go ih (inr h) = omega (arith, ih h)
-
-pub rowsBelow-le : (m : Model) {i : ℕ} (n : ℕ) → i ≤ n → rowsBelow m i ≤ rowsBelow m n
-rowsBelow-le m {i} n l = go (lt-or-le i n)
-  where
-    go : (i < n) ⊎ (n ≤ i) → rowsBelow m i ≤ rowsBelow m n
-    go (inl h) = omega (arith, rowsBelow-lt m n h)
-    go (inr h) = let e : i ≡ n = omega arith in rw e (omega arith)

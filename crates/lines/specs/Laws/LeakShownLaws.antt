@@ -16,13 +16,13 @@ use Rattle.model.specs.System.{source, DeterministicModel, view}
 use Rattle.text.specs.Laws.ListsLaws.{take-filled}
 use Rattle.model.specs.Laws.Store.SystemLaws.{low-lt}
 use Rattle.model.specs.Inner.Stored.{Stored}
-use Rattle.model.specs.Laws.System.RankBoundLaws.{stored-rank-lt}
 use Rattle.distances.specs.Inner.RunTail.{RunWritten}
 use Rattle.distances.specs.Runs.{RunTo}
 use Rattle.distances.specs.Laws.RunsLaws.{runTo-length}
 use Rattle.verdicts.specs.declared.judging.Verdict.{Verdict}
 use Rattle.verdicts.specs.declared.judging.Verdict.the-variants.{Refused}
 use Rattle.text.specs.declared.Step.{Step}
+use Rattle.verdicts.specs.Laws.VerdictsLaws.{depth-lt}
 use Rattle.verdicts.specs.Verdicts.{RefusedAt, Judged}
 use Rattle.letters.specs.declared.word.End.{End}
 use Rattle.letters.specs.declared.word.Shown.{Shown}
@@ -71,11 +71,6 @@ after-refused {form} {m} {run = run} {word} {run′} {word′} {at} {next} {entr
     (sym e) x
 
 module _ {s : List ℕ} {m : Model} (st : Stored s m) {j depth : ℕ} (refused : RefusedAt m j depth) where
-  pub depth-lt : depth < m .head .states
-  depth-lt =
-      let l = refused .leak .high-step .number-lt in
-      stored-rank-lt st (st .source-lt j l) (st .target-lt j l) (refused .leak .rank)
-
   module _ {word word′ : List ℕ} where
     -- ---- a word is shown
 
@@ -106,7 +101,7 @@ module _ {s : List ℕ} {m : Model} (st : Stored s m) {j depth : ℕ} (refused :
       word-letters =
           let w = word-shown .word in
           let l = ap length (word-shown .list) ∙ length-append w (drop (length w) word) in record {
-            word-le = omega (arith, word-length, word-shown .length-is, depth-lt, st .states-le);
+            word-le = omega (arith, word-length, word-shown .length-is, depth-lt st refused, st .states-le);
             list-le = omega (arith, word-length, l);
             actions = λ i k.
                 let h : i < length w = omega (arith, word-length) in

@@ -6,14 +6,11 @@ use mathlib.Core.Path.{_≡_, refl, sym, ap, _∙_}
 use Prim.Native.Nat.{ℕ}
 use Rattle.text.specs.Bytes.{byteLineEnd}
 use Rattle.text.specs.Model.{Model}
+use Rattle.columns.specs.Laws.RowCountLaws.{rowsBytes-row}
 use Rattle.columns.specs.Rows.{rollWidth, flushLeft, rowBytes, rowsBytes}
 use Rattle.lines.specs.PageLines.{PageLine, verdict-line, state-line, run-line, word-line, allows-line}
 use Rattle.lines.specs.PageLines.{branch-line, last-line, lineText}
 use Rattle.lines.specs.Roll.{rollRows, rollBytes}
-
-rowsBytes-row : (row : List ℕ) → rowsBytes (row ∷ []) ≡ rowBytes row
-unfolding rowsBytes
-rowsBytes-row row = append-nil (rowBytes row)
 
 -- a line that is no state's: its text in 42 columns, and the line end
 pub rollRows-padded : (m : Model) (l : PageLine)

@@ -19,7 +19,7 @@ use Rattle.lines.specs.declared.lines.Form.the-variants.{Page, Roll}
 use Rattle.lines.specs.Roll.{formLength}
 use Rattle.lines.specs.Inner.Room.{verdictWidth, stateWidth, letterWidth, lineRoom, stateRoom, statesRoom}
 use Rattle.lines.specs.Inner.Room.{leakRoom}
-use Rattle.lines.specs.Laws.LeakShownLaws.{depth-lt}
+use Rattle.verdicts.specs.Laws.VerdictsLaws.{depth-lt}
 
 -- ---- the states
 

@@ -19,6 +19,7 @@ use Rattle.verdicts.specs.declared.judging.Verdict.{Verdict}
 use Rattle.verdicts.specs.declared.judging.Verdict.the-variants.{Passed, Refused}
 use Rattle.model.specs.Inner.Stored.{Stored}
 use Rattle.lts.specs.TestsLaws.{T-eqb}
+use Rattle.model.specs.Laws.System.RankBoundLaws.{stored-rank-lt}
 use Rattle.model.specs.Laws.System.StepTestLaws.{decided-view}
 use Rattle.ranking.specs.Table.{Greatest}
 use Rattle.ranking.specs.Laws.RankedLaws.{greatest-unique}
@@ -113,3 +114,11 @@ module _ (m : Model) where
   pub refused↔¬BNID : (v : Verdict) → Judged m v → IsRefused v ↔ (¬ (BNID (view m)))
   refused↔¬BNID (Passed top) x = (λ n. absurd n, λ n. n (x .bnid))
   refused↔¬BNID (Refused j d) x = (λ _ b. no-leak-of-bnid b (j .0) d (x .leak), λ _. tt)
+
+-- ---- the depth
+
+-- It is a rank, so it is below the number of states.
+pub depth-lt : {s : List ℕ} {m : Model} → Stored s m → {j depth : ℕ} → RefusedAt m j depth → depth < m .head .states
+depth-lt st {j} refused =
+    let l = refused .leak .high-step .number-lt in
+    stored-rank-lt st (st .source-lt j l) (st .target-lt j l) (refused .leak .rank)
