@@ -3,7 +3,6 @@ pub mod DistanceOfLaws
 pub mod FillingLaws
 pub mod FirstLowLaws
 pub mod LowNamesLaws
-pub mod NameLaws
 pub mod RoomLaws
 pub mod PassingLaws
 pub mod RowCountLaws

@@ -4,14 +4,10 @@ use mathlib.Core.Bool.{Bool, cond, _&&_}
 use mathlib.Core.List.{List, [], _∷_, _++_, map}
 use Prim.Native.Nat.{ℕ, zero, suc}
 use lib.Dec.{eqb}
-use lib.ListN.{length, getD}
+use lib.ListN.{length}
 use Rattle.lts.specs.Tests.{any}
-use Rattle.text.specs.Model.{Model, noAction}
-use Rattle.model.specs.System.{source, action, view}
-
--- The name of action a.
-abbrev pub nameOf : Model → ℕ → List ℕ
-nameOf m a = getD (m .actions) a noAction .name
+use Rattle.text.specs.Model.{Model}
+use Rattle.model.specs.System.{source, action, view, nameOf}
 
 -- Step j leaves p with the action a.
 abbrev pub leaves? : Model → ℕ → ℕ → ℕ → Bool

@@ -6,18 +6,16 @@ use text::Action;
 use text::Step;
 ghost use mathlib.Core.List.{[], _∷_, _++_};
 ghost use mathlib.Core.Path.{_≡_};
-ghost use Prim.Native.Nat.{ℕ, _+_, _≤_, _<_};
+ghost use Prim.Native.Nat.{_+_, _≤_, _<_};
 ghost use lib.ListN.{length};
-ghost use Rattle.text.specs.All.{All};
 ghost use Rattle.text.specs.Decides.{Decides};
-ghost use Rattle.text.specs.Limits.{actionLimit, nameLimit};
+ghost use Rattle.text.specs.Limits.{actionLimit};
 ghost use Rattle.model.specs.StoredModel.{modelAt};
-ghost use Rattle.model.specs.System.{action, view};
+ghost use Rattle.model.specs.System.{action, nameOf, view};
 ghost use Rattle.model.specs.Inner.Roles.{Roles};
 ghost use Rattle.model.specs.Inner.Stored.{Stored};
 ghost use Rattle.writer.specs.Inner.Writable.{Writable};
 ghost use Rattle.writer.specs.Wrote.{Wrote};
-ghost use Rattle.columns.specs.LowNames.{nameOf};
 ghost use Rattle.columns.specs.Rows.{blanks};
 ghost use Rattle.columns.specs.Inner.Filling.{StepFrom, FirstLow, nameAdded, NamesFilled, NameRoom};
 
@@ -49,46 +47,38 @@ fn first_of_low(store: &[u16], roles: &[u16], from: u16, j: Step) -> bool
 }
 
 impl RollLine {
-    // A name behind some blanks.
-    fn indented(self, out: &mut [u8], indent: usize, name: &[u16]) -> RollLine
-        requires { ⌜ self .at .at + indent + length (now name) ≤ length (now out) ⌝ }
-        requires { ⌜ All (λ (b : ℕ). b < 256) (now name) ⌝ }
-        ensures { λ r. ⌜ Wrote (now (out .entry)) (self .at .at) (blanks indent ++ now (name .entry)) (now (out .exit))
-            (r .at .at) × (r .begin ≡ self .begin) ⌝ }
+    // The name of an action behind some blanks.
+    fn indented(self, out: &mut [u8], indent: usize, store: &[u16], a: Action) -> RollLine
+        requires { ⌜ Writable (now store) ⌝ }
+        requires { ⌜ a .0 < length (modelAt (now store) .actions) ⌝ }
+        requires { ⌜ self .at .at + indent + length (nameOf (modelAt (now store)) (a .0)) ≤ length (now out) ⌝ }
+        ensures { λ r. ⌜ Wrote (now (out .entry)) (self .at .at)
+            (blanks indent ++ nameOf (modelAt (now (store .entry))) (a .0)) (now (out .exit)) (r .at .at)
+            × (r .begin ≡ self .begin) ⌝ }
     {
         let row = self.blanks(out, indent);
-        let at = row.at.name(out, name);
+        let at = row.at.action_name(out, store, a);
         RollLine {
             at,
             begin: row.begin,
         }
     }
 
-    // One more name: behind a blank, or on a next line if it does not fit whole.
-    fn name(self, out: &mut [u8], name: &[u16]) -> RollLine
-        requires { ⌜ NameRoom self (length (now name)) (length (now out)) ⌝ }
-        requires { ⌜ (length (now name) ≤ nameLimit) × All (λ (b : ℕ). b < 256) (now name) ⌝ }
-        ensures { λ r. ⌜ NamesFilled (now (name .entry) ∷ []) (now (out .entry)) self (now (out .exit)) r ⌝ }
-    {
-        let used = self.at.at - self.begin;
-        if used + 1 + name.len() <= WIDTH {
-            return self.indented(out, 1, name);
-        }
-        let at = self.end(out);
-        RollLine::start(at).indented(out, NAME_INDENT, name)
-    }
-
-    // One more name, that of an action.
-    fn action_name(self, out: &mut [u8], store: &[u16], a: Action) -> RollLine
+    // One more name, that of an action: behind a blank, or on a next line if it does not fit whole.
+    fn name(self, out: &mut [u8], store: &[u16], a: Action) -> RollLine
         requires { ⌜ Writable (now store) ⌝ }
         requires { ⌜ a .0 < length (modelAt (now store) .actions) ⌝ }
         requires { ⌜ NameRoom self (length (nameOf (modelAt (now store)) (a .0))) (length (now out)) ⌝ }
         ensures { λ r. ⌜ NamesFilled (nameOf (modelAt (now (store .entry))) (a .0) ∷ []) (now (out .entry)) self
             (now (out .exit)) r ⌝ }
     {
-        let from = model::store::name_place(a);
-        let to = from + model::store::name_length(store, a) as usize;
-        self.name(out, &store[from..to])
+        let used = self.at.at - self.begin;
+        let name_length = model::store::name_length(store, a) as usize;
+        if used + 1 + name_length <= WIDTH {
+            return self.indented(out, 1, store, a);
+        }
+        let at = self.end(out);
+        RollLine::start(at).indented(out, NAME_INDENT, store, a)
     }
 
     // The name of step j's action, if it is low and no step of its state before it has named it.
@@ -112,6 +102,6 @@ impl RollLine {
         if !first_of_low(store, roles, from, j) {
             return self;
         }
-        self.action_name(out, store, model::store::action(store, j))
+        self.name(out, store, model::store::action(store, j))
     }
 }

@@ -7,7 +7,7 @@ use Prim.Native.Nat.{ℕ, suc, _<_}
 use lib.ListN.{length, drop}
 use Rattle.lts.specs.Alike.{Rank}
 use Rattle.text.specs.Model.{Model}
-use Rattle.model.specs.System.{source, ReachableIn, DistanceIn, DeterministicModel, IsState, view}
+use Rattle.model.specs.System.{source, ReachableIn, DistanceIn, DeterministicModel, IsState, view, nameOf}
 use Rattle.verdicts.specs.declared.judging.Verdict.{Verdict}
 use Rattle.verdicts.specs.declared.judging.Verdict.the-variants.{Passed, Refused}
 use Rattle.distances.specs.Runs.{RunTo}
@@ -17,7 +17,6 @@ use Rattle.letters.specs.Words.{WordOf}
 use Rattle.lines.specs.PageLines.{PageLine, verdict-line, state-line, run-line, word-line, allows-line}
 use Rattle.lines.specs.PageLines.{branch-line, last-line}
 use Rattle.lts.specs.Noninterference.{LowMove}
-pub use Rattle.columns.specs.LowNames.{nameOf}
 
 -- What stands in a `C` line as the distance of state p: "distance `-` if unreachable".
 pub data DistanceField (m : Model) (p : ℕ) : Option ℕ → Type 0 where

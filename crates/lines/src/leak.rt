@@ -7,13 +7,12 @@ use text::Step;
 use verdicts::judging::Verdict;
 ghost use mathlib.Core.List.{map};
 ghost use mathlib.Core.Path.{_≡_};
-ghost use Prim.Native.Nat.{_+_, _*_, _≤_, _<_};
+ghost use Prim.Native.Nat.{_+_, _*_, _≤_};
 ghost use lib.ListN.{length, take};
 ghost use Rattle.text.specs.Model.{Model};
 ghost use Rattle.model.specs.StoredModel.{modelAt};
 ghost use Rattle.writer.specs.Inner.Writable.{Writable};
-ghost use Rattle.writer.specs.Wrote.{Wrote};
-ghost use Rattle.lines.specs.PageLines.{run-line, lineText};
+ghost use Rattle.lines.specs.PageLines.{run-line};
 ghost use Rattle.lines.specs.Page.{nameLine, AfterStates};
 ghost use Rattle.lines.specs.Inner.LinesWritten.{LinesWritten};
 ghost use Rattle.lines.specs.Inner.Room.{runWidth, nameWidth, lineRoom, shownRoom, leakRoom};
@@ -35,19 +34,6 @@ impl PagePosition {
             i += 1;
         }
         page
-    }
-
-    // `W,name` of an action, whose name the store holds.
-    fn name_text(self, out: &mut [u8], store: &[u16], a: Action) -> PagePosition
-        requires { ⌜ Writable (now store) ⌝ }
-        requires { ⌜ a .0 < length (modelAt (now store) .actions) ⌝ }
-        requires { ⌜ self .at .at + length (lineText (nameLine (modelAt (now store)) (a .0))) ≤ length (now out) ⌝ }
-        ensures { λ r. ⌜ Wrote (now (out .entry)) (self .at .at)
-            (lineText (nameLine (modelAt (now (store .entry))) (a .0))) (now (out .exit)) (r .at .at) ⌝ }
-    {
-        let from = model::store::name_place(a);
-        let to = from + model::store::name_length(store, a) as usize;
-        self.word_text(out, &store[from..to])
     }
 
     // A line for each of the first n letters of a word.

@@ -3,20 +3,23 @@ use columns::line::RollLine;
 use distances::distances::distance_at;
 use distances::distances::is_unreachable;
 use letters::word::End;
+use text::Action;
 use text::State;
 use text::Step;
 use verdicts::judging::Verdict;
 use writer::position::Position;
 ghost use mathlib.Core.Path.{_≡_};
-ghost use Prim.Native.Nat.{ℕ, _+_, _-_, _≤_, _<_};
+ghost use Prim.Native.Nat.{_+_, _-_, _≤_, _<_};
 ghost use lib.ListN.{length};
-ghost use Rattle.text.specs.All.{All};
 ghost use Rattle.text.specs.Limits.{distancesLength};
+ghost use Rattle.model.specs.StoredModel.{modelAt};
 ghost use Rattle.model.specs.Text.{field};
+ghost use Rattle.writer.specs.Inner.Writable.{Writable};
 ghost use Rattle.writer.specs.Wrote.{Wrote};
 ghost use Rattle.verdicts.specs.declared.judging.Verdict.the-variants.{Passed, Refused};
-ghost use Rattle.lines.specs.PageLines.{verdict-line, state-line, run-line, word-line, allows-line, branch-line};
+ghost use Rattle.lines.specs.PageLines.{verdict-line, state-line, run-line, allows-line, branch-line};
 ghost use Rattle.lines.specs.PageLines.{last-line, distanceText, lineText, faultText};
+ghost use Rattle.lines.specs.Page.{nameLine};
 ghost use Rattle.lines.specs.Inner.Entries.{distanceOf};
 ghost use Rattle.lines.specs.Inner.FormLines.{lineEnding, EndFits};
 
@@ -136,14 +139,15 @@ impl PagePosition {
         PagePosition { at }
     }
 
-    // `W,name`
-    pub fn word_text(self, out: &mut [u8], name: &[u16]) -> PagePosition
-        requires { ⌜ self .at .at + length (lineText (word-line (now name))) ≤ length (now out) ⌝ }
-        requires { ⌜ All (λ (b : ℕ). b < 256) (now name) ⌝ }
-        ensures { λ r. ⌜ Wrote (now (out .entry)) (self .at .at) (lineText (word-line (now (name .entry))))
-            (now (out .exit)) (r .at .at) ⌝ }
+    // `W,name` of an action that a store holds.
+    pub fn name_text(self, out: &mut [u8], store: &[u16], a: Action) -> PagePosition
+        requires { ⌜ Writable (now store) ⌝ }
+        requires { ⌜ a .0 < length (modelAt (now store) .actions) ⌝ }
+        requires { ⌜ self .at .at + length (lineText (nameLine (modelAt (now store)) (a .0))) ≤ length (now out) ⌝ }
+        ensures { λ r. ⌜ Wrote (now (out .entry)) (self .at .at)
+            (lineText (nameLine (modelAt (now (store .entry))) (a .0))) (now (out .exit)) (r .at .at) ⌝ }
     {
-        let at = self.at.text(out, b"W,").name(out, name);
+        let at = self.at.text(out, b"W,").action_name(out, store, a);
         PagePosition { at }
     }
 

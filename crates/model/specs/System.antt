@@ -1,5 +1,6 @@
 -- A model as a transition system: its steps, its start and the levels of its actions.
 -- Document 01, "The meaning".
+use mathlib.Core.List.{List}
 use mathlib.Core.Path.{_≡_}
 use Prim.Native.Nat.{ℕ, _<_}
 use lib.Dec.{eqb}
@@ -33,6 +34,10 @@ pub record Steps (m : Model) (p a q : ℕ) : Type 0 where
 -- The level of action a; `noLevel` past the last action.
 abbrev pub level : Model → ℕ → ℕ
 level m a = getD (m .actions) a noAction .level
+
+-- The name of action a.
+abbrev pub nameOf : Model → ℕ → List ℕ
+nameOf m a = getD (m .actions) a noAction .name
 
 -- The check of a model: "An action is low (L), release (D) or high (H)"; its steps; the start that line 1 names; its
 -- states. All that is said of runs, ranks, BNID and INI is said of this view, and nothing else gives one.

@@ -1,3 +1,4 @@
 pub mod WroteLaws
 pub mod WritableLaws
 pub mod WritingLaws
+pub mod NameLaws

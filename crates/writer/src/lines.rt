@@ -8,10 +8,10 @@ use text::StepLine;
 use text::limits::LOW;
 use text::limits::RELEASE;
 ghost use mathlib.Core.Path.{_≡_};
-ghost use Prim.Native.Nat.{ℕ, _+_, _≤_, _<_};
+ghost use Prim.Native.Nat.{_+_, _≤_, _<_};
 ghost use lib.ListN.{length};
-ghost use Rattle.text.specs.All.{All};
-ghost use Rattle.model.specs.StoredModel.{headAt, actionAt, modelAt};
+ghost use Rattle.model.specs.StoredModel.{actionAt, modelAt};
+ghost use Rattle.model.specs.System.{nameOf};
 ghost use Rattle.model.specs.Text.{levelByte, headText, actionText, actionsText, stepText, stepsText, modelText};
 ghost use Rattle.writer.specs.Inner.Writable.{Writable};
 ghost use Rattle.writer.specs.Wrote.{Wrote};
@@ -56,34 +56,34 @@ impl Position {
         at.byte(out, b'\n')
     }
 
-    // `A,level,name` and the line end.
-    fn action_line(self, out: &mut [u8], level: u16, name: &[u16]) -> Position
-        requires { ⌜ self .at + length (now name) + 5 ≤ length (now out) ⌝ }
-        requires { ⌜ All (λ (b : ℕ). b < 256) (now name) ⌝ }
-        ensures { λ r. ⌜ Wrote (now (out .entry)) (self .at)
-            (actionText (record { level = level; name = now (name .entry) })) (now (out .exit)) (r .at) ⌝ }
+    // The name of an action that a store holds.
+    pub fn action_name(self, out: &mut [u8], store: &[u16], a: Action) -> Position
+        requires { ⌜ Writable (now store) ⌝ }
+        requires { ⌜ a .0 < length (modelAt (now store) .actions) ⌝ }
+        requires { ⌜ self .at + length (nameOf (modelAt (now store)) (a .0)) ≤ length (now out) ⌝ }
+        ensures { λ r. ⌜ Wrote (now (out .entry)) (self .at) (nameOf (modelAt (now (store .entry))) (a .0))
+            (now (out .exit)) (r .at) ⌝ }
     {
-        let letter = level_letter(level);
+        let from = store::name_place(a);
+        let end = from + store::name_length(store, a) as usize;
+        self.name(out, &store[from..end])
+    }
+
+    // `A,level,name` and the line end, of an action that a store holds.
+    fn action_line(self, out: &mut [u8], store: &[u16], a: Action) -> Position
+        requires { ⌜ Writable (now store) ⌝ }
+        requires { ⌜ a .0 < length (modelAt (now store) .actions) ⌝ }
+        requires { ⌜ self .at + length (nameOf (modelAt (now store)) (a .0)) + 5 ≤ length (now out) ⌝ }
+        ensures { λ r. ⌜ Wrote (now (out .entry)) (self .at) (actionText (actionAt (now (store .entry)) (a .0)))
+            (now (out .exit)) (r .at) ⌝ }
+    {
+        let letter = level_letter(store::level(store, a));
         let at = self.byte(out, b'A');
         let at = at.byte(out, b',');
         let at = at.byte(out, letter);
         let at = at.byte(out, b',');
-        let at = at.name(out, name);
+        let at = at.action_name(out, store, a);
         at.byte(out, b'\n')
-    }
-
-    // The line of an action that a store holds.
-    fn action_at(self, out: &mut [u8], store: &[u16], a: Action) -> Position
-        requires { ⌜ Writable (now store) ⌝ }
-        requires { ⌜ a .0 < headAt (now store) .actions ⌝ }
-        requires { ⌜ self .at + length (actionText (actionAt (now store) (a .0))) ≤ length (now out) ⌝ }
-        ensures { λ r. ⌜ Wrote (now (out .entry)) (self .at) (actionText (actionAt (now (store .entry)) (a .0)))
-            (now (out .exit)) (r .at) ⌝ }
-    {
-        let level = store::level(store, a);
-        let from = store::name_place(a);
-        let end = from + store::name_length(store, a) as usize;
-        self.action_line(out, level, &store[from..end])
     }
 
     // The lines of all actions that a store holds.
@@ -97,7 +97,7 @@ impl Position {
         let mut at = self;
         let mut i: u16 = 0;
         while i < n {
-            at = at.action_at(out, store, Action(i));
+            at = at.action_line(out, store, Action(i));
             i += 1;
         }
         at

@@ -9,11 +9,11 @@ use lib.Dec.{T}
 use lib.ListN.{length}
 use Rattle.lts.specs.Tests.{any}
 use Rattle.text.specs.Model.{Model}
-use Rattle.model.specs.System.{source, action, view}
+use Rattle.model.specs.System.{source, action, view, nameOf}
 use Rattle.model.specs.Inner.Index.{Begins}
 use Rattle.writer.specs.Wrote.{Wrote}
 use Rattle.columns.specs.declared.line.RollLine.{RollLine}
-use Rattle.columns.specs.LowNames.{nameOf, leaves?, lowFrom?, passing}
+use Rattle.columns.specs.LowNames.{leaves?, lowFrom?, passing}
 use Rattle.columns.specs.Rows.{rollWidth, rowsBytes, fill}
 
 -- ---- steps

@@ -8,7 +8,8 @@ use Rattle.text.specs.All.{All}
 use Rattle.text.specs.Limits.{nameLimit}
 use Rattle.text.specs.Model.{Model}
 use Rattle.text.specs.Numbers.{digits}
-use Rattle.columns.specs.LowNames.{nameOf, lowNames}
+use Rattle.model.specs.System.{nameOf}
+use Rattle.columns.specs.LowNames.{lowNames}
 use Rattle.columns.specs.Rows.{rollWidth, blanks, fill}
 use Rattle.columns.specs.StateRows.{distanceText, numberWidth}
 

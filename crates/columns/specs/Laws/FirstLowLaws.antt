@@ -12,10 +12,10 @@ use Rattle.lts.specs.Tests.{any}
 use Rattle.lts.specs.TestsLaws.{T→true, not-T→false, T-eqb, and-intro, and-left, and-right, any→Some, Some→any}
 use Rattle.lts.specs.TestsLaws.{lt-or-le}
 use Rattle.text.specs.Model.{Model}
-use Rattle.model.specs.System.{source, action, view}
+use Rattle.model.specs.System.{source, action, view, nameOf}
 use Rattle.model.specs.Inner.Index.{Begins}
 use Rattle.model.specs.Inner.Stored.{Stored}
-use Rattle.columns.specs.LowNames.{nameOf, leaves?}
+use Rattle.columns.specs.LowNames.{leaves?}
 use Rattle.columns.specs.Inner.Filling.{FirstLow, firstLow?, nameAdded}
 
 module _ (m : Model) where

@@ -14,17 +14,17 @@ use Rattle.lts.specs.TestsLaws.{T-cases, T→true, not-T→false, and-intro, an
 use Rattle.lts.specs.TestsLaws.{lt-suc-cases, lt-or-le, eq-or-not}
 use Rattle.text.specs.Model.{Model}
 use Rattle.model.specs.StoredModel.{modelAt}
-use Rattle.model.specs.System.{source, action, view}
+use Rattle.model.specs.System.{source, action, view, nameOf}
 use Rattle.model.specs.Inner.Index.{Begins}
 use Rattle.model.specs.Inner.Stored.{Stored}
 use Rattle.model.specs.Laws.System.IndexLaws.{begins-source, begins-le}
 use Rattle.letters.specs.Inner.Letters.{StepLists}
 use Rattle.writer.specs.Inner.Writable.{Writable}
-use Rattle.columns.specs.LowNames.{nameOf, leaves?, lowFrom?, passing, lowNames}
+use Rattle.columns.specs.LowNames.{leaves?, lowFrom?, passing, lowNames}
 use Rattle.columns.specs.Inner.Filling.{FirstLow, firstLow?, nameAdded, lowNamesTo}
 use Rattle.columns.specs.Laws.FirstLowLaws.{leaves?-intro, leaves?-source, leaves?-action}
 use Rattle.columns.specs.Laws.FirstLowLaws.{firstLow?→FirstLow, FirstLow→firstLow?, nameAdded-first}
-use Rattle.columns.specs.Laws.NameLaws.{actions-counted}
+use Rattle.writer.specs.Laws.NameLaws.{actions-counted}
 use Rattle.columns.specs.Laws.PassingLaws.{test-eq, passing-same, passing-nil, passing-next}
 
 -- ---- the low actions of the first n steps

@@ -23,10 +23,10 @@ use Rattle.model.specs.Inner.Stored.{Stored}
 use Rattle.model.specs.Laws.Store.SystemLaws.{own-step, low-lt}
 use Rattle.model.specs.Laws.System.RankBoundLaws.{stored-rank-lt}
 use Rattle.model.specs.Laws.System.StepTestLaws.{decided-view}
-use Rattle.model.specs.System.{source, action, target, view, ReachableIn}
+use Rattle.model.specs.System.{source, action, target, view, ReachableIn, nameOf}
 use Rattle.verdicts.specs.Verdicts.{RefusedAt}
 use Rattle.columns.specs.Inner.RowCount.{rowCount, rowsBelow, NamesFit, passedRows, refusedRows}
-use Rattle.columns.specs.LowNames.{nameOf, leaves?, lowFrom?, lowActions, lowNames}
+use Rattle.columns.specs.LowNames.{leaves?, lowFrom?, lowActions, lowNames}
 use Rattle.columns.specs.Laws.PassingLaws.{passing-length}
 use Rattle.columns.specs.Laws.RowCountLaws.{rowCount-le, rowCount-unnamed}
 

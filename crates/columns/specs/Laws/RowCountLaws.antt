@@ -15,9 +15,10 @@ use Rattle.text.specs.Laws.AllLaws.{all-map, all-of-all}
 use Rattle.text.specs.Limits.{nameLimit}
 use Rattle.text.specs.Model.{Model}
 use Rattle.text.specs.Numbers.{digits}
+use Rattle.model.specs.System.{nameOf}
 use Rattle.columns.specs.Inner.RowCount.{columnsWidth, rowCount, rowsBelow, ShortNames, ShortRows, ShortColumns}
 use Rattle.columns.specs.Inner.RowCount.{NamesFit}
-use Rattle.columns.specs.LowNames.{nameOf, lowFrom?, lowActions, lowNames}
+use Rattle.columns.specs.LowNames.{lowFrom?, lowActions, lowNames}
 use Rattle.columns.specs.Laws.PassingLaws.{passing-lt}
 use Rattle.columns.specs.Rows.{rollWidth, blanks, flushLeft, flushRight, rowBytes, rowsBytes, nameIndent, fill}
 use Rattle.columns.specs.StateRows.{distanceText, numberWidth, stateColumns, stateRows}

@@ -7,13 +7,14 @@ use native.Mathlib.Omega.{arith}
 use lib.ListN.{length, getD, take}
 use Rattle.text.specs.Model.{Model}
 use Rattle.model.specs.StoredModel.{modelAt}
+use Rattle.model.specs.System.{nameOf}
 use Rattle.writer.specs.Inner.Writable.{Writable}
 use Rattle.writer.specs.Wrote.{Wrote}
 use Rattle.writer.specs.Laws.WroteLaws.{take-next}
-use Rattle.columns.specs.Laws.NameLaws.{name-length-le}
+use Rattle.writer.specs.Laws.NameLaws.{name-length-le}
 use Rattle.lines.specs.declared.lines.Form.{Form}
 use Rattle.lines.specs.PageLines.{PageLine, lineText}
-use Rattle.lines.specs.Page.{nameOf, nameLine}
+use Rattle.lines.specs.Page.{nameLine}
 use Rattle.lines.specs.Inner.FormLines.{lineEnding, TextFits}
 use Rattle.lines.specs.Inner.LinesWritten.{LinesWritten}
 use Rattle.lines.specs.Inner.Room.{nameWidth, lineRoom}

@@ -32,11 +32,11 @@ use Rattle.letters.specs.declared.word.End.{End}
 use Rattle.letters.specs.declared.word.End.the-variants.{Source, Target}
 use Rattle.lines.specs.PageLines.{PageLine, verdict-line, state-line, run-line, word-line, allows-line, branch-line}
 use Rattle.lines.specs.PageLines.{last-line, passText, refuseText, endText, lineText}
-use Rattle.lines.specs.Page.{StateLines, no-state, next-state, nameOf, nameLine, LeakShown, by-word, by-branch}
+use Rattle.lines.specs.Page.{StateLines, no-state, next-state, nameLine, LeakShown, by-word, by-branch}
 use Rattle.lines.specs.Page.{AfterStates, PageOf}
 use Rattle.lines.specs.Inner.FormLines.{TextFits}
 use Rattle.lines.specs.Laws.PageLinesLaws.{verdict-fits, run-fits, word-fits, allows-fits, branch-fits, last-fits}
-use Rattle.model.specs.System.{view}
+use Rattle.model.specs.System.{view, nameOf}
 use Rattle.page.specs.RollClaim.{other?}
 use Rattle.page.specs.Inner.OtherLines.{unlessState, withoutStates, Marked, OtherLine, AnyLine, of-state}
 use Rattle.page.specs.Inner.OtherLines.{of-other}

@@ -22,7 +22,8 @@ use Rattle.text.specs.Model.{Model}
 use Rattle.text.specs.Numbers.{digits}
 use Rattle.text.specs.Split.{split}
 use Rattle.model.specs.WellFormed.{WellFormed}
-use Rattle.columns.specs.LowNames.{nameOf, lowFrom?, lowActions, lowNames}
+use Rattle.model.specs.System.{nameOf}
+use Rattle.columns.specs.LowNames.{lowFrom?, lowActions, lowNames}
 use Rattle.columns.specs.Rows.{rollWidth, blanks, flushLeft, flushRight, rowBytes, rowsBytes, nameIndent, fill}
 use Rattle.columns.specs.StateRows.{numberWidth, distanceText, stateColumns, stateRows}
 use Rattle.columns.specs.Laws.PassingLaws.{passing-lt}

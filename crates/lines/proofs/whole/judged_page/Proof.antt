@@ -8,7 +8,7 @@ use borrow.Author.Needs.{needs}
 use Rattle.model.specs.StoredModel.{modelAt}
 use Rattle.writer.specs.Inner.Writable.{Writable}
 use Rattle.writer.specs.Laws.WroteLaws.{wrote-length}
-use Rattle.columns.specs.Laws.NameLaws.{name-length-le}
+use Rattle.writer.specs.Laws.NameLaws.{name-length-le}
 use Rattle.lines.specs.PageLines.{verdict-line}
 use Rattle.lines.specs.Inner.LinesWritten.{LinesWritten}
 use Rattle.lines.specs.Inner.Room.{verdictWidth, letterWidth, lineRoom, statesRoom, leakRoom}

@@ -10,7 +10,7 @@ use Rattle.model.specs.System.{action}
 use Rattle.model.specs.Laws.System.StoredLaws.{stored-action}
 use Rattle.columns.specs.Laws.FillingLaws.{filled-nil}
 use Rattle.columns.specs.Laws.FirstLowLaws.{nameAdded-first, nameAdded-none}
-use Rattle.columns.specs.Laws.NameLaws.{actions-counted}
+use Rattle.writer.specs.Laws.NameLaws.{actions-counted}
 use Rattle.columns.proofs.line.RollLine.step_name.Statement.{statement}
 use Rattle.columns.proofs.line.RollLine.step_name.Tie as tie
 
@@ -27,8 +27,8 @@ returns c =
 action-requires : tie.Need-action-requires
 action-requires c κs = search needs
 
-action-name-requires : tie.Need-action-name-requires
-action-name-requires c κs =
+name-requires : tie.Need-name-requires
+name-requires c κs =
     let first = c .before .before in
     let tested = first .before in
     let s = tested .before .before .before .before in
@@ -58,7 +58,7 @@ returns-2 c =
     let step = s .pre .1 .1 .0 in
     let e = ap (λ (x : Action). x .0) (acted .action .ensures) ∙ stored-action st _ (step .number-lt) in
     let x = decides-passed (tested .first-of-low .result) _ (tested .first-of-low .ensures) (first .if1 .left) in
-    rw (nameAdded-first (modelAt (now (s .args .store))) x) (rw e at (named .action-name .ensures))
+    rw (nameAdded-first (modelAt (now (s .args .store))) x) (rw e at (named .name .ensures))
 
 pub step-name-spec : {M : Type 1} → statement M
 step-name-spec =
@@ -67,6 +67,6 @@ step-name-spec =
     first-of-low-requires
     returns
     action-requires
-    action-name-requires
+    name-requires
     same-length
     returns-2)

@@ -6,7 +6,7 @@ use lib.ListN.{length}
 use borrow.Author.Needs.{needs}
 use Rattle.model.specs.StoredModel.{modelAt}
 use Rattle.model.specs.Laws.System.StoredLaws.{stored-states}
-use Rattle.columns.specs.Laws.NameLaws.{name-length-le}
+use Rattle.writer.specs.Laws.NameLaws.{name-length-le}
 use Rattle.lines.specs.Page.{StateLines, no-state}
 use Rattle.lines.specs.Inner.LinesWritten.{LinesWritten}
 use Rattle.lines.specs.Inner.Room.{stateRoom, statesRoom}
