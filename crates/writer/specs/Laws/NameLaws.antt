@@ -42,7 +42,8 @@ module _ {s : List ℕ} (w : Writable s) (a : ℕ) (l : a < length (modelAt s .a
 
   pub name-bytes-lt : All (λ (b : ℕ). b < 256) (nameOf (modelAt s) a)
   name-bytes-lt =
-      all-of-all NameByte (λ b. b < 256) nameByte-lt (nameOf (modelAt s) a) (name-bytes (nameOf (modelAt s) a) name-fits)
+      let name = nameOf (modelAt s) a in
+      all-of-all NameByte (λ b. b < 256) nameByte-lt name (name-bytes name name-fits)
 
   -- ---- the part of the store where it stands
 
