@@ -13,7 +13,7 @@ use Rattle.lines.specs.PageLines.{PageLine, verdict-line, state-line, run-line,
 use Rattle.lines.specs.PageLines.{last-line, lineText}
 use Rattle.lines.specs.Roll.{rollRows}
 use Rattle.lines.specs.Inner.FormLines.{TextFits}
-use Rattle.page.specs.RollClaim.{other?}
+use Rattle.page.specs.RollClaim.{lettered?}
 
 -- A line, unless it is a state's.
 unfoldable pub unlessState : PageLine → List PageLine
@@ -39,7 +39,7 @@ pub record OtherLine (l : PageLine) : Type 0 where
   pub width : ℕ
   pub fits : TextFits l width
   pub stays : unlessState l ≡ l ∷ []
-  pub begins : other? (lineText l) ≡ true
+  pub begins : lettered? (lineText l) ≡ true
   pub marked : Marked (lineText l)
 
 -- A line of a page.

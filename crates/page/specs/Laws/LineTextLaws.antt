@@ -37,7 +37,7 @@ use Rattle.lines.specs.Page.{AfterStates, PageOf}
 use Rattle.lines.specs.Inner.FormLines.{TextFits}
 use Rattle.lines.specs.Laws.PageLinesLaws.{verdict-fits, run-fits, word-fits, allows-fits, branch-fits, last-fits}
 use Rattle.model.specs.System.{view}
-use Rattle.page.specs.RollClaim.{other?}
+use Rattle.page.specs.RollClaim.{lettered?}
 use Rattle.page.specs.Inner.OtherLines.{unlessState, withoutStates, Marked, OtherLine, AnyLine, of-state}
 use Rattle.page.specs.Inner.OtherLines.{of-other}
 
@@ -68,13 +68,13 @@ marked-number a n p = marked-append a (field (digits n)) p (marked-field (digits
 
 -- ---- the lines
 
-other-line : {l : PageLine} {width : ℕ} → TextFits l width → unlessState l ≡ l ∷ [] → other? (lineText l) ≡ true
+other-line : {l : PageLine} {width : ℕ} → TextFits l width → unlessState l ≡ l ∷ [] → lettered? (lineText l) ≡ true
     → Marked (lineText l) → OtherLine l
 other-line {width = width} fits stays begins marked =
     record { width = width; fits = fits; stays = stays; begins = begins; marked = marked }
 
 verdict-other : (v : Verdict) → OtherLine (verdict-line v)
-unfolding lineText unlessState other? without? kindOf
+unfolding lineText unlessState lettered? without? kindOf
 verdict-other (Passed rank) =
     let text = (byteV ∷ []) ++ field passText in
     other-line (verdict-fits (Passed rank)) refl refl (marked-number text rank (marked-test text tt tt))
@@ -84,28 +84,28 @@ verdict-other (Refused j depth) =
     (marked-number (text ++ field (digits (j .0))) depth (marked-number text (j .0) (marked-test text tt tt)))
 
 run-other : (j : ℕ) → OtherLine (run-line j)
-unfolding lineText unlessState other? without? kindOf
+unfolding lineText unlessState lettered? without? kindOf
 run-other j = other-line (run-fits j) refl refl (marked-number (byteR ∷ []) j (marked-test (byteR ∷ []) tt tt))
 
 word-other : (name : List ℕ) → length name ≤ nameLimit → Marked name → OtherLine (word-line name)
-unfolding lineText unlessState other? without? kindOf
+unfolding lineText unlessState lettered? without? kindOf
 word-other name short p =
     other-line (word-fits name short) refl refl
     (marked-append (byteW ∷ []) (field name) (marked-test (byteW ∷ []) tt tt) (marked-field name p))
 
 allows-other : (end : End) → OtherLine (allows-line end)
-unfolding lineText endText unlessState other? without? kindOf
+unfolding lineText endText unlessState lettered? without? kindOf
 allows-other Source =
     other-line (allows-fits Source) refl refl (marked-test ((byteB ∷ []) ++ field (endText Source)) tt tt)
 allows-other Target =
     other-line (allows-fits Target) refl refl (marked-test ((byteB ∷ []) ++ field (endText Target)) tt tt)
 
 branch-other : OtherLine branch-line
-unfolding lineText unlessState other? without? kindOf
+unfolding lineText unlessState lettered? without? kindOf
 branch-other = other-line branch-fits refl refl (marked-test (byteN ∷ []) tt tt)
 
 last-other : OtherLine last-line
-unfolding lineText unlessState other? without? kindOf
+unfolding lineText unlessState lettered? without? kindOf
 last-other = other-line last-fits refl refl (marked-test (byteE ∷ []) tt tt)
 
 -- ---- the lines that are no state's

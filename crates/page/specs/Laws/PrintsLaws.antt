@@ -6,7 +6,7 @@ use mathlib.Core.Path.{_≡_, refl, sym, ap, subst, _∙_}
 use Prim.Native.Nat.{ℕ, _≤_, min}
 use native.Mathlib.Omega.{arith}
 use lib.ListN.{length, take, drop, length-append, length-take}
-use Rattle.text.specs.Faults.{answers, refuses, faultNumber}
+use Rattle.text.specs.Faults.{Outcome, answers, refuses, faultNumber}
 use Rattle.text.specs.Laws.FirstShortLaws.{none-short-seven}
 use Rattle.text.specs.Laws.ListsLaws.{take-filled}
 use Rattle.text.specs.Laws.OutcomeLaws.{answers-not-refuses}
@@ -19,9 +19,11 @@ use Rattle.lines.specs.declared.lines.Form.{Form}
 use Rattle.lines.specs.Roll.{formBytes}
 use Rattle.page.specs.declared.print.PrintAnswer.{PrintAnswer}
 use Rattle.page.specs.declared.print.PrintAnswer.the-variants.{Printed, ShortList}
-use Rattle.page.specs.Prints.{Prints}
+use Rattle.page.specs.Prints.{PageBytesOf, Prints}
+use Rattle.text.specs.Model.{Model}
+use Rattle.page.specs.PagePromise.{PagePrinted}
 use Rattle.page.specs.PrintPromise.{printOutcome, printLists, PrintPromise}
-use Rattle.page.specs.Laws.PrintClaimLaws.{lists-none, form-tells, same-number}
+use Rattle.page.specs.Laws.PrintClaimLaws.{lists-none, form-tells, same-number, printed-bytes}
 
 -- ---- lists that are long enough
 
@@ -32,6 +34,21 @@ printLists-none form text store distances table run word out long =
     let any-text : 0 ≤ length text = omega arith in
     none-short-seven any-text (long .store-length) (long .distances-length) (long .table-length) (long .run-length)
     (long .word-length) (long .out-length)
+
+-- ---- the bytes of a model's page
+
+pub pageBytesOf-printed : {form : Form} {m : Model} {outcome : Outcome} {run word out run′ word′ out′ : List ℕ} (n : ℕ)
+    → outcome ≡ answers (n ∷ []) → PagePrinted form m outcome run word out run′ word′ out′
+    → PageBytesOf form m (take n out′)
+pageBytesOf-printed {run = run} {word} {out} {run′} {word′} n e x = record {
+  run = run;
+  word = word;
+  run′ = run′;
+  word′ = word′;
+  lines = x .lines;
+  page = x .page;
+  bytes-are = printed-bytes n e x;
+}
 
 -- ---- bytes at the front of a list
 
@@ -58,17 +75,7 @@ module _ {form : Form} {text store distances table run word out : List ℕ} (n :
     unread = λ number place e.
         let x = p .unread long number place e .1 in
         front-bytes n (faultBytes number place) out (x .outcome-is) (x .list);
-    read = λ m e.
-        let x = p .read long m e .printed in
-        record {
-          run = run;
-          word = word;
-          run′ = run′;
-          word′ = word′;
-          lines = x .lines;
-          page = x .page;
-          bytes-are = front-bytes n (formBytes form m (x .lines)) out (x .outcome-is) (x .list);
-        };
+    read = λ m e. pageBytesOf-printed n refl (p .read long m e .printed);
     tells = λ m s det.
         (word′, form-tells form (s .well-formed) det n refl (p .read long m (states→readText s) .printed));
   }

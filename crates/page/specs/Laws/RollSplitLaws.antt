@@ -30,12 +30,13 @@ use Rattle.columns.specs.Laws.RowCountLaws.{fill-fits, fill-next}
 use Rattle.lines.specs.PageLines.{PageLine, lineText, pageBytes}
 use Rattle.lines.specs.Page.{PageOf}
 use Rattle.lines.specs.Roll.{rollRows, rollBytes}
-use Rattle.page.specs.RollClaim.{other?, othersOf, otherLines}
+use Rattle.page.specs.RollClaim.{lettered?, others, otherLines, OthersPadded, unpadded, otherTexts}
 use Rattle.page.specs.Inner.OtherLines.{unlessState, withoutStates, AnyLine, of-state, of-other}
 use Rattle.page.specs.Inner.OtherLines.{paddedRows}
 use Rattle.page.specs.Laws.LineTextLaws.{marked-digits, marked-name, page-any}
 use Rattle.page.specs.Laws.PageSplitLaws.{plain-append, plain-distance}
-use Rattle.page.specs.Laws.OtherLinesLaws.{others-of-text, othersOf-append, others-last, otherLines-page}
+use Rattle.page.specs.Laws.OtherLinesLaws.{lettered?-append, others-of-lettered, others-append, others-last}
+use Rattle.page.specs.Laws.OtherLinesLaws.{otherLines-page, unpadded-others}
 
 -- ---- a state's lines
 
@@ -125,16 +126,16 @@ split-rows (row ∷ rows) rest p =
     ∙ ap (_∷_ (flushLeft rollWidth row)) (split-rows rows rest (p .1))
 
 -- a state's are none of those that begin with a capital
-small-not-other : (row more : List ℕ) → BeginsSmall row → other? (row ++ more) ≡ false
-unfolding other?
-small-not-other [] more p = absurd p
-small-not-other (b ∷ row) more p = rw (ne-eqb (kindOf b) capital p)
+small-not-lettered : (row more : List ℕ) → BeginsSmall row → lettered? (row ++ more) ≡ false
+unfolding lettered?
+small-not-lettered [] more p = absurd p
+small-not-lettered (b ∷ row) more p = rw (ne-eqb (kindOf b) capital p)
 
-others-of-state : (rows : List (List ℕ)) → All StateRow rows → othersOf (map (flushLeft rollWidth) rows) ≡ []
-unfolding othersOf flushLeft
+others-of-state : (rows : List (List ℕ)) → All StateRow rows → others (map (flushLeft rollWidth) rows) ≡ []
+unfolding others flushLeft
 others-of-state [] p = refl
 others-of-state (row ∷ rows) p =
-    let e = small-not-other row (blanks (rollWidth - length row)) (p .0 .begins) in
+    let e = small-not-lettered row (blanks (rollWidth - length row)) (p .0 .begins) in
     rw e (others-of-state rows (p .1))
 
 -- ---- on the roll
@@ -170,36 +171,50 @@ module _ {m : Model} (w : WellFormed m) where
 
   -- ---- the lines that are no state's
 
+  -- Such lines, padded.
+  abbrev paddedTexts : List PageLine → List (List ℕ)
+  paddedTexts lines = map (flushLeft rollWidth) (map lineText lines)
+
+  paddedTexts-append : (xs ys : List PageLine) → paddedTexts (xs ++ ys) ≡ paddedTexts xs ++ paddedTexts ys
+  paddedTexts-append xs ys =
+      ap (map (flushLeft rollWidth)) (map-append lineText xs ys)
+      ∙ map-append (flushLeft rollWidth) (map lineText xs) (map lineText ys)
+
   padded-others : (l : PageLine) → AnyLine l
-      → othersOf (map (flushLeft rollWidth) (rollRows m l)) ≡ map lineText (unlessState l)
+      → others (map (flushLeft rollWidth) (rollRows m l)) ≡ paddedTexts (unlessState l)
   unfolding rollRows unlessState flushLeft
   padded-others _ (of-state p d class) = others-of-state (stateRows m p d class) (state-rows p d class)
   padded-others l (of-other x) =
-      ap (λ (z : List (List ℕ)). othersOf (map (flushLeft rollWidth) z)) (x .fits .one-row m)
-      ∙ others-of-text (lineText l) (rollWidth - length (lineText l)) (x .begins) (x .marked .1)
-      ∙ ap (map lineText) (sym (x .stays))
+      ap (λ (z : List (List ℕ)). others (map (flushLeft rollWidth) z)) (x .fits .one-row m)
+      ∙ others-of-lettered (flushLeft rollWidth (lineText l))
+      (lettered?-append (lineText l) (blanks (rollWidth - length (lineText l))) (x .begins))
+      ∙ ap paddedTexts (sym (x .stays))
 
   rows-others : (lines : List PageLine) → All AnyLine lines
-      → othersOf (paddedRows m lines) ≡ map lineText (withoutStates lines)
-  unfolding paddedRows withoutStates othersOf
+      → others (paddedRows m lines) ≡ paddedTexts (withoutStates lines)
+  unfolding paddedRows withoutStates others
   rows-others [] p = refl
   rows-others (l ∷ lines) p =
-      othersOf-append (map (flushLeft rollWidth) (rollRows m l)) (paddedRows m lines)
-      ∙ ap (λ (z : List (List ℕ)). z ++ othersOf (paddedRows m lines)) (padded-others l (p .0))
-      ∙ ap (λ (z : List (List ℕ)). map lineText (unlessState l) ++ z) (rows-others lines (p .1))
-      ∙ sym (map-append lineText (unlessState l) (withoutStates lines))
+      others-append (map (flushLeft rollWidth) (rollRows m l)) (paddedRows m lines)
+      ∙ ap (λ (z : List (List ℕ)). z ++ others (paddedRows m lines)) (padded-others l (p .0))
+      ∙ ap (λ (z : List (List ℕ)). paddedTexts (unlessState l) ++ z) (rows-others lines (p .1))
+      ∙ sym (paddedTexts-append (unlessState l) (withoutStates lines))
 
   module _ {run word run′ word′ : List ℕ} {lines : List PageLine} (x : PageOf m run word run′ word′ lines) where
     -- whoever parts the roll at its line ends has its lines
     pub split-roll : split lineEnd (rollBytes m lines) ≡ paddedRows m lines ++ ([] ∷ [])
     split-roll = split-lines lines (page-any w x)
 
-    pub otherLines-roll : otherLines (rollBytes m lines) ≡ map lineText (withoutStates lines)
+    otherLines-roll : otherLines (rollBytes m lines) ≡ paddedTexts (withoutStates lines)
     otherLines-roll =
-        ap othersOf split-roll
+        ap others split-roll
         ∙ others-last (paddedRows m lines)
         ∙ rows-others lines (page-any w x)
 
-    -- the lines of the roll that are no state's are those of the page, in their order
-    pub otherLines-roll-page : otherLines (rollBytes m lines) ≡ otherLines (pageBytes lines)
-    otherLines-roll-page = otherLines-roll ∙ sym (otherLines-page w x)
+    -- the lines of the roll that are no state's are those of the page, padded, in their order
+    pub otherLines-roll-page : OthersPadded (pageBytes lines) (rollBytes m lines)
+    otherLines-roll-page = otherLines-roll ∙ ap (map (flushLeft rollWidth)) (sym (otherLines-page w x))
+
+    -- and have their texts
+    pub otherTexts-roll : otherTexts (rollBytes m lines) ≡ map lineText (withoutStates lines)
+    otherTexts-roll = ap (map unpadded) otherLines-roll ∙ unpadded-others lines (page-any w x)
