@@ -38,15 +38,15 @@ OthersPadded page roll = otherLines roll ≡ map (flushLeft rollWidth) (otherLin
 
 -- ---- their texts
 
--- A byte before a text: left out where it is a blank and nothing follows it.
-unfoldable pub consUnpadded : ℕ → List ℕ → List ℕ
-consUnpadded b [] = cond (eqb b byteBlank) [] (b ∷ [])
-consUnpadded b (c ∷ text) = b ∷ c ∷ text
+-- A byte before a text, unless it is padding: a blank that nothing follows.
+unfoldable pub consUnlessPadding : ℕ → List ℕ → List ℕ
+consUnlessPadding b [] = cond (eqb b byteBlank) [] (b ∷ [])
+consUnlessPadding b (c ∷ text) = b ∷ c ∷ text
 
 -- A text without the blanks at its end.
 unfoldable pub unpadded : List ℕ → List ℕ
 unpadded [] = []
-unpadded (b ∷ text) = consUnpadded b (unpadded text)
+unpadded (b ∷ text) = consUnlessPadding b (unpadded text)
 
 -- The texts of the lines that are no state's.
 abbrev pub otherTexts : List ℕ → List (List ℕ)

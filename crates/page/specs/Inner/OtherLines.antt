@@ -30,9 +30,14 @@ unfoldable pub withoutStates : List PageLine → List PageLine
 withoutStates [] = []
 withoutStates (l ∷ lines) = unlessState l ++ withoutStates lines
 
--- A text of digits, letters and commas: without a line end, and without a blank.
-abbrev pub Marked : List ℕ → Type 0
-Marked text = Without lineEnd text × Without other text
+-- A text within one line.
+abbrev pub OneLine : List ℕ → Type 0
+OneLine = Without lineEnd
+
+-- A text within one line that holds no byte of kind 0, as a blank is: digits, letters and commas.
+pub record NoBlanks (text : List ℕ) : Type 0 where
+  pub no-line-end : OneLine text
+  pub no-other : Without other text
 
 -- A line that is no state's: one line on the roll, its text.
 pub record OtherLine (l : PageLine) : Type 0 where
@@ -40,7 +45,7 @@ pub record OtherLine (l : PageLine) : Type 0 where
   pub fits : TextFits l width
   pub stays : unlessState l ≡ l ∷ []
   pub begins : lettered? (lineText l) ≡ true
-  pub marked : Marked (lineText l)
+  pub no-blanks : NoBlanks (lineText l)
 
 -- A line of a page.
 pub data AnyLine : PageLine → Type 0 where

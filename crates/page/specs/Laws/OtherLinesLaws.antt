@@ -16,7 +16,7 @@ use Rattle.model.specs.WellFormed.{WellFormed}
 use Rattle.columns.specs.Rows.{rollWidth, blanks, flushLeft}
 use Rattle.lines.specs.PageLines.{PageLine, lineText, pageBytes}
 use Rattle.lines.specs.Page.{PageOf}
-use Rattle.page.specs.RollClaim.{consUnpadded, unpadded, lettered?, others, otherLines}
+use Rattle.page.specs.RollClaim.{consUnlessPadding, unpadded, lettered?, others, otherLines}
 use Rattle.page.specs.Inner.OtherLines.{unlessState, withoutStates, OtherLine, AnyLine, of-state, of-other}
 use Rattle.page.specs.Laws.LineTextLaws.{page-any}
 use Rattle.page.specs.Laws.PageSplitLaws.{split-page}
@@ -73,20 +73,20 @@ otherLines-page w {lines = lines} x =
 -- ---- texts without the blanks at their ends
 
 unpadded-blanks : (n : ℕ) → unpadded (blanks n) ≡ []
-unfolding unpadded consUnpadded
+unfolding unpadded consUnlessPadding
 unpadded-blanks zero = refl
-unpadded-blanks (suc n) = ap (consUnpadded byteBlank) (unpadded-blanks n)
+unpadded-blanks (suc n) = ap (consUnlessPadding byteBlank) (unpadded-blanks n)
 
-consUnpadded-cons : (b : ℕ) (text : List ℕ) → ¬ (kindOf b ≡ other) → consUnpadded b text ≡ b ∷ text
-unfolding consUnpadded kindOf
-consUnpadded-cons b [] n = rw (ne-eqb b byteBlank (λ e. n (ap kindOf e)))
-consUnpadded-cons b (c ∷ text) n = refl
+consUnlessPadding-cons : (b : ℕ) (text : List ℕ) → ¬ (kindOf b ≡ other) → consUnlessPadding b text ≡ b ∷ text
+unfolding consUnlessPadding kindOf
+consUnlessPadding-cons b [] n = rw (ne-eqb b byteBlank (λ e. n (ap kindOf e)))
+consUnlessPadding-cons b (c ∷ text) n = refl
 
 unpadded-append : (text more : List ℕ) → unpadded more ≡ [] → Without other text → unpadded (text ++ more) ≡ text
 unfolding unpadded
 unpadded-append [] more e p = e
 unpadded-append (b ∷ text) more e p =
-    ap (consUnpadded b) (unpadded-append text more e (p .1)) ∙ consUnpadded-cons b text (p .0)
+    ap (consUnlessPadding b) (unpadded-append text more e (p .1)) ∙ consUnlessPadding-cons b text (p .0)
 
 unpadded-flushLeft : (width : ℕ) (text : List ℕ) → Without other text → unpadded (flushLeft width text) ≡ text
 unfolding flushLeft
@@ -97,7 +97,7 @@ unpadded-texts : (lines : List PageLine) → All OtherLine lines
     → map unpadded (map (flushLeft rollWidth) (map lineText lines)) ≡ map lineText lines
 unpadded-texts [] p = refl
 unpadded-texts (l ∷ lines) p =
-    let e = unpadded-flushLeft rollWidth (lineText l) (p .0 .marked .1) in
+    let e = unpadded-flushLeft rollWidth (lineText l) (p .0 .no-blanks .no-other) in
     let f = unpadded-texts lines (p .1) in
     rw (e, f)
 
