@@ -1,5 +1,5 @@
-// `print_in_form`, the path from a text to its page or roll: what Read reads is printed as Page or Roll does. `print` is
-// that path to the page.
+// `print_in_form`, the path from a text to its page or roll: what Read reads is printed as Page or Roll does. `print`
+// is that path to the page.
 use crate::page::first_short;
 use crate::page::page_good;
 use lines::lines::Form;

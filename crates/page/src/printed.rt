@@ -13,8 +13,8 @@ ghost use lib.ListN.{length, take, drop};
 ghost use Rattle.lines.specs.Roll.{formLength};
 ghost use Rattle.page.specs.Prints.{Prints};
 
-// Puts what is printed of the text in a form at the front of `out`, which keeps what stood past it, and answers how many
-// bytes that is. The caller owes room for any page in that form.
+// Puts what is printed of the text in a form at the front of `out`, which keeps what stood past it, and answers how
+// many bytes that is. The caller owes room for any page in that form.
 pub fn printed(text: &[u8], out: &mut [u8], form: Form) -> usize
     requires { ⌜ formLength form ≤ length (now out) ⌝ }
     ensures { λ r. ⌜ (r ≤ length (now (out .exit))) × (r ≡ length (take r (now (out .exit)))) ⌝ }

@@ -126,7 +126,8 @@ module _ {store : List ℕ} (g : Good store) {d t r w out d′ t′ r′ w′ ou
     (rolls : RollPromise store d t r w out roll d′ t′ r′ w′ out′) (k : ℕ) (e : roll ≡ answers (k ∷ [])) where
   -- each line of what Roll leaves has 42 columns
   pub rollColumns-of-calls : RollColumns (take k out′)
-  rollColumns-of-calls = rollColumns-of-model (readText-well-formed (g .text) (g .model) (g .reads)) (bytes-of rolls k e g)
+  rollColumns-of-calls =
+      rollColumns-of-model (readText-well-formed (g .text) (g .model) (g .reads)) (bytes-of rolls k e g)
 
   -- those that are no state's are what Page leaves, padded, whatever the lists of either held
   pub othersPadded-of-calls : {d₀ t₀ r₀ w₀ out₀ d₁ t₁ r₁ w₁ out₁ : List ℕ} {page : Outcome}

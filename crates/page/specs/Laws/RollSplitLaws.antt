@@ -85,7 +85,8 @@ unfolding flushRight
 oneLine-right width text p = oneLine-append (blanks (width - length text)) text (oneLine-blanks (width - length text)) p
 
 -- a number flush right begins with a blank or with a digit
-number-begins : (l : List ℕ) → All (λ b. kindOf b ≡ digit) l → BeginsWithoutCapital (blanks (numberWidth - length l) ++ l)
+number-begins : (l : List ℕ) → All (λ b. kindOf b ≡ digit) l
+    → BeginsWithoutCapital (blanks (numberWidth - length l) ++ l)
 unfolding kindOf
 number-begins [] h = λ e. omega arith
 number-begins (b ∷ l) h = go (numberWidth - length (b ∷ l))
@@ -141,8 +142,8 @@ module _ {m : Model} (w : WellFormed m) where
   names-oneLine : (p : ℕ) → All OneLine (lowNames m p)
   names-oneLine p =
       all-map OneLine (nameOf m) (lowActions m p)
-      (all-of-all (λ (a : ℕ). a < length (m .actions)) (λ (a : ℕ). OneLine (nameOf m a)) (λ a l. noBlanks-name w a l .no-line-end)
-      (lowActions m p) (passing-lt (length (m .actions)) (lowFrom? m p (length (m .steps)))))
+      (all-of-all (λ (a : ℕ). a < length (m .actions)) (λ (a : ℕ). OneLine (nameOf m a))
+      (λ a l. noBlanks-name w a l .no-line-end) (lowActions m p) (passing-lt (length (m .actions)) (lowFrom? m p (length (m .steps)))))
 
   state-rows : (p : ℕ) (d : Option ℕ) (class : ℕ) → All StateRow (stateRows m p d class)
   state-rows p d class =
