@@ -1,4 +1,5 @@
--- Demand 3 on the bytes of the roll: its `V`, `W` and `B` lines tell what Judge and Word answer, as the page's do.
+-- The lines of a roll's bytes: those that are no state's are the page's, padded; all have 42 columns. And demand 3 on
+-- them: the `V`, `W` and `B` lines tell what Judge and Word answer, as the page's do.
 -- Document 02, (ii): "All other lines of the page stand padded in their page order."; DEMANDS, 3. Assumes nothing.
 use mathlib.Core.Bool.{Bool, false, cond, not, _&&_}
 use mathlib.Core.List.{List, [], _∷_, _++_, map}
