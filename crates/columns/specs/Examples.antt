@@ -5,7 +5,7 @@ use mathlib.Core.Path.{_≡_, refl}
 use Prim.Native.Nat.{ℕ}
 use lib.ListN.{length, replicate}
 use Rattle.text.specs.Bytes.{byteSmallA, byteBlank}
-use Rattle.columns.specs.Inner.RowCount.{columnsWidth}
+use Rattle.columns.specs.Inner.LineCount.{columnsWidth}
 use Rattle.columns.specs.Rows.{rollWidth, blanks, nameIndent, fill}
 
 -- A name of n bytes, and one behind a blank.

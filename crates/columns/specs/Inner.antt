@@ -1,4 +1,4 @@
 pub mod Columns
 pub mod Entries
 pub mod Filling
-pub mod RowCount
+pub mod LineCount

@@ -5,4 +5,4 @@ pub mod FirstLowLaws
 pub mod LowNamesLaws
 pub mod RoomLaws
 pub mod PassingLaws
-pub mod RowCountLaws
+pub mod RowsLaws

@@ -16,7 +16,7 @@ ghost use Rattle.columns.specs.Rows.{rowsBytes, flushRight};
 ghost use Rattle.columns.specs.StateRows.{distanceText, numberWidth, stateColumns, stateRows};
 ghost use Rattle.columns.specs.Inner.Columns.{DistanceFits};
 ghost use Rattle.columns.specs.Inner.Entries.{distanceOf};
-ghost use Rattle.columns.specs.Inner.RowCount.{columnsWidth};
+ghost use Rattle.columns.specs.Inner.LineCount.{columnsWidth};
 
 impl RollLine {
     // The distance of a state, or `-`.

@@ -22,19 +22,16 @@ use Rattle.model.specs.StoredModel.{modelAt}
 use Rattle.read_write.specs.Laws.ReadPromiseLaws.{readLists-none}
 use Rattle.model.specs.Laws.Store.StoredModelLaws.{modelAt-storeOf}
 use Rattle.model.specs.Laws.Text.ReadingLaws.{readText-well-formed}
-use Rattle.writer.specs.Laws.WroteLaws.{wrote-start}
 use Rattle.lines.specs.declared.lines.Form.{Form}
 use Rattle.page.specs.declared.print.PrintAnswer.{PrintAnswer}
 use Rattle.page.specs.declared.print.PrintAnswer.the-variants.{Printed, ShortList}
 use Rattle.page.specs.Claim.{PrintClaim}
-use Rattle.page.specs.PrintPromise.{printOutcome, printLists, FaultPrinted, PrintPromise}
+use Rattle.page.specs.PrintPromise.{printOutcome, printLists, PrintPromise}
 use Rattle.page.specs.Inner.PageLists.{LongLists, FirstShort, PageMade}
 use Rattle.page.specs.Inner.Refusals.{FaultWritten}
 use Rattle.page.specs.Laws.PrintClaimLaws.{print-claim}
-use Rattle.page.specs.Laws.PageLaws.{pageLength-le}
 use Rattle.page.specs.Laws.PrintsLaws.{printLists-none}
-use Rattle.page.proofs.ReadRefusals.{refused-store}
-use Rattle.lines.specs.Laws.PageLinesLaws.{fault-length-le}
+use Rattle.page.proofs.ReadRefusals.{refused-store, fault-printed}
 
 -- ---- on any lists
 
@@ -96,23 +93,6 @@ module _ (form : Form) (text store distances table run word out : List ℕ) wher
       reading : readOutcome r ≡ readingOutcome (readText text)
       reading = reads .answer (readLists-none text store (long .store-length))
 
-      -- the line of a refusal
-      fault-printed : {number place : ℕ} (n : ℕ) (out′ : List ℕ) → FaultWritten (refuses number place) out out′ n
-          → FaultPrinted number place (answers (n ∷ [])) out out′
-      fault-printed {number} {place} n out′ x =
-          let e = x .outcome-is in
-          let i : x .number ≡ number = cc in
-          let j : x .place ≡ place = cc in
-          let w = wrote-start (x .wrote) (omega (
-            arith,
-            fault-length-le (x .number) (x .place),
-            pageLength-le form,
-            long .out-length,
-          )) in
-          subst (λ (k : ℕ). FaultPrinted k place (answers (n ∷ [])) out out′) i
-          (subst (λ (k : ℕ). FaultPrinted (x .number) k (answers (n ∷ [])) out out′) j
-          (record { outcome-is = ap (λ (k : ℕ). answers (k ∷ [])) (w .0); list = w .1 }))
-
       pub unread-promised : (n : ℕ) (out′ : List ℕ) → FaultWritten (readOutcome r) out out′ n
           → PrintPromise form text store distances table run word out (answers (n ∷ [])) store′ distances table run word
           out′
@@ -129,7 +109,7 @@ module _ (form : Form) (text store distances table run word out : List ℕ) wher
             run-kept = refl;
             word-kept = refl;
           },
-          fault-printed n out′ (subst (λ (o : Outcome). FaultWritten o out out′ n) (reading ∙ e) x),
+          fault-printed form n (long .out-length) (subst (λ (o : Outcome). FaultWritten o out out′ n) (reading ∙ e) x),
         );
         read = λ h m e. absurd (answers-not-refuses (ap readingOutcome (sym e) ∙ sym reading ∙ x .outcome-is));
       }

@@ -18,7 +18,7 @@ use Rattle.lines.specs.PageLines.{PageLine, verdict-line, state-line, word-line
 use Rattle.lines.specs.PageLines.{pageBytes}
 use Rattle.lines.specs.declared.lines.Form.{Form}
 use Rattle.lines.specs.declared.lines.Form.the-variants.{Page, Roll}
-use Rattle.page.specs.RollClaim.{otherLines}
+use Rattle.page.specs.RollClaim.{otherTexts}
 use Rattle.page.specs.PrintPromise.{printLists, PrintPromise}
 
 -- The bytes stand at the front of `out`, the answer is how many they are, and behind them stands what stood there.
@@ -127,6 +127,6 @@ pub record RollsPrinted : Type 0 where
   pub worked : PrintsBytes Roll workedText workedRoll
   -- states that are not reachable
   pub unreached-print : PrintsBytes Roll unreachedPrintText (rowsBytes unreachedPrintRows)
-  -- its lines that are no state's: V,pass,1 / E
-  pub unreached-print-others : otherLines (rowsBytes unreachedPrintRows)
+  -- the texts of its lines that are no state's: V,pass,1 / E
+  pub unreached-print-others : otherTexts (rowsBytes unreachedPrintRows)
       ≡ (86 ∷ 44 ∷ 112 ∷ 97 ∷ 115 ∷ 115 ∷ 44 ∷ 49 ∷ []) ∷ (69 ∷ []) ∷ []

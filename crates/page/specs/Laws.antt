@@ -14,5 +14,6 @@ pub mod PageCallsLaws
 pub mod PrintPromiseLaws
 pub mod PrintsLaws
 pub mod PrintsUniqueLaws
+pub mod RollPrintsLaws
 pub mod StateLinesTestLaws
 pub mod ExamplesLaws

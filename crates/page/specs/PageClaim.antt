@@ -58,7 +58,7 @@ pub record PassTexts (m : Model) (texts : List (List ℕ)) (rank : ℕ) : Type 0
   pub greatest : Greatest (LowMove (view m)) (IsState m) rank
 
 -- Of a refused deterministic model, line by line. `states` are its lines between the `V` line and the `R` lines, and
--- `word` is the list that Page filled.
+-- `word` is the list that Page or Roll filled.
 pub record LeakTexts (m : Model) (texts : List (List ℕ)) (states lines : List PageLine) (word : List ℕ) : Type 0 where
   pub step : ℕ
   pub depth : ℕ

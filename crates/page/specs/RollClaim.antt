@@ -1,4 +1,5 @@
--- Demand 3 on the bytes of the roll: its `V`, `W` and `B` lines tell what Judge and Word answer, as the page's do.
+-- The lines of a roll's bytes: those that are no state's are the page's, padded; all have 42 columns. And demand 3 on
+-- them: the `V`, `W` and `B` lines tell what Judge and Word answer, as the page's do.
 -- Document 02, (ii): "All other lines of the page stand padded in their page order."; DEMANDS, 3. Assumes nothing.
 use mathlib.Core.Bool.{Bool, false, cond, not, _&&_}
 use mathlib.Core.List.{List, [], _∷_, _++_, map}
@@ -11,50 +12,60 @@ use Rattle.text.specs.Bytes.{byteBlank, byteC, capital, lineEnd, kindOf}
 use Rattle.text.specs.Model.{Model}
 use Rattle.text.specs.Split.{split}
 use Rattle.verdicts.specs.declared.judging.Verdict.the-variants.{Passed}
-use Rattle.columns.specs.Rows.{rollWidth}
+use Rattle.columns.specs.Rows.{rollWidth, flushLeft}
 use Rattle.lines.specs.PageLines.{PageLine, verdict-line, last-line, lineText}
 use Rattle.page.specs.PageClaim.{PassTexts, LeakTexts, BytesTell}
 
 -- ---- the lines that are no state's
 
--- A byte before a text: left out where it is a blank and nothing follows it.
-unfoldable pub consUnpadded : ℕ → List ℕ → List ℕ
-consUnpadded b [] = cond (eqb b byteBlank) [] (b ∷ [])
-consUnpadded b (c ∷ text) = b ∷ c ∷ text
+-- A line begins with a capital other than `C`. A state's begins with `C` on the page, with a blank or a digit on the
+-- roll.
+unfoldable pub lettered? : List ℕ → Bool
+lettered? [] = false
+lettered? (b ∷ text) = eqb (kindOf b) capital && not (eqb b byteC)
+
+-- Of some lines those that begin so, as they stand.
+unfoldable pub others : List (List ℕ) → List (List ℕ)
+others [] = []
+others (text ∷ texts) = cond (lettered? text) (text ∷ others texts) (others texts)
+
+-- The lines of a page or a roll that are no state's: the bytes part at the line ends.
+abbrev pub otherLines : List ℕ → List (List ℕ)
+otherLines bytes = others (split lineEnd bytes)
+
+-- "All other lines of the page stand padded in their page order.": of the bytes of a page and of its roll.
+abbrev pub OthersPadded : List ℕ → List ℕ → Type 0
+OthersPadded page roll = otherLines roll ≡ map (flushLeft rollWidth) (otherLines page)
+
+-- ---- their texts
+
+-- A byte before a text, unless it is padding: a blank that nothing follows.
+unfoldable pub consUnlessPadding : ℕ → List ℕ → List ℕ
+consUnlessPadding b [] = cond (eqb b byteBlank) [] (b ∷ [])
+consUnlessPadding b (c ∷ text) = b ∷ c ∷ text
 
 -- A text without the blanks at its end.
 unfoldable pub unpadded : List ℕ → List ℕ
 unpadded [] = []
-unpadded (b ∷ text) = consUnpadded b (unpadded text)
+unpadded (b ∷ text) = consUnlessPadding b (unpadded text)
 
--- A line begins with a capital other than `C`. A state's begins with `C` on the page, with a blank or a digit on the
--- roll.
-unfoldable pub other? : List ℕ → Bool
-other? [] = false
-other? (b ∷ text) = eqb (kindOf b) capital && not (eqb b byteC)
-
--- Of some texts those that begin so, each without the blanks at its end.
-unfoldable pub othersOf : List (List ℕ) → List (List ℕ)
-othersOf [] = []
-othersOf (text ∷ texts) = cond (other? text) (unpadded text ∷ othersOf texts) (othersOf texts)
-
--- The lines of a page or a roll that are no state's: the bytes part at the line ends.
-abbrev pub otherLines : List ℕ → List (List ℕ)
-otherLines bytes = othersOf (split lineEnd bytes)
+-- The texts of the lines that are no state's.
+abbrev pub otherTexts : List ℕ → List (List ℕ)
+otherTexts bytes = map unpadded (otherLines bytes)
 
 -- ---- what they tell
 
 -- What the roll of a passed model tells: the greatest rank, and that there is no leak to show.
 pub record PassRoll (m : Model) (bytes : List ℕ) : Type 0 where
   pub rank : ℕ
-  pub texts : PassTexts m (otherLines bytes) rank
-  pub parted : otherLines bytes ≡ map lineText (verdict-line (Passed rank) ∷ last-line ∷ [])
+  pub texts : PassTexts m (otherTexts bytes) rank
+  pub parted : otherTexts bytes ≡ map lineText (verdict-line (Passed rank) ∷ last-line ∷ [])
 
 -- What the roll of a refused deterministic model tells, as its page does.
 pub record LeakRoll (m : Model) (bytes word : List ℕ) : Type 0 where
   pub lines : List PageLine
-  pub texts : LeakTexts m (otherLines bytes) [] lines word
-  pub parted : otherLines bytes ≡ map lineText lines
+  pub texts : LeakTexts m (otherTexts bytes) [] lines word
+  pub parted : otherTexts bytes ≡ map lineText lines
 
 -- What the roll of a deterministic model tells.
 abbrev pub RollTells : Model → List ℕ → List ℕ → Type 0

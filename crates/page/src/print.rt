@@ -1,4 +1,5 @@
-// `print` and `print_roll`, the path from a text to its page or roll: what Read reads is printed as Page or Roll does.
+// `print_in_form`, the path from a text to its page or roll: what Read reads is printed as Page or Roll does. `print`
+// is that path to the page.
 use crate::page::first_short;
 use crate::page::page_good;
 use lines::lines::Form;
@@ -11,13 +12,13 @@ ghost use lib.ListN.{length};
 ghost use Rattle.text.specs.Faults.{answers, refuses};
 ghost use Rattle.text.specs.Limits.{pageLength};
 ghost use Rattle.read_write.specs.ReadPromise.{readOutcome};
-ghost use Rattle.lines.specs.declared.lines.Form.the-variants.{Page, Roll};
+ghost use Rattle.lines.specs.declared.lines.Form.the-variants.{Page};
 ghost use Rattle.page.specs.Inner.PageLists.{LongLists};
 ghost use Rattle.page.specs.Claim.{PrintClaim};
 ghost use Rattle.page.specs.PrintPromise.{printOutcome, PrintPromise};
 ghost use Rattle.page.specs.Inner.Refusals.{Refuses, FaultWritten};
 
-// What `print` and `print_roll` answer: the bytes written.
+// What `print_in_form` answers: the bytes written.
 pub enum PrintAnswer {
     Printed(usize),
     ShortList(usize),
@@ -92,7 +93,8 @@ fn print_text(
     }
 }
 
-// Reads a text and prints its page in a form, or why Read refuses it.
+// The path from a text to its page or roll, which `print` and `printed` call: reads the text and prints its page in a
+// form, or why Read refuses it.
 pub fn print_in_form(
     text: &[u8],
     store: &mut [u16],
@@ -145,23 +147,4 @@ pub fn print(
     ensures { λ r. ⌜ PrintClaim Page (now (text .entry)) (printOutcome r) (now (word .exit)) (now (out .exit)) ⌝ }
 {
     print_in_form(text, store, distances, table, run, word, out, Form::Page)
-}
-
-// The roll of a text.
-pub fn print_roll(
-    text: &[u8],
-    store: &mut [u16],
-    distances: &mut [u16],
-    table: &mut [u8],
-    run: &mut [u16],
-    word: &mut [u16],
-    out: &mut [u8],
-) -> PrintAnswer
-    ensures { λ r. ⌜ PrintPromise Roll (now (text .entry)) (now (store .entry)) (now (distances .entry))
-        (now (table .entry)) (now (run .entry)) (now (word .entry)) (now (out .entry)) (printOutcome r)
-        (now (store .exit)) (now (distances .exit)) (now (table .exit)) (now (run .exit)) (now (word .exit))
-        (now (out .exit)) ⌝ }
-    ensures { λ r. ⌜ PrintClaim Roll (now (text .entry)) (printOutcome r) (now (word .exit)) (now (out .exit)) ⌝ }
-{
-    print_in_form(text, store, distances, table, run, word, out, Form::Roll)
 }

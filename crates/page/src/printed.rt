@@ -9,16 +9,17 @@ use text::limits::TABLE_LENGTH;
 use text::limits::WORD_LENGTH;
 ghost use mathlib.Core.Path.{_≡_};
 ghost use Prim.Native.Nat.{_≤_};
-ghost use lib.ListN.{length, take};
+ghost use lib.ListN.{length, take, drop};
 ghost use Rattle.lines.specs.Roll.{formLength};
 ghost use Rattle.page.specs.Prints.{Prints};
 
-// Puts what is printed of the text in a form at the front of `out`, and answers how many bytes that is. The caller owes
-// room for any page in that form.
+// Puts what is printed of the text in a form at the front of `out`, which keeps what stood past it, and answers how
+// many bytes that is. The caller owes room for any page in that form.
 pub fn printed(text: &[u8], out: &mut [u8], form: Form) -> usize
     requires { ⌜ formLength form ≤ length (now out) ⌝ }
     ensures { λ r. ⌜ (r ≤ length (now (out .exit))) × (r ≡ length (take r (now (out .exit)))) ⌝ }
     ensures { λ r. ⌜ Prints form (now (text .entry)) (take r (now (out .exit))) ⌝ }
+    ensures { λ r. ⌜ drop r (now (out .exit)) ≡ drop r (now (out .entry)) ⌝ }
 {
     let mut store = [0u16; STORE_LENGTH];
     let mut distances = [0u16; DISTANCES_LENGTH];

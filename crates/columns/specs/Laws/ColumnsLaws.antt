@@ -19,9 +19,9 @@ use Rattle.columns.specs.Rows.{flushRight}
 use Rattle.columns.specs.StateRows.{distanceText, numberWidth}
 use Rattle.columns.specs.Inner.Columns.{DistanceFits}
 use Rattle.columns.specs.Inner.Entries.{distanceOf}
-use Rattle.columns.specs.Inner.RowCount.{ShortColumns}
+use Rattle.columns.specs.Inner.LineCount.{ShortColumns}
 use Rattle.columns.specs.Laws.DistanceOfLaws.{distanceOf-unreachable, distanceOf-reachable}
-use Rattle.columns.specs.Laws.RowCountLaws.{flushRight-length}
+use Rattle.columns.specs.Laws.RowsLaws.{flushRight-length}
 
 pub list-fits : {s : List ℕ} {m : Model} {distances : List ℕ} {p : ℕ} → Stored s m
     → (distancesLength ≤ length distances) × DistanceList m distances → p < m .head .states → DistanceFits distances p

@@ -13,7 +13,7 @@ use Rattle.writer.specs.Laws.WroteLaws.{wrote-append, wrote-length}
 use Rattle.columns.specs.declared.line.RollLine.{RollLine}
 use Rattle.columns.specs.Rows.{rollWidth, blanks, flushLeft, rowBytes, rowsBytes, nameIndent, fill}
 use Rattle.columns.specs.Inner.Filling.{Filling, NamesFilled, NameRoom}
-use Rattle.columns.specs.Laws.RowCountLaws.{fill-fits, fill-next, fill-pos, rowsBytes-append, rowsBytes-row}
+use Rattle.columns.specs.Laws.RowsLaws.{fill-fits, fill-next, fill-pos, rowsBytes-append, rowsBytes-row}
 
 -- ---- the bytes of lines
 

@@ -25,11 +25,11 @@ use Rattle.model.specs.Laws.System.StepTestLaws.{decided-view}
 use Rattle.model.specs.System.{source, action, target, view, ReachableIn, nameOf}
 use Rattle.verdicts.specs.Verdicts.{RefusedAt}
 use Rattle.verdicts.specs.Laws.VerdictsLaws.{depth-lt}
-use Rattle.columns.specs.Inner.RowCount.{rowCount, rowsBelow, NamesFit, passedRows, refusedRows}
+use Rattle.columns.specs.Inner.LineCount.{lineCount, linesBelow, NamesFit, passedRows, refusedRows}
 use Rattle.columns.specs.LowNames.{leaves?, lowFrom?, lowActions, lowNames}
 use Rattle.columns.specs.Laws.FirstLowLaws.{leaves?-intro, leaves?-source, leaves?-action}
 use Rattle.columns.specs.Laws.PassingLaws.{passing-length}
-use Rattle.columns.specs.Laws.RowCountLaws.{rowCount-le, rowCount-unnamed}
+use Rattle.columns.specs.Laws.RowsLaws.{lineCount-le, lineCount-unnamed}
 
 module _ (m : Model) where
   -- The number of actions and of steps, and the tests of low actions and steps, for short.
@@ -104,25 +104,25 @@ module _ (m : Model) where
 
   -- ---- lines by names
 
-  rowCount-bound : NamesFit m → (p : ℕ) → 2 * rowCount m p ≤ count l (lowFrom? m p k) + 1 + bit (not (named? p))
-  rowCount-bound short p = go (named? p) (λ t. ltb→lt 0 (length (lowActions m p)) t) (λ t. nltb→le 0 _ t)
+  lineCount-bound : NamesFit m → (p : ℕ) → 2 * lineCount m p ≤ count l (lowFrom? m p k) + 1 + bit (not (named? p))
+  lineCount-bound short p = go (named? p) (λ t. ltb→lt 0 (length (lowActions m p)) t) (λ t. nltb→le 0 _ t)
     where
       go : (b : Bool) → (T b → 0 < length (lowActions m p)) → (T (not b) → length (lowActions m p) ≤ 0)
-          → 2 * rowCount m p ≤ count l (lowFrom? m p k) + 1 + bit (not b)
+          → 2 * lineCount m p ≤ count l (lowFrom? m p k) + 1 + bit (not b)
       go true some none =
           let e = lowNames-length p in
-          let r = rowCount-le m short p (omega (arith, some tt)) in
+          let r = lineCount-le m short p (omega (arith, some tt)) in
           omega (arith, lowActions-length p)
       go false some none =
           let e = lowNames-length p in
-          let r = rowCount-unnamed m p (omega (arith, none tt)) in
+          let r = lineCount-unnamed m p (omega (arith, none tt)) in
           omega (arith, r)
 
-  rowsBelow-bound : NamesFit m → (n : ℕ)
-      → 2 * rowsBelow m n ≤ countPairs n l (λ p. lowFrom? m p k) + n + count n (λ p. not (named? p))
-  unfolding rowsBelow countPairs count
-  rowsBelow-bound short zero = omega arith
-  rowsBelow-bound short (suc n) = omega (arith, rowsBelow-bound short n, rowCount-bound short n)
+  linesBelow-bound : NamesFit m → (n : ℕ)
+      → 2 * linesBelow m n ≤ countPairs n l (λ p. lowFrom? m p k) + n + count n (λ p. not (named? p))
+  unfolding linesBelow countPairs count
+  linesBelow-bound short zero = omega arith
+  linesBelow-bound short (suc n) = omega (arith, linesBelow-bound short n, lineCount-bound short n)
 
   -- ---- states with a name
 
@@ -140,11 +140,11 @@ module _ {s : List ℕ} {m : Model} (st : Stored s m) (short : NamesFit m) where
   states = m .head .states
 
   -- the lines of the states
-  pub rows-passed : rowsBelow m (m .head .states) ≤ passedRows
+  pub rows-passed : linesBelow m (m .head .states) ≤ passedRows
   rows-passed =
       omega (
         arith,
-        rowsBelow-bound m short states,
+        linesBelow-bound m short states,
         names-le m states (k m),
         count-le (k m) (lowStep? m),
         count-le states (λ p. not (named? m p)),
@@ -172,10 +172,10 @@ module _ {s : List ℕ} {m : Model} (st : Stored s m) (short : NamesFit m) where
         omega arith
 
     -- the lines of the states, with a line for each letter of the word
-    pub rows-refused : rowsBelow m (m .head .states) + depth ≤ refusedRows
+    pub rows-refused : linesBelow m (m .head .states) + depth ≤ refusedRows
     rows-refused = omega (
       arith,
-      rowsBelow-bound m short states,
+      linesBelow-bound m short states,
       names-le m states (k m),
       low-steps-lt,
       depth-lt st r,

@@ -12,7 +12,7 @@ use Rattle.verdicts.specs.declared.judging.Verdict.the-variants.{Passed, Refuse
 use Rattle.letters.specs.declared.word.Shown.{Shown}
 use Rattle.letters.specs.declared.word.Shown.the-variants.{Word, NotDeterministic, NoLeak}
 use Rattle.columns.specs.Rows.{rollWidth}
-use Rattle.columns.specs.Inner.RowCount.{rowCount}
+use Rattle.columns.specs.Inner.LineCount.{lineCount}
 use Rattle.lines.specs.declared.lines.Form.{Form}
 use Rattle.lines.specs.declared.lines.Form.the-variants.{Page, Roll}
 
@@ -56,7 +56,7 @@ faultRoom = 14
 -- The lines of state p: one on a page.
 unfoldable pub stateRoom : Form → Model → ℕ → ℕ
 stateRoom Page m p = stateWidth + 1
-stateRoom Roll m p = (rollWidth + 1) * rowCount m p
+stateRoom Roll m p = (rollWidth + 1) * lineCount m p
 
 -- The lines of the states below n.
 unfoldable pub statesRoom : Form → Model → ℕ → ℕ

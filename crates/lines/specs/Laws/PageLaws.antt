@@ -8,7 +8,7 @@ use Rattle.text.specs.Model.{Model}
 use Rattle.model.specs.Inner.Stored.{Stored}
 use Rattle.verdicts.specs.declared.judging.Verdict.{Verdict}
 use Rattle.verdicts.specs.Verdicts.{Judged}
-use Rattle.columns.specs.Inner.RowCount.{NamesFit}
+use Rattle.columns.specs.Inner.LineCount.{NamesFit}
 use Rattle.lines.specs.declared.lines.Form.{Form}
 use Rattle.lines.specs.PageLines.{verdict-line, last-line}
 use Rattle.lines.specs.Page.{StateLines, AfterStates, PageOf}

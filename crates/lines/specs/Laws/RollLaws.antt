@@ -6,7 +6,7 @@ use mathlib.Core.Path.{_≡_, refl, sym, ap, _∙_}
 use Prim.Native.Nat.{ℕ}
 use Rattle.text.specs.Bytes.{byteLineEnd}
 use Rattle.text.specs.Model.{Model}
-use Rattle.columns.specs.Laws.RowCountLaws.{rowsBytes-row}
+use Rattle.columns.specs.Laws.RowsLaws.{rowsBytes-row}
 use Rattle.columns.specs.Rows.{rollWidth, flushLeft, rowBytes, rowsBytes}
 use Rattle.lines.specs.PageLines.{PageLine, verdict-line, state-line, run-line, word-line, allows-line}
 use Rattle.lines.specs.PageLines.{branch-line, last-line, lineText}

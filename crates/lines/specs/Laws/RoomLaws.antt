@@ -12,7 +12,7 @@ use Rattle.verdicts.specs.declared.judging.Verdict.{Verdict}
 use Rattle.verdicts.specs.declared.judging.Verdict.the-variants.{Passed, Refused}
 use Rattle.verdicts.specs.Verdicts.{Judged}
 use Rattle.columns.specs.Rows.{rollWidth}
-use Rattle.columns.specs.Inner.RowCount.{rowsBelow, NamesFit}
+use Rattle.columns.specs.Inner.LineCount.{linesBelow, NamesFit}
 use Rattle.columns.specs.Laws.RoomLaws.{rows-passed, rows-refused}
 use Rattle.lines.specs.declared.lines.Form.{Form}
 use Rattle.lines.specs.declared.lines.Form.the-variants.{Page, Roll}
@@ -40,8 +40,8 @@ unfolding statesRoom stateRoom
 statesRoom-page m zero = refl
 statesRoom-page m (suc n) = omega (arith, statesRoom-page m n)
 
-statesRoom-roll : (m : Model) (n : ℕ) → statesRoom Roll m n ≡ (rollWidth + 1) * rowsBelow m n
-unfolding statesRoom stateRoom rowsBelow
+statesRoom-roll : (m : Model) (n : ℕ) → statesRoom Roll m n ≡ (rollWidth + 1) * linesBelow m n
+unfolding statesRoom stateRoom linesBelow
 statesRoom-roll m zero = refl
 statesRoom-roll m (suc n) = omega (arith, statesRoom-roll m n)
 

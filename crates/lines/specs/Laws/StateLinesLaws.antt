@@ -28,8 +28,8 @@ use Rattle.verdicts.specs.Inner.ModelLists.{ModelLists}
 use Rattle.lines.specs.Inner.Entries.{distanceOf, LowestZero}
 use Rattle.lines.specs.Inner.LinesWritten.{LinesWritten}
 use Rattle.lines.specs.Inner.Room.{stateRoom, statesRoom}
-use Rattle.columns.specs.Inner.RowCount.{ShortColumns, NamesFit}
-use Rattle.columns.specs.Laws.RowCountLaws.{stateRows-bytes-length}
+use Rattle.columns.specs.Inner.LineCount.{ShortColumns, NamesFit}
+use Rattle.columns.specs.Laws.RowsLaws.{stateRows-bytes-length}
 use Rattle.columns.specs.StateRows.{numberWidth}
 use Rattle.lines.specs.Laws.PageLinesLaws.{lineBytes-length, state-length}
 use Rattle.columns.specs.Laws.DistanceOfLaws.{distanceOf-unreachable, distanceOf-reachable}

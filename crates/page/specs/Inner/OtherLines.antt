@@ -13,7 +13,7 @@ use Rattle.lines.specs.PageLines.{PageLine, verdict-line, state-line, run-line,
 use Rattle.lines.specs.PageLines.{last-line, lineText}
 use Rattle.lines.specs.Roll.{rollRows}
 use Rattle.lines.specs.Inner.FormLines.{TextFits}
-use Rattle.page.specs.RollClaim.{other?}
+use Rattle.page.specs.RollClaim.{lettered?}
 
 -- A line, unless it is a state's.
 unfoldable pub unlessState : PageLine → List PageLine
@@ -30,17 +30,22 @@ unfoldable pub withoutStates : List PageLine → List PageLine
 withoutStates [] = []
 withoutStates (l ∷ lines) = unlessState l ++ withoutStates lines
 
--- A text of digits, letters and commas: without a line end, and without a blank.
-abbrev pub Marked : List ℕ → Type 0
-Marked text = Without lineEnd text × Without other text
+-- A text within one line.
+abbrev pub OneLine : List ℕ → Type 0
+OneLine = Without lineEnd
+
+-- A text within one line that holds no byte of kind 0, as a blank is: digits, letters and commas.
+pub record NoBlanks (text : List ℕ) : Type 0 where
+  pub no-line-end : OneLine text
+  pub no-other : Without other text
 
 -- A line that is no state's: one line on the roll, its text.
 pub record OtherLine (l : PageLine) : Type 0 where
   pub width : ℕ
   pub fits : TextFits l width
   pub stays : unlessState l ≡ l ∷ []
-  pub begins : other? (lineText l) ≡ true
-  pub marked : Marked (lineText l)
+  pub begins : lettered? (lineText l) ≡ true
+  pub no-blanks : NoBlanks (lineText l)
 
 -- A line of a page.
 pub data AnyLine : PageLine → Type 0 where

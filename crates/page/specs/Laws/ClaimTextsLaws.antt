@@ -23,7 +23,7 @@ use Rattle.tell.specs.Laws.ClaimLaws.{shows-of-wordOf}
 use Rattle.letters.specs.Laws.LeastLeakLaws.{bnid↔INI}
 use Rattle.lines.specs.Page.{nameLine, LeakShown, by-word, by-branch, LeakLines}
 use Rattle.lines.specs.PageLines.{PageLine, verdict-line, run-line, allows-line, last-line, lineText}
-use Rattle.lines.specs.Laws.LeakShownLaws.{depth-lt}
+use Rattle.verdicts.specs.Laws.VerdictsLaws.{depth-lt}
 use Rattle.page.specs.PageClaim.{SaysPass, SaysRefuse, PassTexts, LeakTexts, BytesTell}
 use Rattle.page.specs.Laws.PageFieldsLaws.{pass-fields, refuse-fields, run-fields}
 

@@ -39,7 +39,7 @@ use Rattle.lines.specs.PageLines.{PageLine, verdict-line, allows-line, branch-l
 use Rattle.lines.specs.declared.lines.Form.{Form}
 use Rattle.lines.specs.declared.lines.Form.the-variants.{Page, Roll}
 use Rattle.lines.specs.Roll.{rollRows, rollBytes, formBytes}
-use Rattle.page.specs.RollClaim.{consUnpadded, unpadded, other?, othersOf}
+use Rattle.page.specs.RollClaim.{lettered?, others, consUnlessPadding, unpadded}
 use Rattle.page.specs.PagePromise.{PagePrinted}
 use Rattle.page.specs.Examples.{PrintsBytes, PagesPrinted, RollsPrinted, scannedOnceLines, releasedLines}
 use Rattle.page.specs.Examples.{closeLowLines, branchingLines, oneStateLines, unreachedPrintLines}
@@ -176,7 +176,7 @@ unfolding formBytes rollBytes rollRows rowsBytes flushLeft flushRight stateColum
 unreached-print-rows = refl
 
 pub rolls-printed : RollsPrinted
-unfolding split consFirst kindOf othersOf other? unpadded consUnpadded rowsBytes flushLeft unreachedPrintRows
+unfolding split consFirst kindOf others lettered? unpadded consUnlessPadding rowsBytes flushLeft unreachedPrintRows
 rolls-printed = record {
   worked = subst (PrintsBytes Roll workedText) worked-roll (prints-word Roll (joint-fact .worked-refused) refl
       (joint-fact .worked-deterministic) (joint-fact .worked-word) refl (computed .worked));

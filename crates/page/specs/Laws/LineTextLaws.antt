@@ -37,76 +37,77 @@ use Rattle.lines.specs.Page.{AfterStates, PageOf}
 use Rattle.lines.specs.Inner.FormLines.{TextFits}
 use Rattle.lines.specs.Laws.PageLinesLaws.{verdict-fits, run-fits, word-fits, allows-fits, branch-fits, last-fits}
 use Rattle.model.specs.System.{view, nameOf}
-use Rattle.page.specs.RollClaim.{other?}
-use Rattle.page.specs.Inner.OtherLines.{unlessState, withoutStates, Marked, OtherLine, AnyLine, of-state}
+use Rattle.page.specs.RollClaim.{lettered?}
+use Rattle.page.specs.Inner.OtherLines.{unlessState, withoutStates, NoBlanks, OtherLine, AnyLine, of-state}
 use Rattle.page.specs.Inner.OtherLines.{of-other}
 
 -- ---- texts of digits, letters and commas
 
 -- a constant text, by evaluation
-marked-test : (l : List ℕ) → T (without? lineEnd l) → T (without? other l) → Marked l
-marked-test l t u = (without-test lineEnd l t, without-test other l u)
+noBlanks-test : (l : List ℕ) → T (without? lineEnd l) → T (without? other l) → NoBlanks l
+noBlanks-test l t u = record { no-line-end = without-test lineEnd l t; no-other = without-test other l u }
 
-pub marked-digits : (n : ℕ) → Marked (digits n)
-marked-digits n = (
-  digits-without lineEnd (λ e. eqb-false digit lineEnd refl e) (n ∷ []) .0,
-  digits-without other (λ e. eqb-false digit other refl e) (n ∷ []) .0,
-)
+pub noBlanks-digits : (n : ℕ) → NoBlanks (digits n)
+noBlanks-digits n = record {
+  no-line-end = digits-without lineEnd (λ e. eqb-false digit lineEnd refl e) (n ∷ []) .0;
+  no-other = digits-without other (λ e. eqb-false digit other refl e) (n ∷ []) .0;
+}
 
-marked-field : (f : List ℕ) → Marked f → Marked (field f)
+noBlanks-field : (f : List ℕ) → NoBlanks f → NoBlanks (field f)
 unfolding kindOf
-marked-field f p = ((λ e. omega arith, p .0), (λ e. omega arith, p .1))
+noBlanks-field f p =
+    record { no-line-end = (λ e. omega arith, p .no-line-end); no-other = (λ e. omega arith, p .no-other) }
 
-marked-append : (a b : List ℕ) → Marked a → Marked b → Marked (a ++ b)
-marked-append a b p q = (
-  all-append (λ x. kindOf x ≡ lineEnd → ⊥) a b (p .0) (q .0),
-  all-append (λ x. kindOf x ≡ other → ⊥) a b (p .1) (q .1),
-)
+noBlanks-append : (a b : List ℕ) → NoBlanks a → NoBlanks b → NoBlanks (a ++ b)
+noBlanks-append a b p q = record {
+  no-line-end = all-append (λ x. kindOf x ≡ lineEnd → ⊥) a b (p .no-line-end) (q .no-line-end);
+  no-other = all-append (λ x. kindOf x ≡ other → ⊥) a b (p .no-other) (q .no-other);
+}
 
-marked-number : (a : List ℕ) (n : ℕ) → Marked a → Marked (a ++ field (digits n))
-marked-number a n p = marked-append a (field (digits n)) p (marked-field (digits n) (marked-digits n))
+noBlanks-number : (a : List ℕ) (n : ℕ) → NoBlanks a → NoBlanks (a ++ field (digits n))
+noBlanks-number a n p = noBlanks-append a (field (digits n)) p (noBlanks-field (digits n) (noBlanks-digits n))
 
 -- ---- the lines
 
-other-line : {l : PageLine} {width : ℕ} → TextFits l width → unlessState l ≡ l ∷ [] → other? (lineText l) ≡ true
-    → Marked (lineText l) → OtherLine l
-other-line {width = width} fits stays begins marked =
-    record { width = width; fits = fits; stays = stays; begins = begins; marked = marked }
+other-line : {l : PageLine} {width : ℕ} → TextFits l width → unlessState l ≡ l ∷ [] → lettered? (lineText l) ≡ true
+    → NoBlanks (lineText l) → OtherLine l
+other-line {width = width} fits stays begins no-blanks =
+    record { width = width; fits = fits; stays = stays; begins = begins; no-blanks = no-blanks }
 
 verdict-other : (v : Verdict) → OtherLine (verdict-line v)
-unfolding lineText unlessState other? without? kindOf
+unfolding lineText unlessState lettered? without? kindOf
 verdict-other (Passed rank) =
     let text = (byteV ∷ []) ++ field passText in
-    other-line (verdict-fits (Passed rank)) refl refl (marked-number text rank (marked-test text tt tt))
+    other-line (verdict-fits (Passed rank)) refl refl (noBlanks-number text rank (noBlanks-test text tt tt))
 verdict-other (Refused j depth) =
     let text = (byteV ∷ []) ++ field refuseText in
     other-line (verdict-fits (Refused j depth)) refl refl
-    (marked-number (text ++ field (digits (j .0))) depth (marked-number text (j .0) (marked-test text tt tt)))
+    (noBlanks-number (text ++ field (digits (j .0))) depth (noBlanks-number text (j .0) (noBlanks-test text tt tt)))
 
 run-other : (j : ℕ) → OtherLine (run-line j)
-unfolding lineText unlessState other? without? kindOf
-run-other j = other-line (run-fits j) refl refl (marked-number (byteR ∷ []) j (marked-test (byteR ∷ []) tt tt))
+unfolding lineText unlessState lettered? without? kindOf
+run-other j = other-line (run-fits j) refl refl (noBlanks-number (byteR ∷ []) j (noBlanks-test (byteR ∷ []) tt tt))
 
-word-other : (name : List ℕ) → length name ≤ nameLimit → Marked name → OtherLine (word-line name)
-unfolding lineText unlessState other? without? kindOf
+word-other : (name : List ℕ) → length name ≤ nameLimit → NoBlanks name → OtherLine (word-line name)
+unfolding lineText unlessState lettered? without? kindOf
 word-other name short p =
     other-line (word-fits name short) refl refl
-    (marked-append (byteW ∷ []) (field name) (marked-test (byteW ∷ []) tt tt) (marked-field name p))
+    (noBlanks-append (byteW ∷ []) (field name) (noBlanks-test (byteW ∷ []) tt tt) (noBlanks-field name p))
 
 allows-other : (end : End) → OtherLine (allows-line end)
-unfolding lineText endText unlessState other? without? kindOf
+unfolding lineText endText unlessState lettered? without? kindOf
 allows-other Source =
-    other-line (allows-fits Source) refl refl (marked-test ((byteB ∷ []) ++ field (endText Source)) tt tt)
+    other-line (allows-fits Source) refl refl (noBlanks-test ((byteB ∷ []) ++ field (endText Source)) tt tt)
 allows-other Target =
-    other-line (allows-fits Target) refl refl (marked-test ((byteB ∷ []) ++ field (endText Target)) tt tt)
+    other-line (allows-fits Target) refl refl (noBlanks-test ((byteB ∷ []) ++ field (endText Target)) tt tt)
 
 branch-other : OtherLine branch-line
-unfolding lineText unlessState other? without? kindOf
-branch-other = other-line branch-fits refl refl (marked-test (byteN ∷ []) tt tt)
+unfolding lineText unlessState lettered? without? kindOf
+branch-other = other-line branch-fits refl refl (noBlanks-test (byteN ∷ []) tt tt)
 
 last-other : OtherLine last-line
-unfolding lineText unlessState other? without? kindOf
-last-other = other-line last-fits refl refl (marked-test (byteE ∷ []) tt tt)
+unfolding lineText unlessState lettered? without? kindOf
+last-other = other-line last-fits refl refl (noBlanks-test (byteE ∷ []) tt tt)
 
 -- ---- the lines that are no state's
 
@@ -162,11 +163,12 @@ module _ {m : Model} (w : WellFormed m) where
       (name-bytes (nameOf m a) (action-fits m w a _ l .name))
 
   -- a name has digits and small letters
-  pub marked-name : (a : ℕ) → a < length (m .actions) → Marked (nameOf m a)
-  marked-name a l = (
-    name-without lineEnd (λ e. eqb-false digit lineEnd refl e) (λ e. eqb-false smallLetter lineEnd refl e) a l,
-    name-without other (λ e. eqb-false digit other refl e) (λ e. eqb-false smallLetter other refl e) a l,
-  )
+  pub noBlanks-name : (a : ℕ) → a < length (m .actions) → NoBlanks (nameOf m a)
+  noBlanks-name a l = record {
+    no-line-end = name-without lineEnd (λ e. eqb-false digit lineEnd refl e)
+        (λ e. eqb-false smallLetter lineEnd refl e) a l;
+    no-other = name-without other (λ e. eqb-false digit other refl e) (λ e. eqb-false smallLetter other refl e) a l;
+  }
 
   pub name-short : (a : ℕ) → a < length (m .actions) → length (nameOf m a) ≤ nameLimit
   name-short a l = name-length (nameOf m a) (action-fits m w a _ l .name) .1
@@ -176,7 +178,7 @@ module _ {m : Model} (w : WellFormed m) where
   names-other [] x = tt
   names-other (a ∷ word) x =
       let l = low-lt m a (x .0) in
-      (word-other (nameOf m a) (name-short a l) (marked-name a l), names-other word (x .1))
+      (word-other (nameOf m a) (name-short a l) (noBlanks-name a l), names-other word (x .1))
 
   leak-other : {j depth : ℕ} {word word′ : List ℕ} {lines : List PageLine} → LeakShown m j depth word word′ lines
       → All OtherLine lines

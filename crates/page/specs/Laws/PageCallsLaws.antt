@@ -11,6 +11,7 @@ use Rattle.text.specs.Laws.OutcomeLaws.{answers-not-refuses}
 use Rattle.text.specs.Model.{Model}
 use Rattle.read_write.specs.ReadPromise.{ReadPromise}
 use Rattle.model.specs.Store.{Good}
+use Rattle.model.specs.Laws.Text.ReadingLaws.{readText-well-formed}
 use Rattle.model.specs.System.{DeterministicModel}
 use Rattle.verdicts.specs.declared.judging.Verdict.{Verdict}
 use Rattle.verdicts.specs.declared.judging.Verdict.the-variants.{Passed, Refused}
@@ -30,10 +31,13 @@ use Rattle.lines.specs.declared.lines.Form.the-variants.{Page, Roll}
 use Rattle.lines.specs.Roll.{formBytes}
 use Rattle.page.specs.PagePromise.{pageLists, PagePrinted, FormPromise, PagePromise, RollPromise}
 use Rattle.page.specs.PageClaim.{PageTells}
-use Rattle.page.specs.RollClaim.{RollTells}
+use Rattle.page.specs.RollClaim.{OthersPadded, RollTells, RollColumns}
 use Rattle.page.specs.Claim.{FormTells}
 use Rattle.page.specs.Laws.PrintClaimLaws.{form-tells, printed-bytes}
 use Rattle.page.specs.PageCalls.{JudgeOnPage, WordOnPage}
+use Rattle.page.specs.Prints.{PageBytesOf}
+use Rattle.page.specs.Laws.PrintsLaws.{pageBytesOf-printed}
+use Rattle.page.specs.Laws.RollPrintsLaws.{othersPadded-of-model, rollColumns-of-model}
 
 -- ---- the sequence and the end
 
@@ -89,6 +93,9 @@ module _ {form : Form} {store distances table run word out distances′ table′
       ++ printed .page .states ++ printed .page .after ++ (last-line ∷ []))
   bytes-are = printed-bytes n e printed ∙ ap (formBytes form (g .model)) (printed .page .lines-are)
 
+  bytes-of : PageBytesOf form (g .model) (take n out′)
+  bytes-of = pageBytesOf-printed n e printed
+
   -- Judge answers the verdict of the `V` line
   pub judge-on-page : {d t d′ t′ : List ℕ} {judge : Outcome} → JudgePromise store d t judge d′ t′ → NotShort judge
       → JudgeOnPage form (g .model) (take n out′) judge
@@ -112,6 +119,23 @@ module _ {form : Form} {store distances table run word out distances′ table′
       let p = printed .page in
       word-of-verdict form det (words .good lists g .1) run word run′ word′ (p .verdict) (p .states) (p .after)
       (p .state-lines) (p .judged) (p .after-states) bytes-are values f
+
+-- ---- the roll beside the page, of one good store
+
+module _ {store : List ℕ} (g : Good store) {d t r w out d′ t′ r′ w′ out′ : List ℕ} {roll : Outcome}
+    (rolls : RollPromise store d t r w out roll d′ t′ r′ w′ out′) (k : ℕ) (e : roll ≡ answers (k ∷ [])) where
+  -- each line of what Roll leaves has 42 columns
+  pub rollColumns-of-calls : RollColumns (take k out′)
+  rollColumns-of-calls =
+      rollColumns-of-model (readText-well-formed (g .text) (g .model) (g .reads)) (bytes-of rolls k e g)
+
+  -- those that are no state's are what Page leaves, padded, whatever the lists of either held
+  pub othersPadded-of-calls : {d₀ t₀ r₀ w₀ out₀ d₁ t₁ r₁ w₁ out₁ : List ℕ} {page : Outcome}
+      → PagePromise store d₀ t₀ r₀ w₀ out₀ page d₁ t₁ r₁ w₁ out₁ → (n : ℕ) → page ≡ answers (n ∷ [])
+      → OthersPadded (take n out₁) (take k out′)
+  othersPadded-of-calls pages n f =
+      othersPadded-of-model (readText-well-formed (g .text) (g .model) (g .reads)) (bytes-of pages n f g)
+      (bytes-of rolls k e g)
 
 -- ---- after a successful Read
 

@@ -87,7 +87,7 @@ afterStates-unique m (Refused j depth) run word x y =
 
 -- ---- the page
 
-pageOf-unique : {m : Model} {run word run′ word′ run″ word″ : List ℕ} {xs ys : List PageLine}
+pub pageOf-unique : {m : Model} {run word run′ word′ run″ word″ : List ℕ} {xs ys : List PageLine}
     → PageOf m run word run′ word′ xs → PageOf m run word run″ word″ ys
     → (xs ≡ ys) × (run′ ≡ run″) × (word′ ≡ word″)
 pageOf-unique {m} {run} {word} {run″ = run″} {word″} x y =

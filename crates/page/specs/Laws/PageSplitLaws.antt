@@ -11,46 +11,42 @@ use Rattle.text.specs.Model.{Model}
 use Rattle.text.specs.Numbers.{digits}
 use Rattle.text.specs.Split.{split}
 use Rattle.text.specs.Laws.SplitLaws.{split-nil}
-use Rattle.text.specs.Join.{Without}
 use Rattle.model.specs.Text.{field}
 use Rattle.model.specs.WellFormed.{WellFormed}
 use Rattle.text.specs.Laws.AllLaws.{all-append}
 use Rattle.text.specs.Laws.JoinLaws.{split-append, without?, without-test}
 use Rattle.lines.specs.PageLines.{PageLine, state-line, distanceText, lineText, pageBytes}
 use Rattle.lines.specs.Page.{PageOf}
-use Rattle.page.specs.Inner.OtherLines.{AnyLine, of-state, of-other}
-use Rattle.page.specs.Laws.LineTextLaws.{marked-digits, page-any}
+use Rattle.page.specs.Inner.OtherLines.{OneLine, AnyLine, of-state, of-other}
+use Rattle.page.specs.Laws.LineTextLaws.{noBlanks-digits, page-any}
 
 -- ---- texts without a line end
 
-abbrev Plain : List ℕ → Type 0
-Plain = Without lineEnd
+pub oneLine-append : (a b : List ℕ) → OneLine a → OneLine b → OneLine (a ++ b)
+oneLine-append a b p q = all-append (λ x. kindOf x ≡ lineEnd → ⊥) a b p q
 
-pub plain-append : (a b : List ℕ) → Plain a → Plain b → Plain (a ++ b)
-plain-append a b p q = all-append (λ x. kindOf x ≡ lineEnd → ⊥) a b p q
-
-plain-field : (f : List ℕ) → Plain f → Plain (field f)
+oneLine-field : (f : List ℕ) → OneLine f → OneLine (field f)
 unfolding kindOf
-plain-field f p = (λ e. omega arith, p)
+oneLine-field f p = (λ e. omega arith, p)
 
-pub plain-distance : (d : Option ℕ) → Plain (distanceText d)
+pub oneLine-distance : (d : Option ℕ) → OneLine (distanceText d)
 unfolding distanceText without? kindOf
-plain-distance none = without-test lineEnd (byteDash ∷ []) tt
-plain-distance (some d) = marked-digits d .0
+oneLine-distance none = without-test lineEnd (byteDash ∷ []) tt
+oneLine-distance (some d) = noBlanks-digits d .no-line-end
 
-plain-state : (p : ℕ) (d : Option ℕ) (class : ℕ) → Plain (lineText (state-line p d class))
+oneLine-state : (p : ℕ) (d : Option ℕ) (class : ℕ) → OneLine (lineText (state-line p d class))
 unfolding lineText without? kindOf
-plain-state p d class =
-    plain-append ((byteC ∷ []) ++ field (digits p) ++ field (distanceText d)) (field (digits class))
-    (plain-append ((byteC ∷ []) ++ field (digits p)) (field (distanceText d))
-    (plain-append (byteC ∷ []) (field (digits p)) (without-test lineEnd (byteC ∷ []) tt)
-    (plain-field (digits p) (marked-digits p .0)))
-    (plain-field (distanceText d) (plain-distance d)))
-    (plain-field (digits class) (marked-digits class .0))
+oneLine-state p d class =
+    oneLine-append ((byteC ∷ []) ++ field (digits p) ++ field (distanceText d)) (field (digits class))
+    (oneLine-append ((byteC ∷ []) ++ field (digits p)) (field (distanceText d))
+    (oneLine-append (byteC ∷ []) (field (digits p)) (without-test lineEnd (byteC ∷ []) tt)
+    (oneLine-field (digits p) (noBlanks-digits p .no-line-end)))
+    (oneLine-field (distanceText d) (oneLine-distance d)))
+    (oneLine-field (digits class) (noBlanks-digits class .no-line-end))
 
-plain-line : (l : PageLine) → AnyLine l → Plain (lineText l)
-plain-line _ (of-state p d class) = plain-state p d class
-plain-line l (of-other x) = x .marked .0
+oneLine-line : (l : PageLine) → AnyLine l → OneLine (lineText l)
+oneLine-line _ (of-state p d class) = oneLine-state p d class
+oneLine-line l (of-other x) = x .no-blanks .no-line-end
 
 -- ---- parted at the line ends
 
@@ -60,7 +56,7 @@ unfolding pageBytes kindOf
 split-lines [] p = split-nil lineEnd
 split-lines (l ∷ lines) p =
     ap (split lineEnd) (append-assoc (lineText l) (byteLineEnd ∷ []) (pageBytes lines))
-    ∙ split-append lineEnd byteLineEnd (lineText l) (pageBytes lines) refl (plain-line l (p .0))
+    ∙ split-append lineEnd byteLineEnd (lineText l) (pageBytes lines) refl (oneLine-line l (p .0))
     ∙ ap (_∷_ (lineText l)) (split-lines lines (p .1))
 
 -- whoever parts the page at its line ends has its lines

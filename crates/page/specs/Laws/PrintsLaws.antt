@@ -6,7 +6,8 @@ use mathlib.Core.Path.{_≡_, refl, sym, ap, subst, _∙_}
 use Prim.Native.Nat.{ℕ, _≤_, min}
 use native.Mathlib.Omega.{arith}
 use lib.ListN.{length, take, drop, length-append, length-take}
-use Rattle.text.specs.Faults.{answers, refuses, faultNumber}
+use lib.Seq.{drop-append-seam}
+use Rattle.text.specs.Faults.{Outcome, answers, refuses, faultNumber}
 use Rattle.text.specs.Laws.FirstShortLaws.{none-short-seven}
 use Rattle.text.specs.Laws.ListsLaws.{take-filled}
 use Rattle.text.specs.Laws.OutcomeLaws.{answers-not-refuses}
@@ -19,9 +20,11 @@ use Rattle.lines.specs.declared.lines.Form.{Form}
 use Rattle.lines.specs.Roll.{formBytes}
 use Rattle.page.specs.declared.print.PrintAnswer.{PrintAnswer}
 use Rattle.page.specs.declared.print.PrintAnswer.the-variants.{Printed, ShortList}
-use Rattle.page.specs.Prints.{Prints}
+use Rattle.page.specs.Prints.{PageBytesOf, Prints}
+use Rattle.text.specs.Model.{Model}
+use Rattle.page.specs.PagePromise.{PagePrinted}
 use Rattle.page.specs.PrintPromise.{printOutcome, printLists, PrintPromise}
-use Rattle.page.specs.Laws.PrintClaimLaws.{lists-none, form-tells, same-number}
+use Rattle.page.specs.Laws.PrintClaimLaws.{lists-none, form-tells, same-number, printed-bytes}
 
 -- ---- lists that are long enough
 
@@ -33,16 +36,39 @@ printLists-none form text store distances table run word out long =
     none-short-seven any-text (long .store-length) (long .distances-length) (long .table-length) (long .run-length)
     (long .word-length) (long .out-length)
 
+-- ---- the bytes of a model's page
+
+pub pageBytesOf-printed : {form : Form} {m : Model} {outcome : Outcome} {run word out run′ word′ out′ : List ℕ} (n : ℕ)
+    → outcome ≡ answers (n ∷ []) → PagePrinted form m outcome run word out run′ word′ out′
+    → PageBytesOf form m (take n out′)
+pageBytesOf-printed {run = run} {word} {out} {run′} {word′} n e x = record {
+  run = run;
+  word = word;
+  run′ = run′;
+  word′ = word′;
+  lines = x .lines;
+  page = x .page;
+  bytes-are = printed-bytes n e x;
+}
+
 -- ---- bytes at the front of a list
 
-module _ (n : ℕ) (bytes out : List ℕ) {out′ : List ℕ} (e : answers (n ∷ []) ≡ answers (length bytes ∷ []))
-    (f : out′ ≡ bytes ++ drop (length bytes) out) where
-  front-bytes : take n out′ ≡ bytes
-  front-bytes = take-filled bytes _ f n (same-number e)
+-- n bytes, and behind them what stood there.
+record Front (n : ℕ) (out out′ : List ℕ) : Type 0 where
+  bytes : List ℕ
+  length-is : n ≡ length bytes
+  list : out′ ≡ bytes ++ drop (length bytes) out
 
-  front-le : n ≤ length out′
-  front-le =
-      omega (arith, same-number e, ap length f ∙ length-append bytes (drop (length bytes) out))
+front-le : {n : ℕ} {out out′ : List ℕ} → Front n out out′ → n ≤ length out′
+front-le {out = out} x =
+    let bytes = x .bytes in
+    omega (arith, x .length-is, ap length (x .list) ∙ length-append bytes (drop (length bytes) out))
+
+front-kept : {n : ℕ} {out out′ : List ℕ} → Front n out out′ → drop n out′ ≡ drop n out
+front-kept {n} {out} x =
+    let bytes = x .bytes in
+    ap (drop n) (x .list) ∙ ap (λ (k : ℕ). drop k (bytes ++ drop (length bytes) out)) (x .length-is)
+    ∙ drop-append-seam bytes (drop (length bytes) out) ∙ ap (λ (k : ℕ). drop k out) (sym (x .length-is))
 
 -- ---- the promise
 
@@ -57,35 +83,25 @@ module _ {form : Form} {text store distances table run word out : List ℕ} (n :
   prints-of-promise = record {
     unread = λ number place e.
         let x = p .unread long number place e .1 in
-        front-bytes n (faultBytes number place) out (x .outcome-is) (x .list);
-    read = λ m e.
-        let x = p .read long m e .printed in
-        record {
-          run = run;
-          word = word;
-          run′ = run′;
-          word′ = word′;
-          lines = x .lines;
-          page = x .page;
-          bytes-are = front-bytes n (formBytes form m (x .lines)) out (x .outcome-is) (x .list);
-        };
+        take-filled (faultBytes number place) _ (x .list) n (same-number (x .outcome-is));
+    read = λ m e. pageBytesOf-printed n refl (p .read long m e .printed);
     tells = λ m s det.
         (word′, form-tells form (s .well-formed) det n refl (p .read long m (states→readText s) .printed));
   }
 
-  pub printed-le : n ≤ length out′
+  printed-front : Front n out out′
   unfolding readingOutcome
-  printed-le = go (readText text) refl
+  printed-front = go (readText text) refl
     where
-      unread : (number place : ℕ) → readingOutcome (readText text) ≡ refuses number place → n ≤ length out′
+      unread : (number place : ℕ) → readingOutcome (readText text) ≡ refuses number place → Front n out out′
       unread number place e =
           let x = p .unread long number place e .1 in
-          front-le n (faultBytes number place) out (x .outcome-is) (x .list)
+          record { bytes = faultBytes number place; length-is = same-number (x .outcome-is); list = x .list }
 
-      go : (r : Reading) → readText text ≡ r → n ≤ length out′
+      go : (r : Reading) → readText text ≡ r → Front n out out′
       go (done m) e =
           let x = p .read long m e .printed in
-          front-le n (formBytes form m (x .lines)) out (x .outcome-is) (x .list)
+          record { bytes = formBytes form m (x .lines); length-is = same-number (x .outcome-is); list = x .list }
       go tooLong e = unread 1 0 (ap readingOutcome e)
       go (faulty fault line) e = unread (faultNumber fault) line (ap readingOutcome e)
 
@@ -100,16 +116,17 @@ module _ (form : Form) (text store distances table run word out : List ℕ) (ans
       PrintPromise form text store distances table run word out (printOutcome x) store′ distances′ table′ run′ word′
       out′
 
-  -- so many bytes stand in the list, and they are what is printed
+  -- so many bytes stand in the list, they are what is printed, and the list is kept past them
   pub printed-prints : answer ≡ Printed k
-      → (k ≤ length out′) × (k ≡ length (take k out′)) × Prints form text (take k out′)
+      → (k ≤ length out′) × (k ≡ length (take k out′)) × Prints form text (take k out′) × (drop k out′ ≡ drop k out)
   unfolding printOutcome
   printed-prints e =
       let q = subst As e p in
-      let le : k ≤ length out′ = printed-le k q in
+      let front = printed-front k q in
+      let le : k ≤ length out′ = front-le front in
       let taken : length (take k out′) ≡ min k (length out′) = length-take k out′ in
       let all : k ≡ length (take k out′) = omega (arith, le, taken) in
-      (le, all, prints-of-promise k q)
+      (le, all, prints-of-promise k q, front-kept front)
 
   -- lists that are long enough are not refused
   pub shortList-not-long : answer ≡ ShortList k → ¬ (LongLists form store distances table run word out)

@@ -1,23 +1,20 @@
 -- A text has one print in each form: a page or a roll does not depend on what the lists held.
 -- Document 01, "nothing is left to the program's choice"; document 02, (ii). Assumes nothing.
-use mathlib.Core.List.{List, [], _∷_, _++_}
+use mathlib.Core.List.{List, _++_}
 use mathlib.Core.Path.{_≡_, refl, sym, ap, _∙_}
 use Prim.Native.Nat.{ℕ}
-use lib.ListN.{length, take, drop}
-use Rattle.text.specs.Faults.{answers, refuses, faultNumber}
-use Rattle.text.specs.Laws.ListsLaws.{take-filled}
+use lib.ListN.{length, drop}
+use Rattle.text.specs.Faults.{refuses, faultNumber}
 use Rattle.text.specs.Model.{Model}
 use Rattle.read_write.specs.ReadPromise.{readingOutcome}
 use Rattle.model.specs.Reading.{Reading, done, tooLong, faulty, readText}
 use Rattle.verdicts.specs.declared.judging.Verdict.{Verdict}
 use Rattle.verdicts.specs.declared.judging.Verdict.the-variants.{Passed, Refused}
-use Rattle.page.specs.Laws.PagePromiseLaws.{pagePrinted-unique}
+use Rattle.page.specs.Laws.PagePromiseLaws.{pageOf-unique}
 use Rattle.lines.specs.Page.{LeakShown, by-word, by-branch, AfterStates, PageOf}
 use Rattle.lines.specs.PageLines.{PageLine}
 use Rattle.lines.specs.declared.lines.Form.{Form}
 use Rattle.lines.specs.Roll.{formBytes}
-use Rattle.page.specs.PagePromise.{PagePrinted}
-use Rattle.page.specs.Laws.PrintClaimLaws.{same-number}
 use Rattle.page.specs.Prints.{PageBytesOf, Prints}
 
 -- ---- the same lines, on other lists
@@ -66,21 +63,14 @@ module _ (m : Model) (run word : List ℕ) where
 
 -- ---- one page
 
--- a page, in an empty list
-alone : (form : Form) {m : Model} {run word run′ word′ : List ℕ} (lines : List PageLine)
-    → PageOf m run word run′ word′ lines
-    → PagePrinted form m (answers (length (formBytes form m lines) ∷ [])) run word [] run′ word′
-    (formBytes form m lines ++ drop (length (formBytes form m lines)) [])
-alone form lines x = record { lines = lines; page = x; outcome-is = refl; list = refl }
+-- a model's page has the same lines, whatever the lists held
+pub pageLines-unique : {m : Model} {run word run′ word′ run₀ word₀ run₁ word₁ : List ℕ} {xs ys : List PageLine}
+    → PageOf m run word run′ word′ xs → PageOf m run₀ word₀ run₁ word₁ ys → xs ≡ ys
+pageLines-unique {m} {run} {word} x y = pageOf-unique x (pageOf-any m run word y .2) .0
 
 pub pageBytesOf-unique : {form : Form} {m : Model} {a b : List ℕ} → PageBytesOf form m a → PageBytesOf form m b → a ≡ b
 pageBytesOf-unique {form} {m} x y =
-    let one = formBytes form m (x .lines) in
-    let other = formBytes form m (y .lines) in
-    let same = pagePrinted-unique (alone form (x .lines) (x .page))
-    (alone form (y .lines) (pageOf-any m (x .run) (x .word) (y .page) .2)) in
-    x .bytes-are ∙ sym (take-filled one _ refl (length one) refl) ∙ ap (take (length one)) (same .3)
-    ∙ take-filled other _ refl (length one) (same-number (same .0)) ∙ sym (y .bytes-are)
+    x .bytes-are ∙ ap (formBytes form m) (pageLines-unique (x .page) (y .page)) ∙ sym (y .bytes-are)
 
 -- ---- one print
 

@@ -14,11 +14,11 @@ use Rattle.columns.specs.Rows.{flushLeft, rowsBytes}
 use Rattle.lines.specs.Page.{AfterStates, PageOf}
 use Rattle.lines.specs.PageLines.{PageLine, verdict-line, last-line, lineText}
 use Rattle.lines.specs.Roll.{rollRows, rollBytes}
-use Rattle.page.specs.RollClaim.{otherLines, PassRoll, LeakRoll, RollTells}
+use Rattle.page.specs.RollClaim.{otherTexts, PassRoll, LeakRoll, RollTells}
 use Rattle.page.specs.Inner.OtherLines.{withoutStates}
 use Rattle.page.specs.Laws.ClaimTextsLaws.{pass-texts, leak-texts, Says, ByVerdict, bytes-tell}
 use Rattle.page.specs.Laws.LineTextLaws.{withoutStates-page}
-use Rattle.page.specs.Laws.RollSplitLaws.{otherLines-roll}
+use Rattle.page.specs.Laws.RollSplitLaws.{otherTexts-roll}
 
 -- a roll begins with its verdict
 roll-says : (m : Model) (v : Verdict) (rest : List PageLine) → Says v (rollBytes m (verdict-line v ∷ rest))
@@ -29,8 +29,8 @@ roll-says m (Refused j depth) rest = refl
 module _ {m : Model} (w : WellFormed m) (det : DeterministicModel m) {run word run′ word′ : List ℕ}
     {lines : List PageLine} (x : PageOf m run word run′ word′ lines) where
   -- with nothing after them
-  parted : otherLines (rollBytes m lines) ≡ map lineText (withoutStates lines) ++ []
-  parted = otherLines-roll w x ∙ sym (append-nil (map lineText (withoutStates lines)))
+  parted : otherTexts (rollBytes m lines) ≡ map lineText (withoutStates lines) ++ []
+  parted = otherTexts-roll w x ∙ sym (append-nil (map lineText (withoutStates lines)))
 
   roll-told : (v : Verdict) (after : List PageLine) → Judged m v → AfterStates m v run word run′ word′ after
       → withoutStates lines ≡ (verdict-line v ∷ []) ++ [] ++ after ++ (last-line ∷ [])
@@ -41,14 +41,14 @@ module _ {m : Model} (w : WellFormed m) (det : DeterministicModel m) {run word r
       record {
         rank = rank;
         texts = pass-texts (well-formed-stored w) _ _ (withoutStates lines) parted rank _ judged e;
-        parted = otherLines-roll w x ∙ ap (map lineText) only;
+        parted = otherTexts-roll w x ∙ ap (map lineText) only;
       }
   roll-told (Refused j depth) after judged y e = record {
     lines = withoutStates lines;
     texts =
         leak-texts (well-formed-stored w) _ _ (withoutStates lines) parted det run word run′ word′ (j .0) depth [] after
         judged y e;
-    parted = otherLines-roll w x;
+    parted = otherTexts-roll w x;
   }
 
   pub roll-tells : RollTells m (rollBytes m lines) word′

@@ -5,18 +5,18 @@ use mathlib.Core.Option.{Option}
 use mathlib.Core.Path.{_≡_, sym, subst}
 use Prim.Native.Nat.{ℕ, _≤_, _<_}
 use native.Mathlib.Omega.{arith}
-use lib.ListN.{length, length-append, length-replicate}
+use lib.ListN.{length}
 use Rattle.text.specs.All.{All}
 use Rattle.text.specs.Laws.AllLaws.{all-append, all-map, all-of-all}
 use Rattle.text.specs.Model.{Model}
 use Rattle.model.specs.Inner.Stored.{Stored}
 use Rattle.model.specs.WellFormed.{WellFormed}
 use Rattle.model.specs.Laws.System.GoodStoredLaws.{well-formed-stored}
-use Rattle.columns.specs.Inner.RowCount.{ShortRows, NamesFit}
+use Rattle.columns.specs.Inner.LineCount.{ShortRows, NamesFit}
 use Rattle.columns.specs.LowNames.{lowNames}
 use Rattle.columns.specs.Rows.{rollWidth, flushLeft}
 use Rattle.columns.specs.StateRows.{stateColumns}
-use Rattle.columns.specs.Laws.RowCountLaws.{fill-short, stateColumns-length, lowNames-short}
+use Rattle.columns.specs.Laws.RowsLaws.{flushLeft-length, fill-short, stateColumns-length, lowNames-short}
 use Rattle.lines.specs.PageLines.{PageLine, state-line}
 use Rattle.lines.specs.Page.{DistanceField, ClassOf, StateLines, no-state, next-state, PageOf}
 use Rattle.lines.specs.Roll.{rollRows, rollBytes}
@@ -27,10 +27,6 @@ use Rattle.page.specs.Laws.LineTextLaws.{name-short, page-all}
 use Rattle.page.specs.Laws.RollSplitLaws.{split-roll}
 
 -- ---- padded lines
-
-flushLeft-length : (width : ℕ) (text : List ℕ) → length text ≤ width → length (flushLeft width text) ≡ width
-unfolding flushLeft
-flushLeft-length width text l = simp (length-append, length-replicate) (omega arith)
 
 -- The lines of the roll for a line of the page are not too long.
 ShortLine : Model → PageLine → Type 0

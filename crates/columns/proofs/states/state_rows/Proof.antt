@@ -19,7 +19,7 @@ use Rattle.columns.specs.Laws.FillingLaws.{filling-start, filling-room, 
 use Rattle.columns.specs.Laws.FillingLaws.{filled-nil, filled-append}
 use Rattle.columns.specs.Laws.LowNamesLaws.{steps-begin-le, lowNames-begin, lowNames-end, lowNames-next}
 use Rattle.columns.specs.Laws.LowNamesLaws.{lowNames-split}
-use Rattle.columns.specs.Laws.RowCountLaws.{stateColumns-length}
+use Rattle.columns.specs.Laws.RowsLaws.{stateColumns-length}
 use Rattle.columns.proofs.states.state_rows.Statement.{statement}
 use Rattle.columns.proofs.states.state_rows.Tie as tie
 

@@ -37,7 +37,7 @@ returns : tie.Need-returns
 returns c =
     let o = c .before .before .before .before .before .before .before .before .before .before .print-in-form in
     let x = printed-prints _ _ _ _ _ _ _ _ (o .result) (o .ensures .0) _ (c .before .answer .given .1) in
-    ((x .0, x .1), x .2)
+    ((x .0, x .1), (x .2, x .3))
 
 same-length-2 : tie.Need-same-length-2
 same-length-2 c = search needs

@@ -16,8 +16,8 @@ use Rattle.text.specs.Limits.{nameLimit}
 use Rattle.text.specs.Model.{Model}
 use Rattle.text.specs.Numbers.{digits}
 use Rattle.model.specs.System.{nameOf}
-use Rattle.columns.specs.Inner.RowCount.{columnsWidth, rowCount, ShortNames, ShortRows, ShortColumns}
-use Rattle.columns.specs.Inner.RowCount.{NamesFit}
+use Rattle.columns.specs.Inner.LineCount.{columnsWidth, lineCount, ShortNames, ShortRows, ShortColumns}
+use Rattle.columns.specs.Inner.LineCount.{NamesFit}
 use Rattle.columns.specs.LowNames.{lowFrom?, lowActions, lowNames}
 use Rattle.columns.specs.Laws.PassingLaws.{passing-lt}
 use Rattle.columns.specs.Rows.{rollWidth, blanks, flushLeft, flushRight, rowBytes, rowsBytes, nameIndent, fill}
@@ -166,7 +166,7 @@ module _ (p : ℕ) (distance : Option ℕ) (class : ℕ) (short : ShortColumns p
       let z = flushRight-length numberWidth (digits class) (short .class-le) in
       simp length-append (omega arith)
 
-  pub stateRows-length : (m : Model) → length (stateRows m p distance class) ≡ rowCount m p
+  pub stateRows-length : (m : Model) → length (stateRows m p distance class) ≡ lineCount m p
   stateRows-length m =
       fill-length (stateColumns p distance class) (blanks columnsWidth) (lowNames m p) stateColumns-length
 
@@ -178,7 +178,7 @@ module _ (m : Model) (short : NamesFit m) (p : ℕ) where
       (lowActions m p) (passing-lt (length (m .actions)) (lowFrom? m p (length (m .steps)))))
 
   pub stateRows-bytes-length : (distance : Option ℕ) (class : ℕ) → ShortColumns p distance class
-      → length (rowsBytes (stateRows m p distance class)) ≡ (rollWidth + 1) * rowCount m p
+      → length (rowsBytes (stateRows m p distance class)) ≡ (rollWidth + 1) * lineCount m p
   stateRows-bytes-length distance class columns =
       let l = stateColumns-length p distance class columns in
       let s = fill-short (stateColumns p distance class) (lowNames m p) (omega arith) lowNames-short in
@@ -186,15 +186,15 @@ module _ (m : Model) (short : NamesFit m) (p : ℕ) where
       ∙ ap (λ (n : ℕ). (rollWidth + 1) * n) (stateRows-length p distance class columns m)
 
   -- each line but the last has two names
-  pub rowCount-le : 0 < length (lowNames m p) → 2 * rowCount m p ≤ length (lowNames m p) + 1
-  rowCount-le pos = fill-length-le (blanks columnsWidth) (lowNames m p) lowNames-short pos (omega arith)
+  pub lineCount-le : 0 < length (lowNames m p) → 2 * lineCount m p ≤ length (lowNames m p) + 1
+  lineCount-le pos = fill-length-le (blanks columnsWidth) (lowNames m p) lowNames-short pos (omega arith)
 
 -- ---- lines counted
 
 -- "A state with none has one line."
-pub rowCount-unnamed : (m : Model) (p : ℕ) → length (lowNames m p) ≡ 0 → rowCount m p ≡ 1
+pub lineCount-unnamed : (m : Model) (p : ℕ) → length (lowNames m p) ≡ 0 → lineCount m p ≡ 1
 unfolding fill
-rowCount-unnamed m p e = go (lowNames m p) e
+lineCount-unnamed m p e = go (lowNames m p) e
   where
     go : (names : List (List ℕ)) → length names ≡ 0 → length (fill (blanks columnsWidth) names) ≡ 1
     go [] e = refl

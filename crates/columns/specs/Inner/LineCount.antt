@@ -18,13 +18,13 @@ abbrev pub columnsWidth : ℕ
 columnsWidth = 11
 
 -- The lines of state p: the names alone decide how many.
-abbrev pub rowCount : Model → ℕ → ℕ
-rowCount m p = length (fill (blanks columnsWidth) (lowNames m p))
+abbrev pub lineCount : Model → ℕ → ℕ
+lineCount m p = length (fill (blanks columnsWidth) (lowNames m p))
 
 -- The lines of the states below n.
-unfoldable pub rowsBelow : Model → ℕ → ℕ
-rowsBelow m zero = zero
-rowsBelow m (suc n) = rowsBelow m n + rowCount m n
+unfoldable pub linesBelow : Model → ℕ → ℕ
+linesBelow m zero = zero
+linesBelow m (suc n) = linesBelow m n + lineCount m n
 
 -- ---- what fits
 
