@@ -133,9 +133,10 @@ pub extern "C" fn till_print(
     word: &mut [u16],
     out: &mut [u8],
 ) -> TillAnswer
-    ensures { λ r. ⌜ PrintPromise Page (now (text .entry)) (now (store .entry)) (now (distances .entry)) (now (table .entry))
-        (now (run .entry)) (now (word .entry)) (now (out .entry)) (answerOutcome r) (now (store .exit))
-        (now (distances .exit)) (now (table .exit)) (now (run .exit)) (now (word .exit)) (now (out .exit)) ⌝ }
+    ensures { λ r. ⌜ PrintPromise Page (now (text .entry)) (now (store .entry)) (now (distances .entry))
+        (now (table .entry)) (now (run .entry)) (now (word .entry)) (now (out .entry)) (answerOutcome r)
+        (now (store .exit)) (now (distances .exit)) (now (table .exit)) (now (run .exit)) (now (word .exit))
+        (now (out .exit)) ⌝ }
     ensures { λ r. ⌜ PrintClaim Page (now (text .entry)) (answerOutcome r) (now (word .exit)) (now (out .exit)) ⌝ }
     ensures { λ r. ⌜ Plain r ⌝ }
 {
