@@ -34,9 +34,12 @@ byteA = 65
 abbrev pub byteZ : ℕ
 byteZ = 90
 
--- the letters of a text's lines: `M`, `A` (above), `S`, `E`
+-- the letters of a text's lines: `M`, `A` (above), `I`, `S`, `E`
 abbrev pub byteM : ℕ
 byteM = 77
+
+abbrev pub byteI : ℕ
+byteI = 73
 
 abbrev pub byteS : ℕ
 byteS = 83

@@ -1,12 +1,12 @@
 -- What an operation tells, and the numbers of refusals.
--- Document 01, "Refused because of the input" and "Refused because of the state"; document 02, (i).
+-- Document 01, "Refused because of the input" and "Refused because of the state"; document 02, (i) and (iii).
 use mathlib.Core.Bool.{cond}
 use mathlib.Core.List.{List, [], _∷_}
 use mathlib.Core.Option.{Option, none, some}
 use Prim.Native.Nat.{ℕ, suc}
 use lib.Dec.{ltb}
 use Rattle.text.specs.declared.Fault.{Fault}
-use Rattle.text.specs.declared.Fault.the-variants.{Absent, Shape, Digits, Range, Repeated, Order}
+use Rattle.text.specs.declared.Fault.the-variants.{Absent, Shape, Digits, Range, Repeated, Order, StartOrder}
 
 -- the values of an answer, or the number and the place of a refusal
 pub data Outcome : Type 0 where
@@ -19,6 +19,7 @@ pub data Outcome : Type 0 where
 -- bytes 32".
 -- Document 01: "2: wrong letter, field count, [..] level or name", "3: a number outside its range", "4: a name used
 -- before", "5: a step not above the one before it".
+-- Document 02, (iii): "An `I` line not above the one before it, the first not above line 1's start, is refused as 33".
 abbrev pub faultNumber : Fault → ℕ
 faultNumber Absent = 32
 faultNumber Shape = 2
@@ -26,6 +27,7 @@ faultNumber Digits = 31
 faultNumber Range = 3
 faultNumber Repeated = 4
 faultNumber Order = 5
+faultNumber StartOrder = 33
 
 -- "21: a lent list below its least length; place: the first such list, from 1".
 -- The lists' lengths, and their least lengths, in the order in which 21 counts them, the first being list k.

@@ -1,5 +1,5 @@
 -- Limits of texts, layout of the model store and least lengths of all lists, each named once.
--- Document 01, "The text", "The model store" and "The operations, in the order of the work".
+-- Document 01, "The text", "The model store" and "The operations, in the order of the work"; document 02, (iii).
 use Prim.Native.Nat.{ℕ, _+_, _*_}
 
 -- "States 1 to 128, actions 1 to 64, steps 0 to 1,024"
@@ -11,6 +11,10 @@ actionLimit = 64
 
 abbrev pub stepLimit : ℕ
 stepLimit = 1024
+
+-- `I` lines: "strictly rising and above the start in line 1, so at most 127" (document 02, (iii))
+abbrev pub extraLimit : ℕ
+extraLimit = 127
 
 -- "Numbers have 1 to 5 digits"
 abbrev pub digitLimit : ℕ
@@ -100,15 +104,28 @@ actionOfStepPlace j = stepPlace j + actionColumn
 abbrev pub targetPlace : ℕ → ℕ
 targetPlace j = stepPlace j + targetColumn
 
--- "3,972 numbers of 16 bits"
+-- "The store grows by 128 numbers at its end: a count, then the extra starts, unused ones 0." (document 02, (iii))
+abbrev pub extraCountPlace : ℕ
+extraCountPlace = stepsEnd
+
+abbrev pub extraBegin : ℕ
+extraBegin = extraCountPlace + 1
+
+abbrev pub extraEnd : ℕ
+extraEnd = extraBegin + extraLimit
+
+abbrev pub extraPlace : ℕ → ℕ
+extraPlace i = extraBegin + i
+
+-- 4,100 numbers of 16 bits: the "3,972 numbers" of document 01, and the 128 of document 02, (iii)
 abbrev pub storeLength : ℕ
-storeLength = stepsEnd
+storeLength = extraEnd
 
 -- ---- least lengths of lent lists
 
--- Write's "out 14,420 bytes"
+-- "Write's least length becomes 15,182." (document 02, (iii))
 abbrev pub outLength : ℕ
-outLength = 14420
+outLength = 15182
 
 -- "distances 128"
 abbrev pub distancesLength : ℕ

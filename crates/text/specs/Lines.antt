@@ -1,27 +1,27 @@
 -- What one line of a text states, or its fault.
 -- Document 01, "The text". The tests of a line stand in the order of document 02, (i): "in a line 32 is tested first,
--- then 2, then 31, then 3", each over the whole line, and then 4 or 5. 32, a line that is absent or has no line end, is
--- told before a line is looked at (model/Reading).
+-- then 2, then 31, then 3", each over the whole line, and then 4, 5 or 33. 32, a line that is absent or has no line
+-- end, is told before a line is looked at (model/Reading).
 use mathlib.Core.Bool.{Bool, true, false, cond, _&&_, _||_}
 use mathlib.Core.List.{List, [], _∷_}
 use Prim.Native.Nat.{ℕ}
-use lib.Dec.{eqb}
+use lib.Dec.{ltb, eqb}
 use lib.ListN.{length, getD}
 use Rattle.text.specs.declared.Fault.{Fault}
-use Rattle.text.specs.declared.Fault.the-variants.{Shape, Digits, Range, Repeated, Order}
+use Rattle.text.specs.declared.Fault.the-variants.{Shape, Digits, Range, Repeated, Order, StartOrder}
 use Rattle.text.specs.declared.Head.{Head}
 use Rattle.text.specs.declared.StepLine.{StepLine}
 use Rattle.text.specs.declared.number.Bounds.{Bounds}
 use Rattle.text.specs.declared.number.Number.{Number}
 use Rattle.text.specs.declared.number.Number.the-variants.{Value, BadDigits, Outside}
 use Rattle.text.specs.declared.row.Row.{Row}
-use Rattle.text.specs.declared.row.Row.the-variants.{HeadRow, StepRow}
-use Rattle.text.specs.Bytes.{byteM, byteA, byteS, byteL, byteD, byteH}
+use Rattle.text.specs.declared.row.Row.the-variants.{HeadRow, StartRow, StepRow}
+use Rattle.text.specs.Bytes.{byteM, byteA, byteI, byteS, byteL, byteD, byteH}
 use Rattle.text.specs.Bytes.{digit, smallLetter, comma, between?, kindOf}
 use Rattle.text.specs.Numbers.{fromTo, below, inBounds?, numberIn}
 use Rattle.text.specs.Split.{split, same?}
 use Rattle.text.specs.Limits.{stateLimit, actionLimit, stepLimit, nameLimit}
-use Rattle.text.specs.Model.{low, release, high, ActionLine, aboveLast?}
+use Rattle.text.specs.Model.{low, release, high, ActionLine, aboveLast?, lastStart}
 
 -- what a line, or a part of it, states; or its fault
 pub data Line (A : Type 0) : Type 0 where
@@ -72,22 +72,29 @@ fits? (b ∷ bs) [] = true
 unfoldable pub headBounds : ℕ → List Bounds
 headBounds states = fromTo 1 stateLimit ∷ fromTo 1 actionLimit ∷ fromTo 0 stepLimit ∷ below states ∷ []
 
+-- the state is there
+unfoldable pub startBounds : Head → List Bounds
+startBounds h = below (h .states) ∷ []
+
 -- source, action and target are there
 unfoldable pub stepBounds : Head → List Bounds
 stepBounds h = below (h .states) ∷ below (h .actions) ∷ below (h .states) ∷ []
 
--- `M,states,actions,steps,start` and `S,source,action,target`
+-- `M,states,actions,steps,start`, `I,state` and `S,source,action,target`
 unfoldable pub rowLetter : Row → ℕ
 rowLetter HeadRow = byteM
+rowLetter (StartRow h) = byteI
 rowLetter (StepRow h) = byteS
 
 unfoldable pub rowCount : Row → ℕ
 rowCount HeadRow = 4
+rowCount (StartRow h) = 1
 rowCount (StepRow h) = 3
 
 -- the bounds of its numbers, which in line 1 depend on the states that it gives
 unfoldable pub rowBounds : Row → ℕ → List Bounds
 rowBounds HeadRow states = headBounds states
+rowBounds (StartRow h) states = startBounds h
 rowBounds (StepRow h) states = stepBounds h
 
 -- the number that a field holds within its bounds, else 0
@@ -169,6 +176,23 @@ actionFrom before (bad fault) = bad fault
 
 unfoldable pub actionOf : List ActionLine → List ℕ → Line ActionLine
 actionOf before line = actionFrom before (actionFields (fieldsOf byteA 2 line))
+
+-- ---- `I,state`
+
+unfoldable pub startFits? : Head → ℕ → Bool
+startFits? h p = fits? (startBounds h) (p ∷ [])
+
+-- "strictly rising and above the start in line 1": above the starts before it
+unfoldable pub aboveStarts? : Head → List ℕ → ℕ → Bool
+aboveStarts? h before p = ltb (lastStart (h .start .0) before) p
+
+unfoldable pub startFrom : Head → List ℕ → Line (List ℕ) → Line ℕ
+startFrom h before (good ns) = checked StartOrder (aboveStarts? h before (getD ns 0 0)) (getD ns 0 0)
+startFrom h before (bad fault) = bad fault
+
+-- the extra start that a line names, after those `before` it
+unfoldable pub startOf : Head → List ℕ → List ℕ → Line ℕ
+startOf h before line = startFrom h before (rowOf (StartRow h) line)
 
 -- ---- `S,source,action,target`
 

@@ -1,5 +1,5 @@
--- A model as its text states it: the numbers of line 1, then what each `A` line and each `S` line states.
--- Document 01, "The text".
+-- A model as its text states it: the numbers of line 1, then what each `A`, `I` and `S` line states.
+-- Document 01, "The text"; document 02, (iii).
 use mathlib.Core.Bool.{Bool, true, _&&_, _||_}
 use mathlib.Core.List.{List, [], _∷_, _++_}
 use Prim.Native.Nat.{ℕ}
@@ -22,9 +22,11 @@ pub record ActionLine : Type 0 where
   pub level : ℕ
   pub name : List ℕ
 
+-- "Lines `I,state` may follow the `A` lines": the extra starts are the states that they name
 pub record Model : Type 0 where
   pub head : Head
   pub actions : List ActionLine
+  pub extraStarts : List ℕ
   pub steps : List StepLine
 
 -- what stands past the end of a list: no action's level is 65,535
@@ -37,12 +39,36 @@ noAction = record { level = noLevel; name = [] }
 abbrev pub noStep : StepLine
 noStep = record { source = record { 0 = 0 }; action = record { 0 = 0 }; target = record { 0 = 0 } }
 
--- a model with one more action, or one more step, at the end
+-- a model with one more action, extra start or step, at the end
 abbrev pub withAction : Model → ActionLine → Model
-withAction m a = record { head = m .head; actions = m .actions ++ (a ∷ []); steps = m .steps }
+withAction m a = record {
+  head = m .head;
+  actions = m .actions ++ (a ∷ []);
+  extraStarts = m .extraStarts;
+  steps = m .steps;
+}
+
+abbrev pub withExtraStart : Model → ℕ → Model
+withExtraStart m p = record {
+  head = m .head;
+  actions = m .actions;
+  extraStarts = m .extraStarts ++ (p ∷ []);
+  steps = m .steps;
+}
 
 abbrev pub withStep : Model → StepLine → Model
-withStep m s = record { head = m .head; actions = m .actions; steps = m .steps ++ (s ∷ []) }
+withStep m s = record {
+  head = m .head;
+  actions = m .actions;
+  extraStarts = m .extraStarts;
+  steps = m .steps ++ (s ∷ []);
+}
+
+-- "strictly rising and above the start in line 1": the start that the next `I` line must be above, where line 1 gives
+-- `first`
+unfoldable pub lastStart : ℕ → List ℕ → ℕ
+lastStart first [] = first
+lastStart first (p ∷ ps) = lastStart p ps
 
 -- "strictly rising by source, then action, then target": t stands above s
 unfoldable pub above? : StepLine → StepLine → Bool

@@ -7,6 +7,9 @@ pub const ACTION_LIMIT: u16 = 64;
 
 pub const STEP_LIMIT: u16 = 1024;
 
+// The extra starts rise, and are above the start of line 1.
+pub const EXTRA_LIMIT: u16 = STATE_LIMIT - 1;
+
 pub const NAME_LIMIT: u16 = 12;
 
 pub const DIGIT_LIMIT: usize = 5;
@@ -51,7 +54,14 @@ pub const STEP_SIZE: usize = 3;
 
 pub const STEPS_END: usize = STEPS_BEGIN + STEP_SIZE * STEP_LIMIT as usize;
 
-pub const STORE_LENGTH: usize = STEPS_END;
+// Then the extra starts: how many there are, and a place for each.
+pub const EXTRA_COUNT_PLACE: usize = STEPS_END;
+
+pub const EXTRA_BEGIN: usize = EXTRA_COUNT_PLACE + 1;
+
+pub const EXTRA_END: usize = EXTRA_BEGIN + EXTRA_LIMIT as usize;
+
+pub const STORE_LENGTH: usize = EXTRA_END;
 
 // Levels of actions in the store.
 pub const LOW: u16 = 0;
@@ -81,7 +91,7 @@ pub const PAGE_LENGTH: usize = 5000;
 
 pub const ROLL_LENGTH: usize = 35840;
 
-pub const OUT_LENGTH: usize = 14420;
+pub const OUT_LENGTH: usize = 15182;
 
 // Lists that functions keep for themselves: where the steps or moves of each state begin, and where the last one's end;
 // the role of each action; one place for each move.

@@ -1,6 +1,8 @@
-// Lines that are a letter and numbers, each read in one pass over its bytes: line 1, and the lines of steps.
+// Lines that are a letter and numbers, each read in one pass over its bytes: line 1, and the lines of extra starts and
+// of steps.
 use crate::Fault;
 use crate::Head;
+use crate::State;
 use crate::StepLine;
 use crate::bytes::COMMA;
 use crate::bytes::LINE_END;
@@ -21,14 +23,16 @@ ghost use Prim.Native.Nat.{_+_, _-_, _≤_, _<_};
 ghost use lib.ListN.{length, getD};
 ghost use Rattle.text.specs.Bytes.{capital, kindOf};
 ghost use Rattle.text.specs.Numbers.{below};
-ghost use Rattle.text.specs.Lines.{headBounds, stepBounds, rowLetter, rowCount, rowBounds, headFits?, stepFits?};
+ghost use Rattle.text.specs.Lines.{headBounds, startBounds, stepBounds, rowLetter, rowCount, rowBounds};
+ghost use Rattle.text.specs.Lines.{headFits?, startFits?, stepFits?};
 ghost use Rattle.text.specs.Decides.{Decides};
 ghost use Rattle.text.specs.Inner.Row.{RowBegins, separatorKind, BadNumbers, RowRefused, RowAt};
 ghost use Rattle.text.specs.Inner.Columns.{columns, numbersIn, ColumnsTo, ColumnsScanned};
 
-// Which line it is: line 1, or the line of a step in a model whose line 1 is known.
+// Which line it is: line 1, or the line of an extra start or of a step in a model whose line 1 is known.
 pub enum Row {
     HeadRow,
+    StartRow(Head),
     StepRow(Head),
 }
 
@@ -55,6 +59,7 @@ fn letter_of(row: Row) -> u8
 {
     match row {
         Row::HeadRow => b'M',
+        Row::StartRow(_) => b'I',
         Row::StepRow(_) => b'S',
     }
 }
@@ -65,6 +70,7 @@ fn count_of(row: Row) -> usize
 {
     match row {
         Row::HeadRow => 4,
+        Row::StartRow(_) => 1,
         Row::StepRow(_) => 3,
     }
 }
@@ -98,6 +104,16 @@ fn head_bounds(i: usize, states: u16) -> Bounds
     }
 }
 
+// The bounds of the number in the line of an extra start, which is below the states.
+fn start_bounds(head: Head) -> Bounds
+    ensures { λ r. ⌜ r ≡ getD (startBounds head) 0 (below 0) ⌝ }
+{
+    Bounds {
+        least: 0,
+        limit: head.states,
+    }
+}
+
 // The bounds of number i of a step's line: the action is below the actions, source and target are below the states.
 fn step_bounds(i: usize, head: Head) -> Bounds
     requires { ⌜ i < 3 ⌝ }
@@ -122,6 +138,7 @@ fn bounds_of(row: Row, column: usize, states: u16) -> Bounds
 {
     match row {
         Row::HeadRow => head_bounds(column, states),
+        Row::StartRow(head) => start_bounds(head),
         Row::StepRow(head) => step_bounds(column - 1, head),
     }
 }
@@ -140,6 +157,13 @@ pub fn head_fits(h: Head) -> bool
         return false;
     }
     within(head_bounds(3, h.states), h.start.0 as u32)
+}
+
+// Whether the state of an extra start is there.
+pub fn start_fits(head: Head, p: State) -> bool
+    ensures { λ r. ⌜ r ≡ startFits? head (p .0) ⌝ }
+{
+    within(start_bounds(head), p.0 as u32)
 }
 
 // Whether the states and the action of a step are there.

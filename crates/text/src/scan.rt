@@ -1,4 +1,4 @@
-// Line 1 and the lines of steps, as they stand in a text.
+// Line 1 and the lines of extra starts and of steps, as they stand in a text.
 use crate::Action;
 use crate::Fault;
 use crate::Head;
@@ -16,9 +16,16 @@ ghost use Prim.Native.Nat.{ℕ, _+_, _^_, _≤_, _<_};
 ghost use lib.ListN.{length};
 ghost use Rattle.text.specs.declared.Head.{Head};
 ghost use Rattle.text.specs.declared.row.Row.the-variants.{StepRow};
-ghost use Rattle.text.specs.Lines.{good, rowOf, stepNumbers};
+ghost use Rattle.text.specs.Model.{lastStart};
+ghost use Rattle.text.specs.Lines.{good, rowOf, startOf, stepNumbers};
 ghost use Rattle.text.specs.Inner.Row.{LineAt};
-ghost use Rattle.text.specs.Inner.Scan.{HeadAt, StepAtRead};
+ghost use Rattle.text.specs.Inner.Scan.{HeadAt, StartAtRead, StepAtRead};
+
+// An extra start and the place after its line; or the line's fault.
+pub enum StartAt {
+    Good { start: State, next: usize },
+    Bad(Fault),
+}
 
 // A step and the place after its line; or the line's fault.
 pub enum StepAt {
@@ -41,6 +48,29 @@ pub fn head_at(text: &[u8], at: usize) -> HeadRead
         steps: ns[2],
         start: State(ns[3]),
     })
+}
+
+// The line of an extra start at a place, where `last` is the start before it: `I,state`.
+pub fn start_at(text: &[u8], at: usize, head: Head, last: State) -> StartAt
+    requires { ⌜ at ≤ length (now text) ⌝ }
+    ensures { λ r. ⌜ ((before : List ℕ) → lastStart (head .start .0) before ≡ last .0
+        → StartAtRead (startOf head before) (now (text .entry)) at r) ⌝ }
+{
+    let mut ns = [0u16; COLUMNS];
+    let read = row_at(text, at, Row::StartRow(head), &mut ns);
+    match read {
+        RowRead::Bad(fault) => StartAt::Bad(fault),
+        RowRead::Good(end) => {
+            let start = State(ns[3]);
+            if last.0 < start.0 {
+                return StartAt::Good {
+                    start,
+                    next: end + 1,
+                };
+            }
+            StartAt::Bad(Fault::StartOrder)
+        }
+    }
 }
 
 // A step whose line ends at a place, as step j, where `last` is the step before it.

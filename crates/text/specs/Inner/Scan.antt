@@ -1,5 +1,6 @@
--- What line 1 and a step's line come to as they stand in a text. Only the contracts of inner functions cite it.
--- Document 01, "The text".
+-- What line 1 and the lines of extra starts and of steps come to as they stand in a text. Only the contracts of inner
+-- functions cite it.
+-- Document 01, "The text"; document 02, (iii).
 use mathlib.Core.List.{List}
 use mathlib.Core.Logic.{_⊎_}
 use mathlib.Core.Path.{_≡_}
@@ -9,6 +10,8 @@ use Rattle.text.specs.declared.Head.{Head}
 use Rattle.text.specs.declared.StepLine.{StepLine}
 use Rattle.text.specs.declared.line.HeadRead.{HeadRead}
 use Rattle.text.specs.declared.line.HeadRead.the-variants as head-read
+use Rattle.text.specs.declared.scan.StartAt.{StartAt}
+use Rattle.text.specs.declared.scan.StartAt.the-variants as start-at
 use Rattle.text.specs.declared.scan.StepAt.{StepAt}
 use Rattle.text.specs.declared.scan.StepAt.the-variants as step-at
 use Rattle.text.specs.Bytes.{lineEnd}
@@ -21,6 +24,13 @@ use Rattle.text.specs.Inner.Row.{LineAt, NoLineAt}
 unfoldable pub HeadAt : List ℕ → ℕ → HeadRead → Type 0
 HeadAt text at (head-read.Good h) = (e : ℕ) × LineAt headOf text at (good h) e
 HeadAt text at (head-read.Bad fault) = (e : ℕ) × (NoLineAt text at fault e ⊎ LineAt headOf text at (bad fault) e)
+
+-- the line of an extra start at a place: what it states, or its fault
+unfoldable pub StartAtRead : (List ℕ → Line ℕ) → List ℕ → ℕ → StartAt → Type 0
+StartAtRead read text at (start-at.Good start next) =
+    (e : ℕ) × (next ≡ e + 1) × LineAt read text at (good (start .0)) e
+StartAtRead read text at (start-at.Bad fault) =
+    (e : ℕ) × (NoLineAt text at fault e ⊎ LineAt read text at (bad fault) e)
 
 -- the line at a place of a text has a line end, at place e, and is read as step j, after `last`
 pub record StepLineAt (head : Head) (text : List ℕ) (at j : ℕ) (last : StepLine) (stated : Line StepLine) (e : ℕ)

@@ -12,7 +12,7 @@ use Rattle.text.specs.declared.number.Bounds.{Bounds}
 use Rattle.text.specs.declared.number.Number.{Number}
 use Rattle.text.specs.declared.number.Number.the-variants.{Value, BadDigits, Outside}
 use Rattle.text.specs.declared.row.Row.{Row}
-use Rattle.text.specs.declared.row.Row.the-variants.{HeadRow, StepRow}
+use Rattle.text.specs.declared.row.Row.the-variants.{HeadRow, StartRow, StepRow}
 use Rattle.text.specs.declared.row.RowScan.the-variants as row-scan
 use Rattle.text.specs.Numbers.{below}
 use Rattle.text.specs.Lines.{rowLetter, rowCount, rowBounds, stepNumbers}
@@ -38,6 +38,7 @@ rowBounds-column : (row : Row) (out : List ℕ)
     → rowBounds row (getD out 0 0) ≡ rowBounds row (getD (numbersIn row out) 0 0)
 unfolding rowBounds rowCount
 rowBounds-column HeadRow out = refl
+rowBounds-column (StartRow h) out = refl
 rowBounds-column (StepRow h) out = refl
 
 -- the columns hold all numbers of a row
@@ -52,6 +53,11 @@ columns-begin row text at out b w z =
     let n : length (numbersIn row out) ≡ rowCount row = omega arith in
     let none : 0 - firstColumn row ≡ 0 = omega arith in
     record { width = w; row-to = rw none (row-begin row text at b (numbersIn row out) n z) }
+
+-- an extra start stands in the last column
+pub startNumber-column : (h : Head) (out : List ℕ) → getD (numbersIn (StartRow h) out) 0 0 ≡ getD out 3 0
+unfolding rowCount
+startNumber-column h out = getD-drop 3 out 0 0
 
 -- a step's numbers stand behind the first column
 pub stepNumbers-columns : (h : Head) (out : List ℕ) → stepNumbers (numbersIn (StepRow h) out)

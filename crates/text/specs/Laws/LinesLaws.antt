@@ -1,19 +1,21 @@
--- The order of steps, part by part, and what the line of a step states by its numbers.
--- Document 01, "The text". Assumes nothing.
+-- The order of steps, part by part, and what the lines of extra starts and of steps state by their numbers.
+-- Document 01, "The text"; document 02, (iii). Assumes nothing.
 use mathlib.Core.Bool.{Bool, true, false, _&&_, _||_}
 use mathlib.Core.List.{List}
 use mathlib.Core.Path.{_≡_, refl, ap, _∙_}
 use Prim.Native.Nat.{ℕ, _≤_, _<_}
 use native.Mathlib.Omega.{arith}
 use lib.Dec.{ltb, eqb}
+use lib.ListN.{getD}
 use borrow.Author.Tests.{lt-ltb, le-ltb, eq-eqb, ne-eqb}
 use Rattle.text.specs.declared.Fault.{Fault}
-use Rattle.text.specs.declared.Fault.the-variants.{Order}
+use Rattle.text.specs.declared.Fault.the-variants.{Order, StartOrder}
 use Rattle.text.specs.declared.Head.{Head}
 use Rattle.text.specs.declared.StepLine.{StepLine}
-use Rattle.text.specs.declared.row.Row.the-variants.{StepRow}
-use Rattle.text.specs.Model.{above?, aboveLast?}
-use Rattle.text.specs.Lines.{good, bad, checked, rowOf, stepNumbers, stepFrom, stepOf}
+use Rattle.text.specs.declared.row.Row.the-variants.{StartRow, StepRow}
+use Rattle.text.specs.Model.{lastStart, above?, aboveLast?}
+use Rattle.text.specs.Lines.{good, bad, checked, rowOf, aboveStarts?, startFrom, startOf}
+use Rattle.text.specs.Lines.{stepNumbers, stepFrom, stepOf}
 use Rattle.text.specs.Inner.LineAnswers.{Last}
 
 -- ---- steps
@@ -54,6 +56,18 @@ module _ (s t : StepLine) where
     above-target m n =
         tests (le-ltb (s .source .0) (t .source .0) le) same-source (le-ltb (s .action .0) (t .action .0) m)
         (eq-eqb (s .action .0) (t .action .0) (omega arith))
+
+-- the line of an extra start, where `last` is the start before it
+module _ (h : Head) (before line : List ℕ) {last : ℕ} (l : lastStart (h .start .0) before ≡ last) where
+  pub startOf-bad : {fault : Fault} → rowOf (StartRow h) line ≡ bad fault → startOf h before line ≡ bad fault
+  unfolding startOf startFrom
+  startOf-bad e = ap (startFrom h before) e
+
+  pub startOf-order : {ns : List ℕ} {p : ℕ} {t : Bool} → rowOf (StartRow h) line ≡ good ns → getD ns 0 0 ≡ p
+      → ltb last p ≡ t → startOf h before line ≡ checked StartOrder t p
+  unfolding startOf startFrom aboveStarts?
+  startOf-order {ns} {p} {t} e f g =
+      ap (startFrom h before) e ∙ rw (l, f, g)
 
 module _ (h : Head) (before : List StepLine) (line : List ℕ) where
   pub stepOf-bad : {fault : Fault} → rowOf (StepRow h) line ≡ bad fault → stepOf h before line ≡ bad fault

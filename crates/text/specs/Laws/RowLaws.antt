@@ -15,11 +15,11 @@ use Rattle.text.specs.declared.number.Bounds.{Bounds}
 use Rattle.text.specs.declared.number.Number.{Number}
 use Rattle.text.specs.declared.number.Number.the-variants.{Value, BadDigits, Outside}
 use Rattle.text.specs.declared.row.Row.{Row}
-use Rattle.text.specs.declared.row.Row.the-variants.{HeadRow, StepRow}
+use Rattle.text.specs.declared.row.Row.the-variants.{HeadRow, StartRow, StepRow}
 use Rattle.text.specs.Bytes.{capital, comma, lineEnd, kindOf}
 use Rattle.text.specs.Numbers.{numberIn}
 use Rattle.text.specs.Lines.{Line, good, bad, consNumber, numbersOf}
-use Rattle.text.specs.Lines.{headBounds, stepBounds, rowLetter, rowCount, rowBounds, valueOr0, statesOf}
+use Rattle.text.specs.Lines.{headBounds, startBounds, stepBounds, rowLetter, rowCount, rowBounds, valueOr0, statesOf}
 use Rattle.text.specs.Inner.NumberAt.{Separator}
 use Rattle.text.specs.Inner.Row.{separatorKind, prepend}
 use Rattle.text.specs.Laws.SplitLaws.{Is, same, other, is}
@@ -29,22 +29,26 @@ use Rattle.text.specs.Laws.SplitLaws.{Is, same, other, is}
 pub rowLetter-capital : (row : Row) → kindOf (rowLetter row) ≡ capital
 unfolding kindOf rowLetter
 rowLetter-capital HeadRow = refl
+rowLetter-capital (StartRow h) = refl
 rowLetter-capital (StepRow h) = refl
 
 pub rowCount-pos : (row : Row) → 0 < rowCount row
 unfolding rowCount
 rowCount-pos HeadRow = omega arith
+rowCount-pos (StartRow h) = omega arith
 rowCount-pos (StepRow h) = omega arith
 
 pub rowBounds-length : (row : Row) (states : ℕ) → length (rowBounds row states) ≡ rowCount row
-unfolding rowBounds rowCount headBounds stepBounds
+unfolding rowBounds rowCount headBounds startBounds stepBounds
 rowBounds-length HeadRow states = refl
+rowBounds-length (StartRow h) states = refl
 rowBounds-length (StepRow h) states = refl
 
 -- the bounds of the first number depend on none
 pub rowBounds-first : (row : Row) (a b : ℕ) (d : Bounds) → getD (rowBounds row a) 0 d ≡ getD (rowBounds row b) 0 d
-unfolding rowBounds headBounds stepBounds
+unfolding rowBounds headBounds startBounds stepBounds
 rowBounds-first HeadRow a b d = refl
+rowBounds-first (StartRow h) a b d = refl
 rowBounds-first (StepRow h) a b d = refl
 
 -- the others may depend on the first, by its own bounds
@@ -53,6 +57,7 @@ pub rowBounds-states : (row : Row) (f : List ℕ) (fs : List (List ℕ)) (a : �
     → rowBounds row (valueOr0 number) ≡ rowBounds row (statesOf (f ∷ fs))
 unfolding rowBounds headBounds statesOf
 rowBounds-states HeadRow f fs a d number e = ap (λ (n : Number). rowBounds HeadRow (valueOr0 n)) (sym e)
+rowBounds-states (StartRow h) f fs a d number e = refl
 rowBounds-states (StepRow h) f fs a d number e = refl
 
 pub separatorKind-last : (i n : ℕ) → i ≡ n → separatorKind i n ≡ lineEnd
@@ -66,6 +71,7 @@ separatorKind-other i n h = rw (ne-eqb i n h)
 pub rowCount-le : (row : Row) → rowCount row ≤ 4
 unfolding rowCount
 rowCount-le HeadRow = omega arith
+rowCount-le (StartRow h) = omega arith
 rowCount-le (StepRow h) = omega arith
 
 pub separatorKind-separator : (i n : ℕ) → Separator (separatorKind i n)
