@@ -23,5 +23,6 @@ withoutStep m j = record {
     start = m .head .start;
   };
   actions = m .actions;
+  extraStarts = m .extraStarts;
   steps = take j (m .steps) ++ drop (suc j) (m .steps);
 }

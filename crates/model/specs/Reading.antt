@@ -1,18 +1,18 @@
 -- The reading of a text, line by line: "The first bad line decides [..]. The place is the line, counted from 1."
--- Document 01, "The text" and "Refused because of the input".
-use mathlib.Core.Bool.{cond}
+-- Document 01, "The text" and "Refused because of the input"; document 02, (iii).
+use mathlib.Core.Bool.{Bool, false, cond}
 use mathlib.Core.List.{List, [], _∷_}
 use Prim.Native.Nat.{ℕ, zero, suc}
-use lib.Dec.{ltb}
+use lib.Dec.{ltb, eqb}
 use lib.ListN.{length}
 use Rattle.text.specs.declared.Fault.{Fault}
 use Rattle.text.specs.declared.Fault.the-variants.{Absent, Shape}
 use Rattle.text.specs.declared.Head.{Head}
-use Rattle.text.specs.Bytes.{lineEnd, byteE}
+use Rattle.text.specs.Bytes.{lineEnd, byteE, byteI}
 use Rattle.text.specs.Split.{split, same?}
 use Rattle.text.specs.Limits.{textLimit}
-use Rattle.text.specs.Model.{Model, withAction, withStep}
-use Rattle.text.specs.Lines.{Line, good, bad, headOf, actionOf, stepOf}
+use Rattle.text.specs.Model.{Model, withAction, withExtraStart, withStep}
+use Rattle.text.specs.Lines.{Line, good, bad, headOf, actionOf, startOf, stepOf}
 
 -- the model that a text states, or why it is refused: too long, or the first bad line with its fault
 pub data Reading : Type 0 where
@@ -52,16 +52,33 @@ readSteps (suc n) k m parts =
     onLine k parts (λ line rest.
     orFault k (stepOf (m .head) (m .steps) line) (λ s. readSteps n (suc k) (withStep m s) rest))
 
+-- "Lines `I,state` may follow the `A` lines": n more, of which the first is line k
+unfoldable pub readStarts : ℕ → ℕ → Model → List (List ℕ) → Reading
+readStarts zero k m parts = readSteps (m .head .steps) k m parts
+readStarts (suc n) k m parts =
+    onLine k parts (λ line rest.
+    orFault k (startOf (m .head) (m .extraStarts) line) (λ p. readStarts n (suc k) (withExtraStart m p) rest))
+
+-- a line whose first byte is `I`
+unfoldable pub startLine? : List ℕ → Bool
+startLine? [] = false
+startLine? (b ∷ bs) = eqb b byteI
+
+-- how many such lines stand in front: behind the `A` lines each of them is an `I` line, and no other line is
+unfoldable pub startLines : List (List ℕ) → ℕ
+startLines [] = 0
+startLines (line ∷ rest) = cond (startLine? line) (suc (startLines rest)) 0
+
 -- "Then one `A,level,name` per action": n more, of which the first is line k
 unfoldable pub readActions : ℕ → ℕ → Model → List (List ℕ) → Reading
-readActions zero k m parts = readSteps (m .head .steps) k m parts
+readActions zero k m parts = readStarts (startLines parts) k m parts
 readActions (suc n) k m parts =
     onLine k parts (λ line rest.
     orFault k (actionOf (m .actions) line) (λ a. readActions n (suc k) (withAction m a) rest))
 
 -- the model of line 1 alone
 abbrev pub headModel : Head → Model
-headModel h = record { head = h; actions = []; steps = [] }
+headModel h = record { head = h; actions = []; extraStarts = []; steps = [] }
 
 -- a text's parts from line 1 on
 unfoldable pub readModel : List (List ℕ) → Reading

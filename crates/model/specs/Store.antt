@@ -1,12 +1,13 @@
 -- The model store.
 -- Document 01, "The model store": "3,972 numbers of 16 bits. [..] Unused places are 0."
+-- Document 02, (iii): "The store grows by 128 numbers at its end: a count, then the extra starts, unused ones 0."
 use mathlib.Core.List.{List, [], _∷_, _++_}
 use mathlib.Core.Path.{_≡_}
 use Prim.Native.Nat.{ℕ, _-_}
 use lib.ListN.{length, take, replicate}
 use Rattle.text.specs.declared.Head.{Head}
 use Rattle.text.specs.declared.StepLine.{StepLine}
-use Rattle.text.specs.Limits.{nameLimit, actionsLength, stepsLength, storeLength}
+use Rattle.text.specs.Limits.{nameLimit, extraLimit, actionsLength, stepsLength, storeLength}
 use Rattle.text.specs.Model.{ActionLine, Model}
 use Rattle.model.specs.Reading.{done, readText}
 
@@ -34,14 +35,19 @@ stepsNumbers (s ∷ rest) = stepRow s ++ stepsNumbers rest
 unfoldable pub headRow : Head → List ℕ
 headRow h = h .states ∷ h .actions ∷ h .steps ∷ h .start .0 ∷ []
 
+-- "a count, then the extra starts, unused ones 0"
+unfoldable pub extraNumbers : List ℕ → List ℕ
+extraNumbers ps = length ps ∷ padded extraLimit ps
+
 -- the store of a model: its sections, one behind the other
 unfoldable pub storeOf : Model → List ℕ
 storeOf m =
     headRow (m .head)
     ++ padded actionsLength (actionsNumbers (m .actions))
     ++ padded stepsLength (stepsNumbers (m .steps))
+    ++ extraNumbers (m .extraStarts)
 
--- "A store is good if some text reads to it." A list longer than a store counts by its first 3,972 numbers.
+-- "A store is good if some text reads to it." A list longer than a store counts by its first 4,100 numbers.
 pub record Good (store : List ℕ) : Type 0 where
   pub text : List ℕ
   pub model : Model

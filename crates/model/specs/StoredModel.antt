@@ -1,5 +1,5 @@
 -- The model that a store holds, read off its places.
--- Document 01, "The model store".
+-- Document 01, "The model store"; document 02, (iii).
 use mathlib.Core.List.{List, [], _∷_, _++_}
 use mathlib.Core.Path.{_≡_}
 use Prim.Native.Nat.{ℕ, zero, suc}
@@ -8,6 +8,7 @@ use Rattle.text.specs.declared.Head.{Head}
 use Rattle.text.specs.declared.StepLine.{StepLine}
 use Rattle.text.specs.Limits.{stateCountPlace, actionCountPlace, stepCountPlace, startPlace, storeLength}
 use Rattle.text.specs.Limits.{actionPlace, nameLengthPlace, namePlace, stepPlace, actionOfStepPlace, targetPlace}
+use Rattle.text.specs.Limits.{extraCountPlace, extraPlace}
 use Rattle.text.specs.Model.{ActionLine, Model}
 use Rattle.model.specs.Store.{storeOf}
 use Rattle.model.specs.WellFormed.{WellFormed}
@@ -36,6 +37,13 @@ stepAt s j = record {
   target = record { 0 = getD s (targetPlace j) 0 };
 }
 
+-- "a count, then the extra starts"
+abbrev pub extraCountAt : List ℕ → ℕ
+extraCountAt s = getD s extraCountPlace 0
+
+abbrev pub extraStartAt : List ℕ → ℕ → ℕ
+extraStartAt s i = getD s (extraPlace i) 0
+
 -- f 0, f 1, up to f (n - 1)
 unfoldable pub listed : {A : Type 0} → ℕ → (ℕ → A) → List A
 listed zero f = []
@@ -45,10 +53,11 @@ unfoldable pub modelAt : List ℕ → Model
 modelAt s = record {
   head = headAt s;
   actions = listed (headAt s .actions) (actionAt s);
+  extraStarts = listed (extraCountAt s) (extraStartAt s);
   steps = listed (headAt s .steps) (stepAt s);
 }
 
--- a store holds a well-formed model; what follows its 3,972 numbers does not count
+-- a store holds a well-formed model; what follows its 4,100 numbers does not count
 pub record Holds (store : List ℕ) (m : Model) : Type 0 where
   pub well-formed : WellFormed m
   pub stored : storeOf m ≡ take storeLength store

@@ -1,6 +1,6 @@
--- A model as a transition system: its steps, its start and the levels of its actions.
--- Document 01, "The meaning".
-use mathlib.Core.List.{List}
+-- A model as a transition system: its steps, its starts and the levels of its actions.
+-- Document 01, "The meaning"; document 02, (iii).
+use mathlib.Core.List.{List, _∷_}
 use mathlib.Core.Path.{_≡_}
 use Prim.Native.Nat.{ℕ, _<_}
 use lib.Dec.{eqb}
@@ -39,8 +39,18 @@ level m a = getD (m .actions) a noAction .level
 abbrev pub nameOf : Model → ℕ → List ℕ
 nameOf m a = getD (m .actions) a noAction .name
 
--- The check of a model: "An action is low (L), release (D) or high (H)"; its steps; the start that line 1 names; its
--- states. All that is said of runs, ranks, BNID and INI is said of this view, and nothing else gives one.
+-- The starts of a model: the one that line 1 names, and those of the `I` lines.
+abbrev pub starts : Model → List ℕ
+starts m = m .head .start .0 ∷ m .extraStarts
+
+-- p is one of them.
+pub record IsStart (m : Model) (p : ℕ) : Type 0 where
+  pub number : ℕ
+  pub number-lt : number < length (starts m)
+  pub start-is : getD (starts m) number 0 ≡ p
+
+-- The check of a model: "An action is low (L), release (D) or high (H)"; its steps; its starts; its states. All that is
+-- said of runs, ranks, BNID and INI is said of this view, and nothing else gives one.
 abbrev pub view : Model → View
 view m = record {
   levels = record {
@@ -49,7 +59,7 @@ view m = record {
     high? = λ a. eqb (level m a) high;
   };
   Step = Steps m;
-  Start = λ p. p ≡ m .head .start .0;
+  Start = IsStart m;
   states = m .head .states;
 }
 
@@ -57,11 +67,12 @@ view m = record {
 abbrev pub IsState : Model → ℕ → Type 0
 IsState m p = p < m .head .states
 
--- "A state is reachable if steps of any level lead to it from the start."
+-- "A state is reachable if steps of any level lead to it from the start"; "Reachable is from any start" (document 02,
+-- (iii)).
 abbrev pub ReachableIn : Model → ℕ → Type 0
 ReachableIn m p = Reachable (view m) p
 
--- d is the "least number of steps from the start" to p.
+-- d is the "least number of steps from the start" to p, and "distances are counted from the nearest".
 abbrev pub DistanceIn : Model → ℕ → ℕ → Type 0
 DistanceIn m p d = Distance (view m) p d
 

@@ -1,10 +1,10 @@
 -- The `M` text of a model.
--- Document 01, "The text".
+-- Document 01, "The text"; document 02, (iii).
 use mathlib.Core.Bool.{cond}
 use mathlib.Core.List.{List, [], _∷_, _++_}
 use Prim.Native.Nat.{ℕ}
 use lib.Dec.{eqb}
-use Rattle.text.specs.Bytes.{byteA, byteComma, byteD, byteE, byteH, byteL, byteLineEnd, byteM, byteS}
+use Rattle.text.specs.Bytes.{byteA, byteComma, byteD, byteE, byteH, byteI, byteL, byteLineEnd, byteM, byteS}
 use Rattle.text.specs.declared.Head.{Head}
 use Rattle.text.specs.declared.StepLine.{StepLine}
 use Rattle.text.specs.Numbers.{digits}
@@ -32,6 +32,10 @@ levelByte level = cond (eqb level low) byteL (cond (eqb level release) byteD byt
 unfoldable pub actionText : ActionLine → List ℕ
 actionText a = (byteA ∷ []) ++ field (levelByte (a .level) ∷ []) ++ field (a .name) ++ (byteLineEnd ∷ [])
 
+-- `I,state` and the line end
+unfoldable pub startText : ℕ → List ℕ
+startText p = (byteI ∷ []) ++ field (digits p) ++ (byteLineEnd ∷ [])
+
 -- `S,source,action,target` and the line end
 unfoldable pub stepText : StepLine → List ℕ
 stepText s =
@@ -45,10 +49,19 @@ unfoldable pub actionsText : List ActionLine → List ℕ
 actionsText [] = []
 actionsText (a ∷ rest) = actionText a ++ actionsText rest
 
+unfoldable pub startsText : List ℕ → List ℕ
+startsText [] = []
+startsText (p ∷ ps) = startText p ++ startsText ps
+
 unfoldable pub stepsText : List StepLine → List ℕ
 stepsText [] = []
 stepsText (s ∷ ss) = stepText s ++ stepsText ss
 
 -- the `M` text of a model: the lines in their order, and `E` with its line end
 unfoldable pub modelText : Model → List ℕ
-modelText m = headText (m .head) ++ actionsText (m .actions) ++ stepsText (m .steps) ++ (byteE ∷ byteLineEnd ∷ [])
+modelText m =
+    headText (m .head)
+    ++ actionsText (m .actions)
+    ++ startsText (m .extraStarts)
+    ++ stepsText (m .steps)
+    ++ (byteE ∷ byteLineEnd ∷ [])

@@ -1,15 +1,15 @@
 -- The models that a text can state.
--- Document 01, "The text".
+-- Document 01, "The text"; document 02, (iii).
 use mathlib.Core.Bool.{not}
 use mathlib.Core.List.{List, [], _∷_, _++_}
 use mathlib.Core.Path.{_≡_}
-use Prim.Native.Nat.{_≤_}
+use Prim.Native.Nat.{ℕ, _≤_}
 use lib.Dec.{T}
 use lib.ListN.{length}
 use Rattle.text.specs.declared.Head.{Head}
 use Rattle.text.specs.declared.StepLine.{StepLine}
 use Rattle.text.specs.Model.{high, ActionLine, Model, aboveLast?}
-use Rattle.text.specs.Lines.{headFits?, name?, used?, stepFits?}
+use Rattle.text.specs.Lines.{headFits?, name?, used?, startFits?, aboveStarts?, stepFits?}
 
 -- P holds of each element and the list of those before it, which begins with `before`
 unfoldable pub EachAfter : {A : Type 0} → (List A → A → Type 0) → List A → List A → Type 0
@@ -22,6 +22,11 @@ pub record ActionFits (before : List ActionLine) (a : ActionLine) : Type 0 where
   pub name : T (name? (a .name))
   pub fresh : T (not (used? (a .name) before))
 
+-- the state is there, and the extra start stands above the one before it, the first above the start in line 1
+pub record StartFits (h : Head) (before : List ℕ) (p : ℕ) : Type 0 where
+  pub in-range : T (startFits? h p)
+  pub rising : T (aboveStarts? h before p)
+
 -- source, action and target are there, and the step stands above the one before it
 pub record StepFits (h : Head) (before : List StepLine) (s : StepLine) : Type 0 where
   pub in-range : T (stepFits? h s)
@@ -32,4 +37,5 @@ pub record WellFormed (m : Model) : Type 0 where
   pub action-count : length (m .actions) ≡ m .head .actions
   pub step-count : length (m .steps) ≡ m .head .steps
   pub actions : EachAfter ActionFits [] (m .actions)
+  pub extra-starts : EachAfter (StartFits (m .head)) [] (m .extraStarts)
   pub steps : EachAfter (StepFits (m .head)) [] (m .steps)

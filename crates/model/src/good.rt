@@ -1,5 +1,8 @@
 // Whether a store is good: each place is tested, so that no damaged store gets through.
 use crate::store::action_place;
+use crate::store::extra_count;
+use crate::store::extra_place;
+use crate::store::extra_start;
 use crate::store::head;
 use crate::store::level;
 use crate::store::name_length;
@@ -8,28 +11,34 @@ use crate::store::step_line;
 use crate::store::step_place;
 use text::Action;
 use text::Head;
+use text::State;
 use text::Step;
 use text::bytes::DIGIT;
 use text::bytes::SMALL_LETTER;
 use text::bytes::kind;
 use text::limits::ACTIONS_END;
+use text::limits::EXTRA_END;
+use text::limits::EXTRA_LIMIT;
 use text::limits::HIGH;
 use text::limits::NAME_LENGTH_COLUMN;
 use text::limits::NAME_LIMIT;
 use text::limits::STEPS_END;
 use text::line::is_above;
 use text::row::head_fits;
+use text::row::start_fits;
 use text::row::step_fits;
 ghost use Prim.Native.Nat.{_+_, _≤_, _<_};
 ghost use lib.Dec.{T};
 ghost use lib.ListN.{length};
-ghost use Rattle.text.specs.Limits.{actionLimit, stepLimit, storeLength};
+ghost use mathlib.Core.Path.{_≡_};
+ghost use Rattle.text.specs.Limits.{actionLimit, stepLimit, extraLimit, storeLength};
 ghost use Rattle.text.specs.Decides.{Decides};
 ghost use Rattle.text.specs.Lines.{nameByte?};
 ghost use Rattle.model.specs.Store.{Good};
 ghost use Rattle.model.specs.Inner.EachFrom.{EachFrom};
 ghost use Rattle.model.specs.Inner.GoodPlaces.{ZeroAt, NameByteAt, SameAt, SameName, OtherName};
 ghost use Rattle.model.specs.Inner.GoodPlaces.{GoodAction, GoodStep, GoodPlaces};
+ghost use Rattle.model.specs.Inner.GoodPlaces.{startBefore, GoodStart, GoodStarts};
 
 // Whether the places from `from` on and below `to` hold 0.
 fn zeros(store: &[u16], from: usize, to: usize) -> bool
@@ -197,6 +206,63 @@ fn steps_good(store: &[u16], h: Head) -> bool
     true
 }
 
+// The start that extra start i must be above.
+fn start_before(store: &[u16], h: Head, i: u16) -> State
+    requires { ⌜ (storeLength ≤ length (now store)) × (i < extraLimit) ⌝ }
+    ensures { λ r. ⌜ r .0 ≡ startBefore h (now (store .entry)) i ⌝ }
+{
+    if i == 0 {
+        return h.start;
+    }
+    extra_start(store, i - 1)
+}
+
+// Whether the place of extra start i is good.
+fn start_good(store: &[u16], h: Head, i: u16) -> bool
+    requires { ⌜ (storeLength ≤ length (now store)) × (i < extraLimit) ⌝ }
+    ensures { λ r. ⌜ Decides r (GoodStart h (now (store .entry)) i) ⌝ }
+{
+    let p = extra_start(store, i);
+    if !start_fits(h, p) {
+        return false;
+    }
+    let before = start_before(store, h, i);
+    if before.0 < p.0 {
+        return true;
+    }
+    false
+}
+
+// Whether the places of the first n extra starts are good.
+fn starts_good(store: &[u16], h: Head, n: u16) -> bool
+    requires { ⌜ (storeLength ≤ length (now store)) × (n ≤ extraLimit) ⌝ }
+    ensures { λ r. ⌜ Decides r (EachFrom (GoodStart h (now (store .entry))) 0 n) ⌝ }
+{
+    let mut i = 0;
+    while i < n {
+        if !start_good(store, h, i) {
+            return false;
+        }
+        i += 1;
+    }
+    true
+}
+
+// Whether the section of the extra starts is good.
+fn extra_good(store: &[u16], h: Head) -> bool
+    requires { ⌜ storeLength ≤ length (now store) ⌝ }
+    ensures { λ r. ⌜ Decides r (GoodStarts h (now (store .entry))) ⌝ }
+{
+    let n = extra_count(store);
+    if EXTRA_LIMIT < n {
+        return false;
+    }
+    if !starts_good(store, h, n) {
+        return false;
+    }
+    zeros(store, extra_place(n), EXTRA_END)
+}
+
 // Whether all places of a store are good.
 fn places_good(store: &[u16]) -> bool
     requires { ⌜ storeLength ≤ length (now store) ⌝ }
@@ -215,7 +281,10 @@ fn places_good(store: &[u16]) -> bool
     if !zeros(store, action_place(Action(h.actions)), ACTIONS_END) {
         return false;
     }
-    zeros(store, step_place(Step(h.steps)), STEPS_END)
+    if !zeros(store, step_place(Step(h.steps)), STEPS_END) {
+        return false;
+    }
+    extra_good(store, h)
 }
 
 // Whether a store is good: some text reads to it.

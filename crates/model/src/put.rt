@@ -1,12 +1,15 @@
 // What makes a store, line by line, in places that hold zeros; `store` reads the same places off.
 use crate::store::action_place;
+use crate::store::extra_place;
 use crate::store::step_place;
 use text::Action;
 use text::Head;
+use text::State;
 use text::Step;
 use text::StepLine;
 use text::limits::ACTION_COLUMN;
 use text::limits::ACTION_COUNT_PLACE;
+use text::limits::EXTRA_COUNT_PLACE;
 use text::limits::NAME_COLUMN;
 use text::limits::NAME_LENGTH_COLUMN;
 use text::limits::START_PLACE;
@@ -16,9 +19,10 @@ use text::limits::TARGET_COLUMN;
 ghost use mathlib.Core.List.{_∷_, _++_};
 ghost use mathlib.Core.Path.{_≡_};
 ghost use Prim.Native.Nat.{_+_, _≤_, _<_};
-ghost use lib.ListN.{length, drop};
+ghost use lib.ListN.{length, drop, set};
 ghost use lib.Seq.{sets};
-ghost use Rattle.text.specs.Limits.{nameLimit, actionLimit, stepLimit, storeLength, actionPlace, stepPlace};
+ghost use Rattle.text.specs.Limits.{nameLimit, actionLimit, stepLimit, extraLimit, storeLength};
+ghost use Rattle.text.specs.Limits.{actionPlace, stepPlace, extraCountPlace, extraPlace};
 ghost use Rattle.model.specs.Store.{headRow, stepRow};
 
 // Stores what line 1 states.
@@ -54,6 +58,16 @@ pub fn put_action(out: &mut [u16], a: Action, level: u16, name: &[u8])
     out[at] = level;
     out[at + NAME_LENGTH_COLUMN] = name.len() as u16;
     put_name(out, at + NAME_COLUMN, name);
+}
+
+// Stores extra start i, and that there are i + 1 of them.
+pub fn put_extra_start(out: &mut [u16], i: u16, p: State)
+    requires { ⌜ (storeLength ≤ length (now out)) × (i < extraLimit) ⌝ }
+    ensures { λ _. ⌜ now (out .exit)
+        ≡ set (set (now (out .entry)) extraCountPlace (i + 1)) (extraPlace i) (p .0) ⌝ }
+{
+    out[EXTRA_COUNT_PLACE] = i + 1;
+    out[extra_place(i)] = p.0;
 }
 
 // Stores a step.

@@ -8,6 +8,8 @@ use text::limits::ACTION_COLUMN;
 use text::limits::ACTION_COUNT_PLACE;
 use text::limits::ACTION_SIZE;
 use text::limits::ACTIONS_BEGIN;
+use text::limits::EXTRA_BEGIN;
+use text::limits::EXTRA_COUNT_PLACE;
 use text::limits::NAME_COLUMN;
 use text::limits::NAME_LENGTH_COLUMN;
 use text::limits::START_PLACE;
@@ -20,8 +22,8 @@ ghost use mathlib.Core.Path.{_≡_};
 ghost use Prim.Native.Nat.{_≤_, _<_};
 ghost use lib.ListN.{length, getD};
 ghost use Rattle.text.specs.Limits.{actionLimit, stepLimit, storeLength, actionPlace, nameLengthPlace, namePlace};
-ghost use Rattle.text.specs.Limits.{stepPlace};
-ghost use Rattle.model.specs.StoredModel.{headAt, actionAt, stepAt};
+ghost use Rattle.text.specs.Limits.{stepPlace, extraLimit, extraPlace};
+ghost use Rattle.model.specs.StoredModel.{headAt, actionAt, stepAt, extraCountAt, extraStartAt};
 
 pub fn states(store: &[u16]) -> u16
     requires { ⌜ storeLength ≤ length (now store) ⌝ }
@@ -130,4 +132,27 @@ pub fn step_line(store: &[u16], j: Step) -> StepLine
         action: Action(store[at + ACTION_COLUMN]),
         target: State(store[at + TARGET_COLUMN]),
     }
+}
+
+// How many extra starts there are.
+pub fn extra_count(store: &[u16]) -> u16
+    requires { ⌜ storeLength ≤ length (now store) ⌝ }
+    ensures { λ r. ⌜ r ≡ extraCountAt (now (store .entry)) ⌝ }
+{
+    store[EXTRA_COUNT_PLACE]
+}
+
+// Where extra start i stands.
+pub fn extra_place(i: u16) -> usize
+    ensures { λ r. ⌜ r ≡ extraPlace i ⌝ }
+{
+    EXTRA_BEGIN + i as usize
+}
+
+// Extra start i.
+pub fn extra_start(store: &[u16], i: u16) -> State
+    requires { ⌜ (storeLength ≤ length (now store)) × (i < extraLimit) ⌝ }
+    ensures { λ r. ⌜ r .0 ≡ extraStartAt (now (store .entry)) i ⌝ }
+{
+    State(store[EXTRA_BEGIN + i as usize])
 }

@@ -1,16 +1,17 @@
 -- A good store, place by place: what the code tests. `GoodLaws` shows that a store is good exactly if its places are.
--- Document 01, "The text" and "The model store".
+-- Document 01, "The text" and "The model store"; document 02, (iii).
 use mathlib.Core.List.{List}
 use mathlib.Core.Path.{_≡_}
-use Prim.Native.Nat.{ℕ, _+_, _-_, _≤_, _<_}
+use Prim.Native.Nat.{ℕ, zero, suc, _+_, _-_, _≤_, _<_}
 use lib.Dec.{T}
 use lib.ListN.{getD}
 use Rattle.text.specs.declared.Head.{Head}
-use Rattle.text.specs.Limits.{nameLimit, actionsEnd, stepsEnd, actionPlace, nameLengthPlace, namePlace, stepPlace}
+use Rattle.text.specs.Limits.{nameLimit, extraLimit, actionsEnd, stepsEnd, extraEnd}
+use Rattle.text.specs.Limits.{actionPlace, nameLengthPlace, namePlace, stepPlace, extraPlace}
 use Rattle.text.specs.Model.{high, above?}
-use Rattle.text.specs.Lines.{headFits?, nameByte?, stepFits?}
+use Rattle.text.specs.Lines.{headFits?, nameByte?, startFits?, stepFits?}
 use Rattle.model.specs.Inner.EachFrom.{EachFrom}
-use Rattle.model.specs.StoredModel.{headAt, stepAt}
+use Rattle.model.specs.StoredModel.{headAt, stepAt, extraCountAt, extraStartAt}
 
 -- ---- places
 
@@ -56,6 +57,26 @@ pub record GoodStep (h : Head) (s : List ℕ) (j : ℕ) : Type 0 where
   -- "strictly rising by source, then action, then target"
   pub rising : 0 < j → T (above? (stepAt s (j - 1)) (stepAt s j))
 
+-- ---- extra starts
+
+-- the start that extra start i must be above
+unfoldable pub startBefore : Head → List ℕ → ℕ → ℕ
+startBefore h s zero = h .start .0
+startBefore h s (suc i) = extraStartAt s i
+
+pub record GoodStart (h : Head) (s : List ℕ) (i : ℕ) : Type 0 where
+  pub in-range : T (startFits? h (extraStartAt s i))
+  -- "strictly rising and above the start in line 1"
+  pub rising : startBefore h s i < extraStartAt s i
+
+-- the section of the extra starts
+pub record GoodStarts (h : Head) (s : List ℕ) : Type 0 where
+  -- "so at most 127"
+  pub count : extraCountAt s ≤ extraLimit
+  pub each : EachFrom (GoodStart h s) 0 (extraCountAt s)
+  -- "unused ones 0"
+  pub unused : EachFrom (ZeroAt s) (extraPlace (extraCountAt s)) extraEnd
+
 -- ---- the store
 
 pub record GoodPlaces (s : List ℕ) : Type 0 where
@@ -66,3 +87,5 @@ pub record GoodPlaces (s : List ℕ) : Type 0 where
   -- "Unused places are 0."
   pub unused-actions : EachFrom (ZeroAt s) (actionPlace (headAt s .actions)) actionsEnd
   pub unused-steps : EachFrom (ZeroAt s) (stepPlace (headAt s .steps)) stepsEnd
+  -- "a count, then the extra starts, unused ones 0"
+  pub extra-starts : GoodStarts (headAt s) s

@@ -1,5 +1,5 @@
 -- The lines of a model's text without their ends, as fields joined by commas.
--- Document 01, "The text".
+-- Document 01, "The text"; document 02, (iii).
 use mathlib.Core.List.{List, [], _∷_, _++_, map}
 use mathlib.Core.Logic.{_⊎_}
 use mathlib.Core.Path.{_≡_}
@@ -9,7 +9,7 @@ use lib.ListN.{length, getD}
 use Rattle.text.specs.declared.Head.{Head}
 use Rattle.text.specs.declared.StepLine.{StepLine}
 use Rattle.text.specs.declared.row.Row.{Row}
-use Rattle.text.specs.Bytes.{kindOf, digit, smallLetter, lineEnd, byteA, byteComma, byteE, byteM, byteS}
+use Rattle.text.specs.Bytes.{kindOf, digit, smallLetter, lineEnd, byteA, byteComma, byteE, byteI, byteM, byteS}
 use Rattle.text.specs.Numbers.{digits}
 use Rattle.text.specs.Join.{join}
 use Rattle.text.specs.Model.{ActionLine, Model}
@@ -34,6 +34,9 @@ lineOfHead h = lineOf byteM (map digits (headRow h))
 abbrev pub lineOfAction : ActionLine → List ℕ
 lineOfAction a = lineOf byteA ((levelByte (a .level) ∷ []) ∷ a .name ∷ [])
 
+abbrev pub lineOfStart : ℕ → List ℕ
+lineOfStart p = lineOf byteI (map digits (p ∷ []))
+
 abbrev pub lineOfStep : StepLine → List ℕ
 lineOfStep s = lineOf byteS (map digits (stepRow s))
 
@@ -41,7 +44,8 @@ lineOfStep s = lineOf byteS (map digits (stepRow s))
 abbrev pub partsOf : Model → List (List ℕ)
 partsOf m =
     lineOfHead (m .head)
-    ∷ (map lineOfAction (m .actions) ++ (map lineOfStep (m .steps) ++ ((byteE ∷ []) ∷ [] ∷ [])))
+    ∷ (map lineOfAction (m .actions)
+    ++ (map lineOfStart (m .extraStarts) ++ (map lineOfStep (m .steps) ++ ((byteE ∷ []) ∷ [] ∷ []))))
 
 -- a byte of a name is a digit or a small letter
 abbrev pub NameByte : ℕ → Type 0

@@ -1,13 +1,13 @@
--- The tests of a model's steps and of its start.
--- Document 01, "The meaning".
+-- The tests of a model's steps and of its starts.
+-- Document 01, "The meaning"; document 02, (iii).
 use mathlib.Core.Bool.{Bool, _&&_}
 use Prim.Native.Nat.{ℕ}
 use lib.Dec.{eqb}
-use lib.ListN.{length}
+use lib.ListN.{length, getD}
 use Rattle.lts.specs.Tests.{any}
 use Rattle.lts.specs.Decided.{ViewTest}
 use Rattle.text.specs.Model.{Model}
-use Rattle.model.specs.System.{source, action, target}
+use Rattle.model.specs.System.{source, action, target, starts}
 
 -- Step j leads from p with the action a to q.
 abbrev pub leads? : Model → ℕ → ℕ → ℕ → ℕ → Bool
@@ -17,8 +17,9 @@ leads? m p a q j = eqb (source m j) p && (eqb (action m j) a && eqb (target m j)
 unfoldable pub step? : Model → ℕ → ℕ → ℕ → Bool
 step? m p a q = any (length (m .steps)) (leads? m p a q)
 
-abbrev pub start? : Model → ℕ → Bool
-start? m p = eqb p (m .head .start .0)
+-- Some start is p.
+unfoldable pub start? : Model → ℕ → Bool
+start? m p = any (length (starts m)) (λ i. eqb (getD (starts m) i 0) p)
 
 -- The tests of a model's view.
 abbrev pub tests : Model → ViewTest

@@ -1,14 +1,14 @@
 -- What the judge uses of a good store: the places of its model, and the order of its steps. Only the contracts of inner
 -- functions cite it; `good→Stored` shows it of every good store.
--- Document 01, "The text" and "The model store".
+-- Document 01, "The text" and "The model store"; document 02, (iii).
 use mathlib.Core.List.{List}
 use mathlib.Core.Path.{_≡_}
 use Prim.Native.Nat.{ℕ, _≤_, _<_}
-use lib.ListN.{length}
-use Rattle.text.specs.Limits.{stateLimit, actionLimit, stepLimit, storeLength}
+use lib.ListN.{length, getD}
+use Rattle.text.specs.Limits.{stateLimit, actionLimit, stepLimit, extraLimit, storeLength}
 use Rattle.text.specs.Model.{high, Model}
-use Rattle.model.specs.StoredModel.{headAt, actionAt, stepAt}
-use Rattle.model.specs.System.{step, source, action, target, level}
+use Rattle.model.specs.StoredModel.{headAt, actionAt, stepAt, extraCountAt, extraStartAt}
+use Rattle.model.specs.System.{step, source, action, target, level, IsStart}
 
 pub record Stored (s : List ℕ) (m : Model) : Type 0 where
   pub length-le : storeLength ≤ length s
@@ -16,7 +16,10 @@ pub record Stored (s : List ℕ) (m : Model) : Type 0 where
   pub states-pos : 0 < m .head .states
   pub states-le : m .head .states ≤ stateLimit
   pub actions-le : m .head .actions ≤ actionLimit
-  pub start-lt : m .head .start .0 < m .head .states
+  pub extra-count-is : extraCountAt s ≡ length (m .extraStarts)
+  pub extra-count-le : length (m .extraStarts) ≤ extraLimit
+  pub extra-start-is : (i : ℕ) → i < length (m .extraStarts) → extraStartAt s i ≡ getD (m .extraStarts) i 0
+  pub start-lt : (p : ℕ) → IsStart m p → p < m .head .states
   pub steps-is : m .head .steps ≡ length (m .steps)
   pub steps-le : length (m .steps) ≤ stepLimit
   pub step-is : (j : ℕ) → j < length (m .steps) → stepAt s j ≡ step m j
