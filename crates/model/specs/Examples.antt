@@ -1,4 +1,5 @@
--- The worked example of document 01, "The page", reads and writes by evaluation; the empty text is refused.
+-- The worked example of document 01, "The page", and a model with extra starts (document 02, (iii)) read and write by
+-- evaluation; the empty text is refused.
 use mathlib.Core.List.{List, [], _∷_}
 use mathlib.Core.Path.{_≡_, refl}
 use Prim.Native.Nat.{ℕ}
@@ -7,13 +8,16 @@ use Rattle.text.specs.declared.StepLine.{StepLine}
 use Rattle.text.specs.Bytes.{kindOf}
 use Rattle.text.specs.Numbers.{digitsValue, numberShape?, numberOf, inBounds?, bounded, numberIn, digitsUpTo, digits}
 use Rattle.text.specs.Split.{consFirst, split, same?}
-use Rattle.text.specs.Model.{low, release, high, Model, above?, aboveLast?}
-use Rattle.text.specs.Lines.{checked, fieldsFrom, fieldsOf, consNumber, numbersOf, headBounds, stepBounds, rowLetter}
-use Rattle.text.specs.Lines.{rowCount, rowBounds, valueOr0, statesOf, rowFrom, rowOf, headFrom, headOf, levelOf, allOf}
-use Rattle.text.specs.Lines.{nameByte?, name?, nameFrom, actionFields, used?, actionFrom, actionOf, stepFrom, stepOf}
-use Rattle.model.specs.Reading.{done, faulty, onLine, orFault, readNothing, readEnd, readSteps, readActions}
+use Rattle.text.specs.Model.{low, release, high, Model, lastStart, above?, aboveLast?}
+use Rattle.text.specs.Lines.{checked, fieldsFrom, fieldsOf, consNumber, numbersOf, headBounds, startBounds, stepBounds}
+use Rattle.text.specs.Lines.{rowLetter, rowCount, rowBounds, valueOr0, statesOf, rowFrom, rowOf, headFrom, headOf, levelOf, allOf}
+use Rattle.text.specs.Lines.{nameByte?, name?, nameFrom, actionFields, used?, actionFrom, actionOf, aboveStarts?}
+use Rattle.text.specs.Lines.{startFrom, startOf, stepFrom, stepOf}
+use Rattle.model.specs.Reading.{done, faulty, onLine, orFault, readNothing, readEnd, readSteps, readStarts}
+use Rattle.model.specs.Reading.{startLine?, startLines, readActions}
 use Rattle.model.specs.Reading.{readModel, readText}
-use Rattle.model.specs.Text.{headText, levelByte, actionText, stepText, actionsText, stepsText, modelText}
+use Rattle.model.specs.Text.{headText, levelByte, actionText, startText, stepText, actionsText, startsText}
+use Rattle.model.specs.Text.{stepsText, modelText}
 
 abbrev step : ℕ → ℕ → ℕ → StepLine
 step p a q = record { source = record { 0 = p }; action = record { 0 = a }; target = record { 0 = q } }
@@ -27,6 +31,7 @@ worked = record {
       ∷ record { level = high; name = 112 ∷ 114 ∷ 105 ∷ 110 ∷ 116 ∷ [] }
       ∷ record { level = release; name = 99 ∷ 108 ∷ 111 ∷ 115 ∷ 101 ∷ [] }
       ∷ [];
+  extraStarts = [];
   steps = step 0 0 1 ∷ step 0 1 2 ∷ step 1 0 1 ∷ step 2 0 3 ∷ [];
 }
 
@@ -44,16 +49,35 @@ workedText =
     ∷ 69 ∷ 10
     ∷ []
 
-reads : readText workedText ≡ done worked
-unfolding readText readModel readActions readSteps readEnd readNothing orFault onLine stepOf stepFrom actionOf
-    actionFrom used? actionFields nameFrom name? nameByte? allOf levelOf headOf headFrom rowOf rowFrom statesOf valueOr0
-    rowBounds rowCount rowLetter stepBounds headBounds numbersOf consNumber fieldsOf fieldsFrom checked above?
-    aboveLast? same? split consFirst numberIn bounded inBounds? numberOf numberShape? digitsValue kindOf
-reads = refl
+-- M,4,1,0,1 / A,L,a / I,2 / I,3 / E: a model that wakes in three of its states
+abbrev woken : Model
+woken = record {
+  head = record { states = 4; actions = 1; steps = 0; start = record { 0 = 1 } };
+  actions = record { level = low; name = 97 ∷ [] } ∷ [];
+  extraStarts = 2 ∷ 3 ∷ [];
+  steps = [];
+}
 
-writes : modelText worked ≡ workedText
-unfolding modelText headText actionsText actionText levelByte stepsText stepText digits digitsUpTo
-writes = refl
+abbrev wokenText : List ℕ
+wokenText =
+    77 ∷ 44 ∷ 52 ∷ 44 ∷ 49 ∷ 44 ∷ 48 ∷ 44 ∷ 49 ∷ 10
+    ∷ 65 ∷ 44 ∷ 76 ∷ 44 ∷ 97 ∷ 10
+    ∷ 73 ∷ 44 ∷ 50 ∷ 10
+    ∷ 73 ∷ 44 ∷ 51 ∷ 10
+    ∷ 69 ∷ 10
+    ∷ []
+
+reads : (readText workedText ≡ done worked) × (readText wokenText ≡ done woken)
+unfolding readText readModel readActions startLines startLine? readStarts readSteps readEnd readNothing orFault onLine
+    stepOf stepFrom startOf startFrom aboveStarts? lastStart actionOf actionFrom used? actionFields nameFrom name?
+    nameByte? allOf levelOf headOf headFrom rowOf rowFrom statesOf valueOr0 rowBounds rowCount rowLetter stepBounds
+    startBounds headBounds numbersOf consNumber fieldsOf fieldsFrom checked above? aboveLast? same? split consFirst
+    numberIn bounded inBounds? numberOf numberShape? digitsValue kindOf
+reads = (refl, refl)
+
+writes : (modelText worked ≡ workedText) × (modelText woken ≡ wokenText)
+unfolding modelText headText actionsText actionText levelByte startsText startText stepsText stepText digits digitsUpTo
+writes = (refl, refl)
 
 empty-absent : readText [] ≡ faulty Absent 1
 unfolding readText readModel onLine split

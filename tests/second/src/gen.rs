@@ -9,6 +9,7 @@ mod limits;
 mod models;
 mod parts;
 mod rng;
+mod starts;
 mod stores;
 mod texts;
 mod variants;
@@ -24,6 +25,7 @@ pub use models::{
     random_model, small_model,
 };
 pub use rng::Rng;
+pub use starts::with_all_starts;
 pub use stores::{bad_stores, mutated_store, scrap_store};
 pub use texts::{bad_lines, faults, mutated_text, scrap_text, BadLine, Fault, Kind};
 pub use variants::{shuffle, with_twin, with_unreachable};

@@ -1,10 +1,12 @@
 //! The model store, and the model as plain data.
 
+use std::collections::BTreeSet;
+
 use crate::text::{parse, read, spell};
 use crate::Refusal;
 
 /// Least length of a model store.
-pub const STORE: usize = 3_972;
+pub const STORE: usize = 4_100;
 /// Least length of the distances.
 pub const DISTANCES: usize = 128;
 /// Least length of the rank table.
@@ -18,17 +20,22 @@ pub const PAGE: usize = 5_000;
 /// Least length of the list that takes a receipt roll.
 pub const ROLL: usize = 35_840;
 /// Least length of the list that takes a written text.
-pub const WRITTEN: usize = 14_420;
+pub const WRITTEN: usize = 15_182;
 
 pub const MOST_STATES: usize = 128;
 pub const MOST_ACTIONS: usize = 64;
 pub const MOST_STEPS: usize = 1_024;
+/// Starts beside line 1's, which they are all above.
+pub const MOST_EXTRA_STARTS: usize = MOST_STATES - 1;
 pub const LONGEST_NAME: usize = 12;
 
 const ACTIONS_FROM: usize = 4;
 const ACTION_PLACES: usize = 14;
 const STEPS_FROM: usize = 900;
 const STEP_PLACES: usize = 3;
+
+/// Place of the count of extra starts (request (iii) of document 02).
+pub const EXTRA_STARTS: usize = 3_972;
 
 /// First place of an action in the store.
 pub fn action_place(action: usize) -> usize {
@@ -38,6 +45,11 @@ pub fn action_place(action: usize) -> usize {
 /// First place of a step in the store.
 pub fn step_place(step: usize) -> usize {
     STEPS_FROM + STEP_PLACES * step
+}
+
+/// Place of an extra start in the store.
+pub fn extra_start_place(extra: usize) -> usize {
+    EXTRA_STARTS + 1 + extra
 }
 
 #[derive(Debug, Clone, Copy, PartialEq, Eq)]
@@ -95,13 +107,16 @@ impl Step {
 #[derive(Debug, Clone, PartialEq, Eq)]
 pub struct Model {
     pub states: u16,
+    /// The start in line 1.
     pub start: u16,
+    /// The starts in `I` lines, rising and above that one.
+    pub extra_starts: Vec<u16>,
     pub actions: Vec<Action>,
     pub steps: Vec<Step>,
 }
 
 impl Model {
-    /// The 3,972 numbers of a model that is inside the limits.
+    /// The 4,100 numbers of a model that is inside the limits.
     pub fn to_store(&self) -> Vec<u16> {
         let mut store = vec![0; STORE];
         store[0] = self.states;
@@ -122,12 +137,32 @@ impl Model {
             store[place + 1] = step.action;
             store[place + 2] = step.target;
         }
+        store[EXTRA_STARTS] = self.extra_starts.len() as u16;
+        for (k, &start) in self.extra_starts.iter().enumerate() {
+            store[extra_start_place(k)] = start;
+        }
         store
     }
 
     /// The text that reads to this model.
     pub fn to_text(&self) -> Vec<u8> {
         spell(&self.to_store())
+    }
+
+    /// All starts, rising.
+    pub fn starts(&self) -> Vec<u16> {
+        [&[self.start], &self.extra_starts[..]].concat()
+    }
+
+    /// The same model with these starts, of which there is one at least. The
+    /// lowest stands in line 1.
+    pub fn with_starts(&self, starts: &BTreeSet<u16>) -> Model {
+        let mut rising = starts.iter().copied();
+        Model {
+            start: rising.next().expect("a start"),
+            extra_starts: rising.collect(),
+            ..self.clone()
+        }
     }
 
     pub fn level(&self, action: u16) -> Level {

@@ -3,8 +3,8 @@
 use std::ops::RangeInclusive;
 
 use crate::store::{
-    action_place, good, step_place, Action, Level, Model, Step, LONGEST_NAME, MOST_ACTIONS,
-    MOST_STATES, MOST_STEPS, STORE, WRITTEN,
+    action_place, extra_start_place, good, step_place, Action, Level, Model, Step, EXTRA_STARTS,
+    LONGEST_NAME, MOST_ACTIONS, MOST_EXTRA_STARTS, MOST_STATES, MOST_STEPS, STORE, WRITTEN,
 };
 use crate::{lent, Refusal};
 
@@ -32,7 +32,7 @@ pub fn write(store: &[u16], out: &mut [u8]) -> Result<usize, Refusal> {
 }
 
 /// Why a text is refused, in the order in which a line is tested: 32 first,
-/// then 2, then 31, then 3, then 4 or 5.
+/// then 2, then 31, then 3, then 4, 5 or 33.
 #[derive(Debug, Clone, Copy, PartialEq, Eq, PartialOrd, Ord, Hash)]
 pub enum Cause {
     /// More bytes than a text may have.
@@ -53,11 +53,14 @@ pub enum Cause {
     NameUsed,
     /// A step not above the one before it.
     Order,
+    /// An `I` line not above the one before it, the first not above line 1's
+    /// start.
+    StartOrder,
 }
 
 impl Cause {
     /// All causes, in their order.
-    pub const ALL: [Cause; 11] = [
+    pub const ALL: [Cause; 12] = [
         Cause::TooLong,
         Cause::NoLine,
         Cause::AfterEnd,
@@ -69,6 +72,7 @@ impl Cause {
         Cause::Range,
         Cause::NameUsed,
         Cause::Order,
+        Cause::StartOrder,
     ];
 
     /// The number of the refusal.
@@ -81,6 +85,7 @@ impl Cause {
             Cause::Range => 3,
             Cause::NameUsed => 4,
             Cause::Order => 5,
+            Cause::StartOrder => 33,
         }
     }
 }
@@ -107,6 +112,11 @@ pub fn parse_or_cause(text: &[u8]) -> Result<Model, (Cause, u64)> {
         let action = action(&mut lines, &model)?;
         model.actions.push(action);
     }
+    // Here a line is an `I` line by its first byte alone, however many there are.
+    while lines.rest.starts_with(b"I") {
+        let start = extra_start(&mut lines, &model)?;
+        model.extra_starts.push(start);
+    }
     for _ in 0..steps {
         let step = step(&mut lines, &model)?;
         model.steps.push(step);
@@ -118,7 +128,8 @@ pub fn parse_or_cause(text: &[u8]) -> Result<Model, (Cause, u64)> {
     Ok(model)
 }
 
-/// The first line: a model with no actions and steps yet, and their counts.
+/// The first line: a model with its start alone, and the counts of its actions
+/// and steps.
 fn head(lines: &mut Lines) -> Result<(Model, usize, usize), Refused> {
     let fields = lines.next(b'M', 4)?;
     let ranges = [
@@ -136,6 +147,7 @@ fn head(lines: &mut Lines) -> Result<(Model, usize, usize), Refused> {
     let model = Model {
         states: states as u16,
         start: start as u16,
+        extra_starts: Vec::new(),
         actions: Vec::new(),
         steps: Vec::new(),
     };
@@ -159,6 +171,18 @@ fn action(lines: &mut Lines, model: &Model) -> Result<Action, Refused> {
         return Err(lines.refused(Cause::NameUsed));
     }
     Ok(Action { level, name })
+}
+
+/// The next extra start, given the model with the starts so far.
+fn extra_start(lines: &mut Lines, model: &Model) -> Result<u16, Refused> {
+    let fields = lines.next(b'I', 1)?;
+    let states = 0..=usize::from(model.states) - 1;
+    let start = lines.numbers(&fields, &[states])?[0] as u16;
+    let before = *model.extra_starts.last().unwrap_or(&model.start);
+    if start <= before {
+        return Err(lines.refused(Cause::StartOrder));
+    }
+    Ok(start)
 }
 
 /// The next step, given the model with all its actions and the steps so far.
@@ -261,6 +285,10 @@ pub fn spell(store: &[u16]) -> Vec<u8> {
             text.push(u8::try_from(at(place + 2 + k)).unwrap_or(b'?'));
         }
         text.push(LINE_END);
+    }
+    for k in 0..usize::from(at(EXTRA_STARTS)).min(MOST_EXTRA_STARTS) {
+        let line = format!("I,{}\n", at(extra_start_place(k)));
+        text.extend_from_slice(line.as_bytes());
     }
     for j in 0..usize::from(at(2)).min(MOST_STEPS) {
         let place = step_place(j);

@@ -75,9 +75,35 @@ fn models_are_of_every_kind() {
         count(&|model| model.steps.iter().any(|step| released(model, step))),
         count(&|model| meaning::deterministic(model)),
         count(&|model| !meaning::deterministic(model)),
+        count(&|model| model.extra_starts.is_empty()),
+        count(&|model| !model.extra_starts.is_empty()),
     ];
     assert!(kinds.iter().all(|&count| count > 1_000), "{kinds:?}");
     assert!(kinds[0] > 3_000 && kinds[0] < 4_000, "{kinds:?}");
+}
+
+/// Of the models with extra starts some have one, some many, and in some every
+/// state is a start; in some a start leads to another.
+#[test]
+fn extra_starts_are_few_and_many() {
+    let models = models("second::cases::extra_starts_are_few_and_many", 305);
+    let count = |is: &dyn Fn(&Model) -> bool| models.iter().filter(|model| is(model)).count();
+    let entered = |model: &Model, step: &Step| {
+        let starts = model.starts();
+        step.source != step.target && starts.contains(&step.source) && starts.contains(&step.target)
+    };
+    let kinds = [
+        count(&|model| model.extra_starts.len() == 1),
+        count(&|model| model.extra_starts.len() > 5),
+        count(&|model| model.states > 1 && model.starts().len() == usize::from(model.states)),
+        count(&|model| model.extra_starts.len() > 30),
+        count(&|model| model.steps.iter().any(|step| entered(model, step))),
+    ];
+    let least = [400, 100, 100, 20, 400];
+    assert!(
+        kinds.iter().zip(least).all(|(&count, least)| count > least),
+        "{kinds:?}"
+    );
 }
 
 /// Many models are passed; the depths of the others are spread, of those that
@@ -112,7 +138,7 @@ fn a_shown_store_tells_what_was_changed() {
     store.extend([0, 65_535]);
     let shown = gen::shown_store(&model, &store);
     assert!(shown.contains(&gen::shown(&model.to_text())), "{shown}");
-    assert!(shown.ends_with("[(3, 7), (3973, 65535)]"), "{shown}");
+    assert!(shown.ends_with("[(3, 7), (4101, 65535)]"), "{shown}");
     let numbers = gen::shown_numbers(&store[..5]);
     assert!(
         numbers.ends_with("[(0, 2), (1, 3), (2, 2), (3, 7)]"),

@@ -1,12 +1,12 @@
 //! What is told of a bad line: each cause alone, each two of one line, and bad
 //! lines beside each other. In a line 32 is tested first, then 2, then 31,
-//! then 3, then 4 or 5.
+//! then 3, then 4, 5 or 33. What `I` lines get is in `starts.rs` too.
 
 mod common;
 
 use std::collections::BTreeSet;
 
-use common::{model_of, refusal, till, EXAMPLE, PRINT, SCAN};
+use common::{model_of, refusal, till, waking_till, EXAMPLE, PRINT, SCAN};
 use second::gen::{self, BadLine, Kind};
 use second::text::{parse_or_cause, Cause};
 use second::{program, Model};
@@ -369,6 +369,7 @@ fn causes_of(kind: Kind) -> &'static [Cause] {
     match kind {
         Kind::Model => &[NoLine, Letter, FieldCount, Digits, Range],
         Kind::Action => &[NoLine, Letter, FieldCount, Level, Name, NameUsed],
+        Kind::Start => &[NoLine, Letter, FieldCount, Digits, Range, StartOrder],
         Kind::Step => &[NoLine, Letter, FieldCount, Digits, Range, Order],
         Kind::End => &[NoLine, Letter, FieldCount],
         Kind::AfterEnd => &[AfterEnd],
@@ -376,12 +377,14 @@ fn causes_of(kind: Kind) -> &'static [Cause] {
 }
 
 /// Each cause in each kind of line, alone and with each other that the line can
-/// have. A name used before is no wrong name.
+/// have. A name used before is no wrong name, and the one number of an `I` line
+/// has bad digits, is outside its range, or is inside it and not above.
 fn all_bad_lines() -> BTreeSet<(Kind, Cause, Option<Cause>)> {
     let mut all = BTreeSet::new();
     for kind in [
         Kind::Model,
         Kind::Action,
+        Kind::Start,
         Kind::Step,
         Kind::End,
         Kind::AfterEnd,
@@ -395,12 +398,19 @@ fn all_bad_lines() -> BTreeSet<(Kind, Cause, Option<Cause>)> {
         }
     }
     all.remove(&(Kind::Action, Cause::Name, Some(Cause::NameUsed)));
+    for (told, also) in [
+        (Cause::Digits, Cause::Range),
+        (Cause::Digits, Cause::StartOrder),
+        (Cause::Range, Cause::StartOrder),
+    ] {
+        all.remove(&(Kind::Start, told, Some(also)));
+    }
     all
 }
 
 /// The turn of a cause in the tests of a line.
 fn turn(cause: Cause) -> Option<usize> {
-    let turns = [32, 2, 31, 3, 4, 5];
+    let turns = [32, 2, 31, 3, 4, 5, 33];
     turns.iter().position(|&number| number == cause.number())
 }
 
@@ -452,11 +462,12 @@ fn the_faults_have_each_cause_and_each_pair() {
     assert_eq!(seen, all_bad_lines());
 }
 
-/// One model is enough for all of them, if it has two actions and a step
-/// before another whose source can fall.
+/// One model is enough for all of them, if it has two actions, an extra start
+/// and a step before another whose source can fall.
 #[test]
 fn one_model_has_each_cause_and_each_pair() {
-    let bad_lines = gen::bad_lines(&model_of(EXAMPLE));
+    let steps = [(0, SCAN, 1), (1, PRINT, 0), (1, PRINT, 1)];
+    let bad_lines = gen::bad_lines(&model_of(&waking_till(2, &[0, 1], &steps)));
     let seen: BTreeSet<_> = bad_lines
         .iter()
         .map(|bad| (bad.kind, bad.fault.cause, bad.also))

@@ -158,13 +158,14 @@ fn sequences(actions: &[u16], longest: usize) -> Vec<Vec<u16>> {
 }
 
 /// The definitions taken at their word on tiny models: every sequence up to a
-/// length is thinned and run, with every low tail up to a length. States that
-/// differ do so within 2 of these 3 low actions; and a pair of states that
-/// differ, if there is one, is met within 6 actions in each model here.
+/// length is thinned and run from each start, with every low tail up to a
+/// length. States that differ do so within 2 of these 3 low actions; and a pair
+/// of states that differ, if there is one, is met within 6 actions in each model
+/// here. Some models interfere from an extra start only.
 #[test]
 fn tiny_models_sequence_by_sequence() {
     let mut rng = gen::seeded("second::random::tiny_models_sequence_by_sequence", 205);
-    let (mut seen, mut interfering) = (0, 0);
+    let (mut seen, mut interfering, mut later) = (0, 0, 0);
     while seen < 1_500 {
         let states = rng.between(2, 3);
         let actions = rng.between(2, 3);
@@ -182,23 +183,34 @@ fn tiny_models_sequence_by_sequence() {
             .filter(|&action| model.level(action) == Level::Low)
             .collect();
         let tails = sequences(&low, 3);
-        let found = sequences(&numbers, 6).iter().any(|sequence| {
-            let thinned = thin(&model, sequence);
-            possible(&model, model.start, sequence)
-                && (!possible(&model, model.start, &thinned)
-                    || tails.iter().any(|tail| {
-                        let full = [&sequence[..], tail].concat();
-                        let short = [&thinned[..], tail].concat();
-                        assert_eq!(thin(&model, &full), short);
-                        possible(&model, model.start, &full)
-                            != possible(&model, model.start, &short)
-                    }))
-        });
+        let all = sequences(&numbers, 6);
+        let interferes = |&start: &u16| {
+            let interferes = |sequence: &Vec<u16>| interferes(&model, start, sequence, &tails);
+            all.iter().any(interferes)
+        };
+        let starts = model.starts();
+        let found = starts.iter().any(interferes);
         let verdict = check_meaning(&model);
         assert_eq!(found, matches!(verdict, Verdict::Refused { .. }));
         interfering += usize::from(found);
+        later += usize::from(found && !interferes(&model.start));
     }
     assert!(interfering > 150, "{interfering}");
+    assert!(later > 20, "{later}");
+}
+
+/// Whether a sequence interferes that can be run from a start: its thinned form
+/// can't be run from the same start, or a low tail can follow just one of them.
+fn interferes(model: &Model, start: u16, sequence: &[u16], tails: &[Vec<u16>]) -> bool {
+    let thinned = thin(model, sequence);
+    possible(model, start, sequence)
+        && (!possible(model, start, &thinned)
+            || tails.iter().any(|tail| {
+                let full = [sequence, tail].concat();
+                let short = [&thinned[..], tail].concat();
+                assert_eq!(thin(model, &full), short);
+                possible(model, start, &full) != possible(model, start, &short)
+            }))
 }
 
 /// Word, found by trying all low sequences in order.
@@ -402,4 +414,99 @@ fn wrong_lists_do_not_hold() {
         }
         assert!(meaning::ranks_hold(&model, &lists.table, greatest + 1).is_err());
     }
+}
+
+/// The same model with one start.
+fn from_start(model: &Model, start: u16) -> Model {
+    model.with_starts(&BTreeSet::from([start]))
+}
+
+/// What a model's starts give, each taken alone.
+struct Alone {
+    /// The least of the distances.
+    distances: Vec<u16>,
+    /// Depth, step and start of each refusal.
+    refused: BTreeSet<(u16, u16, u16)>,
+}
+
+/// Judges a model from each of its starts. Ranks don't hang on the starts.
+fn alone(model: &Model, table: &[u8]) -> Alone {
+    let mut distances = vec![65_535; 128];
+    let mut refused = BTreeSet::new();
+    for start in model.starts() {
+        let store = from_start(model, start).to_store();
+        let mut lists = Lists::new();
+        let answer = judge(&store, &mut lists.distances, &mut lists.table).unwrap();
+        assert_eq!(lists.table, table);
+        for (distance, from_start) in distances.iter_mut().zip(&lists.distances) {
+            *distance = *from_start.min(distance);
+        }
+        if let Verdict::Refused { step, depth } = answer {
+            refused.insert((depth, step, start));
+        }
+    }
+    Alone { distances, refused }
+}
+
+/// A model with several starts is told by what each start alone gives: a state
+/// has the least distance, and the verdict is the least depth with its lowest
+/// step (request (iii) of document 02).
+#[test]
+fn many_starts_are_told_by_each_alone() {
+    let mut rng = gen::seeded("second::random::many_starts_are_told_by_each_alone", 213);
+    let (mut passed, mut later, mut nearer) = (0, 0, 0);
+    for _ in 0..3_000 {
+        let model = gen::any_model(&mut rng);
+        if model.extra_starts.is_empty() {
+            continue;
+        }
+        let _case = gen::model_case(&model);
+        let mut lists = Lists::new();
+        let store = model.to_store();
+        let verdict = judge(&store, &mut lists.distances, &mut lists.table).unwrap();
+        let Alone { distances, refused } = alone(&model, &lists.table);
+        assert_eq!(lists.distances[..128], distances);
+        match (verdict, refused.first()) {
+            (Verdict::Passed { .. }, None) => passed += 1,
+            (Verdict::Refused { step, depth }, Some(&(least, lowest, start))) => {
+                assert_eq!((depth, step), (least, lowest));
+                let from_first = refused.iter().any(|&(.., start)| start == model.start);
+                later += usize::from(!from_first);
+                nearer += usize::from(from_first && start != model.start);
+            }
+            (verdict, _) => panic!("{verdict:?}, but {refused:?} alone"),
+        }
+    }
+    // Refused from extra starts only, and with a lower depth or step from one.
+    assert!(
+        passed > 300 && later > 100 && nearer > 3,
+        "{passed} {later} {nearer}"
+    );
+}
+
+/// Runs of models with many starts begin at each kind of start.
+#[test]
+fn runs_begin_at_any_start() {
+    let mut rng = gen::seeded("second::random::runs_begin_at_any_start", 214);
+    let (mut first, mut extra) = (0, 0);
+    for _ in 0..1_000 {
+        let model = gen::any_model(&mut rng);
+        let _case = gen::model_case(&model);
+        let store = model.to_store();
+        let mut lists = Lists::new();
+        for state in meaning::reachable(&model) {
+            let length = run(&store, &mut lists.distances, &mut lists.run, state).unwrap();
+            let steps = &lists.run[..length];
+            let holds = meaning::run_holds(&model, &lists.distances, steps, state);
+            assert_eq!(holds, Ok(()));
+            let Some(&number) = steps.first() else {
+                assert!(model.starts().contains(&state));
+                continue;
+            };
+            let begins = model.steps[usize::from(number)].source;
+            first += usize::from(begins == model.start && !model.extra_starts.is_empty());
+            extra += usize::from(model.extra_starts.contains(&begins));
+        }
+    }
+    assert!(first > 300 && extra > 300, "{first} {extra}");
 }

@@ -4,7 +4,8 @@ mod common;
 
 use std::collections::BTreeMap;
 
-use common::{refusal, store_of, till, Lists, CLOSE, EXAMPLE, LONGER, PRINT, SCAN};
+use common::{refusal, store_of, till, waking_till};
+use common::{Lists, CLOSE, EXAMPLE, LONGER, PRINT, SCAN};
 use second::gen;
 use second::store::{DISTANCES, STORE};
 use second::text::{parse_or_cause, Cause};
@@ -111,7 +112,7 @@ fn levels_that_are_missing() {
 #[test]
 fn causes_have_these_numbers() {
     let numbers = Cause::ALL.map(Cause::number);
-    assert_eq!(numbers, [1, 32, 32, 2, 2, 2, 2, 31, 3, 4, 5]);
+    assert_eq!(numbers, [1, 32, 32, 2, 2, 2, 2, 31, 3, 4, 5, 33]);
 }
 
 #[test]
@@ -133,11 +134,14 @@ fn faults_in_many_texts() {
         second::text::parse(EXAMPLE).unwrap(),
         second::text::parse(&till(1, &[])).unwrap(),
         second::text::parse(b"M,1,1,1,0\nA,H,z\nS,0,0,0\nE\n").unwrap(),
+        gen::with_all_starts(&gen::chain(4)),
+        second::text::parse(&waking_till(3, &[1, 2], &[])).unwrap(),
     ];
     for _ in 0..40 {
         models.push(gen::small_model(&mut rng, false));
     }
     models.push(gen::limit_models(&mut rng).swap_remove(0).1);
+    models.push(gen::with_all_starts(&gen::chain(128)));
     let mut causes = BTreeMap::new();
     for model in &models {
         for fault in gen::faults(model) {
@@ -242,7 +246,12 @@ fn refuses_short_lists(operation: &OnStore, short: usize, lengths: &[usize]) {
 #[test]
 fn bad_stores_change_nothing() {
     let mut rng = gen::seeded("second::refusals::bad_stores_change_nothing", 22);
-    let mut models = vec![gen::chain(5), second::text::parse(&till(1, &[])).unwrap()];
+    let mut models = vec![
+        gen::chain(5),
+        gen::with_all_starts(&gen::chain(5)),
+        gen::with_all_starts(&gen::chain(128)),
+        second::text::parse(&till(1, &[])).unwrap(),
+    ];
     for _ in 0..6 {
         models.push(gen::small_model(&mut rng, true));
     }

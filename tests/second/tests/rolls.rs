@@ -123,6 +123,7 @@ fn one_state(actions: Vec<Action>) -> Vec<u8> {
     let model = Model {
         states: 1,
         start: 0,
+        extra_starts: Vec::new(),
         steps: steps.collect(),
         actions,
     };
@@ -469,4 +470,7 @@ fn examples() {
     let text = example!("roll_832.txt");
     assert_eq!(roll_program(text), example!("roll_832.roll"));
     assert_eq!(program(text), example!("roll_832.page"));
+    let text = example!("two_starts.txt");
+    assert_eq!(roll_program(text), example!("two_starts.roll"));
+    assert_eq!(program(text), example!("two_starts.page"));
 }

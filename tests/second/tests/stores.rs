@@ -11,7 +11,7 @@ use second::{read, write, Model, Refusal};
 
 /// The rules of a good store, one after the other.
 fn follows_the_rules(store: &[u16]) -> bool {
-    head_follows(store) && actions_follow(store) && steps_follow(store)
+    head_follows(store) && actions_follow(store) && steps_follow(store) && starts_follow(store)
 }
 
 fn head_follows(store: &[u16]) -> bool {
@@ -55,6 +55,23 @@ fn steps_follow(store: &[u16]) -> bool {
     })
 }
 
+/// The section of extra starts (request (iii) of document 02): a count, then
+/// the starts, each above the one before it, the first above place 3.
+fn starts_follow(store: &[u16]) -> bool {
+    let (count, section) = (usize::from(store[3_972]), &store[3_973..4_100]);
+    if count > 127 {
+        return false;
+    }
+    let (extra, rest) = section.split_at(count);
+    let mut before = store[3];
+    let rise = extra.iter().all(|&start| {
+        let rises = before < start && start < store[0];
+        before = start;
+        rises
+    });
+    rise && unused(rest)
+}
+
 /// Writes a model's store, reads that text, and compares both ways.
 fn round_trip(model: &Model) -> usize {
     let _case = gen::model_case(model);
@@ -86,15 +103,25 @@ fn written_texts_read_back() {
 #[test]
 fn limits_read_back() {
     let mut rng = gen::seeded("second::stores::limits_read_back", 102);
+    let mut longest = 0;
     for (what, model) in gen::limit_models(&mut rng) {
         let length = round_trip(&model);
-        assert_eq!(
-            what.starts_with("longest text"),
-            length == WRITTEN,
-            "{what}"
-        );
+        let one_start = what.starts_with("longest text");
+        assert_eq!(one_start, length == LONGEST_OF_ONE_START, "{what}");
+        longest = longest.max(length);
     }
+    assert_eq!(longest, LONGEST);
+    assert_eq!(WRITTEN, LONGEST_OF_ONE_START + 127 * "I,127\n".len());
 }
+
+/// The longest line of each kind, so often as there may be: `M,128,64,1024,127`,
+/// 64 actions with names of 12 bytes, 1,024 steps with numbers of 3, 2 and 3
+/// digits, and `E`.
+const LONGEST_OF_ONE_START: usize = 18 + 64 * 17 + 1_024 * 13 + 2;
+
+/// With start 0 in line 1 that line is two bytes shorter, and the `I` lines go
+/// from 1 to 127. A start more is always longer, so no text is longer than this.
+const LONGEST: usize = LONGEST_OF_ONE_START - 2 + 9 * 4 + 90 * 5 + 28 * 6;
 
 #[test]
 fn bad_stores_break_the_rules() {
@@ -136,7 +163,7 @@ fn a_store_is_judged_by_its_first_numbers_alone() {
     let mut store = gen::chain(3).to_store();
     store.extend([1, 65_535]);
     assert!(good(&store).is_ok());
-    for length in [0, 1, 3, 4, 17, 899, 900, STORE - 1] {
+    for length in [0, 1, 3, 4, 17, 899, 900, 3_971, 3_972, 3_973, STORE - 1] {
         assert!(good(&store[..length]).is_err());
     }
 }

@@ -3,6 +3,7 @@
 use std::collections::BTreeSet;
 
 use super::parts::{named, of_level, Steps};
+use super::starts::with_some_starts;
 use super::variants::{shuffle, with_unreachable};
 use super::Rng;
 use crate::store::{Action, Level, Model, Step, LONGEST_NAME, MOST_STATES};
@@ -15,6 +16,7 @@ pub fn chain(states: u16) -> Model {
     Model {
         states,
         start: 0,
+        extra_starts: Vec::new(),
         actions: vec![
             named(Level::Low, "scan"),
             named(Level::High, "print"),
@@ -70,12 +72,16 @@ pub fn deep_model(rng: &mut Rng, depth: usize) -> Model {
         start = states;
         states += 1;
     }
-    let mut model = Model {
+    // The high step that shifts is reachable anyway, and the others go nowhere,
+    // so further starts change no depth.
+    let model = Model {
         states: states as u16,
         start: start as u16,
+        extra_starts: Vec::new(),
         actions,
         steps: steps.into_vec(),
     };
+    let mut model = with_some_starts(rng, model);
     if rng.percent(30) {
         model = with_unreachable(rng, &model);
     }
@@ -144,17 +150,17 @@ fn add_idle_steps(rng: &mut Rng, steps: &mut Steps, actions: &mut Vec<Action>, s
 }
 
 /// A model refused with a depth from 1 to 127 that is not deterministic: two
-/// steps of a release leave the start, and lead to no state that was
+/// steps of a release leave a start, and lead to no state that was
 /// unreachable.
 pub fn branching_deep_model(rng: &mut Rng, depth: usize) -> Model {
     let mut model = deep_model(rng, depth);
     let release = of_level(&model.actions, Level::Release)[0];
-    let near = |step: &&Step| step.source == model.start && step.target != model.start;
-    let next = model.steps.iter().find(near).map(|step| step.target);
-    let next = next.expect("some step leads on from the start");
+    let starts = model.starts();
+    let near = |step: &&Step| starts.contains(&step.source) && step.target != step.source;
+    let near = *model.steps.iter().find(near).expect("a step leads on");
     let mut steps: BTreeSet<Step> = model.steps.iter().copied().collect();
-    for target in [model.start, next] {
-        steps.insert(Step::new(model.start, release, target));
+    for target in [near.source, near.target] {
+        steps.insert(Step::new(near.source, release, target));
     }
     model.steps = steps.into_iter().collect();
     model

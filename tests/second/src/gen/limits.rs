@@ -5,6 +5,7 @@ use std::collections::BTreeSet;
 use super::deep::{chain, chain_behind_releases, deep_model};
 use super::models::{passing_model, random_model};
 use super::parts::{Steps, NAME_BYTES};
+use super::starts::with_all_starts;
 use super::wide::greatest_roll;
 use super::Rng;
 use crate::store::{Action, Level, Model, Step, LONGEST_NAME, MOST_ACTIONS, MOST_STEPS};
@@ -25,7 +26,24 @@ pub fn limit_models(rng: &mut Rng) -> Vec<(&'static str, Model)> {
         ("long run and word", chain_behind_releases(63)),
         ("greatest roll", greatest_roll()),
     ]);
+    models.extend(all_starts(rng, &actions));
     models
+}
+
+/// As many starts as there may be: 127 `I` lines.
+fn all_starts(rng: &mut Rng, actions: &[Action]) -> [(&'static str, Model); 6] {
+    [
+        ("all starts, longest text", longest_text(rng, actions, true)),
+        (
+            "all starts, random",
+            random_model(rng, 128, 64, MOST_STEPS, false),
+        ),
+        ("all starts, passing", passing_model(rng, 128, true)),
+        ("all starts, chain", chain(128)),
+        ("all starts, deepest", deep_model(rng, 127)),
+        ("all starts, no steps", random_model(rng, 128, 64, 0, true)),
+    ]
+    .map(|(what, model)| (what, with_all_starts(&model)))
 }
 
 /// As many actions as there may be, with names as long as they may be.
@@ -53,6 +71,7 @@ fn longest_text(rng: &mut Rng, actions: &[Action], deterministic: bool) -> Model
     Model {
         states: 128,
         start: 127,
+        extra_starts: Vec::new(),
         actions: actions.to_vec(),
         steps: steps.into_vec(),
     }
@@ -81,6 +100,7 @@ fn one_state(actions: &[Action]) -> Model {
     Model {
         states: 1,
         start: 0,
+        extra_starts: Vec::new(),
         actions: actions.to_vec(),
         steps: (0..64).map(|action| Step::new(0, action, 0)).collect(),
     }
@@ -97,6 +117,7 @@ fn star(actions: &[Action]) -> Model {
     Model {
         states: 128,
         start: 0,
+        extra_starts: Vec::new(),
         actions: actions.to_vec(),
         steps: steps.into_vec(),
     }

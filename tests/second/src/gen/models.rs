@@ -4,6 +4,7 @@ use std::collections::BTreeSet;
 
 use super::deep::deep_model;
 use super::parts::{actions, actions_of, names, of_level, Steps};
+use super::starts::with_some_starts;
 use super::variants::{shuffle, with_twin, with_unreachable};
 use super::Rng;
 use crate::store::{Action, Level, Model, Step, MOST_ACTIONS, MOST_STEPS};
@@ -34,12 +35,14 @@ pub fn random_model(
         let (source, target) = (rng.below(states), rng.below(states));
         steps.add(source, rng.below(action_count) as u16, target);
     }
-    Model {
+    let model = Model {
         states: states as u16,
         start: start as u16,
+        extra_starts: Vec::new(),
         actions,
         steps: steps.into_vec(),
-    }
+    };
+    with_some_starts(rng, model)
 }
 
 /// A small model: at most 12 states and 6 actions.
@@ -80,9 +83,11 @@ pub fn narrow_model(rng: &mut Rng, deterministic: bool) -> Model {
     let model = Model {
         states: states as u16,
         start: rng.below(states) as u16,
+        extra_starts: Vec::new(),
         actions,
         steps: steps.into_vec(),
     };
+    let model = with_some_starts(rng, model);
     shuffle(rng, &model)
 }
 
@@ -118,9 +123,11 @@ pub fn passing_model(rng: &mut Rng, states: usize, deterministic: bool) -> Model
     let model = Model {
         states: states as u16,
         start,
+        extra_starts: Vec::new(),
         actions,
         steps: steps.into_vec(),
     };
+    let model = with_some_starts(rng, model);
     shuffle(rng, &model)
 }
 

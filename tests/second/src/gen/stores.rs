@@ -3,7 +3,8 @@
 use super::parts::NAME_BYTES;
 use super::{some_of, Rng};
 use crate::store::{
-    action_place, step_place, Model, Step, LONGEST_NAME, MOST_ACTIONS, MOST_STEPS, STORE,
+    action_place, extra_start_place, step_place, Model, Step, EXTRA_STARTS, LONGEST_NAME,
+    MOST_ACTIONS, MOST_EXTRA_STARTS, MOST_STEPS, STORE,
 };
 
 /// Stores that are not good, each with one thing wrong.
@@ -34,6 +35,16 @@ pub fn bad_stores(model: &Model) -> Vec<(&'static str, Vec<u16>)> {
         for k in 0..3 {
             for number in [1, 65_535] {
                 list.add("unused step", &[(step_place(j) + k, number)]);
+            }
+        }
+    }
+    list.start_counts();
+    let starts = model.extra_starts.len();
+    some_of(0, starts).into_iter().for_each(|k| list.start(k));
+    for k in some_of(starts, MOST_EXTRA_STARTS) {
+        for number in [1, model.states - 1, 127, 65_535] {
+            if number > 0 {
+                list.add("unused start", &[(extra_start_place(k), number)]);
             }
         }
     }
@@ -158,16 +169,65 @@ impl BadStores<'_> {
         self.add("equal steps", &equal);
         self.add("steps swapped", &swapped);
     }
+
+    /// Counts of extra starts outside their range, or that do not fit what
+    /// follows: an unused place is 0, which no extra start is.
+    fn start_counts(&mut self) {
+        for count in [128, 129, 256, 65_535] {
+            self.add("extra starts out of range", &[(EXTRA_STARTS, count)]);
+        }
+        let count = self.model.extra_starts.len();
+        if count < MOST_EXTRA_STARTS {
+            let more = [count as u16 + 1, MOST_EXTRA_STARTS as u16];
+            for count in more {
+                self.add("an extra start too few", &[(EXTRA_STARTS, count)]);
+            }
+        }
+        if let [first, .., last] = self.model.starts()[..] {
+            for count in [count as u16 - 1, 0] {
+                self.add("an extra start too many", &[(EXTRA_STARTS, count)]);
+            }
+            let lowest = self.model.extra_starts[0];
+            self.add("start not below the extra ones", &[(3, lowest)]);
+            self.add("extra starts not above the start", &[(3, last)]);
+            self.add("states not above the starts", &[(0, last)]);
+            self.add("the start once more", &[(extra_start_place(0), first)]);
+        }
+    }
+
+    /// An extra start outside its range, or not above the one before it.
+    fn start(&mut self, k: usize) {
+        let place = extra_start_place(k);
+        for number in [self.model.states, 128, 256, 65_535] {
+            self.add("no such start", &[(place, number)]);
+        }
+        let before = self.model.starts()[k];
+        for number in [before, before.saturating_sub(1), 0] {
+            self.add("start not above the one before", &[(place, number)]);
+        }
+        if k > 0 {
+            let swapped = [(place - 1, self.good[place]), (place, before)];
+            self.add("starts swapped", &swapped);
+        }
+    }
 }
 
 /// A store with a few random changes. It may still be a good one.
 pub fn mutated_store(rng: &mut Rng, model: &Model) -> Vec<u16> {
     let mut store = model.to_store();
+    if rng.percent(20) {
+        add_start(rng, model, &mut store);
+        if rng.percent(50) {
+            return store;
+        }
+    }
     for _ in 0..rng.between(1, 2) {
-        let place = match rng.below(8) {
+        let place = match rng.below(11) {
             0 => rng.below(4),
             1 | 2 => action_place(rng.below(model.actions.len() + 1)) + rng.below(14),
             3..=6 => step_place(rng.below(model.steps.len() + 1)) + rng.below(3),
+            7 => EXTRA_STARTS,
+            8 | 9 => extra_start_place(rng.below(model.extra_starts.len() + 2)),
             _ => rng.below(STORE),
         };
         if place < STORE {
@@ -182,6 +242,15 @@ pub fn mutated_store(rng: &mut Rng, model: &Model) -> Vec<u16> {
         }
     }
     store
+}
+
+/// One more extra start, counted, which may be outside or not above the last.
+fn add_start(rng: &mut Rng, model: &Model, store: &mut [u16]) {
+    let count = model.extra_starts.len();
+    if count < MOST_EXTRA_STARTS {
+        store[EXTRA_STARTS] += 1;
+        store[extra_start_place(count)] = rng.below(usize::from(model.states) + 2) as u16;
+    }
 }
 
 /// A store of random numbers.

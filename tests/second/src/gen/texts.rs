@@ -5,6 +5,7 @@ mod ends;
 mod fields;
 mod lines;
 mod pairs;
+mod starts;
 
 pub use changes::{mutated_text, scrap_text};
 pub use pairs::{BadLine, Kind};
@@ -32,6 +33,7 @@ pub fn faults(model: &Model) -> Vec<Fault> {
     let mut list = Faults::new(&lines, model);
     lines::add(&mut list, model);
     fields::add(&mut list, model);
+    starts::add(&mut list, model);
     ends::add(&mut list, model);
     let bad_lines = pairs::bad_lines(&list, model);
     list.faults
@@ -50,6 +52,8 @@ pub fn bad_lines(model: &Model) -> Vec<BadLine> {
 /// given by index, from 0; places of refusals count from 1.
 struct Faults<'a> {
     lines: &'a [Vec<u8>],
+    /// The first `I` line, or what stands after the last action.
+    first_start: usize,
     /// The first step's line, or the last line if there is no step.
     first_step: usize,
     last: usize,
@@ -60,7 +64,8 @@ impl<'a> Faults<'a> {
     fn new(lines: &'a [Vec<u8>], model: &Model) -> Faults<'a> {
         Faults {
             lines,
-            first_step: 1 + model.actions.len(),
+            first_start: 1 + model.actions.len(),
+            first_step: 1 + model.actions.len() + model.extra_starts.len(),
             last: lines.len() - 1,
             faults: Vec::new(),
         }
@@ -70,13 +75,19 @@ impl<'a> Faults<'a> {
     fn everywhere(&self) -> BTreeSet<usize> {
         let mut everywhere = BTreeSet::from([0, self.last]);
         everywhere.extend(self.actions());
+        everywhere.extend(self.starts());
         everywhere.extend(self.steps());
         everywhere
     }
 
     /// Some of the lines of actions.
     fn actions(&self) -> BTreeSet<usize> {
-        some_of(1, self.first_step)
+        some_of(1, self.first_start)
+    }
+
+    /// Some of the lines of extra starts.
+    fn starts(&self) -> BTreeSet<usize> {
+        some_of(self.first_start, self.first_step)
     }
 
     /// Some of the lines of steps.

@@ -74,10 +74,12 @@ pub fn shuffle(rng: &mut Rng, model: &Model) -> Model {
     };
     let mut steps: Vec<Step> = model.steps.iter().map(renumber).collect();
     steps.sort();
-    Model {
-        states: model.states,
-        start: state[usize::from(model.start)] as u16,
+    let starts = model.starts().into_iter();
+    let starts = starts.map(|start| state[usize::from(start)] as u16);
+    let renumbered = Model {
         actions,
         steps,
-    }
+        ..model.clone()
+    };
+    renumbered.with_starts(&starts.collect())
 }

@@ -1,6 +1,7 @@
 //! Models whose states offer many low actions, for receipt rolls.
 
 use super::parts::{actions_of, named, Steps};
+use super::starts::with_some_starts;
 use super::variants::{shuffle, with_unreachable};
 use super::Rng;
 use crate::store::{Action, Level, Model, Step};
@@ -38,12 +39,14 @@ pub fn wide_model(rng: &mut Rng, deterministic: bool) -> Model {
             }
         }
     }
-    let mut model = Model {
+    let model = Model {
         states: states as u16,
         start: rng.below(states) as u16,
+        extra_starts: Vec::new(),
         actions: actions_of(rng, &levels),
         steps: steps.into_vec(),
     };
+    let mut model = with_some_starts(rng, model);
     if rng.percent(20) {
         model = with_unreachable(rng, &model);
     }
@@ -80,6 +83,7 @@ pub fn greatest_roll() -> Model {
     Model {
         states: 128,
         start: 2,
+        extra_starts: Vec::new(),
         actions,
         steps,
     }

@@ -25,9 +25,9 @@ impl Deterministic<'_> {
         }
     }
 
-    /// Passed: each possible sequence and its thinned form, which is possible
-    /// too, end in states that allow the same low sequences; and so do the two
-    /// ends of each reachable high step.
+    /// Passed: each sequence possible from a start and its thinned form, which
+    /// is possible from there too, end in states that allow the same low
+    /// sequences; and so do the two ends of each reachable high step.
     fn passed_holds(&self, interference: Option<Interference>) -> Check {
         demand(interference.is_none(), || {
             format!("passed, but {interference:?}")
@@ -68,8 +68,11 @@ impl Deterministic<'_> {
 
     /// Checks a found interference against the definitions.
     fn interferes(&self, found: &Interference) -> Check {
-        let (model, start) = (self.model, self.model.start);
+        let (model, start) = (self.model, found.start);
         let thinned = thin(model, &found.sequence);
+        demand(model.starts().contains(&start), || {
+            format!("no start: {found:?}")
+        })?;
         demand(found.low.iter().all(|&a| is_low(model, a)), || {
             format!("not low: {found:?}")
         })?;
@@ -109,23 +112,34 @@ impl Deterministic<'_> {
         self.word_tells(step, word)
     }
 
-    /// The run to the source, with and without the high step, has one thinned
-    /// form. The word can follow just one of the two, so it tells one of them
-    /// from the thinned form.
+    /// From each start that leads to the source, and there is one, the word
+    /// tells of interference.
     fn word_tells(&self, step: Step, word: &[u16]) -> Check {
+        let mut told = false;
+        for start in self.model.starts() {
+            if let Some(run) = self.sequence_to(start, step.source) {
+                self.word_tells_from(start, &run, step, word)?;
+                told = true;
+            }
+        }
+        demand(told, || format!("{step:?} is reachable from no start"))
+    }
+
+    /// A run to the source, with and without the high step, has one thinned
+    /// form, which begins in the same start. The word can follow just one of
+    /// the two, so it tells one of them from the thinned form.
+    fn word_tells_from(&self, start: u16, run: &[u16], step: Step, word: &[u16]) -> Check {
         let model = self.model;
-        let run = self.sequence_to(step.source);
-        let longer = joined(&run, &[step.action]);
-        demand(thin(model, &run) == thin(model, &longer), || {
+        let longer = joined(run, &[step.action]);
+        demand(thin(model, run) == thin(model, &longer), || {
             "the high step is not thinned out".to_string()
         })?;
         let tells = |sequence: &[u16]| {
             let whole = joined(sequence, word);
-            possible(model, model.start, &whole)
-                != possible(model, model.start, &thin(model, &whole))
+            possible(model, start, &whole) != possible(model, start, &thin(model, &whole))
         };
-        demand(tells(&run) != tells(&longer), || {
-            format!("the word {word:?} tells of no interference")
+        demand(tells(run) != tells(&longer), || {
+            format!("the word {word:?} tells of no interference from {start}")
         })
     }
 

@@ -4,18 +4,18 @@ use super::sequences::reachable;
 use super::{demand, Check};
 use crate::store::{Model, MOST_STATES};
 
-/// Checks all 128 distances: the start alone has 0, no step leads further
+/// Checks all 128 distances: the starts alone have 0, no step leads further
 /// than one on, and every other reachable state is entered from one less.
 pub fn distances_hold(model: &Model, distances: &[u16]) -> Check {
     demand(distances.len() >= MOST_STATES, || {
         "the distances are too short".to_string()
     })?;
-    let reachable = reachable(model);
+    let (reachable, starts) = (reachable(model), model.starts());
     let distance = |state: u16| u32::from(distances[usize::from(state)]);
     for state in 0..MOST_STATES as u16 {
         let right = if !reachable.contains(&state) {
             distance(state) == 65_535
-        } else if state == model.start {
+        } else if starts.contains(&state) {
             distance(state) == 0
         } else {
             let mut entries = model.steps.iter().filter(|step| step.target == state);
@@ -35,11 +35,17 @@ pub fn distances_hold(model: &Model, distances: &[u16]) -> Check {
 }
 
 /// Checks a run to a reachable state, given distances that hold: it leads
-/// there from the start, each step is one further on, and no lower-numbered
+/// there from a start, each step is one further on, and no lower-numbered
 /// step would enter the same state from a distance one less.
 pub fn run_holds(model: &Model, distances: &[u16], run: &[u16], state: u16) -> Check {
     let distance = |state: u16| u32::from(distances[usize::from(state)]);
-    let mut here = model.start;
+    // A run of no steps begins where it ends.
+    let first = run.first().map(|&number| usize::from(number));
+    let first = first.and_then(|number| model.steps.get(number));
+    let mut here = first.map_or(state, |step| step.source);
+    demand(model.starts().contains(&here), || {
+        format!("the run begins in {here}, which is no start")
+    })?;
     for &number in run {
         let Some(step) = model.steps.get(usize::from(number)) else {
             return Err(format!("no step {number}"));

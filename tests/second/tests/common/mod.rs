@@ -82,8 +82,16 @@ pub fn refusal(text: &[u8]) -> (u16, u64) {
 /// A text with the actions scan (low), print (high) and close (release), and
 /// with these steps: source, action, target.
 pub fn till(states: u16, steps: &[(u16, u16, u16)]) -> Vec<u8> {
-    let mut text = format!("M,{states},3,{},0\n", steps.len());
+    waking_till(states, &[0], steps)
+}
+
+/// The same with these starts, of which the first stands in line 1.
+pub fn waking_till(states: u16, starts: &[u16], steps: &[(u16, u16, u16)]) -> Vec<u8> {
+    let mut text = format!("M,{states},3,{},{}\n", steps.len(), starts[0]);
     text += "A,L,scan\nA,H,print\nA,D,close\n";
+    for start in &starts[1..] {
+        text += &format!("I,{start}\n");
+    }
     for (source, action, target) in steps {
         text += &format!("S,{source},{action},{target}\n");
     }

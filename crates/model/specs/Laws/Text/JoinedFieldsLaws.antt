@@ -17,7 +17,7 @@ use Rattle.text.specs.declared.number.Bounds.{Bounds}
 use Rattle.text.specs.declared.number.Number.{Number}
 use Rattle.text.specs.declared.number.Number.the-variants.{Value, BadDigits, Outside}
 use Rattle.text.specs.declared.row.Row.{Row}
-use Rattle.text.specs.declared.row.Row.the-variants.{HeadRow, StepRow}
+use Rattle.text.specs.declared.row.Row.the-variants.{HeadRow, StartRow, StepRow}
 use Rattle.text.specs.Bytes.{kindOf, digit, capital, comma, byteComma}
 use Rattle.text.specs.Laws.BytesLaws.{comma-only}
 use Rattle.text.specs.Limits.{stateLimit}
@@ -137,6 +137,7 @@ digits-without kind h (n ∷ ns) = (
 rowLetter-comma : (row : Row) → kindOf (rowLetter row) ≡ comma → ⊥
 unfolding kindOf rowLetter
 rowLetter-comma HeadRow = λ z. eqb-false capital comma refl z
+rowLetter-comma (StartRow h) = λ z. eqb-false capital comma refl z
 rowLetter-comma (StepRow h) = λ z. eqb-false capital comma refl z
 
 -- the first of its numbers is the number of states that the row gives, if the bounds depend on it
@@ -147,6 +148,7 @@ rowBounds-digits HeadRow states [] l s t = absurd (omega arith)
 rowBounds-digits HeadRow states (n ∷ ns) l s t =
     let first = and-left (inBounds? (fromTo 1 stateLimit) n) _ t in
     rw (numberIn-digits (fromTo 1 stateLimit) n (s .0) first, valueOr0)
+rowBounds-digits (StartRow h) states ns l s t = refl
 rowBounds-digits (StepRow h) states ns l s t = refl
 
 -- what is written reads back

@@ -1,5 +1,5 @@
 -- The text of a model is its lines joined by line ends, and no line holds a line end or a number above a byte.
--- Document 01, "The text". Assumes nothing.
+-- Document 01, "The text"; document 02, (iii). Assumes nothing.
 use mathlib.Core.List.{List, [], _∷_, _++_, map, append-assoc}
 use mathlib.Core.Logic.{inl, inr}
 use mathlib.Core.Path.{_≡_, refl, sym, ap, _∙_}
@@ -10,7 +10,7 @@ use lib.ListN.{length, length-append}
 use borrow.Author.Tests.{eqb-false}
 use Rattle.text.specs.declared.Head.{Head}
 use Rattle.text.specs.declared.StepLine.{StepLine}
-use Rattle.text.specs.Bytes.{kindOf, digit, capital, byteA, byteComma, byteE, byteLineEnd, byteM, byteS}
+use Rattle.text.specs.Bytes.{kindOf, digit, capital, byteA, byteComma, byteE, byteI, byteLineEnd, byteM, byteS}
 use Rattle.text.specs.Laws.BytesLaws.{digit-within, smallLetter-within, capital-within}
 use Rattle.text.specs.Numbers.{digits}
 use Rattle.text.specs.Laws.DigitsLaws.{digits-digit}
@@ -20,12 +20,12 @@ use Rattle.text.specs.Join.{join}
 use Rattle.text.specs.Laws.JoinLaws.{join-cons, all-join}
 use Rattle.text.specs.Model.{ActionLine, Model}
 use Rattle.text.specs.Lines.{good, headFits?, headOf, name?, actionOf, stepOf}
-use Rattle.model.specs.Text.{headText, levelByte, actionText, stepText, actionsText, stepsText, modelText}
+use Rattle.model.specs.Text.{headText, levelByte, actionText, startText, stepText, actionsText, startsText, stepsText, modelText}
 use Rattle.model.specs.Store.{headRow, stepRow}
 use Rattle.model.specs.WellFormed.{ActionFits, StepFits, WellFormed}
 use Rattle.model.specs.Laws.Store.EachLaws.{all-of-each}
 use Rattle.model.specs.Inner.LineText.{NameByte, LineByte, lineOf, lineOfHead, lineOfAction}
-use Rattle.model.specs.Inner.LineText.{lineOfStep, partsOf}
+use Rattle.model.specs.Inner.LineText.{lineOfStart, lineOfStep, partsOf}
 use Rattle.model.specs.Laws.Text.ActionLineLaws.{name-bytes, levelByte-capital, line-of-actionOf}
 use Rattle.model.specs.Laws.Text.LineTextLaws.{line-of-headOf, line-of-stepOf}
 
@@ -38,6 +38,10 @@ headText-line h = simp append-assoc
 pub actionText-line : (a : ActionLine) → actionText a ≡ lineOfAction a ++ (byteLineEnd ∷ [])
 unfolding actionText join
 actionText-line a = refl
+
+pub startText-line : (p : ℕ) → startText p ≡ lineOfStart p ++ (byteLineEnd ∷ [])
+unfolding startText join
+startText-line p = refl
 
 pub stepText-line : (s : StepLine) → stepText s ≡ lineOfStep s ++ (byteLineEnd ∷ [])
 unfolding stepText join
@@ -81,6 +85,11 @@ actionsText-line : (a : ActionLine) (rest : List ActionLine)
 unfolding actionsText
 actionsText-line a rest = rw (actionText-line a)
 
+startsText-line : (p : ℕ) (rest : List ℕ)
+    → startsText (p ∷ rest) ≡ lineOfStart p ++ (byteLineEnd ∷ []) ++ startsText rest
+unfolding startsText
+startsText-line p rest = rw (startText-line p)
+
 stepsText-line : (s : StepLine) (rest : List StepLine)
     → stepsText (s ∷ rest) ≡ lineOfStep s ++ (byteLineEnd ∷ []) ++ stepsText rest
 unfolding stepsText
@@ -90,22 +99,27 @@ join-last : join byteLineEnd ((byteE ∷ []) ∷ [] ∷ []) ≡ byteE ∷ byteLi
 unfolding join
 join-last = refl
 
-regroup : (h a s e : List ℕ) → h ++ (byteLineEnd ∷ []) ++ a ++ s ++ e ≡ h ++ (byteLineEnd ∷ (a ++ (s ++ e)))
-regroup h a s e = simp append-assoc
+regroup : (h a i s e : List ℕ)
+    → h ++ (byteLineEnd ∷ []) ++ a ++ i ++ s ++ e ≡ h ++ (byteLineEnd ∷ (a ++ (i ++ (s ++ e))))
+regroup h a i s e = simp append-assoc
 
 pub modelText-parts : (m : Model) → modelText m ≡ join byteLineEnd (partsOf m)
-unfolding modelText actionsText stepsText
+unfolding modelText actionsText startsText stepsText
 modelText-parts m =
     let last : List (List ℕ) = (byteE ∷ []) ∷ [] ∷ [] in
     let from-steps : List (List ℕ) = map lineOfStep (m .steps) ++ last in
-    let from-actions : List (List ℕ) = map lineOfAction (m .actions) ++ from-steps in
+    let from-starts : List (List ℕ) = map lineOfStart (m .extraStarts) ++ from-steps in
+    let from-actions : List (List ℕ) = map lineOfAction (m .actions) ++ from-starts in
     let k : 0 < length from-steps = simp length-append (omega arith) in
+    let j : 0 < length from-starts = simp length-append (omega arith) in
     let l : 0 < length from-actions = simp length-append (omega arith) in
     let steps = join-lines lineOfStep stepsText refl stepsText-line (m .steps) last (omega arith) in
-    let actions = join-lines lineOfAction actionsText refl actionsText-line (m .actions) from-steps k in
+    let starts = join-lines lineOfStart startsText refl startsText-line (m .extraStarts) from-steps k in
+    let actions = join-lines lineOfAction actionsText refl actionsText-line (m .actions) from-starts j in
     sym (join-cons byteLineEnd (lineOfHead (m .head)) from-actions l
-    ∙ rw (actions, steps, join-last, headText-line (m .head))
-    (sym (regroup (lineOfHead (m .head)) (actionsText (m .actions)) (stepsText (m .steps)) (byteE ∷ byteLineEnd ∷ []))))
+    ∙ rw (actions, starts, steps, join-last, headText-line (m .head))
+    (sym (regroup (lineOfHead (m .head)) (actionsText (m .actions)) (startsText (m .extraStarts)) (stepsText (m .steps))
+    (byteE ∷ byteLineEnd ∷ []))))
 
 -- ---- the bytes of lines
 
@@ -140,6 +154,10 @@ pub lineOfHead-lineBytes : (h : Head) → All LineByte (lineOfHead h)
 unfolding kindOf
 lineOfHead-lineBytes h = lineOf-lineBytes byteM (map digits (headRow h)) refl (digits-lineBytes (headRow h))
 
+pub lineOfStart-lineBytes : (p : ℕ) → All LineByte (lineOfStart p)
+unfolding kindOf
+lineOfStart-lineBytes p = lineOf-lineBytes byteI (map digits (p ∷ [])) refl (digits-lineBytes (p ∷ []))
+
 pub lineOfStep-lineBytes : (s : StepLine) → All LineByte (lineOfStep s)
 unfolding kindOf
 lineOfStep-lineBytes s = lineOf-lineBytes byteS (map digits (stepRow s)) refl (digits-lineBytes (stepRow s))
@@ -161,6 +179,11 @@ module _ (m : Model) (w : WellFormed m) where
       all-map (All LineByte) lineOfStep (m .steps)
       (all-intro (λ s. All LineByte (lineOfStep s)) lineOfStep-lineBytes (m .steps))
 
+  starts-lineBytes : All (All LineByte) (map lineOfStart (m .extraStarts))
+  starts-lineBytes =
+      all-map (All LineByte) lineOfStart (m .extraStarts)
+      (all-intro (λ p. All LineByte (lineOfStart p)) lineOfStart-lineBytes (m .extraStarts))
+
   actions-lineBytes : All (All LineByte) (map lineOfAction (m .actions))
   actions-lineBytes =
       all-map (All LineByte) lineOfAction (m .actions)
@@ -171,9 +194,12 @@ module _ (m : Model) (w : WellFormed m) where
   partsOf-lineBytes =
       let last : List (List ℕ) = (byteE ∷ []) ∷ [] ∷ [] in
       let steps : List (List ℕ) = map lineOfStep (m .steps) in
-      let from-steps = all-append (All LineByte) steps last steps-lineBytes last-lineBytes in (
+      let starts : List (List ℕ) = map lineOfStart (m .extraStarts) in
+      let from-steps = all-append (All LineByte) steps last steps-lineBytes last-lineBytes in
+      let from-starts = all-append (All LineByte) starts (steps ++ last) starts-lineBytes from-steps in (
         lineOfHead-lineBytes (m .head),
-        all-append (All LineByte) (map lineOfAction (m .actions)) (steps ++ last) actions-lineBytes from-steps,
+        all-append (All LineByte) (map lineOfAction (m .actions)) (starts ++ (steps ++ last)) actions-lineBytes
+            from-starts,
       )
 
   -- what holds of each byte of a line holds of each byte of each part

@@ -1,7 +1,7 @@
--- The lengths of a model's lines, and of its text: at most the 14,420 bytes that Write's list has.
--- Document 01, "The operations, in the order of the work", 8. Assumes nothing.
+-- The lengths of a model's lines, and of its text: at most the 15,182 bytes that Write's list has.
+-- Document 01, "The operations, in the order of the work", 8; document 02, (iii). Assumes nothing.
 use mathlib.Core.List.{List, [], _∷_, _++_}
-use Prim.Native.Nat.{_*_, _≤_}
+use Prim.Native.Nat.{ℕ, _*_, _≤_, _<_}
 use native.Mathlib.Omega.{arith}
 use lib.Dec.{T}
 use lib.ListN.{length, length-append}
@@ -11,10 +11,12 @@ use Rattle.text.specs.Limits.{outLength}
 use Rattle.text.specs.Laws.DigitsLaws.{digits-length-le}
 use Rattle.text.specs.Model.{ActionLine, Model}
 use Rattle.text.specs.Lines.{name?}
-use Rattle.model.specs.Text.{headText, actionText, stepText, actionsText, stepsText, modelText}
+use Rattle.model.specs.Text.{headText, actionText, startText, stepText, actionsText, startsText, stepsText}
+use Rattle.model.specs.Text.{modelText}
 use Rattle.text.specs.Inner.Ranges.{HeadRanges, StepRanges}
-use Rattle.text.specs.Laws.RangesLaws.{headFits?→HeadRanges, stepFits?→StepRanges}
-use Rattle.model.specs.WellFormed.{EachAfter, ActionFits, StepFits, WellFormed}
+use Rattle.text.specs.Laws.RangesLaws.{headFits?→HeadRanges, startFits?→lt, stepFits?→StepRanges}
+use Rattle.model.specs.WellFormed.{EachAfter, ActionFits, StartFits, StepFits, WellFormed}
+use Rattle.model.specs.Laws.Store.StartsLaws.{extra-count-le}
 use Rattle.model.specs.Laws.Text.ActionLineLaws.{name-length}
 
 -- `M,128,64,1024,127` and its end
@@ -31,6 +33,12 @@ headText-length-le h r =
 pub actionText-length-le : (a : ActionLine) → T (name? (a .name)) → length (actionText a) ≤ 17
 unfolding actionText
 actionText-length-le a t = let n = name-length (a .name) t in simp length-append (omega arith)
+
+-- `I,127` and its end
+pub startText-length-le : (h : Head) (p : ℕ) → HeadRanges h → p < h .states → length (startText p) ≤ 6
+unfolding startText
+startText-length-le h p r l =
+    let a = digits-length-le 3 p (omega arith) (omega arith) (omega arith) in simp length-append (omega arith)
 
 -- `S,127,63,127` and its end
 pub stepText-length-le : (h : Head) (s : StepLine) → HeadRanges h → StepRanges h s → length (stepText s) ≤ 13
@@ -50,6 +58,15 @@ actionsText-length-le before (a ∷ rest) e =
     let i = actionsText-length-le (before ++ (a ∷ [])) rest (e .1) in
     simp length-append (omega arith)
 
+pub startsText-length-le : (h : Head) (before rest : List ℕ) → HeadRanges h → EachAfter (StartFits h) before rest
+    → length (startsText rest) ≤ 6 * length rest
+unfolding EachAfter startsText
+startsText-length-le h before [] r e = omega arith
+startsText-length-le h before (p ∷ rest) r e =
+    let l = startText-length-le h p r (startFits?→lt h p (e .0 .in-range)) in
+    let i = startsText-length-le h (before ++ (p ∷ [])) rest r (e .1) in
+    simp length-append (omega arith)
+
 pub stepsText-length-le : (h : Head) (before rest : List StepLine) → HeadRanges h → EachAfter (StepFits h) before rest
     → length (stepsText rest) ≤ 13 * length rest
 unfolding EachAfter stepsText
@@ -65,7 +82,9 @@ modelText-length-le m w =
     let r = headFits?→HeadRanges (m .head) (w .head) in
     let h = headText-length-le (m .head) r in
     let a = actionsText-length-le [] (m .actions) (w .actions) in
+    let i = startsText-length-le (m .head) [] (m .extraStarts) r (w .extra-starts) in
     let s = stepsText-length-le (m .head) [] (m .steps) r (w .steps) in
     let ca = w .action-count in
+    let ci = extra-count-le m w in
     let cs = w .step-count in
     simp length-append (omega arith)

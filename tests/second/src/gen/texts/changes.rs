@@ -5,7 +5,7 @@ use crate::gen::Rng;
 
 /// A text with a few random changes. It may still be a good one.
 pub fn mutated_text(rng: &mut Rng, text: &[u8]) -> Vec<u8> {
-    const BYTES: &[u8] = b"0123456789,,,\n\n\nMASELDHabz \r\0\xff\x80";
+    const BYTES: &[u8] = b"0123456789,,,\n\n\nMAISELDHabz \r\0\xff\x80";
     let mut text = text.to_vec();
     for _ in 0..rng.between(1, 3) {
         let place = rng.below(text.len() + 1);
@@ -22,7 +22,7 @@ pub fn mutated_text(rng: &mut Rng, text: &[u8]) -> Vec<u8> {
 /// One change, of most kinds at this place.
 fn change(rng: &mut Rng, text: &mut Vec<u8>, place: usize, byte: u8) {
     let inside = place < text.len();
-    match rng.below(12) {
+    match rng.below(15) {
         0 | 1 => text.insert(place, byte),
         2 | 3 if inside => {
             text.remove(place);
@@ -40,6 +40,7 @@ fn change(rng: &mut Rng, text: &mut Vec<u8>, place: usize, byte: u8) {
             text.splice(place..place, piece);
         }
         9 | 10 => *text = with_number_changed(rng, text),
+        11..=13 => *text = with_starts_changed(rng, text),
         _ => *text = with_lines_swapped(rng, text),
     }
 }
@@ -51,6 +52,28 @@ fn with_lines_swapped(rng: &mut Rng, text: &[u8]) -> Vec<u8> {
     }
     let (one, other) = (rng.below(lines.len()), rng.below(lines.len()));
     lines.swap(one, other);
+    join(&lines)
+}
+
+/// A text with an `I` line more, one fewer, or another in place of one. Most
+/// further ones stand where an `I` line may.
+fn with_starts_changed(rng: &mut Rng, text: &[u8]) -> Vec<u8> {
+    let mut lines = lines_of(text);
+    let begins = |line: &Vec<u8>, letter: &[u8]| line.starts_with(letter);
+    let after_actions = lines.iter().rposition(|line| begins(line, b"A"));
+    let from = after_actions.map_or(0, |last| last + 1);
+    let starts = lines[from..].iter().take_while(|line| begins(line, b"I"));
+    let to = from + starts.count();
+    let most = *rng.pick(&[4, 14, 130]);
+    let line = format!("I,{}", rng.below(most)).into_bytes();
+    match rng.below(4) {
+        0 if from < to => {
+            lines.remove(from + rng.below(to - from));
+        }
+        1 if from < to => lines[from + rng.below(to - from)] = line,
+        2 => lines.insert(rng.below(lines.len() + 1), line),
+        _ => lines.insert(rng.between(from, to), line),
+    }
     join(&lines)
 }
 
@@ -91,6 +114,7 @@ pub fn scrap_text(rng: &mut Rng) -> Vec<u8> {
     const PIECES: &[&[u8]] = &[
         b"M,",
         b"A,",
+        b"I,",
         b"S,",
         b"E",
         b"E\n",
@@ -109,6 +133,7 @@ pub fn scrap_text(rng: &mut Rng) -> Vec<u8> {
         b"M,1,1,0,0\n",
         b"A,L,a\n",
         b"A,H,b\n",
+        b"I,1\n",
         b"S,0,0,1\n",
         b"S,0,1,1\n",
         b"\0",

@@ -1,6 +1,7 @@
 //! Faults of the whole text: bytes after its end, its length, and which of two
 //! bad lines decides.
 
+use super::starts::before_start;
 use super::{fields_of, join, with_field, Faults};
 use crate::store::Model;
 use crate::text::{Cause, TEXT};
@@ -28,6 +29,7 @@ fn after_end(list: &mut Faults, text: &[u8]) {
         b"\xff",
         b"x\ny\nz\n",
         b"S,0,0,0\n",
+        b"I,1\n",
         b"M,1,1,0,0\nA,H,a\nE\n",
     ] {
         let longer = [text, surplus].concat();
@@ -80,6 +82,14 @@ fn bad_lines(list: &Faults, model: &Model) -> Vec<(usize, Vec<u8>, Cause)> {
             let name = fields_of(&lines[1])[2].clone();
             bad.push((index, changed(index, 2, &name), Cause::NameUsed));
         }
+    }
+    for index in list.starts() {
+        let before = before_start(list, model, index).to_string();
+        bad.push((index, b"I".to_vec(), Cause::FieldCount));
+        bad.push((index, changed(index, 1, b""), Cause::Digits));
+        bad.push((index, changed(index, 1, &outside), Cause::Range));
+        let not_above = changed(index, 1, before.as_bytes());
+        bad.push((index, not_above, Cause::StartOrder));
     }
     for index in list.steps() {
         bad.push((index, changed(index, 3, b""), Cause::Digits));

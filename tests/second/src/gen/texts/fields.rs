@@ -13,6 +13,9 @@ pub(super) fn add(list: &mut Faults, model: &Model) {
             name_used(list, earlier, index);
         }
     }
+    for index in list.starts() {
+        number(list, index, 1);
+    }
     for index in list.steps() {
         step(list, model, index);
     }
@@ -112,7 +115,8 @@ fn counts(list: &mut Faults, model: &Model) {
         let what = "an action too many";
         list.counted(what, (2, actions - 1), Cause::Letter, actions + 1);
     }
-    let end = actions + steps;
+    let before_steps = actions + model.extra_starts.len();
+    let end = before_steps + steps;
     if steps < MOST_STEPS {
         list.counted("a step too few", (3, steps + 1), Cause::Letter, end + 2);
     }
@@ -120,18 +124,22 @@ fn counts(list: &mut Faults, model: &Model) {
         list.counted("a step too many", (3, steps - 1), Cause::Letter, end + 1);
     }
     let fewer = model.states - 1;
-    let outside = |step: &Step| step.source >= fewer || step.target >= fewer;
-    if let Some(step) = model.steps.iter().position(outside) {
-        if model.start < fewer {
+    if model.start < fewer {
+        if let Some(line) = first_outside(model, fewer) {
             let counted = (1, usize::from(fewer));
-            list.counted(
-                "a state too many",
-                counted,
-                Cause::Range,
-                actions + step + 2,
-            );
+            let what = "a state too many";
+            list.counted(what, counted, Cause::Range, actions + 2 + line);
         }
     }
+}
+
+/// Of the lines after the actions, the first with a state that so many states
+/// leave out.
+fn first_outside(model: &Model, states: u16) -> Option<usize> {
+    let outside = |step: &Step| step.source >= states || step.target >= states;
+    let starts = model.extra_starts.iter().map(|&start| start >= states);
+    let steps = model.steps.iter().map(outside);
+    starts.chain(steps).position(|outside| outside)
 }
 
 /// Levels that there are not.

@@ -24,10 +24,11 @@ pub(super) fn add(list: &mut Faults, model: &Model) {
 /// A wrong letter, or none.
 fn letters(list: &mut Faults, index: usize) {
     let line = list.lines[index].clone();
-    for letter in b"MASEmeX \0?," {
+    for letter in b"MAISEmieX \0?," {
         if *letter != line[0] {
             let wrong = [&[*letter][..], &line[1..]].concat();
-            list.line("wrong letter", index, wrong, Cause::Letter);
+            let cause = wrong_letter(list, index, *letter);
+            list.line("wrong letter", index, wrong, cause);
         }
     }
     list.line("empty line", index, Vec::new(), Cause::Letter);
@@ -37,6 +38,22 @@ fn letters(list: &mut Faults, index: usize) {
     let mut lines = list.lines.to_vec();
     lines.insert(index, Vec::new());
     list.add("blank line before", join(&lines), Cause::Letter, index + 1);
+}
+
+/// Why a line is refused that has this letter in place of its own.
+///
+/// `I` is no wrong letter after the starts, nor in place of an `I` line is the
+/// letter of what follows them. The line then has too many fields, or too few.
+fn wrong_letter(list: &Faults, index: usize, letter: u8) -> Cause {
+    let starts = list.first_start..list.first_step;
+    let next = list.lines[list.first_step][0];
+    let begins_a_start = letter == b'I' && index == list.first_step;
+    let ends_the_starts = letter == next && starts.contains(&index);
+    if begins_a_start || ends_the_starts {
+        Cause::FieldCount
+    } else {
+        Cause::Letter
+    }
 }
 
 /// Bytes of no kind of field.
@@ -161,11 +178,11 @@ fn step_lines(list: &mut Faults, model: &Model) {
 
 /// A line of an action is missing or given twice.
 fn action_lines(list: &mut Faults, model: &Model) {
-    let first_step = list.first_step;
+    let after = list.first_start;
     for index in list.actions() {
-        list.without("action line missing", index, Cause::Letter, first_step);
+        list.without("action line missing", index, Cause::Letter, after);
         // After the last action the line must be another.
-        let cause = match index + 1 < first_step {
+        let cause = match index + 1 < after {
             true => Cause::NameUsed,
             false => Cause::Letter,
         };
@@ -184,7 +201,7 @@ impl Faults<'_> {
         self.add(what, join(&lines), cause, place);
     }
 
-    fn doubled(&mut self, what: &'static str, index: usize, cause: Cause, place: usize) {
+    pub(super) fn doubled(&mut self, what: &'static str, index: usize, cause: Cause, place: usize) {
         let mut lines = self.lines.to_vec();
         lines.insert(index, lines[index].clone());
         self.add(what, join(&lines), cause, place);

@@ -3,6 +3,7 @@
 use std::iter;
 use std::ops::Range;
 
+use super::starts::before_start;
 use super::{fields_of, join, Fault, Faults};
 use crate::store::{Model, Step, MOST_ACTIONS, MOST_STEPS};
 use crate::text::Cause;
@@ -13,6 +14,7 @@ use crate::Refusal;
 pub enum Kind {
     Model,
     Action,
+    Start,
     Step,
     End,
     /// What stands after `E`.
@@ -89,6 +91,7 @@ fn damages(list: &Faults, model: &Model, index: usize) -> Vec<Damage> {
     match kind(line) {
         Kind::Model => damages.extend(numbers(index, &outside_head())),
         Kind::Action => damages.extend(action(list, index)),
+        Kind::Start => damages.extend(start(list, model, index)),
         Kind::Step => {
             damages.extend(numbers(index, &outside_step(model)));
             if index > list.first_step {
@@ -106,6 +109,7 @@ fn kind(line: &[u8]) -> Kind {
     match line[0] {
         b'M' => Kind::Model,
         b'A' => Kind::Action,
+        b'I' => Kind::Start,
         b'S' => Kind::Step,
         _ => Kind::End,
     }
@@ -147,6 +151,17 @@ fn action(list: &Faults, index: usize) -> Vec<Damage> {
         let name = &fields_of(&list.lines[1])[2];
         damages.push(Damage::field(Cause::NameUsed, 2, name));
     }
+    damages
+}
+
+/// A letter field that only begins with the letter, bad digits, a number outside
+/// its range, and the start that the line must be above.
+fn start(list: &Faults, model: &Model, index: usize) -> Vec<Damage> {
+    let mut damages = vec![Damage::field(Cause::Letter, 0, b"IX")];
+    damages.extend(numbers(index, &[usize::from(model.states)]));
+    let before = before_start(list, model, index).to_string();
+    let not_above = Damage::field(Cause::StartOrder, 1, before.as_bytes());
+    damages.push(not_above);
     damages
 }
 
@@ -222,7 +237,15 @@ fn after_end(list: &Faults) -> Vec<BadLine> {
         also: None,
         mended: good.clone(),
     };
-    [&b"\n"[..], b"x", b"x\n", b"E", b"E\n", b"S,x,99999\n"]
-        .map(bad_line)
-        .to_vec()
+    [
+        &b"\n"[..],
+        b"x",
+        b"x\n",
+        b"E",
+        b"E\n",
+        b"S,x,99999\n",
+        b"I,1\n",
+    ]
+    .map(bad_line)
+    .to_vec()
 }
