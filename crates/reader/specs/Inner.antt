@@ -1,1 +1,2 @@
 pub mod ReadSoFar
+pub mod FirstLine

@@ -1,4 +1,5 @@
 pub mod ReadLaws
+pub mod ReadStartsLaws
 pub mod ReadStepsLaws
 pub mod TextReadLaws
 pub mod NameLaws

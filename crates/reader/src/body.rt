@@ -1,9 +1,10 @@
-// The text behind its first line: actions, steps and the end, read into a store of zeros that is copied out where
-// all is well.
+// The text behind its first line: actions, extra starts, steps and the end, read into a store of zeros that is copied
+// out where all is well.
 use crate::actions::actions;
 use crate::answers::LineStart;
 use crate::answers::LinesRead;
 use crate::answers::TextRead;
+use crate::starts::starts;
 use crate::steps::steps;
 use model::put::copy;
 use model::put::put_head;
@@ -23,7 +24,7 @@ ghost use Rattle.text.specs.Split.{split};
 ghost use Rattle.text.specs.Limits.{storeLength};
 ghost use Rattle.text.specs.Inner.LineAnswers.{headRead};
 ghost use Rattle.reader.specs.Inner.ReadSoFar.{AfterHead, AfterActions, AfterSteps, Through, ReadOut};
-ghost use Rattle.reader.specs.Inner.ReadSoFar.{AfterLine, firstLine, AfterFirst};
+ghost use Rattle.reader.specs.Inner.FirstLine.{AfterLine, firstLine, AfterFirst};
 
 // The line at a place, taken as the first one.
 pub fn first_line(text: &[u8], at: usize) -> HeadRead
@@ -95,10 +96,16 @@ fn lines(text: &[u8], start: LineStart, head: Head, out: &mut [u16]) -> TextRead
     match acted {
         LinesRead::Faulty { fault, line } => TextRead::Faulty { fault, line },
         LinesRead::Next(a) => {
-            let stepped = steps(text, a, head, out);
-            match stepped {
+            let started = starts(text, a, head, out);
+            match started {
                 LinesRead::Faulty { fault, line } => TextRead::Faulty { fault, line },
-                LinesRead::Next(b) => last_line(text, b, out),
+                LinesRead::Next(b) => {
+                    let stepped = steps(text, b, head, out);
+                    match stepped {
+                        LinesRead::Faulty { fault, line } => TextRead::Faulty { fault, line },
+                        LinesRead::Next(c) => last_line(text, c, out),
+                    }
+                }
             }
         }
     }

@@ -3,4 +3,5 @@ mod actions;
 pub mod answers;
 mod body;
 pub mod reader;
+mod starts;
 mod steps;

@@ -12,7 +12,8 @@ ghost use Rattle.text.specs.Limits.{storeLength};
 ghost use Rattle.text.specs.Bytes.{lineEnd};
 ghost use Rattle.text.specs.Split.{split};
 ghost use Rattle.text.specs.Inner.LineAnswers.{headRead};
-ghost use Rattle.reader.specs.Inner.ReadSoFar.{ReadOut, AfterLine, AfterFirst, firstLine};
+ghost use Rattle.reader.specs.Inner.ReadSoFar.{ReadOut};
+ghost use Rattle.reader.specs.Inner.FirstLine.{AfterLine, AfterFirst, firstLine};
 
 pub struct Reader<'a> {
     pub text: &'a [u8],

@@ -9,11 +9,11 @@ use text::Step;
 use text::StepLine;
 use text::scan::StepAt;
 use text::scan::step_at;
-ghost use Rattle.reader.specs.Inner.ReadSoFar.{AfterActions, AfterSteps, Further};
+ghost use Rattle.reader.specs.Inner.ReadSoFar.{AfterStarts, AfterSteps, Further};
 
-// The lines of the steps, into a store that holds the first line and the actions.
+// The lines of the steps, into a store that holds the first line, the actions and the extra starts.
 pub fn steps(text: &[u8], start: LineStart, head: Head, out: &mut [u16]) -> LinesRead
-    requires { ⌜ AfterActions head (now text) start (head .actions) (now out) ⌝ }
+    requires { ⌜ AfterStarts head (now text) start (now out) ⌝ }
     ensures { λ r. ⌜ Further (λ next. AfterSteps (now (text .entry)) next (now (out .exit)))
         (now (text .entry)) r ⌝ }
 {

@@ -1,27 +1,24 @@
 -- How far a text has been read: what the store holds after some of its lines, and that what remains reads as the
 -- whole does.
--- Only the contracts of inner functions cite it. Document 01, "The text" and "The model store".
-use mathlib.Core.List.{List, [], _∷_}
+-- Only the contracts of inner functions cite it. Document 01, "The text" and "The model store"; document 02, (iii).
+use mathlib.Core.List.{List, []}
 use mathlib.Core.Path.{_≡_}
-use Prim.Native.Nat.{ℕ, _+_, _-_, _≤_}
+use Prim.Native.Nat.{ℕ, _+_, _-_, _≤_, _<_}
 use lib.ListN.{length, drop}
-use Rattle.text.specs.declared.Fault.the-variants.{Absent}
 use Rattle.text.specs.declared.Head.{Head}
 use Rattle.text.specs.declared.StepLine.{StepLine}
-use Rattle.text.specs.declared.line.HeadRead.{HeadRead}
-use Rattle.text.specs.declared.line.HeadRead.the-variants as head-read
 use Rattle.reader.specs.declared.answers.LineStart.{LineStart}
 use Rattle.reader.specs.declared.answers.LinesRead.{LinesRead}
 use Rattle.reader.specs.declared.answers.LinesRead.the-variants as lines-read
 use Rattle.reader.specs.declared.answers.TextRead.{TextRead}
 use Rattle.reader.specs.declared.answers.TextRead.the-variants as text-read
-use Rattle.text.specs.Limits.{stateLimit, actionLimit, stepLimit, actionsLength}
+use Rattle.text.specs.Limits.{stateLimit, actionLimit, stepLimit, extraLimit, actionsLength}
 use Rattle.text.specs.Bytes.{lineEnd}
 use Rattle.text.specs.Split.{split}
-use Rattle.text.specs.Model.{ActionLine, Model}
-use Rattle.text.specs.Lines.{Line, bad, headOf}
+use Rattle.text.specs.Model.{ActionLine, Model, noStep, lastStart}
 use Rattle.text.specs.Inner.LineAnswers.{Last}
-use Rattle.model.specs.Reading.{Reading, faulty, done, headModel, readModel, readActions, readSteps, readEnd}
+use Rattle.model.specs.Reading.{Reading, faulty, done, headModel, readModel, readActions, startLines, readStarts}
+use Rattle.model.specs.Reading.{readSteps, readEnd}
 use Rattle.model.specs.Store.{actionsNumbers, storeOf}
 use Rattle.model.specs.Inner.StoredActions.{Short}
 use Rattle.reader.specs.Answers.{readingStore, ReadAs}
@@ -37,6 +34,7 @@ pub record InLimits (h : Head) : Type 0 where
   pub states : h .states ≤ stateLimit
   pub actions : h .actions ≤ actionLimit
   pub steps : h .steps ≤ stepLimit
+  pub start : h .start .0 < h .states
 
 -- A line begins inside the text, and each line before it but the first has at least its line end, so that the lines
 -- are no more than the bytes and two.
@@ -61,27 +59,50 @@ pub record AfterActions (h : Head) (text : List ℕ) (start : LineStart) (i : �
   pub actions : List ActionLine
   pub count : length actions ≡ i
   pub short : Short actions
-  pub stored : store ≡ storeOf (record { head = h; actions = actions; steps = [] })
+  pub stored : store ≡ storeOf (record { head = h; actions = actions; extraStarts = []; steps = [] })
   pub rest : whole text
-      ≡ readActions (h .actions - i) (start .line) (record { head = h; actions = actions; steps = [] })
-      (partsFrom text start)
+      ≡ readActions (h .actions - i) (start .line)
+      (record { head = h; actions = actions; extraStarts = []; steps = [] }) (partsFrom text start)
 
--- after all actions and j steps, of which `last` is the last
+-- After all actions and i extra starts, of which `last` is the last, or line 1's start. They rise below the states, so
+-- that there are no more of them than `last` says.
+pub record AfterStart (h : Head) (text : List ℕ) (start : LineStart) (i last : ℕ) (store : List ℕ) : Type 0 where
+  pub limits : InLimits h
+  pub inside : InText text start
+  pub actions : List ActionLine
+  pub action-places : length (actionsNumbers actions) ≤ actionsLength
+  pub extraStarts : List ℕ
+  pub count : length extraStarts ≡ i
+  pub last-start : lastStart (h .start .0) extraStarts ≡ last
+  pub count-le : i ≤ last
+  pub last-lt : last < h .states
+  pub stored : store ≡ storeOf (record { head = h; actions = actions; extraStarts = extraStarts; steps = [] })
+  pub rest : whole text
+      ≡ readStarts (startLines (partsFrom text start)) (start .line)
+      (record { head = h; actions = actions; extraStarts = extraStarts; steps = [] }) (partsFrom text start)
+
+-- after all actions, all extra starts and j steps, of which `last` is the last
 pub record AfterStep (h : Head) (text : List ℕ) (start : LineStart) (j : ℕ) (last : StepLine) (store : List ℕ)
     : Type 0 where
   pub limits : InLimits h
   pub inside : InText text start
   pub actions : List ActionLine
   pub action-places : length (actionsNumbers actions) ≤ actionsLength
+  pub extraStarts : List ℕ
+  pub extra-count-le : length extraStarts ≤ extraLimit
   pub steps : List StepLine
   pub count : length steps ≡ j
   pub last-step : Last steps j last
-  pub stored : store ≡ storeOf (record { head = h; actions = actions; steps = steps })
+  pub stored : store ≡ storeOf (record { head = h; actions = actions; extraStarts = extraStarts; steps = steps })
   pub rest : whole text
-      ≡ readSteps (h .steps - j) (start .line) (record { head = h; actions = actions; steps = steps })
-      (partsFrom text start)
+      ≡ readSteps (h .steps - j) (start .line)
+      (record { head = h; actions = actions; extraStarts = extraStarts; steps = steps }) (partsFrom text start)
 
--- after all actions and steps
+-- after all actions and extra starts
+abbrev pub AfterStarts : Head → List ℕ → LineStart → List ℕ → Type 0
+AfterStarts h text start store = AfterStep h text start 0 noStep store
+
+-- after all actions, extra starts and steps
 pub record AfterSteps (text : List ℕ) (start : LineStart) (store : List ℕ) : Type 0 where
   pub inside : InText text start
   pub model : Model
@@ -103,25 +124,6 @@ Further P text (lines-read.Faulty fault line) = whole text ≡ faulty fault line
 unfoldable pub Through : List ℕ → List ℕ → TextRead → Type 0
 Through text store text-read.Done = AfterEnd text store
 Through text store (text-read.Faulty fault line) = whole text ≡ faulty fault line
-
--- ---- the first line
-
--- what the first of a text's parts states as line 1, if it is there with its end
-unfoldable pub firstLine : List (List ℕ) → Line Head
-firstLine [] = bad Absent
-firstLine (line ∷ []) = bad Absent
-firstLine (line ∷ part ∷ parts) = headOf line
-
--- `next` is the place after the line at a place of a text, if that is there with its end
-pub record AfterLine (text : List ℕ) (at next : ℕ) : Type 0 where
-  pub place : next ≤ length text
-  pub rest : (line part : List ℕ) (parts : List (List ℕ)) → split lineEnd (drop at text) ≡ line ∷ part ∷ parts
-      → split lineEnd (drop next text) ≡ part ∷ parts
-
--- after the first line, good or bad; the next is line 2
-unfoldable pub AfterFirst : HeadRead → List ℕ → ℕ → Type 0
-AfterFirst (head-read.Good h) text at = AfterHead h text (record { at = at; line = 2 })
-AfterFirst (head-read.Bad fault) text at = whole text ≡ faulty fault 1
 
 -- ---- what the lines of a text come to
 

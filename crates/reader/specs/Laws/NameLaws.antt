@@ -43,4 +43,4 @@ name-part text at e level h l r =
 -- the actions so far stand in the store
 pub actionsStored-so-far : (h : Head) (text : List ℕ) (start : LineStart) (i : ℕ) (store : List ℕ)
     (b : AfterActions h text start i store) → ActionsStored store actionsBegin (b .actions)
-actionsStored-so-far h text start i store b = rw (b .stored) (actionsStored-storeOf h (b .actions) [] (b .short))
+actionsStored-so-far h text start i store b = rw (b .stored) (actionsStored-storeOf h (b .actions) [] [] (b .short))

@@ -1,9 +1,10 @@
 -- The reading of a text goes on line by line: what a line that is absent, bad or good makes of what has been read
--- so far.
+-- so far. First of any kind of line, then of the actions.
 -- Document 01, "The text" and "Refused because of the input". Assumes nothing.
 use mathlib.Core.Bool.{true, false}
 use mathlib.Core.List.{List, [], _∷_, _++_}
-use mathlib.Core.Path.{_≡_, refl, _∙_}
+use mathlib.Core.Logic.{_⊎_, inl, inr}
+use mathlib.Core.Path.{_≡_, refl, sym, ap, _∙_}
 use Prim.Native.Nat.{ℕ, suc, _+_, _-_, _≤_, _<_}
 use native.Mathlib.Omega.{arith}
 use lib.ListN.{length, take, drop, getD, length-append}
@@ -18,15 +19,16 @@ use Rattle.text.specs.Limits.{nameLimit, storeLength, actionPlace}
 use Rattle.text.specs.Bytes.{byteA, lineEnd}
 use Rattle.text.specs.Split.{split, indexOf}
 use Rattle.text.specs.Laws.SplitLaws.{split-first, split-part, split-last}
-use Rattle.text.specs.Model.{ActionLine, Model}
+use Rattle.text.specs.Model.{ActionLine, Model, withAction}
 use Rattle.text.specs.Lines.{Line, good, bad, headOf, levelOf}
 use Rattle.text.specs.Lines.{actionFields, fieldsOf, used?, actionFrom, actionOf}
+use Rattle.text.specs.Inner.Row.{LineAt, NoLineAt}
 use Rattle.text.specs.Laws.RangesLaws.{headFits?→HeadRanges}
 use Rattle.model.specs.Laws.Text.ActionLineLaws.{good-nameFrom, name-length}
 use Rattle.model.specs.Laws.Text.LineTextLaws.{line-of-headOf}
 use Rattle.model.specs.Reading.{Reading, faulty, onLine, orFault, readActions, headModel}
 use Rattle.model.specs.Store.{storeOf}
-use Rattle.reader.specs.Inner.ReadSoFar.{whole, InLimits, InText, AfterHead, AfterActions, Further}
+use Rattle.reader.specs.Inner.ReadSoFar.{whole, InLimits, InText, partsFrom, AfterHead, AfterActions, Further}
 use Rattle.model.specs.Inner.StoredActions.{Short}
 use Rattle.model.specs.Laws.Store.StoreLaws.{storeOf-length-of-places}
 use Rattle.model.specs.Laws.Store.PutLaws.{actionsNumbers-length-of-short, short-snoc, storeOf-withAction}
@@ -46,15 +48,37 @@ module _ (text : List ℕ) (at e : ℕ) (le : at ≤ length text) (found : e ≡
   onLine-line l =
       let w = split-first lineEnd (drop (e + 1) text) in rw (split-part lineEnd text at e le found l, w .2)
 
-pub orFault-bad : {A : Type 0} (k : ℕ) (l : Line A) (read : A → Reading) (fault : Fault) → l ≡ bad fault
+orFault-bad : {A : Type 0} (k : ℕ) (l : Line A) (read : A → Reading) (fault : Fault) → l ≡ bad fault
     → orFault k l read ≡ faulty fault k
 unfolding orFault
 orFault-bad k l read fault e = rw e
 
-pub orFault-good : {A : Type 0} (k : ℕ) (l : Line A) (read : A → Reading) (a : A) → l ≡ good a
+orFault-good : {A : Type 0} (k : ℕ) (l : Line A) (read : A → Reading) (a : A) → l ≡ good a
     → orFault k l read ≡ read a
 unfolding orFault
 orFault-good k l read a e = rw e
+
+-- The line ahead is read by `read`, and by `readOn` what follows it, where it is good: shared by all kinds of lines.
+module _ {A : Type 0} (text : List ℕ) (start : LineStart) (le : start .at ≤ length text) (read : List ℕ → Line A)
+    (readOn : ℕ → A → List (List ℕ) → Reading)
+    (rest : whole text ≡ onLine (start .line) (partsFrom text start) (λ line parts.
+    orFault (start .line) (read line) (λ a. readOn (suc (start .line)) a parts))) where
+  pub line-refused : (fault : Fault)
+      → (e : ℕ) × (NoLineAt text (start .at) fault e ⊎ LineAt read text (start .at) (bad fault) e)
+      → whole text ≡ faulty fault (start .line)
+  line-refused fault (e, inl n) =
+      rest ∙ onLine-absent text (start .at) e le (n .found) (start .line) _ (n .outside)
+      ∙ ap (λ (f : Fault). faulty f (start .line)) (sym (n .absent))
+  line-refused fault (e, inr l) =
+      rest ∙ onLine-line text (start .at) e le (l .found) (start .line) _ (l .inside)
+      ∙ orFault-bad (start .line) _ _ fault (l .reads)
+
+  pub line-taken : (a : A) (e : ℕ) → LineAt read text (start .at) (good a) e
+      → whole text ≡ readOn (start .line + 1) a (split lineEnd (drop (e + 1) text))
+  line-taken a e l =
+      let c : suc (start .line) ≡ start .line + 1 = omega arith in
+      rest ∙ onLine-line text (start .at) e le (l .found) (start .line) _ (l .inside)
+      ∙ orFault-good (start .line) _ _ a (l .reads) ∙ rw c
 
 -- ---- what some lines came to
 
@@ -79,7 +103,7 @@ further-next P text r start e h = rw e at h
 pub headOf-limits : (line : List ℕ) (h : Head) → headOf line ≡ good h → InLimits h
 headOf-limits line h e =
     let r = headFits?→HeadRanges h (line-of-headOf line h e .1) in
-    record { states = r .states; actions = r .actions; steps = r .steps }
+    record { states = r .states; actions = r .actions; steps = r .steps; start = r .start }
 
 -- a name that was read has 1 to 12 bytes
 pub actionFields-length : (l : Line (List (List ℕ))) (a : ActionLine) → actionFields l ≡ good a
@@ -116,8 +140,8 @@ afterActions-length h text start i store b l =
     let n = b .limits .actions in
     let c = b .count in
     let m = actionsNumbers-length-of-short (b .actions) (b .short) in
-    let model : Model = record { head = h; actions = b .actions; steps = [] } in
-    rw (b .stored) (storeOf-length-of-places model (omega arith) (omega arith))
+    let model : Model = record { head = h; actions = b .actions; extraStarts = []; steps = [] } in
+    rw (b .stored) (storeOf-length-of-places model (omega arith) (omega arith) (omega arith))
 
 -- past a line that ends at place e
 pub inText-next : (text : List ℕ) (start : LineStart) (e : ℕ) → InText text start
@@ -126,45 +150,48 @@ pub inText-next : (text : List ℕ) (start : LineStart) (e : ℕ) → InText tex
 inText-next text start e b found l = let n = b .line-le in record { place = omega arith; line-le = omega arith }
 
 module _ (h : Head) (text : List ℕ) (start : LineStart) (i : ℕ) (store : List ℕ) (b : AfterActions h text start i store)
-    (lt : i < h .actions) (e : ℕ) (found : e ≡ start .at + indexOf lineEnd (drop (start .at) text)) where
-  actions-suc : h .actions - i ≡ suc (h .actions - (i + 1))
-  actions-suc = omega arith
+    (lt : i < h .actions) where
+  abbrev readOn : ℕ → ActionLine → List (List ℕ) → Reading
+  readOn k a parts =
+      readActions (h .actions - (i + 1)) k
+      (withAction (record { head = h; actions = b .actions; extraStarts = []; steps = [] }) a) parts
 
-  pub action-absent : length text ≤ e → whole text ≡ faulty Absent (start .line)
+  ahead : whole text ≡ onLine (start .line) (partsFrom text start) (λ line parts.
+      orFault (start .line) (actionOf (b .actions) line) (λ a. readOn (suc (start .line)) a parts))
   unfolding readActions
-  action-absent l =
-      b .rest ∙ rw actions-suc (onLine-absent text (start .at) e (b .inside .place) found (start .line) _ l)
+  ahead = let c : h .actions - i ≡ suc (h .actions - (i + 1)) = omega arith in b .rest ∙ rw c
 
-  module _ (l : e < length text) where
-    pub action-bad : (fault : Fault)
-        → actionOf (b .actions) (take (e - start .at) (drop (start .at) text)) ≡ bad fault
-        → whole text ≡ faulty fault (start .line)
-    unfolding readActions
-    action-bad fault a =
-        b .rest ∙ rw actions-suc
-        (onLine-line text (start .at) e (b .inside .place) found (start .line) _ l
-        ∙ orFault-bad (start .line) _ _ fault a)
+  module _ (e : ℕ) (found : e ≡ start .at + indexOf lineEnd (drop (start .at) text)) where
+    pub action-absent : length text ≤ e → whole text ≡ faulty Absent (start .line)
+    action-absent l =
+        line-refused text start (b .inside .place) (actionOf (b .actions)) readOn ahead Absent
+        (e, inl (record { found = found; outside = l; absent = refl }))
 
-    pub action-next : (a : ActionLine)
-        → actionOf (b .actions) (take (e - start .at) (drop (start .at) text)) ≡ good a
-        → length (a .name) ≤ nameLimit
-        → AfterActions h text (record { at = e + 1; line = start .line + 1 }) (i + 1)
-        (sets store (actionPlace i) (a .level ∷ length (a .name) ∷ a .name))
-    unfolding readActions
-    action-next a r n =
-        let c : suc (start .line) ≡ start .line + 1 = omega arith in
-        let m = b .limits .actions in
-        record {
-          limits = b .limits;
-          inside = inText-next text start e (b .inside) found l;
-          actions = b .actions ++ (a ∷ []);
-          count = length-append (b .actions) (a ∷ []) ∙ omega arith;
-          short = short-snoc (b .actions) a (b .short) n;
-          stored = rw (b .stored) (storeOf-withAction h (b .actions) [] a i (b .count) (omega arith) (b .short) n);
-          rest = b .rest ∙ rw actions-suc
-              (onLine-line text (start .at) e (b .inside .place) found (start .line) _ l
-              ∙ orFault-good (start .line) _ _ a r ∙ rw c);
-        }
+    module _ (l : e < length text) where
+      pub action-bad : (fault : Fault)
+          → actionOf (b .actions) (take (e - start .at) (drop (start .at) text)) ≡ bad fault
+          → whole text ≡ faulty fault (start .line)
+      action-bad fault r =
+          line-refused text start (b .inside .place) (actionOf (b .actions)) readOn ahead fault
+          (e, inr (record { found = found; inside = l; reads = r }))
+
+      pub action-next : (a : ActionLine)
+          → actionOf (b .actions) (take (e - start .at) (drop (start .at) text)) ≡ good a
+          → length (a .name) ≤ nameLimit
+          → AfterActions h text (record { at = e + 1; line = start .line + 1 }) (i + 1)
+          (sets store (actionPlace i) (a .level ∷ length (a .name) ∷ a .name))
+      action-next a r n =
+          let m = b .limits .actions in
+          record {
+            limits = b .limits;
+            inside = inText-next text start e (b .inside) found l;
+            actions = b .actions ++ (a ∷ []);
+            count = length-append (b .actions) (a ∷ []) ∙ omega arith;
+            short = short-snoc (b .actions) a (b .short) n;
+            stored = rw (b .stored) (storeOf-withAction h (b .actions) [] [] a i (b .count) (omega arith) (b .short) n);
+            rest = line-taken text start (b .inside .place) (actionOf (b .actions)) readOn ahead a e
+                (record { found = found; inside = l; reads = r });
+          }
 
 -- an action's line by its fields and the names used before
 pub actionOf-bad : (before : List ActionLine) (line : List ℕ) (fault : Fault)

@@ -3,7 +3,7 @@
 use mathlib.Core.Bool.{Bool, true, false, cond}
 use mathlib.Core.List.{List, [], _∷_, _++_}
 use mathlib.Core.Logic.{_⊎_, inl, inr}
-use mathlib.Core.Path.{_≡_, refl, sym, ap, _∙_}
+use mathlib.Core.Path.{_≡_, refl, _∙_}
 use Prim.Native.Nat.{ℕ, suc, _+_, _-_, _≤_, _<_}
 use native.Mathlib.Omega.{arith}
 use lib.ListN.{length, take, drop, getD, length-append, length-drop}
@@ -18,23 +18,20 @@ use Rattle.text.specs.Split.{consFirst, split, indexOf, same?}
 use Rattle.text.specs.Laws.SplitLaws.{Is, same, other, is, split-nil, split-end, split-cons, split-first, found-le}
 use Rattle.text.specs.Laws.SameLaws.{same?-length}
 use Rattle.text.specs.Laws.FieldsLaws.{same?-byte, same?-other, take-one}
-use Rattle.text.specs.Model.{Model, above?, aboveLast?}
-use Rattle.text.specs.Lines.{good, bad, stepOf}
+use Rattle.text.specs.Model.{Model, withStep, above?, aboveLast?}
+use Rattle.text.specs.Lines.{Line, good, bad, stepOf}
 use Rattle.text.specs.Inner.LineAnswers.{Last}
-use Rattle.model.specs.Reading.{done, faulty, readNothing, readEnd, readSteps, readActions}
-use Rattle.text.specs.Inner.Row.{NoLineAt}
+use Rattle.model.specs.Reading.{Reading, done, faulty, onLine, orFault, readNothing, readEnd, readSteps}
+use Rattle.text.specs.Inner.Row.{LineAt, NoLineAt}
 use Rattle.text.specs.Inner.Scan.{StepLineAt}
 use Rattle.reader.specs.declared.answers.LineStart.{LineStart}
-use Rattle.reader.specs.Inner.ReadSoFar.{whole, AfterActions, AfterStep, AfterSteps, AfterEnd}
+use Rattle.reader.specs.Inner.ReadSoFar.{whole, partsFrom, AfterStep, AfterSteps, AfterEnd}
 use Rattle.model.specs.Store.{stepRow}
 use Rattle.model.specs.Laws.Store.StoreLaws.{storeOf-length-of-places}
-use Rattle.model.specs.Laws.Store.PutLaws.{actionsNumbers-length-of-short, storeOf-withStep}
-use Rattle.reader.specs.Laws.ReadLaws.{onLine-absent, onLine-line, orFault-bad, orFault-good, inText-next}
+use Rattle.model.specs.Laws.Store.PutLaws.{storeOf-withStep}
+use Rattle.reader.specs.Laws.ReadLaws.{onLine-absent, onLine-line, line-refused, line-taken, inText-next}
 
 -- ---- the steps
-
-last-nil : (s : StepLine) → Last [] 0 s
-last-nil s = record { nil = λ e. refl; cons = λ p t. absurd (omega arith) }
 
 aboveLast?-snoc : (steps : List StepLine) (s t : StepLine) → aboveLast? (steps ++ (s ∷ [])) t ≡ above? s t
 unfolding aboveLast?
@@ -45,92 +42,68 @@ aboveLast?-snoc (r ∷ q ∷ rest) s t = aboveLast?-snoc (q ∷ rest) s t
 last-snoc : (steps : List StepLine) (j : ℕ) (s : StepLine) → Last (steps ++ (s ∷ [])) (j + 1) s
 last-snoc steps j s = record { nil = λ e. absurd (omega arith); cons = λ p t. aboveLast?-snoc steps s t }
 
--- after the last action come the steps
-pub after-actions : (h : Head) (text : List ℕ) (start : LineStart) (store : List ℕ) (last : StepLine)
-    → AfterActions h text start (h .actions) store → AfterStep h text start 0 last store
-unfolding readActions
-after-actions h text start store last b =
-    let z : h .actions - h .actions ≡ 0 = omega arith in
-    let y : h .steps - 0 ≡ h .steps = omega arith in
-    let n = actionsNumbers-length-of-short (b .actions) (b .short) in
-    let m = b .limits .actions in
-    record {
-      limits = b .limits;
-      inside = b .inside;
-      actions = b .actions;
-      action-places = omega arith;
-      steps = [];
-      count = refl;
-      last-step = last-nil last;
-      stored = b .stored;
-      rest = b .rest ∙ rw (z, y);
-    }
-
 module _ (h : Head) (text : List ℕ) (start : LineStart) (j : ℕ) (last : StepLine) (store : List ℕ)
     (b : AfterStep h text start j last store) (lt : j < h .steps) where
-  module _ (e : ℕ) (found : e ≡ start .at + indexOf lineEnd (drop (start .at) text)) where
-    steps-suc : h .steps - j ≡ suc (h .steps - (j + 1))
-    steps-suc = omega arith
+  abbrev readOn : ℕ → StepLine → List (List ℕ) → Reading
+  readOn k s parts =
+      readSteps (h .steps - (j + 1)) k
+      (withStep (record { head = h; actions = b .actions; extraStarts = b .extraStarts; steps = b .steps }) s) parts
 
-    step-absent : length text ≤ e → whole text ≡ faulty Absent (start .line)
-    unfolding readSteps
-    step-absent l =
-        b .rest ∙ rw steps-suc (onLine-absent text (start .at) e (b .inside .place) found (start .line) _ l)
+  ahead : whole text ≡ onLine (start .line) (partsFrom text start) (λ line parts.
+      orFault (start .line) (stepOf h (b .steps) line) (λ s. readOn (suc (start .line)) s parts))
+  unfolding readSteps
+  ahead = let c : h .steps - j ≡ suc (h .steps - (j + 1)) = omega arith in b .rest ∙ rw c
 
-    module _ (l : e < length text) where
-      step-bad : (fault : Fault) → stepOf h (b .steps) (take (e - start .at) (drop (start .at) text)) ≡ bad fault
-          → whole text ≡ faulty fault (start .line)
-      unfolding readSteps
-      step-bad fault a =
-          b .rest ∙ rw steps-suc
-          (onLine-line text (start .at) e (b .inside .place) found (start .line) _ l
-          ∙ orFault-bad (start .line) _ _ fault a)
-
-      step-next : (s : StepLine) → stepOf h (b .steps) (take (e - start .at) (drop (start .at) text)) ≡ good s
-          → AfterStep h text (record { at = e + 1; line = start .line + 1 }) (j + 1) s
-          (sets store (stepPlace j) (stepRow s))
-      unfolding readSteps
-      step-next s r =
-          let c : suc (start .line) ≡ start .line + 1 = omega arith in
-          let m = b .limits .steps in
-          record {
-            limits = b .limits;
-            inside = inText-next text start e (b .inside) found l;
-            actions = b .actions;
-            action-places = b .action-places;
-            steps = b .steps ++ (s ∷ []);
-            count = length-append (b .steps) (s ∷ []) ∙ omega arith;
-            last-step = last-snoc (b .steps) j s;
-            stored = rw (b .stored)
-                (storeOf-withStep h (b .actions) (b .steps) s j (b .action-places) (b .count) (omega arith));
-            rest = b .rest ∙ rw steps-suc
-                (onLine-line text (start .at) e (b .inside .place) found (start .line) _ l
-                ∙ orFault-good (start .line) _ _ s r ∙ rw c);
-          }
+  line-at : (stated : Line StepLine) (e : ℕ) → StepLineAt h text (start .at) j last stated e
+      → LineAt (stepOf h (b .steps)) text (start .at) stated e
+  line-at stated e l =
+      record { found = l .found; inside = l .inside; reads = l .reads (b .steps) (b .last-step) }
 
   -- by what the line at the place was read as
   pub step-refused : (fault : Fault)
       → (e : ℕ) × (NoLineAt text (start .at) fault e ⊎ StepLineAt h text (start .at) j last (bad fault) e)
       → whole text ≡ faulty fault (start .line)
   step-refused fault (e, inl n) =
-      step-absent e (n .found) (n .outside) ∙ ap (λ (f : Fault). faulty f (start .line)) (sym (n .absent))
+      line-refused text start (b .inside .place) (stepOf h (b .steps)) readOn ahead fault (e, inl n)
   step-refused fault (e, inr l) =
-      step-bad e (l .found) (l .inside) fault (l .reads (b .steps) (b .last-step))
+      line-refused text start (b .inside .place) (stepOf h (b .steps)) readOn ahead fault
+      (e, inr (line-at (bad fault) e l))
 
   pub step-taken : (s : StepLine) (next : ℕ)
       → (e : ℕ) × (next ≡ e + 1) × StepLineAt h text (start .at) j last (good s) e
       → AfterStep h text (record { at = next; line = start .line + 1 }) (j + 1) s
       (sets store (stepPlace j) (stepRow s))
   step-taken s next (e, n, l) =
-      rw n (step-next e (l .found) (l .inside) s (l .reads (b .steps) (b .last-step)))
+      let m = b .limits .steps in
+      rw n (record {
+        limits = b .limits;
+        inside = inText-next text start e (b .inside) (l .found) (l .inside);
+        actions = b .actions;
+        action-places = b .action-places;
+        extraStarts = b .extraStarts;
+        extra-count-le = b .extra-count-le;
+        steps = b .steps ++ (s ∷ []);
+        count = length-append (b .steps) (s ∷ []) ∙ omega arith;
+        last-step = last-snoc (b .steps) j s;
+        stored = rw (b .stored)
+            (storeOf-withStep h (b .actions) (b .extraStarts) (b .steps) s j (b .action-places) (b .count)
+            (omega arith));
+        rest = line-taken text start (b .inside .place) (stepOf h (b .steps)) readOn ahead s e
+            (line-at (good s) e l);
+      })
 
 pub afterStep-length : (h : Head) (text : List ℕ) (start : LineStart) (j : ℕ) (last : StepLine) (store : List ℕ)
     → AfterStep h text start j last store → j ≤ h .steps → length store ≡ storeLength
 afterStep-length h text start j last store b l =
     let n = b .limits .steps in
     let c = b .count in
-    let model : Model = record { head = h; actions = b .actions; steps = b .steps } in
-    rw (b .stored) (storeOf-length-of-places model (b .action-places) (omega arith))
+    let model : Model = record {
+      head = h;
+      actions = b .actions;
+      extraStarts = b .extraStarts;
+      steps = b .steps;
+    } in
+    rw (b .stored) (storeOf-length-of-places model (b .action-places) (b .extra-count-le) (omega arith))
 
 pub after-steps : (h : Head) (text : List ℕ) (start : LineStart) (j : ℕ) (last : StepLine) (store : List ℕ)
     → AfterStep h text start j last store → j ≡ h .steps → AfterSteps text start store
@@ -139,7 +112,7 @@ after-steps h text start j last store b c =
     let z : h .steps - j ≡ 0 = omega arith in
     record {
       inside = b .inside;
-      model = record { head = h; actions = b .actions; steps = b .steps };
+      model = record { head = h; actions = b .actions; extraStarts = b .extraStarts; steps = b .steps };
       stored = b .stored;
       rest = b .rest ∙ rw z;
     }

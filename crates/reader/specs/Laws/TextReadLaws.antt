@@ -22,8 +22,8 @@ use Rattle.text.specs.Inner.LineAnswers.{headRead}
 use Rattle.text.specs.Inner.Scan.{HeadAt}
 use Rattle.model.specs.Reading.{faulty, onLine, orFault, readModel}
 use Rattle.reader.specs.Answers.{readingStore, ReadAs}
-use Rattle.reader.specs.Inner.ReadSoFar.{whole, AfterHead, AfterEnd, Through}
-use Rattle.reader.specs.Inner.ReadSoFar.{AfterLine, AfterFirst, firstLine, ReadOut}
+use Rattle.reader.specs.Inner.ReadSoFar.{whole, AfterHead, AfterEnd, Through, ReadOut}
+use Rattle.reader.specs.Inner.FirstLine.{AfterLine, AfterFirst, firstLine}
 use Rattle.reader.specs.Laws.ReadLaws.{headOf-limits}
 
 -- ---- the first line

@@ -14,10 +14,21 @@ enum-known-acted c = search needs
 enum-known-acted-2 : tie.Need-enum-known-acted-2
 enum-known-acted-2 c = search needs
 
+starts-requires : tie.Need-starts-requires
+starts-requires c κs =
+    let k = c .before .before in
+    further-next _ _ _ _ (k .acted2 .given .1) (k .before .before .before .before .actions .ensures)
+
+enum-known-started : tie.Need-enum-known-started
+enum-known-started c = search needs
+
+enum-known-started-2 : tie.Need-enum-known-started-2
+enum-known-started-2 c = search needs
+
 steps-requires : tie.Need-steps-requires
 steps-requires c κs =
     let k = c .before .before in
-    further-next _ _ _ _ (k .acted2 .given .1) (k .before .before .before .before .actions .ensures)
+    further-next _ _ _ _ (k .started2 .given .1) (k .before .before .before .before .starts .ensures)
 
 enum-known-stepped : tie.Need-enum-known-stepped
 enum-known-stepped c = search needs
@@ -46,13 +57,22 @@ returns-2 : tie.Need-returns-2
 unfolding Through
 returns-2 c =
     let k = c .before in
-    further-refused _ _ _ _ _ (k .stepped .given .1) (k .before .before .before .before .steps .ensures)
+    further-refused _ _ _ _ _ (k .started .given .1) (k .before .before .before .before .starts .ensures)
 
 same-length-3 : tie.Need-same-length-3
 same-length-3 c = search needs
 
 returns-3 : tie.Need-returns-3
-returns-3 c = c .last-line .ensures
+unfolding Through
+returns-3 c =
+    let k = c .before in
+    further-refused _ _ _ _ _ (k .stepped .given .1) (k .before .before .before .before .steps .ensures)
+
+same-length-4 : tie.Need-same-length-4
+same-length-4 c = search needs
+
+returns-4 : tie.Need-returns-4
+returns-4 c = c .last-line .ensures
 
 pub lines-spec : {M : Type 1} → statement M
 lines-spec =
@@ -61,6 +81,9 @@ lines-spec =
     actions-requires
     enum-known-acted
     enum-known-acted-2
+    starts-requires
+    enum-known-started
+    enum-known-started-2
     steps-requires
     enum-known-stepped
     enum-known-stepped-2
@@ -70,4 +93,6 @@ lines-spec =
     same-length-2
     returns-2
     same-length-3
-    returns-3)
+    returns-3
+    same-length-4
+    returns-4)

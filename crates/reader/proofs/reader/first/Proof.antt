@@ -36,7 +36,7 @@ use denote.Triple.Clauses.{ensured, lasts}
 use Rattle.text.specs.Bytes.{lineEnd}
 use Rattle.text.specs.Split as S
 use Rattle.text.specs.Inner.LineAnswers.{headRead}
-use Rattle.reader.specs.Inner.ReadSoFar.{firstLine}
+use Rattle.reader.specs.Inner.FirstLine.{firstLine}
 use Rattle.text.specs.declared.line.HeadRead.{HeadRead}
 use Rattle.text.proofs.line.HeadRead as E
 use Rattle.text.proofs.line.HeadRead.Laws as E′

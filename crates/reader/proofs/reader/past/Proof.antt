@@ -34,7 +34,7 @@ use denote.Triple.Table.{entered, cited}
 use denote.Triple.Walked.{says, Stays, stay-none, walkOf, goes-none, Walks, ends-at, walked, walk-meets}
 use denote.Exit.{yes}
 use denote.Triple.Clauses.{ensured, lasts}
-use Rattle.reader.specs.Inner.ReadSoFar.{AfterLine}
+use Rattle.reader.specs.Inner.FirstLine.{AfterLine}
 use Rattle.reader.specs.declared.reader.Reader.{Reader}
 use Rattle.reader.proofs.reader.Reader as T
 use Rattle.reader.proofs.reader.Reader.Laws as T′

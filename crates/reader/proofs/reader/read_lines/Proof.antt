@@ -40,7 +40,8 @@ use Rattle.text.specs.Limits.{storeLength}
 use Rattle.text.specs.Bytes.{lineEnd}
 use Rattle.text.specs.Split as S
 use Rattle.text.specs.Inner.LineAnswers.{headRead}
-use Rattle.reader.specs.Inner.ReadSoFar.{AfterFirst, AfterLine, ReadOut, firstLine}
+use Rattle.reader.specs.Inner.ReadSoFar.{ReadOut}
+use Rattle.reader.specs.Inner.FirstLine.{AfterFirst, AfterLine, firstLine}
 use Rattle.reader.specs.Laws.TextReadLaws.{after-first}
 use Rattle.text.specs.declared.line.HeadRead.{HeadRead}
 use Rattle.reader.specs.declared.answers.TextRead.{TextRead}

@@ -38,7 +38,8 @@ use denote.Triple.Table.{entered, cited}
 use denote.Triple.Walked.{says, needs, Stays, stay-dropped, gave-slice, walkOf, goes-dropped, goes-gave-slice, Walks, ends-at, walked, walk-meets}
 use denote.Exit.{yes}
 use Rattle.text.specs.Limits.{storeLength}
-use Rattle.reader.specs.Inner.ReadSoFar.{AfterFirst, ReadOut}
+use Rattle.reader.specs.Inner.ReadSoFar.{ReadOut}
+use Rattle.reader.specs.Inner.FirstLine.{AfterFirst}
 use Rattle.text.specs.declared.line.HeadRead.{HeadRead}
 use Rattle.reader.specs.declared.answers.TextRead.{TextRead}
 use Rattle.reader.specs.declared.reader.Reader.{Reader}

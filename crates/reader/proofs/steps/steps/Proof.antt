@@ -7,8 +7,7 @@ use mathlib.Core.Path.{_≡_, refl, _∙_}
 use lib.ListN.{length}
 use Rattle.text.specs.Laws.ScanLaws.{step-at-good, step-at-bad}
 use Rattle.reader.specs.Inner.ReadSoFar.{AfterStep, Further}
-use Rattle.reader.specs.Laws.ReadStepsLaws.{after-actions, step-refused, step-taken}
-use Rattle.reader.specs.Laws.ReadStepsLaws.{afterStep-length, after-steps}
+use Rattle.reader.specs.Laws.ReadStepsLaws.{step-refused, step-taken, afterStep-length, after-steps}
 use Rattle.reader.proofs.steps.steps.Statement.{statement}
 use Rattle.reader.proofs.steps.steps.Tie as tie
 
@@ -23,7 +22,7 @@ cast-count : tie.Need-cast-count Inv-loop μ-loop
 cast-count c = search needs
 
 loop-holds : tie.Need-loop-holds Inv-loop μ-loop
-loop-holds c = (search needs, refl, after-actions _ _ _ _ _ (c .before .before .before .pre))
+loop-holds c = (search needs, refl, c .before .before .before .pre)
 
 step-at-requires : tie.Need-step-at-requires Inv-loop μ-loop
 step-at-requires c κs = c .before .loop .inv .2 .inside .place
