@@ -1,5 +1,6 @@
 pub mod EachFromLaws
 pub mod EachLaws
+pub mod StartsLaws
 pub mod BlocksLaws
 pub mod StoreLaws
 pub mod StoredModelLaws

@@ -1,5 +1,5 @@
 -- The tests of bounds decide them.
--- Document 01, "The text". Assumes nothing.
+-- Document 01, "The text"; document 02, (iii). Assumes nothing.
 use mathlib.Core.Bool.{Bool, true, false, not}
 use mathlib.Core.List.{List, [], _∷_}
 use mathlib.Core.Path.{_≡_, refl, sym, _∙_}
@@ -13,7 +13,9 @@ use Rattle.text.specs.declared.StepLine.{StepLine}
 use Rattle.text.specs.declared.number.Bounds.{Bounds}
 use Rattle.text.specs.Limits.{stateLimit, actionLimit, stepLimit}
 use Rattle.text.specs.Numbers.{inBounds?}
-use Rattle.text.specs.Lines.{fits?, headBounds, stepBounds, headFits?, stepFits?}
+use Rattle.text.specs.Model.{lastStart}
+use Rattle.text.specs.Lines.{fits?, headBounds, startBounds, stepBounds}
+use Rattle.text.specs.Lines.{headFits?, startFits?, aboveStarts?, stepFits?}
 use Rattle.text.specs.Inner.Ranges.{HeadRanges, StepRanges}
 
 -- ---- one number
@@ -71,7 +73,7 @@ fits-last n {b} {c} {t} e f = by-test t f
     by-test true h = fits-passed [] n [] e h refl ∙ T→true (fits? [] []) fits-nil
     by-test false h = fits-refused [] n [] e h refl
 
--- ---- line 1 and a step
+-- ---- line 1, an extra start and a step
 
 zero-le : (n : ℕ) → 0 ≤ n
 zero-le n = omega arith
@@ -105,6 +107,24 @@ module _ (h : Head) where
       (fits-cons _ _ _ _ (r .actions-pos) actions
       (fits-cons _ _ _ _ (zero-le (h .steps)) steps
       (fits-cons _ _ _ _ (zero-le (h .start .0)) (r .start) fits-nil)))
+
+  module _ (p : ℕ) where
+    pub startFits?→lt : T (startFits? h p) → p < h .states
+    unfolding startFits? startBounds
+    startFits?→lt t = fits-first _ _ _ _ t .1
+
+    pub lt→startFits? : p < h .states → T (startFits? h p)
+    unfolding startFits? startBounds
+    lt→startFits? l = fits-cons _ _ _ _ (zero-le p) l fits-nil
+
+  module _ (before : List ℕ) (p : ℕ) where
+    pub aboveStarts?→lt : T (aboveStarts? h before p) → lastStart (h .start .0) before < p
+    unfolding aboveStarts?
+    aboveStarts?→lt t = ltb→lt (lastStart (h .start .0) before) p t
+
+    pub lt→aboveStarts? : lastStart (h .start .0) before < p → T (aboveStarts? h before p)
+    unfolding aboveStarts?
+    lt→aboveStarts? l = lt→ltb (lastStart (h .start .0) before) p l
 
   module _ (s : StepLine) where
     pub stepFits?→StepRanges : T (stepFits? h s) → StepRanges h s

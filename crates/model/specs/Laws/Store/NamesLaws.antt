@@ -18,7 +18,8 @@ use Rattle.text.specs.Split.{same?}
 use Rattle.text.specs.Laws.SameLaws.{same?→eq, same?-refl, same?-length}
 use Rattle.text.specs.Model.{ActionLine, noAction}
 use Rattle.text.specs.Lines.{used?}
-use Rattle.model.specs.Store.{padded, actionNumbers, actionsNumbers, stepsNumbers, storeOf, headRow}
+use Rattle.model.specs.Store.{padded, actionNumbers, actionsNumbers, stepsNumbers, headRow}
+use Rattle.model.specs.Store.{extraNumbers, storeOf}
 use Rattle.model.specs.Inner.StoredActions.{ActionStored, ActionsStored, Short}
 use Rattle.model.specs.Laws.Store.StoreLaws.{actionNumbers-length}
 
@@ -116,11 +117,12 @@ unfolding used?
 used?-none name before i e = rw (e, drop-length before)
 
 -- the actions of a model stand in its store
-pub actionsStored-storeOf : (h : Head) (actions : List ActionLine) (steps : List StepLine) → Short actions
-    → ActionsStored (storeOf (record { head = h; actions = actions; steps = steps })) actionsBegin actions
+pub actionsStored-storeOf : (h : Head) (actions : List ActionLine) (ps : List ℕ) (steps : List StepLine) → Short actions
+    → ActionsStored (storeOf (record { head = h; actions = actions; extraStarts = ps; steps = steps })) actionsBegin
+    actions
 unfolding storeOf padded headRow
-actionsStored-storeOf h actions steps short =
+actionsStored-storeOf h actions ps steps short =
     let n : List ℕ = actionsNumbers actions in
     let z : List ℕ = replicate (actionsLength - length n) 0 in
-    let y : List ℕ = padded stepsLength (stepsNumbers steps) in
-    record { after = z ++ y; stored = append-assoc n z y; short = short }
+    let y : List ℕ = padded stepsLength (stepsNumbers steps) ++ extraNumbers ps in
+    record { after = z ++ y; stored = simp append-assoc; short = short }

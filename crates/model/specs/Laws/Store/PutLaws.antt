@@ -1,5 +1,6 @@
--- The store of a model is filled from zeros: its first line, then action by action, then step by step.
--- Document 01, "The model store". Assumes nothing.
+-- The store of a model is filled from zeros: its first line, then action by action, extra start by extra start and step
+-- by step.
+-- Document 01, "The model store"; document 02, (iii). Assumes nothing.
 use mathlib.Core.List.{List, [], _∷_, _++_, append-assoc, append-nil}
 use mathlib.Core.Path.{_≡_, refl, sym, ap, _∙_}
 use Prim.Native.Nat.{ℕ, zero, suc, _+_, _-_, _*_, _≤_, _<_}
@@ -9,15 +10,16 @@ use lib.ListN.{length, take, drop, getD, set, replicate, length-append, length-r
 use lib.Seq.{sets, set-at, append-snoc, take-suc, drop-cons, length-take-le}
 use Rattle.text.specs.declared.Head.{Head}
 use Rattle.text.specs.declared.StepLine.{StepLine}
-use Rattle.text.specs.Limits.{actionLimit, stepLimit, nameLimit, headEnd, actionSize, actionsLength, stepsLength}
-use Rattle.text.specs.Limits.{storeLength, actionPlace, stepPlace}
+use Rattle.text.specs.Limits.{actionLimit, stepLimit, extraLimit, nameLimit, headEnd, actionSize, actionsLength}
+use Rattle.text.specs.Limits.{stepsLength, storeLength, actionPlace, stepPlace, extraCountPlace, extraPlace}
 use Rattle.text.specs.Model.{ActionLine}
 use Rattle.model.specs.Reading.{headModel}
 use Rattle.model.specs.Store.{padded, actionNumbers, actionsNumbers, stepRow, stepsNumbers, headRow}
-use Rattle.model.specs.Store.{storeOf}
+use Rattle.model.specs.Store.{extraNumbers, storeOf}
 use Rattle.model.specs.Inner.StoredActions.{Short}
 use Rattle.model.specs.Laws.Store.BlocksLaws.{padded-length, blocks-snoc}
 use Rattle.model.specs.Laws.Store.StoreLaws.{actionNumbers-length, stepsNumbers-length}
+use Rattle.model.specs.Laws.Store.StoreLaws.{beforeSteps, beforeExtra, beforeSteps-length, beforeExtra-length}
 
 -- ---- numbers over zeros
 
@@ -80,13 +82,22 @@ copy-suc from to i h l =
 
 -- ---- the first line
 
+-- the zeros behind the first line, section by section
+zeros-sections : zeros (storeLength - headEnd)
+    ≡ padded actionsLength [] ++ padded stepsLength [] ++ extraNumbers []
+unfolding padded extraNumbers
+zeros-sections =
+    zeros-split (actionsLength + stepsLength) (extraLimit + 1) (storeLength - headEnd) refl
+    ∙ ap (λ (l : List ℕ). l ++ zeros (extraLimit + 1))
+    (zeros-split actionsLength stepsLength (actionsLength + stepsLength) refl)
+
 pub storeOf-head : (h : Head) → sets (replicate storeLength 0) 0 (headRow h) ≡ storeOf (headModel h)
-unfolding headRow storeOf padded actionsNumbers stepsNumbers
+unfolding headRow storeOf actionsNumbers stepsNumbers
 storeOf-head h =
     let hp : List ℕ = headRow h in
     ap (λ (s : List ℕ). sets s 0 hp) (sym (append-nil (zeros storeLength)))
     ∙ sets-zeros [] hp [] storeLength 0 refl (omega arith)
-    ∙ ap (λ (s : List ℕ). hp ++ (s ++ [])) (zeros-split actionsLength stepsLength (storeLength - headEnd) refl)
+    ∙ ap (λ (s : List ℕ). hp ++ (s ++ [])) zeros-sections
     ∙ simp (append-assoc, append-nil)
 
 -- ---- one more action
@@ -127,19 +138,46 @@ actions-padded-snoc actions a l s n =
     append-assoc A vs (zeros k) ∙ sym (actionsNumbers-snoc actions a) in
     sym (padded-zeros actionsLength k (A ++ vs) f) ∙ ap (padded actionsLength) e
 
-pub storeOf-withAction : (h : Head) (actions : List ActionLine) (steps : List StepLine) (a : ActionLine) (i : ℕ)
-    → length actions ≡ i → i < actionLimit → Short actions → length (a .name) ≤ nameLimit
-    → sets (storeOf (record { head = h; actions = actions; steps = steps })) (actionPlace i)
+pub storeOf-withAction : (h : Head) (actions : List ActionLine) (ps : List ℕ) (steps : List StepLine) (a : ActionLine)
+    (i : ℕ) → length actions ≡ i → i < actionLimit → Short actions → length (a .name) ≤ nameLimit
+    → sets (storeOf (record { head = h; actions = actions; extraStarts = ps; steps = steps })) (actionPlace i)
     (a .level ∷ length (a .name) ∷ a .name)
-    ≡ storeOf (record { head = h; actions = actions ++ (a ∷ []); steps = steps })
+    ≡ storeOf (record { head = h; actions = actions ++ (a ∷ []); extraStarts = ps; steps = steps })
 unfolding storeOf headRow
-storeOf-withAction h actions steps a i c l s n =
+storeOf-withAction h actions ps steps a i c l s n =
     let A : List ℕ = actionsNumbers actions in
+    let S : List ℕ = padded stepsLength (stepsNumbers steps) in
     let vs : List ℕ = a .level ∷ length (a .name) ∷ a .name in
     let la = actionsNumbers-length-of-short actions s in
     let m : length (headRow h ++ A) ≡ actionPlace i = length-append (headRow h) A ∙ omega arith in
     let more = actions-padded-snoc actions a (omega arith) s n in
-    sets-padded actionsLength (headRow h) A _ vs (actionPlace i) m (omega arith) ∙ rw more
+    ap (λ (x : List ℕ). sets x (actionPlace i) vs) (append-assoc (beforeSteps h actions) S (extraNumbers ps))
+    ∙ sets-padded actionsLength (headRow h) A (S ++ extraNumbers ps) vs (actionPlace i) m (omega arith)
+    ∙ sym (append-assoc (headRow h ++ padded actionsLength (A ++ vs)) S (extraNumbers ps))
+    ∙ rw more
+
+-- ---- one more extra start
+
+-- the place behind the starts that are there, which number i, and their count
+pub storeOf-withExtraStart : (h : Head) (actions : List ActionLine) (ps : List ℕ) (p i : ℕ)
+    → length (actionsNumbers actions) ≤ actionsLength → length ps ≡ i → i < extraLimit
+    → set (set (storeOf (record { head = h; actions = actions; extraStarts = ps; steps = [] })) extraCountPlace (i + 1))
+    (extraPlace i) p
+    ≡ storeOf (record { head = h; actions = actions; extraStarts = ps ++ (p ∷ []); steps = [] })
+unfolding storeOf extraNumbers
+storeOf-withExtraStart h actions ps p i f c l =
+    let B : List ℕ = beforeExtra h actions [] in
+    let n : length B ≡ extraCountPlace = beforeExtra-length h actions f [] (omega arith) in
+    let k : i + 1 ≡ length (ps ++ (p ∷ [])) = sym (length-append ps (p ∷ []) ∙ omega arith) in
+    let C : List ℕ = B ++ ((i + 1) ∷ []) in
+    let m = length-append B ((i + 1) ∷ []) in
+    let at : length (C ++ ps) ≡ extraPlace i = length-append C ps ∙ omega arith in
+    ap (λ (x : List ℕ). set x (extraPlace i) p)
+    (set-at B (length ps) (padded extraLimit ps) (i + 1) extraCountPlace n
+    ∙ sym (append-snoc B (i + 1) (padded extraLimit ps)))
+    ∙ sets-padded-last extraLimit C ps (p ∷ []) (extraPlace i) at (omega arith)
+    ∙ append-snoc B (i + 1) (padded extraLimit (ps ++ (p ∷ [])))
+    ∙ rw k
 
 -- ---- one more step
 
@@ -148,16 +186,16 @@ stepsNumbers-snoc : (steps : List StepLine) (s : StepLine)
 unfolding stepsNumbers
 stepsNumbers-snoc = blocks-snoc stepRow stepsNumbers refl (λ s rest. refl)
 
-pub storeOf-withStep : (h : Head) (actions : List ActionLine) (steps : List StepLine) (s : StepLine) (j : ℕ)
-    → length (actionsNumbers actions) ≤ actionsLength → length steps ≡ j → j < stepLimit
-    → sets (storeOf (record { head = h; actions = actions; steps = steps })) (stepPlace j) (stepRow s)
-    ≡ storeOf (record { head = h; actions = actions; steps = steps ++ (s ∷ []) })
-unfolding storeOf headRow
-storeOf-withStep h actions steps s j f c l =
-    let P : List ℕ = headRow h ++ padded actionsLength (actionsNumbers actions) in
+pub storeOf-withStep : (h : Head) (actions : List ActionLine) (ps : List ℕ) (steps : List StepLine) (s : StepLine)
+    (j : ℕ) → length (actionsNumbers actions) ≤ actionsLength → length steps ≡ j → j < stepLimit
+    → sets (storeOf (record { head = h; actions = actions; extraStarts = ps; steps = steps })) (stepPlace j) (stepRow s)
+    ≡ storeOf (record { head = h; actions = actions; extraStarts = ps; steps = steps ++ (s ∷ []) })
+unfolding storeOf
+storeOf-withStep h actions ps steps s j f c l =
+    let B : List ℕ = beforeSteps h actions in
     let S : List ℕ = stepsNumbers steps in
-    let la = padded-length actionsLength (actionsNumbers actions) f in
+    let n = beforeSteps-length h actions f in
     let ls = stepsNumbers-length steps in
-    let lp = length-append (headRow h) (padded actionsLength (actionsNumbers actions)) in
-    sets-padded-last stepsLength P S (stepRow s) (stepPlace j) (length-append P S ∙ omega arith) (omega arith)
+    let at : length (B ++ S) ≡ stepPlace j = length-append B S ∙ omega arith in
+    sets-padded stepsLength B S (extraNumbers ps) (stepRow s) (stepPlace j) at (omega arith)
     ∙ rw (stepsNumbers-snoc steps s)

@@ -1,26 +1,29 @@
--- The store of a well-formed model: its length, its numbers, and where each action and step of the model stands.
--- Document 01, "The model store". Assumes nothing.
+-- The store of a well-formed model: its length, its numbers, and where each action, step and extra start of the model
+-- stands.
+-- Document 01, "The model store"; document 02, (iii). Assumes nothing.
 use mathlib.Core.List.{List, [], _++_, append-assoc}
 use mathlib.Core.Path.{_≡_, refl, ap, _∙_}
 use Prim.Native.Nat.{ℕ, _+_, _-_, _*_, _≤_, _<_}
 use native.Mathlib.Omega.{arith}
 use lib.Dec.{lit<}
 use lib.ListN.{length, getD, drop, replicate, length-append}
-use lib.Seq.{drop-append-add}
+use lib.Seq.{drop-append-add, drop-at}
+use Rattle.text.specs.declared.Head.{Head}
 use Rattle.text.specs.declared.StepLine.{StepLine}
-use Rattle.text.specs.Limits.{stepLimit, nameLimit, actionSize, actionsLength, stepsBegin, stepSize, stepsLength}
-use Rattle.text.specs.Limits.{storeLength, actionPlace, stepPlace}
+use Rattle.text.specs.Limits.{stepLimit, extraLimit, nameLimit, actionSize, actionsLength, stepsBegin, stepSize}
+use Rattle.text.specs.Limits.{stepsLength, storeLength, actionPlace, stepPlace, extraCountPlace}
 use Rattle.text.specs.All.{All}
 use Rattle.text.specs.Laws.AllLaws.{all-intro, all-of-all, all-append}
 use Rattle.text.specs.Model.{ActionLine, Model}
 use Rattle.model.specs.Store.{padded, actionNumbers, actionsNumbers, stepRow, stepsNumbers, headRow}
-use Rattle.model.specs.Store.{storeOf}
-use Rattle.model.specs.WellFormed.{EachAfter, ActionFits, StepFits, WellFormed}
+use Rattle.model.specs.Store.{extraNumbers, storeOf}
+use Rattle.model.specs.WellFormed.{EachAfter, ActionFits, StartFits, StepFits, WellFormed}
 use Rattle.model.specs.Laws.Store.EachLaws.{all-of-each}
+use Rattle.model.specs.Laws.Store.StartsLaws.{extra-count-le}
 use Rattle.model.specs.Laws.Store.BlocksLaws.{padded-append, padded-length, padded-all, blocks-length, blocks-all}
 use Rattle.model.specs.Laws.Store.BlocksLaws.{blocks-drop}
 use Rattle.text.specs.Inner.Ranges.{Storable}
-use Rattle.text.specs.Laws.RangesLaws.{headFits?→HeadRanges, stepFits?→StepRanges}
+use Rattle.text.specs.Laws.RangesLaws.{headFits?→HeadRanges, startFits?→lt, stepFits?→StepRanges}
 use Rattle.model.specs.Inner.LineText.{NameByte}
 use Rattle.model.specs.Laws.Text.ActionLineLaws.{name-bytes, nameByte-lt, name-length}
 
@@ -49,31 +52,57 @@ pub stepsNumbers-length : (ss : List StepLine) → length (stepsNumbers ss) ≡ 
 unfolding stepsNumbers
 stepsNumbers-length ss = blocks-length stepRow stepsNumbers stepSize refl (λ s rest. refl) ss (steps-width ss)
 
+pub extraNumbers-length : (ps : List ℕ) → length ps ≤ extraLimit → length (extraNumbers ps) ≡ extraLimit + 1
+unfolding extraNumbers
+extraNumbers-length ps l = rw (padded-length extraLimit ps l)
+
+-- ---- sections, each behind those before it
+
+abbrev pub beforeSteps : Head → List ActionLine → List ℕ
+beforeSteps h actions = headRow h ++ padded actionsLength (actionsNumbers actions)
+
+abbrev pub beforeExtra : Head → List ActionLine → List StepLine → List ℕ
+beforeExtra h actions steps = beforeSteps h actions ++ padded stepsLength (stepsNumbers steps)
+
+module _ (h : Head) (actions : List ActionLine) (a : length (actionsNumbers actions) ≤ actionsLength) where
+  pub beforeSteps-length : length (beforeSteps h actions) ≡ stepsBegin
+  unfolding headRow
+  beforeSteps-length =
+      let l = padded-length actionsLength (actionsNumbers actions) a in
+      simp length-append (omega arith)
+
+  pub beforeExtra-length : (steps : List StepLine) → length steps ≤ stepLimit
+      → length (beforeExtra h actions steps) ≡ extraCountPlace
+  beforeExtra-length steps s =
+      let b = beforeSteps-length in
+      let n = stepsNumbers-length steps in
+      let l = padded-length stepsLength (stepsNumbers steps) (omega arith) in
+      length-append (beforeSteps h actions) (padded stepsLength (stepsNumbers steps)) ∙ omega arith
+
 pub storeOf-length-of-places : (m : Model) → length (actionsNumbers (m .actions)) ≤ actionsLength
-    → length (m .steps) ≤ stepLimit → length (storeOf m) ≡ storeLength
-unfolding storeOf headRow
-storeOf-length-of-places m a s =
-    let la = padded-length actionsLength (actionsNumbers (m .actions)) a in
-    let ls = stepsNumbers-length (m .steps) in
-    let lp = padded-length stepsLength (stepsNumbers (m .steps)) (omega arith) in
-    simp length-append (omega arith)
+    → length (m .extraStarts) ≤ extraLimit → length (m .steps) ≤ stepLimit → length (storeOf m) ≡ storeLength
+unfolding storeOf
+storeOf-length-of-places m a e s =
+    let b = beforeExtra-length (m .head) (m .actions) a (m .steps) s in
+    let x = extraNumbers-length (m .extraStarts) e in
+    length-append (beforeExtra (m .head) (m .actions) (m .steps)) (extraNumbers (m .extraStarts)) ∙ omega arith
 
 module _ (m : Model) (w : WellFormed m) where
-  actions-places : length (actionsNumbers (m .actions)) ≤ actionsLength
+  pub actions-places : length (actionsNumbers (m .actions)) ≤ actionsLength
   actions-places =
       let r = headFits?→HeadRanges (m .head) (w .head) in
       let l = actionsNumbers-length [] (m .actions) (w .actions) in
       let c = w .action-count in
       omega arith
 
-  pub actions-padded-length : length (padded actionsLength (actionsNumbers (m .actions))) ≡ actionsLength
-  actions-padded-length = padded-length actionsLength (actionsNumbers (m .actions)) actions-places
-
-  pub storeOf-length : length (storeOf m) ≡ storeLength
-  storeOf-length =
+  pub steps-le : length (m .steps) ≤ stepLimit
+  steps-le =
       let r = headFits?→HeadRanges (m .head) (w .head) in
       let c = w .step-count in
-      storeOf-length-of-places m actions-places (omega arith)
+      omega arith
+
+  pub storeOf-length : length (storeOf m) ≡ storeLength
+  storeOf-length = storeOf-length-of-places m actions-places (extra-count-le m w) steps-le
 
 -- ---- numbers of 16 bits
 
@@ -118,22 +147,43 @@ module _ (m : Model) (w : WellFormed m) where
       padded-all Storable (lit< tt) stepsLength (stepsNumbers (m .steps))
       (blocks-all stepRow stepsNumbers stepSize refl (λ s rest. refl) Storable (m .steps) each)
 
+  start-storable : (before : List ℕ) (p : ℕ) → StartFits (m .head) before p → Storable p
+  start-storable before p f =
+      let r = headFits?→HeadRanges (m .head) (w .head) in
+      let l = startFits?→lt (m .head) p (f .in-range) in
+      omega arith
+
+  extra-storable : All Storable (extraNumbers (m .extraStarts))
+  unfolding extraNumbers
+  extra-storable =
+      let c = extra-count-le m w in
+      let fits = StartFits (m .head) in (
+        omega arith,
+        padded-all Storable (lit< tt) extraLimit (m .extraStarts)
+            (all-of-each fits Storable start-storable [] (m .extraStarts) (w .extra-starts)),
+      )
+
   pub storeOf-storable : All Storable (storeOf m)
   unfolding storeOf
   storeOf-storable =
       let actions-part : List ℕ = padded actionsLength (actionsNumbers (m .actions)) in
       let steps-part : List ℕ = padded stepsLength (stepsNumbers (m .steps)) in
-      let front = all-append Storable (headRow (m .head)) actions-part head-storable actions-storable in
-      all-append Storable (headRow (m .head) ++ actions-part) steps-part front steps-storable
+      let front = beforeSteps (m .head) (m .actions) in
+      let most = beforeExtra (m .head) (m .actions) (m .steps) in
+      all-append Storable most (extraNumbers (m .extraStarts))
+      (all-append Storable front steps-part
+      (all-append Storable (headRow (m .head)) actions-part head-storable actions-storable) steps-storable)
+      extra-storable
 
--- ---- where each action and each step stands, whatever follows the store
+-- ---- where each action, each step and the extra starts stand, whatever follows the store
 
 module _ (m : Model) (w : WellFormed m) (rest : List ℕ) where
   pub storeOf-action : (i : ℕ) (d : ActionLine) → i < length (m .actions)
       → (more : List ℕ) × (drop (actionPlace i) (storeOf m ++ rest) ≡ actionNumbers (getD (m .actions) i d) ++ more)
   unfolding storeOf headRow actionsNumbers
   storeOf-action i d h =
-      let steps : List ℕ = padded stepsLength (stepsNumbers (m .steps)) ++ rest in
+      let steps : List ℕ =
+      padded stepsLength (stepsNumbers (m .steps)) ++ (extraNumbers (m .extraStarts) ++ rest) in
       let zeros : List ℕ = replicate (actionsLength - length (actionsNumbers (m .actions))) 0 in
       let wide = actions-width [] (m .actions) (w .actions) in
       let after : List ℕ = zeros ++ steps in
@@ -144,15 +194,23 @@ module _ (m : Model) (w : WellFormed m) (rest : List ℕ) where
 
   pub storeOf-step : (j : ℕ) (d : StepLine) → j < length (m .steps)
       → (more : List ℕ) × (drop (stepPlace j) (storeOf m ++ rest) ≡ stepRow (getD (m .steps) j d) ++ more)
-  unfolding storeOf headRow stepsNumbers
+  unfolding storeOf stepsNumbers
   storeOf-step j d h =
-      let before : List ℕ = headRow (m .head) ++ padded actionsLength (actionsNumbers (m .actions)) in
+      let before : List ℕ = beforeSteps (m .head) (m .actions) in
       let zeros : List ℕ = replicate (stepsLength - length (stepsNumbers (m .steps))) 0 in
+      let after : List ℕ = zeros ++ (extraNumbers (m .extraStarts) ++ rest) in
       let wide = steps-width (m .steps) in
-      let b = blocks-drop stepRow stepsNumbers stepSize refl (λ s ss. refl) (m .steps) j d (zeros ++ rest) wide h in
-      let all : List ℕ = before ++ (stepsNumbers (m .steps) ++ (zeros ++ rest)) in
+      let b = blocks-drop stepRow stepsNumbers stepSize refl (λ s ss. refl) (m .steps) j d after wide h in
+      let all : List ℕ = before ++ (stepsNumbers (m .steps) ++ after) in
       let e : storeOf m ++ rest ≡ all = simp (append-assoc, padded-append) in
-      let l = actions-padded-length m w in
-      let n : length before ≡ stepsBegin = simp length-append (omega arith) in
+      let n = beforeSteps-length (m .head) (m .actions) (actions-places m w) in
       let k : stepPlace j ≡ length before + stepSize * j = omega arith in
       (b .0, ap (drop (stepPlace j)) e ∙ rw k (drop-append-add before _ (stepSize * j)) ∙ b .1)
+
+  pub storeOf-extra : drop extraCountPlace (storeOf m ++ rest) ≡ extraNumbers (m .extraStarts) ++ rest
+  unfolding storeOf
+  storeOf-extra =
+      let before = beforeExtra (m .head) (m .actions) (m .steps) in
+      let n = beforeExtra-length (m .head) (m .actions) (actions-places m w) (m .steps) (steps-le m w) in
+      ap (drop extraCountPlace) (append-assoc before (extraNumbers (m .extraStarts)) rest)
+      ∙ drop-at before (extraNumbers (m .extraStarts) ++ rest) extraCountPlace n
