@@ -65,7 +65,7 @@ pub record LeakTexts (m : Model) (texts : List (List ℕ)) (states lines : List 
   pub verdict-fields : RefuseFields texts step depth
   -- "the step told, a reachable high step"
   pub high-step : HighStep m step
-  -- the run from the start to its source, an `R` line for each step
+  -- the run from a start to its source, an `R` line for each step
   pub run : List ℕ
   pub run-to : RunTo m (source m step) run
   pub run-fields : (i : ℕ) → i < length run
@@ -84,7 +84,7 @@ pub record LeakTexts (m : Model) (texts : List (List ℕ)) (states lines : List 
 pub record BytesTell (m : Model) (bytes : List ℕ) (Pass Leak : Type 0) : Type 0 where
   pub verdict : SaysPass bytes ⊎ SaysRefuse bytes
   -- "It is passed exactly when this holds of every sequence of actions, however long, that can be run from the start
-  -- [..]"
+  -- [..]", "from each of the model's starts" (document 02, (iii))
   pub pass-iff : SaysPass bytes ↔ INI (view m)
   pub pass : SaysPass bytes → Pass
   pub leak : SaysRefuse bytes → Leak

@@ -17,6 +17,7 @@ use Rattle.tell.specs.BenchModels.{scan, print, close}
 use Rattle.tell.specs.BenchModels.{worked, workedText, scannedOnce, scannedOnceText, released, releasedText}
 use Rattle.tell.specs.BenchModels.{closeLow, closeLowText, branching, branchingText, noSteps, noStepsText}
 use Rattle.tell.specs.BenchModels.{printLoop, printLoopText, unreachedPrint, unreachedPrintText}
+use Rattle.tell.specs.BenchModels.{wokenPrint, wokenPrintText}
 
 -- The text reads to the model, whose verdict is v.
 pub record ReadsAndJudged (text : List ℕ) (m : Model) (v : Verdict) : Type 0 where
@@ -59,3 +60,10 @@ pub record JointFact : Type 0 where
   -- "print scan close print scan thins to print scan close scan. The empty sequence thins to itself."
   pub thinned : thin (view worked .levels) (print ∷ scan ∷ close ∷ print ∷ scan ∷ []) ≡ print ∷ scan ∷ close ∷ scan ∷ []
   pub thinned-empty : thin (view worked .levels) [] ≡ []
+
+-- A leak from the second start only: the last bench model passes, and with a second start it is refused.
+-- Document 02, (iii): "Reachable is from any start".
+pub record SecondStart : Type 0 where
+  pub woken-refused : ReadsAndJudged wokenPrintText wokenPrint (refusedAt 0 1)
+  pub woken-deterministic : DeterministicModel wokenPrint
+  pub woken-word : WordOf wokenPrint 0 (scan ∷ []) Target

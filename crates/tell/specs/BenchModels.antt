@@ -1,4 +1,4 @@
--- The starred bench models and their texts.
+-- The starred bench models and their texts; and one of them with a second start (document 02, (iii)).
 -- Document 01, "The page" and "Bench models": "Actions as above, start 0; unless said, the highest state named is the
 -- last."
 use mathlib.Core.List.{List, [], _∷_, _++_}
@@ -53,17 +53,22 @@ close = 2
 abbrev arrow : ℕ → ℕ → ℕ → StepLine
 arrow p a q = record { source = record { 0 = p }; action = record { 0 = a }; target = record { 0 = q } }
 
--- The model with so many states and steps, start 0, scan low, print high, and close of the given level.
-abbrev modelWith : ℕ → ℕ → ℕ → List StepLine → Model
-modelWith closeLevel states steps arrows = record {
+-- The model with so many states and steps, start 0, scan low, print high, and close of the given level, that wakes in
+-- further states too.
+abbrev modelFrom : List ℕ → ℕ → ℕ → ℕ → List StepLine → Model
+modelFrom further closeLevel states steps arrows = record {
   head = record { states = states; actions = 3; steps = steps; start = record { 0 = 0 } };
   actions =
       record { level = low; name = 115 ∷ 99 ∷ 97 ∷ 110 ∷ [] }
       ∷ record { level = high; name = 112 ∷ 114 ∷ 105 ∷ 110 ∷ 116 ∷ [] }
       ∷ record { level = closeLevel; name = 99 ∷ 108 ∷ 111 ∷ 115 ∷ 101 ∷ [] }
       ∷ [];
+  extraStarts = further;
   steps = arrows;
 }
+
+abbrev modelWith : ℕ → ℕ → ℕ → List StepLine → Model
+modelWith = modelFrom []
 
 -- "0 scan 1, 0 print 2, 2 scan 3, 2 close 0"
 abbrev pub scannedOnce : Model
@@ -118,3 +123,12 @@ unreachedPrint = modelWith release 3 2 (arrow 1 print 2 ∷ arrow 2 scan 2 ∷ [
 
 abbrev pub unreachedPrintText : List ℕ
 unreachedPrintText = headLine 3 2 ++ actionLines ++ stepLine 1 1 2 ++ stepLine 2 0 2 ++ endLine
+
+-- The same, waking in 1 too: only from there can its print step be reached.
+abbrev pub wokenPrint : Model
+wokenPrint = modelFrom (1 ∷ []) release 3 2 (arrow 1 print 2 ∷ arrow 2 scan 2 ∷ [])
+
+-- with the line I,1
+abbrev pub wokenPrintText : List ℕ
+wokenPrintText =
+    headLine 3 2 ++ actionLines ++ (73 ∷ 44 ∷ 49 ∷ 10 ∷ []) ++ stepLine 1 1 2 ++ stepLine 2 0 2 ++ endLine

@@ -7,7 +7,7 @@
 -- `passed-no-word`), one that names the other end (`possible`), shows a word one too long (`shortest`), the last by
 -- action numbers (`first`) or one with a release in it (`low`), or a word of a model that it calls branching
 -- (`not-branching`).
--- Document 01, "Demand 3 is one claim [..]"; DEMANDS, 3. Assumes nothing.
+-- Document 01, "Demand 3 is one claim [..]"; DEMANDS, 3; document 02, (iii). Assumes nothing.
 use mathlib.Core.List.{List, [], _∷_}
 use mathlib.Core.Logic.{_⊎_, _↔_}
 use mathlib.Core.Path.{_≡_}
@@ -42,6 +42,8 @@ pub record JudgeTells (m : Model) (judge : Outcome) : Type 0 where
   -- "It is passed exactly when this holds of every sequence of actions, however long, that can be run from the start:
   -- with each high action that no later release follows taken out it can still be run from the start, and the two
   -- states where the full and the thinned sequence end allow the same low sequences."
+  -- "A thinned sequence begins in the same start as the full one, and in demand 3 a model is passed exactly when the
+  -- rule given there holds from each of the model's starts." (document 02, (iii))
   pub passed-iff : SaysPassed judge ↔ INI (view m)
   -- "the step told, a reachable high step"
   pub step-told : (j depth : ℕ) → SaysRefused judge j depth → HighStep m j

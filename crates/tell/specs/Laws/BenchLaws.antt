@@ -20,12 +20,13 @@ use Rattle.text.specs.Limits.{storeLength}
 use Rattle.text.specs.Bytes.{kindOf}
 use Rattle.text.specs.Numbers.{digitsValue, numberShape?, numberOf, inBounds?, bounded, numberIn}
 use Rattle.text.specs.Split.{consFirst, split, same?}
-use Rattle.text.specs.Model.{Model, above?, aboveLast?}
-use Rattle.text.specs.Lines.{checked, fieldsFrom, fieldsOf, consNumber, numbersOf, headBounds, stepBounds, rowLetter}
-use Rattle.text.specs.Lines.{rowCount, rowBounds, valueOr0, statesOf, rowFrom, rowOf, headFrom, headOf, levelOf, allOf}
-use Rattle.text.specs.Lines.{nameByte?, name?, nameFrom, actionFields, used?, actionFrom, actionOf, stepFrom, stepOf}
-use Rattle.model.specs.Reading.{done, onLine, orFault, readNothing, readEnd, readSteps, readActions}
-use Rattle.model.specs.Reading.{readModel, readText}
+use Rattle.text.specs.Model.{Model, lastStart, above?, aboveLast?}
+use Rattle.text.specs.Lines.{checked, fieldsFrom, fieldsOf, consNumber, numbersOf, headBounds, startBounds, stepBounds}
+use Rattle.text.specs.Lines.{rowLetter, rowCount, rowBounds, valueOr0, statesOf, rowFrom, rowOf, headFrom, headOf}
+use Rattle.text.specs.Lines.{levelOf, allOf, nameByte?, name?, nameFrom, actionFields, used?, actionFrom, actionOf}
+use Rattle.text.specs.Lines.{aboveStarts?, startFrom, startOf, stepFrom, stepOf}
+use Rattle.model.specs.Reading.{done, onLine, orFault, readNothing, readEnd, readSteps, startLine?, startLines}
+use Rattle.model.specs.Reading.{readStarts, readActions, readModel, readText}
 use Rattle.model.specs.Laws.Text.ReadingLaws.{readText-well-formed}
 use Rattle.model.specs.Store.{storeOf}
 use Rattle.model.specs.Laws.Store.StoreLaws.{storeOf-length}
@@ -36,7 +37,7 @@ use Rattle.verdicts.specs.declared.judging.Verdict.{Verdict}
 use Rattle.verdicts.specs.declared.judging.Verdict.the-variants.{Passed}
 use Rattle.model.specs.Inner.Stored.{Stored}
 use Rattle.model.specs.Laws.System.GoodStoredLaws.{holds→Stored}
-use Rattle.model.specs.Inner.StepTest.{tests, step?}
+use Rattle.model.specs.Inner.StepTest.{tests, step?, start?}
 use Rattle.model.specs.Laws.System.StepTestLaws.{decided-view}
 use Rattle.verdicts.specs.Verdicts.{Judged}
 use Rattle.verdicts.specs.Inner.VerdictTest.{greatestBelow, leastBelow, verdictOf}
@@ -45,7 +46,8 @@ use Rattle.tell.specs.BenchModels.{worked, workedText, scannedOnce, scan
 use Rattle.tell.specs.BenchModels.{scan, close}
 use Rattle.tell.specs.BenchModels.{closeLow, closeLowText, branching, branchingText, noSteps, noStepsText}
 use Rattle.tell.specs.BenchModels.{printLoop, printLoopText, unreachedPrint, unreachedPrintText}
-use Rattle.tell.specs.Bench.{ReadsAndJudged, refusedAt, JointFact}
+use Rattle.tell.specs.BenchModels.{wokenPrint, wokenPrintText}
+use Rattle.tell.specs.Bench.{ReadsAndJudged, refusedAt, JointFact, SecondStart}
 use Rattle.letters.specs.declared.word.End.the-variants.{Source, Target}
 use Rattle.letters.specs.Words.{FirstBranch}
 use Rattle.tell.specs.Inner.WordTest.{unbranched?, low?, allows?, notAfter?, eachWord?, wordOf?}
@@ -63,12 +65,14 @@ record Read : Type 0 where
   no-steps : readText noStepsText ≡ done noSteps
   print-loop : readText printLoopText ≡ done printLoop
   unreached-print : readText unreachedPrintText ≡ done unreachedPrint
+  woken-print : readText wokenPrintText ≡ done wokenPrint
 
 read : Read
-unfolding readText readModel readActions readSteps readEnd readNothing orFault onLine stepOf stepFrom actionOf
-    actionFrom used? actionFields nameFrom name? nameByte? allOf levelOf headOf headFrom rowOf rowFrom statesOf valueOr0
-    rowBounds rowCount rowLetter stepBounds headBounds numbersOf consNumber fieldsOf fieldsFrom checked above?
-    aboveLast? same? split consFirst numberIn bounded inBounds? numberOf numberShape? digitsValue kindOf
+unfolding readText readModel readActions startLines startLine? readStarts readSteps readEnd readNothing orFault onLine
+    stepOf stepFrom startOf startFrom aboveStarts? lastStart actionOf actionFrom used? actionFields nameFrom name?
+    nameByte? allOf levelOf headOf headFrom rowOf rowFrom statesOf valueOr0 rowBounds rowCount rowLetter stepBounds
+    startBounds headBounds numbersOf consNumber fieldsOf fieldsFrom checked above? aboveLast? same? split consFirst
+    numberIn bounded inBounds? numberOf numberShape? digitsValue kindOf
 read = record {
   worked = refl;
   scanned-once = refl;
@@ -78,6 +82,7 @@ read = record {
   no-steps = refl;
   print-loop = refl;
   unreached-print = refl;
+  woken-print = refl;
 }
 
 record Computed : Type 0 where
@@ -89,9 +94,10 @@ record Computed : Type 0 where
   no-steps : verdictOf noSteps ≡ Passed 0
   print-loop : verdictOf printLoop ≡ Passed 0
   unreached-print : verdictOf unreachedPrint ≡ Passed 1
+  woken-print : verdictOf wokenPrint ≡ refusedAt 0 1
 
 computed : Computed
-unfolding greatestBelow leastBelow step? rankBelow alike? answers? answered? within? all any
+unfolding greatestBelow leastBelow step? start? rankBelow alike? answers? answered? within? all any
 computed = record {
   worked = refl;
   scanned-once = refl;
@@ -101,15 +107,17 @@ computed = record {
   no-steps = refl;
   print-loop = refl;
   unreached-print = refl;
+  woken-print = refl;
 }
 
 record Words : Type 0 where
   worked : T (wordOf? worked 1 (scan ∷ scan ∷ []) Source)
   close-low : T (wordOf? closeLow 0 (close ∷ []) Target)
+  woken-print : T (wordOf? wokenPrint 0 (scan ∷ []) Target)
 
 words : Words
 unfolding wordOf? eachWord? notAfter? allows? low? step? all any
-words = record { worked = tt; close-low = tt }
+words = record { worked = tt; close-low = tt; woken-print = tt }
 
 record Unbranched : Type 0 where
   worked : T (unbranched? worked)
@@ -119,6 +127,7 @@ record Unbranched : Type 0 where
   no-steps : T (unbranched? noSteps)
   print-loop : T (unbranched? printLoop)
   unreached-print : T (unbranched? unreachedPrint)
+  woken-print : T (unbranched? wokenPrint)
 
 unbranched : Unbranched
 unfolding unbranched? all
@@ -130,6 +139,7 @@ unbranched = record {
   no-steps = tt;
   print-loop = tt;
   unreached-print = tt;
+  woken-print = tt;
 }
 
 -- ---- and so the definitions say
@@ -173,7 +183,7 @@ branching-same-words w l = (
 -- Steps 0 and 1 leave the start with scan.
 branching-not-deterministic : ¬ (DeterministicModel branching)
 branching-not-deterministic det =
-    let e = det .one-step 0 1 (omega arith) (omega arith) (begin refl) refl refl in
+    let e = det .one-step 0 1 (omega arith) (omega arith) (begin (head-start branching)) refl refl in
     omega arith
 
 branching-first : FirstBranch branching 1
@@ -182,7 +192,7 @@ branching-first = record {
     before = 0;
     next-is = refl;
     number-lt = omega arith;
-    reachable = begin refl;
+    reachable = begin (head-start branching);
     same-source = refl;
     same-action = refl;
   };
@@ -190,7 +200,7 @@ branching-first = record {
 }
 
 print-unreachable : ¬ (ReachableIn unreachedPrint 1)
-unfolding within? all any step?
+unfolding within? all any step? start?
 print-unreachable r =
     Reachable→reachable? (stored-of-read unreachedPrintText unreachedPrint (read .unreached-print)) 1 r
 
@@ -226,4 +236,12 @@ joint-fact = record {
   print-unreachable = print-unreachable;
   thinned = refl;
   thinned-empty = refl;
+}
+
+pub second-start : SecondStart
+second-start = record {
+  woken-refused = judged-of-computed wokenPrintText wokenPrint (read .woken-print) (refusedAt 0 1) (computed .woken-print);
+  woken-deterministic = unbranched?→DeterministicModel wokenPrint (unbranched .woken-print);
+  woken-word = wordOf?→WordOf (stored-of-read wokenPrintText wokenPrint (read .woken-print)) 0 (scan ∷ []) Target
+      (words .woken-print);
 }
