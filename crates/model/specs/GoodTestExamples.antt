@@ -1,21 +1,23 @@
--- The store of a model of document 01, "Bench models", is good by evaluation, and with one number changed it is not.
+-- The store of a model of document 01, "Bench models", and of one with an extra start (document 02, (iii)) are good by
+-- evaluation, and with one number changed they are not.
 use mathlib.Core.Bool.{true, false}
 use mathlib.Core.List.{[], _∷_}
 use mathlib.Core.Path.{_≡_, refl}
 use Prim.Native.Nat.{_-_}
 use lib.ListN.{set}
-use Rattle.text.specs.Limits.{storeLength, targetPlace}
+use Rattle.text.specs.Limits.{stepsEnd, storeLength, targetPlace, extraCountPlace, extraPlace}
 use Rattle.text.specs.Bytes.{kindOf}
 use Rattle.text.specs.Numbers.{inBounds?}
 use Rattle.text.specs.Split.{same?}
-use Rattle.text.specs.Model.{low, release, high, Model, above?, aboveLast?}
-use Rattle.text.specs.Lines.{fits?, headBounds, stepBounds, headFits?, allOf, nameByte?, name?, used?, stepFits?}
-use Rattle.model.specs.Store.{padded, actionNumbers, actionsNumbers, stepsNumbers, headRow, storeOf}
+use Rattle.text.specs.Model.{low, release, high, Model, lastStart, above?, aboveLast?}
+use Rattle.text.specs.Lines.{fits?, headBounds, startBounds, stepBounds, headFits?, allOf, nameByte?, name?, used?}
+use Rattle.text.specs.Lines.{startFits?, aboveStarts?, stepFits?}
+use Rattle.model.specs.Store.{padded, actionNumbers, actionsNumbers, stepsNumbers, headRow, extraNumbers, storeOf}
 use Rattle.model.specs.StoredModel.{listed, modelAt}
-use Rattle.model.specs.GoodTest.{eachAfter?, actionFits?, stepRises?, wellFormed?, holds?, good?}
+use Rattle.model.specs.GoodTest.{eachAfter?, actionFits?, startRises?, stepRises?, wellFormed?, holds?, good?}
 
 -- "One state, 0 print 0"
-one-state : Model
+abbrev one-state : Model
 one-state = record {
   head = record { states = 1; actions = 3; steps = 1; start = record { 0 = 0 } };
   actions =
@@ -23,30 +25,52 @@ one-state = record {
       ∷ record { level = high; name = 112 ∷ 114 ∷ 105 ∷ 110 ∷ 116 ∷ [] }
       ∷ record { level = release; name = 99 ∷ 108 ∷ 111 ∷ 115 ∷ 101 ∷ [] }
       ∷ [];
+  extraStarts = [];
   steps = record { source = record { 0 = 0 }; action = record { 0 = 1 }; target = record { 0 = 0 } } ∷ [];
 }
 
-good : good? (storeOf one-state) ≡ true
-unfolding good? holds? wellFormed? eachAfter? actionFits? stepRises? modelAt listed storeOf padded actionNumbers
-    actionsNumbers stepsNumbers headRow stepFits? used? name? nameByte? allOf headFits? fits? headBounds stepBounds
-    inBounds? above? aboveLast? same? kindOf one-state
-good = refl
+-- three states, of which it starts in 1 and 2
+abbrev two-starts : Model
+two-starts = record {
+  head = record { states = 3; actions = 1; steps = 0; start = record { 0 = 1 } };
+  actions = record { level = low; name = 97 ∷ [] } ∷ [];
+  extraStarts = 2 ∷ [];
+  steps = [];
+}
 
--- "Unused places are 0."
-unused-not-zero : good? (set (storeOf one-state) (storeLength - 1) 1) ≡ false
-unfolding good? holds? wellFormed? eachAfter? actionFits? stepRises? modelAt listed storeOf padded actionNumbers
-    actionsNumbers stepsNumbers headRow stepFits? used? name? nameByte? allOf headFits? fits? headBounds stepBounds
-    inBounds? above? aboveLast? same? kindOf one-state
-unused-not-zero = refl
+-- each store and its test
+record Tested : Type 0 where
+  one-state-good : good? (storeOf one-state) ≡ true
+  two-starts-good : good? (storeOf two-starts) ≡ true
+  -- "Unused places are 0": behind the steps, and behind the extra starts
+  unused-step : good? (set (storeOf one-state) (stepsEnd - 1) 1) ≡ false
+  unused-start : good? (set (storeOf two-starts) (storeLength - 1) 2) ≡ false
+  -- a target that is no state
+  target-out-of-range : good? (set (storeOf one-state) (targetPlace 0) 1) ≡ false
+  -- an extra start that is no state, and one that is line 1's start
+  start-out-of-range : good? (set (storeOf two-starts) (extraPlace 0) 3) ≡ false
+  start-of-head : good? (set (storeOf two-starts) (extraPlace 0) 1) ≡ false
+  -- a count of one more, and of one less, than there are extra starts
+  start-missing : good? (set (storeOf two-starts) extraCountPlace 2) ≡ false
+  start-uncounted : good? (set (storeOf two-starts) extraCountPlace 0) ≡ false
+  -- counts as large as 16 bits allow are refused before a model of that size is read off
+  counts-too-large : good? (65535 ∷ 65535 ∷ 65535 ∷ 0 ∷ []) ≡ false
+  extra-count-too-large : good? (set (storeOf two-starts) extraCountPlace 65535) ≡ false
 
--- a target that is no state
-target-out-of-range : good? (set (storeOf one-state) (targetPlace 0) 1) ≡ false
-unfolding good? holds? wellFormed? eachAfter? actionFits? stepRises? modelAt listed storeOf padded actionNumbers
-    actionsNumbers stepsNumbers headRow stepFits? used? name? nameByte? allOf headFits? fits? headBounds stepBounds
-    inBounds? above? aboveLast? same? kindOf one-state
-target-out-of-range = refl
-
--- counts as large as 16 bits allow are refused before a model of that size is read off
-counts-too-large : good? (65535 ∷ 65535 ∷ 65535 ∷ 0 ∷ []) ≡ false
-unfolding good? headFits? fits? headBounds inBounds?
-counts-too-large = refl
+tested : Tested
+unfolding good? holds? wellFormed? eachAfter? actionFits? startRises? stepRises? modelAt listed storeOf padded
+    actionNumbers actionsNumbers stepsNumbers headRow extraNumbers startFits? aboveStarts? lastStart stepFits? used? name?
+    nameByte? allOf headFits? fits? headBounds startBounds stepBounds inBounds? above? aboveLast? same? kindOf
+tested = record {
+  one-state-good = refl;
+  two-starts-good = refl;
+  unused-step = refl;
+  unused-start = refl;
+  target-out-of-range = refl;
+  start-out-of-range = refl;
+  start-of-head = refl;
+  start-missing = refl;
+  start-uncounted = refl;
+  counts-too-large = refl;
+  extra-count-too-large = refl;
+}

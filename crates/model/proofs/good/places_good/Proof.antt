@@ -77,7 +77,23 @@ zeros-requires-2 c κs = search needs
 
 returns-5 : tie.Need-returns-5
 returns-5 c =
-    let unused-passed = c .before .before in
+    let f = c .before .zeros2 in
+    let unused-passed = c .before .before .before in
+    let steps-passed = unused-passed .before .before .before in
+    let head-passed = steps-passed .before .before .before .before in
+    let m = ap (λ (x : Head). x .steps) (head-passed .before .before .head .ensures) in
+    let t = c .before .before .step-place .ensures in
+    λ p.
+    decides-refused (f .result) _ (f .ensures) (c .if5 .taken)
+    (record { at = λ k h l. p .unused-steps .at k (omega arith) (omega arith) })
+
+extra-good-requires : tie.Need-extra-good-requires
+extra-good-requires c κs = search needs
+
+returns-6 : tie.Need-returns-6
+returns-6 c =
+    let rest-passed = c .before in
+    let unused-passed = rest-passed .before .before .before in
     let steps-passed = unused-passed .before .before .before in
     let actions-passed = steps-passed .before .before in
     let head-passed = actions-passed .before .before in
@@ -85,24 +101,27 @@ returns-5 c =
     let n = ap (λ (x : Head). x .actions) e in
     let m = ap (λ (x : Head). x .steps) e in
     let a = unused-passed .before .before .action-place .ensures in
-    let t = c .before .step-place .ensures in
+    let t = rest-passed .before .before .step-place .ensures in
     let hd = head-passed .before .head-fits in
     let ac = actions-passed .before .actions-good in
     let st = steps-passed .before .steps-good in
-    let un = unused-passed .before .zeros in
+    let ua = unused-passed .before .zeros in
+    let us = rest-passed .before .zeros2 in
     let head = decides-passed (hd .result) _ (decides-test (hd .result) _ (hd .ensures)) (head-passed .if1 .left) in
     let actions = decides-passed (ac .result) _ (ac .ensures) (actions-passed .if2 .left) in
     let steps = decides-passed (st .result) _ (st .ensures) (steps-passed .if3 .left) in
-    let unused = decides-passed (un .result) _ (un .ensures) (unused-passed .if4 .left) in
-    decides-iff (c .zeros2 .result)
-    (λ z. record {
+    let unused-actions = decides-passed (ua .result) _ (ua .ensures) (unused-passed .if4 .left) in
+    let unused-steps = decides-passed (us .result) _ (us .ensures) (rest-passed .if5 .left) in
+    decides-iff (c .extra-good .result)
+    (λ x. record {
       head = rw e at head;
       actions = rw n at actions;
       steps = rw e at steps;
-      unused-actions = record { at = λ k h l. unused .at k (omega arith) (omega arith) };
-      unused-steps = record { at = λ k h l. z .at k (omega arith) (omega arith) };
+      unused-actions = record { at = λ k h l. unused-actions .at k (omega arith) (omega arith) };
+      unused-steps = record { at = λ k h l. unused-steps .at k (omega arith) (omega arith) };
+      extra-starts = rw e at x;
     })
-    (λ p. record { at = λ k h l. p .unused-steps .at k (omega arith) (omega arith) }) (c .zeros2 .ensures)
+    (λ p. rw e (p .extra-starts)) (c .extra-good .ensures)
 
 pub places-good-spec : {M : Type 1} → statement M
 places-good-spec =
@@ -120,4 +139,6 @@ places-good-spec =
     returns-4
     step-place-requires
     zeros-requires-2
-    returns-5)
+    returns-5
+    extra-good-requires
+    returns-6)

@@ -1,5 +1,5 @@
 -- The order of steps is transitive, so a well-formed model stays so when a step is taken out.
--- Document 01, "The text": "strictly rising by source, then action, then target". Assumes nothing.
+-- Document 01, "The text": "strictly rising by source, then action, then target"; document 02, (iii). Assumes nothing.
 use mathlib.Core.Bool.{Bool, _&&_, _||_}
 use mathlib.Core.List.{List, [], _∷_, _++_, append-nil}
 use mathlib.Core.Logic.{_⊎_, inl, inr}
@@ -13,10 +13,10 @@ use Rattle.lts.specs.TestsLaws.{and-left, and-right, and-intro, or-left, or-rig
 use Rattle.text.specs.declared.Head.{Head}
 use Rattle.text.specs.declared.StepLine.{StepLine}
 use Rattle.text.specs.Model.{Model, above?, aboveLast?}
-use Rattle.text.specs.Lines.{stepBounds, stepFits?}
+use Rattle.text.specs.Lines.{startBounds, stepBounds, startFits?, aboveStarts?, stepFits?}
 use Rattle.model.specs.Above.{Above, withoutStep}
 use Rattle.text.specs.Laws.RangesLaws.{headFits?→HeadRanges, HeadRanges→headFits?}
-use Rattle.model.specs.WellFormed.{EachAfter, StepFits, WellFormed}
+use Rattle.model.specs.WellFormed.{EachAfter, StartFits, StepFits, WellFormed}
 use Rattle.model.specs.Laws.Store.EachLaws.{each-append, append-each, cons-each, each-of-each, each-without}
 
 -- ---- the order
@@ -146,7 +146,7 @@ steps-without h before s after e =
     without r ws t f = record { in-range = f .in-range; rising = aboveLast?-without before s ws t r (f .rising) }
 
 pub withoutStep-wellFormed : (m : Model) (j : ℕ) → WellFormed m → j < m .head .steps → WellFormed (withoutStep m j)
-unfolding stepFits? stepBounds
+unfolding startFits? startBounds aboveStarts? stepFits? stepBounds
 withoutStep-wellFormed m j w l =
     let r = headFits?→HeadRanges (m .head) (w .head) in
     let h = withoutStep m j .head in
@@ -166,6 +166,9 @@ withoutStep-wellFormed m j w l =
       action-count = w .action-count;
       step-count = simp (length-append, length-take, length-drop) (omega arith);
       actions = w .actions;
+      extra-starts =
+          each-of-each (StartFits (m .head)) (StartFits h)
+          (λ b p f. record { in-range = f .in-range; rising = f .rising }) [] (m .extraStarts) (w .extra-starts);
       steps =
           each-of-each (StepFits (m .head)) (StepFits h)
           (λ b s f. record { in-range = f .in-range; rising = f .rising }) [] (withoutStep m j .steps)

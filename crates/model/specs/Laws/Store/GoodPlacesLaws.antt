@@ -1,28 +1,30 @@
 -- A store with good places holds the model that it shows.
--- Document 01, "The model store". Assumes nothing.
+-- Document 01, "The model store"; document 02, (iii). Assumes nothing.
 use mathlib.Core.List.{List, [], _∷_}
 use mathlib.Core.Path.{_≡_, refl, sym, ap, _∙_}
 use Prim.Native.Nat.{ℕ, zero, suc, _+_, _-_, _*_, _≤_, _<_}
 use native.Mathlib.Omega.{arith}
 use lib.Dec.{not-T}
-use lib.ListN.{length, take, drop}
-use lib.Seq.{take-add}
+use lib.ListN.{length, take, drop, length-drop}
+use lib.Seq.{take-add, getD-drop}
 use Rattle.lts.specs.TestsLaws.{and-intro}
 use Rattle.text.specs.Limits.{nameLimit, stateCountPlace, actionCountPlace, stepCountPlace, startPlace, headEnd}
 use Rattle.text.specs.Limits.{actionsBegin, actionSize, actionsLength, actionsEnd, actionColumn, targetColumn}
-use Rattle.text.specs.Limits.{stepsBegin, stepSize, stepsLength, storeLength}
+use Rattle.text.specs.Limits.{stepsBegin, stepSize, stepsLength, stepsEnd, extraCountPlace, extraBegin, extraLimit}
+use Rattle.text.specs.Limits.{storeLength}
 use Rattle.text.specs.Limits.{actionPlace, nameLengthPlace, namePlace, stepPlace, actionOfStepPlace, targetPlace}
 use Rattle.text.specs.Bytes.{between?}
 use Rattle.text.specs.Model.{aboveLast?}
 use Rattle.text.specs.Lines.{allOf, nameByte?, name?, used?}
 use Rattle.model.specs.Store.{padded, actionNumbers, actionsNumbers, stepRow, stepsNumbers, headRow}
-use Rattle.model.specs.Store.{storeOf}
-use Rattle.model.specs.WellFormed.{ActionFits, StepFits, WellFormed}
-use Rattle.model.specs.StoredModel.{headAt, actionAt, stepAt, listed, modelAt, Holds}
+use Rattle.model.specs.Store.{extraNumbers, storeOf}
+use Rattle.model.specs.WellFormed.{ActionFits, StartFits, StepFits, WellFormed}
+use Rattle.model.specs.StoredModel.{headAt, actionAt, stepAt, extraCountAt, extraStartAt, listed, modelAt, Holds}
 use Rattle.text.specs.Inner.Ranges.{HeadRanges}
 use Rattle.text.specs.Laws.BytesLaws.{le→between?}
-use Rattle.text.specs.Laws.RangesLaws.{headFits?→HeadRanges}
-use Rattle.model.specs.Laws.Store.StoredModelLaws.{listed-length}
+use Rattle.text.specs.Laws.RangesLaws.{headFits?→HeadRanges, lt→aboveStarts?}
+use Rattle.model.specs.Laws.Store.StartsLaws.{lastStart-listed}
+use Rattle.model.specs.Laws.Store.StoredModelLaws.{listed-length, listed-take}
 use Rattle.model.specs.Inner.GoodPlaces.{nameLengthAt, GoodAction, GoodPlaces}
 use Rattle.model.specs.Laws.Store.PlacesLaws.{part-length, part-cons, padded-part, getD→allOf}
 use Rattle.model.specs.Laws.Store.ListedLaws.{listed-each, used?-listed, blocks-listed}
@@ -71,6 +73,17 @@ module _ (s : List ℕ) (fits : storeLength ≤ length s) where
               (rw e at (t .rising (omega arith)));
         }
 
+    start-fits : (i : ℕ) → i < extraCountAt s
+        → StartFits (headAt s) (listed i (extraStartAt s)) (extraStartAt s i)
+    start-fits i h =
+        let t = g .extra-starts .each .at i (omega arith) h in
+        let e = lastStart-listed (headAt s) s i in
+        record {
+          in-range = t .in-range;
+          rising =
+              lt→aboveStarts? (headAt s) (listed i (extraStartAt s)) (extraStartAt s i) (omega (arith, t .rising));
+        }
+
     GoodPlaces→WellFormed : WellFormed (modelAt s)
     unfolding modelAt
     GoodPlaces→WellFormed = record {
@@ -78,6 +91,7 @@ module _ (s : List ℕ) (fits : storeLength ≤ length s) where
       action-count = listed-length (headAt s .actions) (actionAt s);
       step-count = listed-length (headAt s .steps) (stepAt s);
       actions = listed-each ActionFits (actionAt s) (headAt s .actions) action-fits;
+      extra-starts = listed-each (StartFits (headAt s)) (extraStartAt s) (extraCountAt s) start-fits;
       steps = listed-each (StepFits (headAt s)) (stepAt s) (headAt s .steps) step-fits;
     }
 
@@ -141,12 +155,26 @@ module _ (s : List ℕ) (fits : storeLength ≤ length s) where
         ap (padded stepsLength) blocks
         ∙ padded-part s stepsBegin (stepSize * n) stepsLength (omega arith) (omega arith) (g .unused-steps)
 
+    extra-section : extraNumbers (modelAt s .extraStarts) ≡ take (extraLimit + 1) (drop extraCountPlace s)
+    unfolding modelAt extraNumbers
+    extra-section =
+        let x = g .extra-starts in
+        let n : ℕ = extraCountAt s in
+        let c = x .count in
+        let d = length-drop extraBegin s in
+        let starts : listed n (extraStartAt s) ≡ take n (drop extraBegin s) =
+        listed-take (drop extraBegin s) 0 (extraStartAt s) n (omega arith) (λ i l. sym (getD-drop extraBegin s i 0)) in
+        let p = padded-part s extraBegin n extraLimit c (omega arith) (x .unused) in
+        let cons = part-cons s extraCountPlace extraBegin extraLimit (omega arith) refl in
+        rw (listed-length n (extraStartAt s), starts, p) (sym cons)
+
     GoodPlaces→stored : storeOf (modelAt s) ≡ take storeLength s
     unfolding storeOf modelAt
     GoodPlaces→stored =
         let front = take-add headEnd actionsLength s in
-        let whole = take-add actionsEnd stepsLength s in
-        rw (actions-section, steps-section, head-section) (sym (whole ∙ rw front))
+        let most = take-add actionsEnd stepsLength s in
+        let whole = take-add stepsEnd (extraLimit + 1) s in
+        rw (actions-section, steps-section, extra-section, head-section) (sym (whole ∙ rw (most, front)))
 
   pub GoodPlaces→Holds : GoodPlaces s → Holds s (modelAt s)
   GoodPlaces→Holds g = record { well-formed = GoodPlaces→WellFormed g; stored = GoodPlaces→stored g }

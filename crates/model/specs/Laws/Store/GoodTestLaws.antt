@@ -1,25 +1,27 @@
 -- The tests of well-formed models and of good stores decide them.
--- Document 01, "The text" and "The model store". Assumes nothing.
+-- Document 01, "The text" and "The model store"; document 02, (iii). Assumes nothing.
 use mathlib.Core.Bool.{Bool, not, _&&_}
 use mathlib.Core.List.{List, [], _∷_, _++_}
 use mathlib.Core.Logic.{_⊎_, inl, inr}
 use mathlib.Core.Path.{_≡_, subst}
 use Prim.Native.Nat.{ℕ}
+use native.Mathlib.Omega.{arith}
 use lib.Dec.{T, T-not, leb, eqb, leb→le, le→leb, eqb→eq, eqb-refl}
 use lib.ListN.{length, take}
 use Rattle.lts.specs.TestsLaws.{T-cases, and-left, and-right, and-intro}
 use Rattle.text.specs.declared.Head.{Head}
 use Rattle.text.specs.declared.StepLine.{StepLine}
-use Rattle.text.specs.Limits.{storeLength}
+use Rattle.text.specs.Limits.{extraLimit, storeLength}
 use Rattle.text.specs.Split.{same?}
 use Rattle.text.specs.Laws.SameLaws.{same?→eq, eq→same?}
 use Rattle.text.specs.Model.{high, ActionLine, Model, aboveLast?}
-use Rattle.text.specs.Lines.{headFits?, name?, used?, stepFits?}
+use Rattle.text.specs.Lines.{headFits?, name?, used?, startFits?, aboveStarts?, stepFits?}
 use Rattle.model.specs.Store.{storeOf, Good}
-use Rattle.model.specs.WellFormed.{EachAfter, ActionFits, StepFits, WellFormed}
-use Rattle.model.specs.StoredModel.{headAt, modelAt, Holds}
-use Rattle.model.specs.Laws.Store.StoredModelLaws.{Good→Holds, Holds→Good}
-use Rattle.model.specs.GoodTest.{eachAfter?, actionFits?, stepRises?, wellFormed?, holds?, good?}
+use Rattle.model.specs.WellFormed.{EachAfter, ActionFits, StartFits, StepFits, WellFormed}
+use Rattle.model.specs.StoredModel.{headAt, extraCountAt, extraStartAt, modelAt, Holds}
+use Rattle.model.specs.Laws.Store.StartsLaws.{extra-count-le}
+use Rattle.model.specs.Laws.Store.StoredModelLaws.{listed-length, Good→Holds, Holds→Good}
+use Rattle.model.specs.GoodTest.{eachAfter?, actionFits?, startRises?, stepRises?, wellFormed?, holds?, good?}
 
 -- ---- each
 
@@ -42,7 +44,7 @@ module _ {A : Type 0} (test : List A → A → Bool) (P : List A → A → Type 
       and-intro (test before x) (eachAfter? test (before ++ (x ∷ [])) xs)
       (f before x (e .0)) (EachAfter→eachAfter? f (before ++ (x ∷ [])) xs (e .1))
 
--- ---- actions and steps
+-- ---- actions, extra starts and steps
 
 pub actionFits?→ActionFits : (before : List ActionLine) (a : ActionLine) → T (actionFits? before a)
     → ActionFits before a
@@ -66,6 +68,19 @@ ActionFits→actionFits? before a f =
     let n = name? (a .name) in
     and-intro (l && n) (not (used? (a .name) before))
     (and-intro l n (le→leb (a .level) high (f .level)) (f .name)) (f .fresh)
+
+module _ (h : Head) (before : List ℕ) (p : ℕ) where
+  pub startRises?→StartFits : T (startRises? h before p) → StartFits h before p
+  unfolding startRises?
+  startRises?→StartFits t =
+      record {
+        in-range = and-left (startFits? h p) (aboveStarts? h before p) t;
+        rising = and-right (startFits? h p) (aboveStarts? h before p) t;
+      }
+
+  pub StartFits→startRises? : StartFits h before p → T (startRises? h before p)
+  unfolding startRises?
+  StartFits→startRises? f = and-intro (startFits? h p) (aboveStarts? h before p) (f .in-range) (f .rising)
 
 module _ (h : Head) (before : List StepLine) (s : StepLine) where
   pub stepRises?→StepFits : T (stepRises? h before s) → StepFits h before s
@@ -98,13 +113,17 @@ module _ (m : Model) where
   abbrev actions? : Bool
   actions? = eachAfter? actionFits? [] (m .actions)
 
+  abbrev starts? : Bool
+  starts? = eachAfter? (startRises? (m .head)) [] (m .extraStarts)
+
   abbrev steps? : Bool
   steps? = eachAfter? (stepRises? (m .head)) [] (m .steps)
 
   pub wellFormed?→WellFormed : T (wellFormed? m) → WellFormed m
   unfolding wellFormed?
   wellFormed?→WellFormed t =
-      let four = and-left (head? && actionCount? && stepCount? && actions?) steps? t in
+      let five = and-left (head? && actionCount? && stepCount? && actions? && starts?) steps? t in
+      let four = and-left (head? && actionCount? && stepCount? && actions?) starts? five in
       let three = and-left (head? && actionCount? && stepCount?) actions? four in
       let two = and-left (head? && actionCount?) stepCount? three in
       record {
@@ -114,10 +133,14 @@ module _ (m : Model) where
         actions =
             eachAfter?→EachAfter actionFits? ActionFits actionFits?→ActionFits [] (m .actions)
             (and-right (head? && actionCount? && stepCount?) actions? four);
+        extra-starts =
+            eachAfter?→EachAfter (startRises? (m .head)) (StartFits (m .head)) (startRises?→StartFits (m .head)) []
+            (m .extraStarts)
+            (and-right (head? && actionCount? && stepCount? && actions?) starts? five);
         steps =
             eachAfter?→EachAfter (stepRises? (m .head)) (StepFits (m .head)) (stepRises?→StepFits (m .head)) []
             (m .steps)
-            (and-right (head? && actionCount? && stepCount? && actions?) steps? t);
+            (and-right (head? && actionCount? && stepCount? && actions? && starts?) steps? t);
       }
 
   pub WellFormed→wellFormed? : WellFormed m → T (wellFormed? m)
@@ -126,13 +149,17 @@ module _ (m : Model) where
       let ac = eq→eqb (length (m .actions)) (m .head .actions) (w .action-count) in
       let sc = eq→eqb (length (m .steps)) (m .head .steps) (w .step-count) in
       let a = EachAfter→eachAfter? actionFits? ActionFits ActionFits→actionFits? [] (m .actions) (w .actions) in
+      let p =
+      EachAfter→eachAfter? (startRises? (m .head)) (StartFits (m .head)) (StartFits→startRises? (m .head)) []
+      (m .extraStarts) (w .extra-starts) in
       let s =
       EachAfter→eachAfter? (stepRises? (m .head)) (StepFits (m .head)) (StepFits→stepRises? (m .head)) [] (m .steps)
       (w .steps) in
-      and-intro (head? && actionCount? && stepCount? && actions?) steps?
+      and-intro (head? && actionCount? && stepCount? && actions? && starts?) steps?
+      (and-intro (head? && actionCount? && stepCount? && actions?) starts?
       (and-intro (head? && actionCount? && stepCount?) actions?
       (and-intro (head? && actionCount?) stepCount?
-      (and-intro head? actionCount? (w .head) ac) sc) a) s
+      (and-intro head? actionCount? (w .head) ac) sc) a) p) s
 
 -- ---- stores
 
@@ -154,15 +181,23 @@ module _ (s : List ℕ) where
       (WellFormed→wellFormed? (modelAt s) (h .well-formed))
       (eq→same? (storeOf (modelAt s)) (take storeLength s) (h .stored))
 
+  abbrev counts? : Bool
+  counts? = headFits? (headAt s) && leb (extraCountAt s) extraLimit
+
   pub good?→Good : T (good? s) → Good s
   unfolding good?
-  good?→Good t = Holds→Good s (holds?→Holds (and-right (headFits? (headAt s)) (holds? s) t))
+  good?→Good t = Holds→Good s (holds?→Holds (and-right counts? (holds? s) t))
 
   pub Good→good? : Good s → T (good? s)
   unfolding good? modelAt
   Good→good? g =
       let h = Good→Holds s g in
-      and-intro (headFits? (headAt s)) (holds? s) (h .well-formed .head) (Holds→holds? h)
+      let c = extra-count-le (modelAt s) (h .well-formed) in
+      let n = listed-length (extraCountAt s) (extraStartAt s) in
+      and-intro counts? (holds? s)
+      (and-intro (headFits? (headAt s)) (leb (extraCountAt s) extraLimit) (h .well-formed .head)
+      (le→leb (extraCountAt s) extraLimit (omega arith)))
+      (Holds→holds? h)
 
   -- a store is good or it is not
   pub good-cases : Good s ⊎ (¬ (Good s))

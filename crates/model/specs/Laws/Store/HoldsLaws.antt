@@ -1,40 +1,46 @@
 -- A store that holds the model that it shows has good places.
--- Document 01, "The model store". Assumes nothing.
+-- Document 01, "The model store"; document 02, (iii). Assumes nothing.
 use mathlib.Core.List.{List, [], _∷_, _++_, append-assoc}
 use mathlib.Core.Logic.{⊎-elim}
 use mathlib.Core.Path.{_≡_, sym, ap, _∙_, subst}
 use Prim.Native.Nat.{ℕ, zero, suc, _+_, _-_, _≤_, _<_}
 use native.Mathlib.Omega.{arith}
 use lib.Dec.{T, T-not}
-use lib.ListN.{length, getD, drop, length-drop, length-append}
-use lib.Seq.{length-take-le, take-all, getD-drop}
+use lib.ListN.{length, getD, drop, length-drop}
+use lib.Seq.{length-take-le, take-all}
 use Rattle.lts.specs.TestsLaws.{lt-or-le, and-right}
 use Rattle.text.specs.Limits.{actionLimit, nameLimit, actionsBegin, actionsLength, actionsEnd, nameColumn}
-use Rattle.text.specs.Limits.{stepsBegin, stepsLength, stepsEnd, storeLength, actionPlace, namePlace, stepPlace}
+use Rattle.text.specs.Limits.{stepsBegin, stepsLength, stepsEnd, extraCountPlace, extraBegin, extraEnd, extraLimit}
+use Rattle.text.specs.Limits.{storeLength, actionPlace, namePlace, stepPlace, extraPlace}
 use Rattle.text.specs.Bytes.{between?}
 use Rattle.text.specs.Model.{ActionLine, above?, aboveLast?}
 use Rattle.text.specs.Lines.{allOf, nameByte?, name?, used?}
-use Rattle.model.specs.Store.{padded, actionNumbers, actionsNumbers, stepsNumbers, headRow, storeOf}
-use Rattle.model.specs.WellFormed.{ActionFits, StepFits}
-use Rattle.model.specs.StoredModel.{headAt, actionAt, stepAt, listed, modelAt, Holds}
+use Rattle.model.specs.Store.{padded, actionNumbers, actionsNumbers, stepsNumbers, headRow, extraNumbers, storeOf}
+use Rattle.model.specs.WellFormed.{ActionFits, StartFits, StepFits}
+use Rattle.model.specs.StoredModel.{headAt, actionAt, stepAt, extraCountAt, extraStartAt, listed, modelAt, Holds}
 use Rattle.text.specs.Inner.Ranges.{HeadRanges}
-use Rattle.text.specs.Laws.RangesLaws.{headFits?→HeadRanges}
+use Rattle.text.specs.Laws.RangesLaws.{headFits?→HeadRanges, aboveStarts?→lt}
 use Rattle.model.specs.Laws.Text.ActionLineLaws.{name-length}
 use Rattle.model.specs.Laws.Store.StoreLaws.{actionsNumbers-length, stepsNumbers-length}
-use Rattle.model.specs.Laws.Store.StoreLaws.{actions-padded-length, storeOf-action}
-use Rattle.model.specs.Laws.Store.StoredModelLaws.{listed-length, holds-store, actionAt-holds}
-use Rattle.model.specs.Inner.GoodPlaces.{nameLengthAt, GoodAction, GoodStep, GoodPlaces}
+use Rattle.model.specs.Laws.Store.StoreLaws.{beforeSteps, beforeSteps-length, actions-places, storeOf-action}
+use Rattle.model.specs.Laws.Store.StartsLaws.{lastStart-listed, extra-count-le}
+use Rattle.model.specs.Laws.Store.StoredModelLaws.{listed-length, getD-of-drop, holds-store, actionAt-holds}
+use Rattle.model.specs.Laws.Store.StoredModelLaws.{extra-drop}
+use Rattle.model.specs.Inner.GoodPlaces.{nameLengthAt, GoodAction, GoodStep, GoodStart, GoodStarts, GoodPlaces}
 use Rattle.model.specs.Laws.Store.PlacesLaws.{padded-zero, allOf→getD}
 use Rattle.model.specs.Laws.Store.ListedLaws.{each-listed, listed-used?}
 use Rattle.model.specs.Laws.Store.AboveLaws.{aboveLast?-append}
 use Rattle.model.specs.Laws.Store.NamePlacesLaws.{name-at, SameName→eq}
 
--- the numbers of the actions and of the steps that a store shows
+-- the numbers of the actions, of the steps and of the extra starts that a store shows
 abbrev storedActions : List ℕ → List ℕ
 storedActions s = actionsNumbers (listed (headAt s .actions) (actionAt s))
 
 abbrev storedSteps : List ℕ → List ℕ
 storedSteps s = stepsNumbers (listed (headAt s .steps) (stepAt s))
+
+abbrev storedExtra : List ℕ → List ℕ
+storedExtra s = extraNumbers (listed (extraCountAt s) (extraStartAt s))
 
 module _ (s : List ℕ) (fits : storeLength ≤ length s) where
   module _ (holds : Holds s (modelAt s)) where
@@ -77,8 +83,7 @@ module _ (s : List ℕ) (fits : storeLength ≤ length s) where
         let b = action-block i h in
         let a : ActionLine = actionAt s i in
         let e : namePlace i + x ≡ actionPlace i + (nameColumn + x) = omega arith in
-        ap (λ (k : ℕ). getD s k 0) e ∙ sym (getD-drop (actionPlace i) s (nameColumn + x) 0)
-        ∙ ap (λ (l : List ℕ). getD l (nameColumn + x) 0) (b .1)
+        ap (λ (k : ℕ). getD s k 0) e ∙ getD-of-drop s _ (actionPlace i) (nameColumn + x) (b .1)
         ∙ padded-zero (a .level ∷ length (a .name) ∷ []) (a .name) (b .0) nameLimit x l m
 
     Holds→GoodAction : (i : ℕ) → i < headAt s .actions → GoodAction s i
@@ -127,10 +132,19 @@ module _ (s : List ℕ) (fits : storeLength ≤ length s) where
             let e : suc k - 1 ≡ k = omega arith in
             rw e (subst T (aboveLast?-append (listed k (stepAt s)) (stepAt s k) [] (stepAt s (suc k))) t)
 
+    Holds→GoodStart : (i : ℕ) → i < extraCountAt s → GoodStart (headAt s) s i
+    unfolding modelAt
+    Holds→GoodStart i h =
+        let starts : ℕ → ℕ = extraStartAt s in
+        let f = each-listed (StartFits (headAt s)) starts (extraCountAt s) (holds .well-formed .extra-starts) i h in
+        let e = lastStart-listed (headAt s) s i in
+        let l = aboveStarts?→lt (headAt s) (listed i starts) (starts i) (f .rising) in
+        record { in-range = f .in-range; rising = omega arith }
+
     -- the store by its parts, each with what follows it
     by-parts : s ≡ headRow (headAt s)
         ++ (padded actionsLength (storedActions s)
-        ++ (padded stepsLength (storedSteps s) ++ drop storeLength s))
+        ++ (padded stepsLength (storedSteps s) ++ (storedExtra s ++ drop storeLength s)))
     unfolding modelAt storeOf
     by-parts = holds-store s (modelAt s) holds ∙ simp append-assoc
 
@@ -148,16 +162,36 @@ module _ (s : List ℕ) (fits : storeLength ≤ length s) where
     step-zeros : (k : ℕ) → stepPlace (headAt s .steps) ≤ k → k < stepsEnd → getD s k 0 ≡ 0
     unfolding modelAt headRow
     step-zeros k h l =
-        let before : List ℕ = headRow (headAt s) ++ padded actionsLength (storedActions s) in
-        let a = actions-padded-length (modelAt s) (holds .well-formed) in
-        let b : length before ≡ stepsBegin = simp length-append (omega arith) in
+        let before : List ℕ = beforeSteps (headAt s) (listed (headAt s .actions) (actionAt s)) in
+        let b = beforeSteps-length (headAt s) _ (actions-places (modelAt s) (holds .well-formed)) in
         let n = stepsNumbers-length (listed (headAt s .steps) (stepAt s)) in
         let c = listed-length (headAt s .steps) (stepAt s) in
         let e : k ≡ length before + (k - stepsBegin) = omega arith in
         let m : length (storedSteps s) ≤ k - stepsBegin = omega arith in
         ap (λ (x : ℕ). getD s x 0) e
         ∙ ap (λ (x : List ℕ). getD x (length before + (k - stepsBegin)) 0) by-parts
-        ∙ padded-zero before (storedSteps s) (drop storeLength s) stepsLength (k - stepsBegin) m (omega arith)
+        ∙ padded-zero before (storedSteps s) _ stepsLength (k - stepsBegin) m (omega arith)
+
+    extra-zeros : (k : ℕ) → extraPlace (extraCountAt s) ≤ k → k < extraEnd → getD s k 0 ≡ 0
+    unfolding modelAt extraNumbers
+    extra-zeros k h l =
+        let ps : List ℕ = listed (extraCountAt s) (extraStartAt s) in
+        let n = listed-length (extraCountAt s) (extraStartAt s) in
+        let x : ℕ = k - extraBegin in
+        let e : k ≡ extraCountPlace + (1 + x) = omega arith in
+        ap (λ (i : ℕ). getD s i 0) e ∙ getD-of-drop s _ extraCountPlace (1 + x) (extra-drop s (modelAt s) holds)
+        ∙ padded-zero (length ps ∷ []) ps _ extraLimit x (omega arith) (omega arith)
+
+    Holds→GoodStarts : GoodStarts (headAt s) s
+    unfolding modelAt
+    Holds→GoodStarts =
+        let n = listed-length (extraCountAt s) (extraStartAt s) in
+        let c = extra-count-le (modelAt s) (holds .well-formed) in
+        record {
+          count = omega arith;
+          each = record { at = λ i u v. Holds→GoodStart i v };
+          unused = record { at = extra-zeros };
+        }
 
   pub Holds→GoodPlaces : Holds s (modelAt s) → GoodPlaces s
   unfolding modelAt
@@ -167,4 +201,5 @@ module _ (s : List ℕ) (fits : storeLength ≤ length s) where
     steps = record { at = λ j u v. Holds→GoodStep holds j v };
     unused-actions = record { at = action-zeros holds };
     unused-steps = record { at = step-zeros holds };
+    extra-starts = Holds→GoodStarts holds;
   }

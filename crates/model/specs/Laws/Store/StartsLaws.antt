@@ -2,7 +2,7 @@
 -- Document 02, (iii): "strictly rising and above the start in line 1, so at most 127". Assumes nothing.
 use mathlib.Core.List.{List, [], _∷_, _++_}
 use mathlib.Core.Path.{_≡_, refl}
-use Prim.Native.Nat.{ℕ, _+_, _≤_, _<_}
+use Prim.Native.Nat.{ℕ, zero, suc, _+_, _≤_, _<_}
 use native.Mathlib.Omega.{arith}
 use lib.ListN.{length, getD}
 use Rattle.text.specs.declared.Head.{Head}
@@ -10,6 +10,8 @@ use Rattle.text.specs.Limits.{extraLimit}
 use Rattle.text.specs.Model.{Model, lastStart}
 use Rattle.text.specs.Laws.RangesLaws.{headFits?→HeadRanges, startFits?→lt, aboveStarts?→lt}
 use Rattle.model.specs.WellFormed.{EachAfter, StartFits, WellFormed}
+use Rattle.model.specs.StoredModel.{extraStartAt, listed}
+use Rattle.model.specs.Inner.GoodPlaces.{startBefore}
 use Rattle.model.specs.Laws.Store.EachLaws.{each-getD}
 
 -- ---- the last start
@@ -22,6 +24,13 @@ pub lastStart-snoc : (first : ℕ) (ps : List ℕ) (p : ℕ) → lastStart first
 unfolding lastStart
 lastStart-snoc first [] p = refl
 lastStart-snoc first (q ∷ ps) p = lastStart-snoc q ps p
+
+-- the start before extra start i of a store is the last one of those before it
+pub lastStart-listed : (h : Head) (s : List ℕ) (i : ℕ)
+    → lastStart (h .start .0) (listed i (extraStartAt s)) ≡ startBefore h s i
+unfolding listed startBefore
+lastStart-listed h s zero = lastStart-nil (h .start .0)
+lastStart-listed h s (suc i) = lastStart-snoc (h .start .0) (listed i (extraStartAt s)) (extraStartAt s i)
 
 -- ---- how many there are
 

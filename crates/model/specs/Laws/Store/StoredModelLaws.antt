@@ -1,24 +1,25 @@
 -- A store that holds a well-formed model shows it: each accessor gives its part, so the model is the only one.
--- Document 01, "The model store". Assumes nothing.
+-- Document 01, "The model store"; document 02, (iii). Assumes nothing.
 use mathlib.Core.List.{List, _++_}
 use mathlib.Core.Logic.{_↔_}
 use mathlib.Core.Path.{_≡_, refl, sym, ap, _∙_, subst}
 use Prim.Native.Nat.{ℕ, zero, suc, _+_, _≤_, _<_}
 use native.Mathlib.Omega.{arith}
 use native.Mathlib.Nat.{add-zero}
-use lib.ListN.{length, getD, take, drop, take-append-drop, length-append}
+use lib.ListN.{length, getD, take, drop, take-append-drop, length-append, List·getD-append}
 use lib.Seq.{take-suc, take-length, take-at, getD-drop, drop-drop}
 use Rattle.text.specs.declared.Head.{Head}
 use Rattle.text.specs.declared.StepLine.{StepLine}
 use Rattle.text.specs.Limits.{nameLimit, nameLengthColumn, nameColumn, actionColumn, targetColumn, storeLength}
 use Rattle.text.specs.Limits.{actionPlace, nameLengthPlace, namePlace, stepPlace, actionOfStepPlace, targetPlace}
+use Rattle.text.specs.Limits.{extraCountPlace, extraPlace}
 use Rattle.text.specs.Model.{ActionLine, Model, noAction, noStep}
 use Rattle.model.specs.Laws.Text.ReadingLaws.{readText-modelText, readText-well-formed, states-of-readText}
 use Rattle.model.specs.Laws.Text.ReadingLaws.{states-m-text, m-text-unique}
 use Rattle.model.specs.Text.{modelText}
-use Rattle.model.specs.Store.{actionNumbers, stepRow, headRow, storeOf, Good}
-use Rattle.model.specs.Laws.Store.StoreLaws.{storeOf-length, storeOf-action, storeOf-step}
-use Rattle.model.specs.StoredModel.{headAt, actionAt, stepAt, listed, modelAt, Holds}
+use Rattle.model.specs.Store.{actionNumbers, stepRow, headRow, extraNumbers, storeOf, Good}
+use Rattle.model.specs.Laws.Store.StoreLaws.{storeOf-length, storeOf-action, storeOf-step, storeOf-extra}
+use Rattle.model.specs.StoredModel.{headAt, actionAt, stepAt, extraCountAt, extraStartAt, listed, modelAt, Holds}
 use Rattle.model.specs.System.{source, action, target, level}
 use Rattle.model.specs.WellFormed.{WellFormed}
 use Rattle.model.specs.StatedText.{MText}
@@ -46,7 +47,7 @@ listed-all xs d f n l e = ap (λ (k : ℕ). listed k f) l ∙ listed-take xs d f
 -- ---- the accessors
 
 -- place p + k of a list, in what is left of it from p on
-getD-of-drop : (s l : List ℕ) (p k : ℕ) → drop p s ≡ l → getD s (p + k) 0 ≡ getD l k 0
+pub getD-of-drop : (s l : List ℕ) (p k : ℕ) → drop p s ≡ l → getD s (p + k) 0 ≡ getD l k 0
 getD-of-drop s l p k e = sym (getD-drop p s k 0) ∙ ap (λ (x : List ℕ). getD x k 0) e
 
 first-of-drop : (s l : List ℕ) (p : ℕ) → drop p s ≡ l → getD s p 0 ≡ getD l 0 0
@@ -72,9 +73,10 @@ step-at s j t more e =
     let target : getD s (targetPlace j) 0 ≡ t .target .0 = getD-of-drop s all (stepPlace j) targetColumn e in
     rw (source, action, target)
 
-model-of-parts : (h : Head) (actions : List ActionLine) (steps : List StepLine) (m : Model) → h ≡ m .head
-    → actions ≡ m .actions → steps ≡ m .steps → record { head = h; actions = actions; steps = steps } ≡ m
-model-of-parts h actions steps m p q r = rw (p, q, r)
+model-of-parts : (h : Head) (actions : List ActionLine) (ps : List ℕ) (steps : List StepLine) (m : Model)
+    → h ≡ m .head → actions ≡ m .actions → ps ≡ m .extraStarts → steps ≡ m .steps
+    → record { head = h; actions = actions; extraStarts = ps; steps = steps } ≡ m
+model-of-parts h actions ps steps m p q e r = rw (p, q, e, r)
 
 module _ (s : List ℕ) (m : Model) (h : Holds s m) where
   pub holds-store : s ≡ storeOf m ++ drop storeLength s
@@ -94,6 +96,22 @@ module _ (s : List ℕ) (m : Model) (h : Holds s m) where
       let b = storeOf-step m (h .well-formed) (drop storeLength s) j d l in
       step-at s j (getD (m .steps) j d) (b .0) (ap (drop (stepPlace j)) holds-store ∙ b .1)
 
+  -- the section of the extra starts, and what follows the store
+  pub extra-drop : drop extraCountPlace s ≡ extraNumbers (m .extraStarts) ++ drop storeLength s
+  extra-drop = ap (drop extraCountPlace) holds-store ∙ storeOf-extra m (h .well-formed) (drop storeLength s)
+
+  pub extraCountAt-holds : extraCountAt s ≡ length (m .extraStarts)
+  unfolding extraNumbers
+  extraCountAt-holds = first-of-drop s _ extraCountPlace extra-drop
+
+  pub extraStartAt-holds : (i : ℕ) → i < length (m .extraStarts) → extraStartAt s i ≡ getD (m .extraStarts) i 0
+  unfolding extraNumbers
+  extraStartAt-holds i l =
+      let ps : List ℕ = m .extraStarts in
+      let e : extraPlace i ≡ extraCountPlace + suc i = omega arith in
+      rw e (getD-of-drop s _ extraCountPlace (suc i) extra-drop
+      ∙ rw padded-append (List·getD-append ps _ 0 i l))
+
   -- decoding undoes encoding
   pub modelAt-holds : modelAt s ≡ m
   unfolding modelAt
@@ -102,8 +120,10 @@ module _ (s : List ℕ) (m : Model) (h : Holds s m) where
       let a : headAt s .actions ≡ length (m .actions) =
       ap (λ (x : Head). x .actions) e ∙ sym (h .well-formed .action-count) in
       let t : headAt s .steps ≡ length (m .steps) = ap (λ (x : Head). x .steps) e ∙ sym (h .well-formed .step-count) in
-      model-of-parts (headAt s) (listed (headAt s .actions) (actionAt s)) (listed (headAt s .steps) (stepAt s)) m e
+      model-of-parts (headAt s) (listed (headAt s .actions) (actionAt s)) (listed (extraCountAt s) (extraStartAt s))
+      (listed (headAt s .steps) (stepAt s)) m e
       (listed-all (m .actions) noAction (actionAt s) (headAt s .actions) a (λ i. actionAt-holds i noAction))
+      (listed-all (m .extraStarts) 0 (extraStartAt s) (extraCountAt s) extraCountAt-holds extraStartAt-holds)
       (listed-all (m .steps) noStep (stepAt s) (headAt s .steps) t (λ j. stepAt-holds j noStep))
 
   -- ---- place by place

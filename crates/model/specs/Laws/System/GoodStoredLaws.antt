@@ -1,5 +1,5 @@
 -- A good store has all that the judge uses of it.
--- Document 01, "The text" and "The model store". Assumes nothing.
+-- Document 01, "The text" and "The model store"; document 02, (iii). Assumes nothing.
 use mathlib.Core.Bool.{Bool, false, not}
 use mathlib.Core.List.{List, [], _++_}
 use mathlib.Core.Logic.{⊎-elim}
@@ -19,7 +19,9 @@ use Rattle.model.specs.System.{source, action}
 use Rattle.model.specs.WellFormed.{WellFormed}
 use Rattle.model.specs.Laws.Store.StoreLaws.{storeOf-length}
 use Rattle.model.specs.Laws.Store.StoredModelLaws.{headAt-holds, stepAt-holds, level-holds, holds-storeOf}
-use Rattle.model.specs.Laws.Store.StoredModelLaws.{Good→Holds}
+use Rattle.model.specs.Laws.Store.StoredModelLaws.{extraCountAt-holds, extraStartAt-holds, Good→Holds}
+use Rattle.model.specs.Laws.Store.StartsLaws.{extra-count-le}
+use Rattle.model.specs.Laws.Store.SystemLaws.{start-lt}
 use Rattle.model.specs.Laws.Store.WellFormedLaws.{head-ranges, step-ranges, step-above, level-le}
 use Rattle.model.specs.Inner.Stored.{Stored}
 use lib.ListN.{length-take}
@@ -41,7 +43,10 @@ module _ (s : List ℕ) (m : Model) (long : storeLength ≤ length s) (h : Holds
     states-pos = head .states-pos;
     states-le = head .states;
     actions-le = head .actions;
-    start-lt = head .start;
+    extra-count-is = extraCountAt-holds s m h;
+    extra-count-le = extra-count-le m w;
+    extra-start-is = extraStartAt-holds s m h;
+    start-lt = start-lt m w;
     steps-is = sym (w .step-count);
     steps-le = omega (arith, w .step-count, head .steps);
     step-is = λ j l. stepAt-holds s m h j _ l;
