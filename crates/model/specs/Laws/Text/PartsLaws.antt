@@ -132,7 +132,8 @@ module _ (h : Head) (actions : List ActionLine) where
       ∙ ap (λ (n : ℕ). readSteps n (s .0) (model h actions starts []) from-steps) (sym c)
       ∙ readSteps-lines h actions starts (s .0) steps r f
 
-  readStarts-done : (n k : ℕ) (parts : List (List ℕ)) (m : Model) → readStarts n k (model h actions [] []) parts ≡ done m
+  readStarts-done : (n k : ℕ) (parts : List (List ℕ)) (m : Model)
+      → readStarts n k (model h actions [] []) parts ≡ done m
       → Stated lineOfStart (StartFits h) n [] parts
       (λ starts rest. (next : ℕ) × (readSteps (h .steps) next (model h actions starts []) rest ≡ done m))
   unfolding readStarts
@@ -191,7 +192,8 @@ partsOf-of-readModel parts m q = first (onLine-done 1 parts _ m q)
             extra-starts = i .fit;
             steps = s .fit;
           },
-          joined parts (model h (a .stated) (i .stated) (s .stated)) line rest (a .rest) (i .rest) (s .rest) p (l .0) (a .lines) (i .lines) (s .lines)
+          joined parts (model h (a .stated) (i .stated) (s .stated)) line rest (a .rest) (i .rest) (s .rest) p (l .0)
+              (a .lines) (i .lines) (s .lines)
               (s .after .0),
         )
 
