@@ -17,7 +17,7 @@ use Rattle.model.specs.Store.{storeOf, Good}
 use Rattle.model.specs.StoredModel.{modelAt, Holds}
 use Rattle.model.specs.System.{source, action}
 use Rattle.model.specs.WellFormed.{WellFormed}
-use Rattle.model.specs.Laws.Store.StoreLaws.{storeOf-length}
+use Rattle.model.specs.Laws.Store.StoreLaws.{steps-le, storeOf-length}
 use Rattle.model.specs.Laws.Store.StoredModelLaws.{headAt-holds, stepAt-holds, level-holds, holds-storeOf}
 use Rattle.model.specs.Laws.Store.StoredModelLaws.{extraCountAt-holds, extraStartAt-holds, Good→Holds}
 use Rattle.model.specs.Laws.Store.StoredModelLaws.{holds-of-good, good-model}
@@ -45,7 +45,7 @@ module _ (s : List ℕ) (m : Model) (long : storeLength ≤ length s) (h : Holds
     extra-start-is = extraStartAt-holds s m h;
     start-lt = start-lt m w;
     steps-is = sym (w .step-count);
-    steps-le = omega (arith, w .step-count, head .steps);
+    steps-le = steps-le m w;
     step-is = λ j l. stepAt-holds s m h j _ l;
     source-lt = λ j l. step-ranges m w j l .source;
     action-lt = λ j l. step-ranges m w j l .action;
