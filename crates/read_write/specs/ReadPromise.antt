@@ -1,5 +1,5 @@
 -- The promise of Read: text (no least length), store.
--- Document 01, operation 1, and both sections on refusals.
+-- Document 01, operation 1, and both sections on refusals; document 02, (i) and (iii).
 use mathlib.Core.List.{List, [], _∷_}
 use mathlib.Core.Option.{Option, none, some}
 use mathlib.Core.Path.{_≡_}
@@ -34,7 +34,7 @@ readAnswer (faulty fault line) = Faulty fault line
 abbrev pub readLists : List ℕ → List ℕ → Option ℕ
 readLists text store = firstShort 1 (length text ∷ length store ∷ []) (0 ∷ storeLength ∷ [])
 
--- A refusal leaves the store as it was; the text is only read. On success 3,972 places are filled, and the rest stays.
+-- A refusal leaves the store as it was; the text is only read. On success 4,100 places are filled, and the rest stays.
 pub record ReadPromise (text store : List ℕ) (outcome : Outcome) (exit : List ℕ) : Type 0 where
   pub short : (k : ℕ) → readLists text store ≡ some k → (outcome ≡ refuses 21 k) × (exit ≡ store)
   pub answer : readLists text store ≡ none → outcome ≡ readingOutcome (readText text)

@@ -12,11 +12,11 @@ use borrow.Author.Tests.{ltb-false}
 use Rattle.text.specs.Bytes.{byteE, lineEnd}
 use Rattle.text.specs.Faults.{refuses}
 use Rattle.text.specs.Limits.{textLimit}
-use Rattle.text.specs.Lines.{Line, good, bad, headOf, actionOf, stepOf}
-use Rattle.text.specs.Model.{Model, withAction, withStep}
+use Rattle.text.specs.Lines.{Line, good, bad, headOf, actionOf, startOf, stepOf}
+use Rattle.text.specs.Model.{Model, withAction, withExtraStart, withStep}
 use Rattle.read_write.specs.ReadPromise.{readingOutcome}
 use Rattle.model.specs.Reading.{Reading, done, tooLong, faulty, onLine, orFault, readNothing, readEnd, readSteps}
-use Rattle.model.specs.Reading.{readActions, headModel, readModel, readText}
+use Rattle.model.specs.Reading.{startLines, readStarts, readActions, headModel, readModel, readText}
 use Rattle.text.specs.Split.{split, same?}
 use Rattle.text.specs.Laws.SplitLaws.{split-length-le}
 
@@ -66,10 +66,17 @@ module _ (n : ℕ) where
       place-orFault k (stepOf (m .head) (m .steps) line) _ (omega arith) (λ s.
       place-steps i (suc k) (withStep m s) rest h))
 
+  place-starts : (i k : ℕ) (m : Model) (parts : List (List ℕ)) → k + length parts ≤ n → PlaceLe (readStarts i k m parts)
+  unfolding readStarts
+  place-starts zero k m parts l = place-steps (m .head .steps) k m parts l
+  place-starts (suc i) k m parts l = place-onLine k parts _ l (λ line rest h.
+      place-orFault k (startOf (m .head) (m .extraStarts) line) _ (omega arith) (λ p.
+      place-starts i (suc k) (withExtraStart m p) rest h))
+
   place-actions : (i k : ℕ) (m : Model) (parts : List (List ℕ)) → k + length parts ≤ n
       → PlaceLe (readActions i k m parts)
   unfolding readActions
-  place-actions zero k m parts l = place-steps (m .head .steps) k m parts l
+  place-actions zero k m parts l = place-starts (startLines parts) k m parts l
   place-actions (suc i) k m parts l = place-onLine k parts _ l (λ line rest h.
       place-orFault k (actionOf (m .actions) line) _ (omega arith) (λ a.
       place-actions i (suc k) (withAction m a) rest h))

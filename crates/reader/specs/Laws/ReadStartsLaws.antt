@@ -143,7 +143,8 @@ module _ (h : Head) (text : List ℕ) (start : LineStart) (i last : ℕ) (store 
     ahead = b .rest ∙ readStarts-line text start _ letter
 
     pub start-refused : (fault : Fault)
-        → (e : ℕ) × (NoLineAt text (start .at) fault e ⊎ LineAt (startOf h (b .extraStarts)) text (start .at) (bad fault) e)
+        → (e : ℕ)
+        × (NoLineAt text (start .at) fault e ⊎ LineAt (startOf h (b .extraStarts)) text (start .at) (bad fault) e)
         → whole text ≡ faulty fault (start .line)
     start-refused = line-refused text start (b .inside .place) (startOf h (b .extraStarts)) readOn ahead
 
