@@ -1,5 +1,5 @@
 -- The loop has passed only good extra starts; one that is not refutes the range.
-use Prim.Native.Nat.{_-_, _≤_}
+use Prim.Native.Nat.{_-_}
 use native.Mathlib.Omega.{arith}
 use Rattle.model.specs.Inner.EachFrom.{EachFrom}
 use Rattle.model.specs.Laws.Store.EachFromLaws.{each-from-nil, each-from-snoc, each-from-le}

@@ -17,7 +17,7 @@ use Rattle.model.specs.Reading.{headModel}
 use Rattle.model.specs.Store.{padded, actionNumbers, actionsNumbers, stepRow, stepsNumbers, headRow}
 use Rattle.model.specs.Store.{extraNumbers, storeOf}
 use Rattle.model.specs.Inner.StoredActions.{Short}
-use Rattle.model.specs.Laws.Store.BlocksLaws.{padded-length, blocks-snoc}
+use Rattle.model.specs.Laws.Store.BlocksLaws.{blocks-snoc}
 use Rattle.model.specs.Laws.Store.StoreLaws.{actionNumbers-length, stepsNumbers-length}
 use Rattle.model.specs.Laws.Store.StoreLaws.{beforeSteps, beforeExtra, beforeSteps-length, beforeExtra-length}
 
@@ -158,7 +158,7 @@ storeOf-withAction h actions ps steps a i c l s n =
 
 -- ---- one more extra start
 
--- the place behind the starts that are there, which number i, and their count
+-- the count, and the place behind the i starts that are there
 pub storeOf-withExtraStart : (h : Head) (actions : List ActionLine) (ps : List ℕ) (p i : ℕ)
     → length (actionsNumbers actions) ≤ actionsLength → length ps ≡ i → i < extraLimit
     → set (set (storeOf (record { head = h; actions = actions; extraStarts = ps; steps = [] })) extraCountPlace (i + 1))

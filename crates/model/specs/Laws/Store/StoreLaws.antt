@@ -58,6 +58,7 @@ extraNumbers-length ps l = rw (padded-length extraLimit ps l)
 
 -- ---- sections, each behind those before it
 
+-- what stands before the steps, and before the count of the extra starts
 abbrev pub beforeSteps : Head → List ActionLine → List ℕ
 beforeSteps h actions = headRow h ++ padded actionsLength (actionsNumbers actions)
 

@@ -3,11 +3,11 @@
 use mathlib.Core.Bool.{Bool, false, not}
 use mathlib.Core.List.{List, [], _++_}
 use mathlib.Core.Logic.{⊎-elim}
-use mathlib.Core.Path.{_≡_, sym, ap}
+use mathlib.Core.Path.{_≡_, sym, ap, subst}
 use Prim.Native.Nat.{ℕ, _≤_}
 use native.Mathlib.Omega.{arith}
 use native.Mathlib.Nat.{eq-or-lt-of-le}
-use lib.ListN.{length, length-append}
+use lib.ListN.{length, length-append, length-take}
 use Rattle.text.specs.Limits.{storeLength}
 use Rattle.text.specs.Decides.{Decides}
 use Rattle.text.specs.Laws.DecidesLaws.{decides-passed}
@@ -17,17 +17,14 @@ use Rattle.model.specs.Store.{storeOf, Good}
 use Rattle.model.specs.StoredModel.{modelAt, Holds}
 use Rattle.model.specs.System.{source, action}
 use Rattle.model.specs.WellFormed.{WellFormed}
-use Rattle.model.specs.Laws.Store.StoreLaws.{storeOf-length}
+use Rattle.model.specs.Laws.Store.StoreLaws.{steps-le, storeOf-length}
 use Rattle.model.specs.Laws.Store.StoredModelLaws.{headAt-holds, stepAt-holds, level-holds, holds-storeOf}
 use Rattle.model.specs.Laws.Store.StoredModelLaws.{extraCountAt-holds, extraStartAt-holds, Good→Holds}
+use Rattle.model.specs.Laws.Store.StoredModelLaws.{holds-of-good, good-model}
 use Rattle.model.specs.Laws.Store.StartsLaws.{extra-count-le}
 use Rattle.model.specs.Laws.Store.SystemLaws.{start-lt}
 use Rattle.model.specs.Laws.Store.WellFormedLaws.{head-ranges, step-ranges, step-above, level-le}
 use Rattle.model.specs.Inner.Stored.{Stored}
-use lib.ListN.{length-take}
-use mathlib.Core.Path.{ap, subst}
-use Rattle.model.specs.Laws.Store.StoreLaws.{storeOf-length}
-use Rattle.model.specs.Laws.Store.StoredModelLaws.{holds-of-good, good-model}
 
 module _ (s : List ℕ) (m : Model) (long : storeLength ≤ length s) (h : Holds s m) where
   abbrev w : WellFormed m
@@ -48,7 +45,7 @@ module _ (s : List ℕ) (m : Model) (long : storeLength ≤ length s) (h : Holds
     extra-start-is = extraStartAt-holds s m h;
     start-lt = start-lt m w;
     steps-is = sym (w .step-count);
-    steps-le = omega (arith, w .step-count, head .steps);
+    steps-le = steps-le m w;
     step-is = λ j l. stepAt-holds s m h j _ l;
     source-lt = λ j l. step-ranges m w j l .source;
     action-lt = λ j l. step-ranges m w j l .action;
