@@ -10,9 +10,9 @@ use Rattle.text.specs.Numbers.{digitsValue, numberShape?, numberOf, inBounds?, 
 use Rattle.text.specs.Split.{consFirst, split, same?}
 use Rattle.text.specs.Model.{lastStart, above?, aboveLast?}
 use Rattle.text.specs.Lines.{checked, fieldsFrom, fieldsOf, consNumber, numbersOf, headBounds, startBounds, stepBounds}
-use Rattle.text.specs.Lines.{rowLetter, rowCount, rowBounds, valueOr0, statesOf, rowFrom, rowOf, headFrom, headOf, levelOf, allOf}
-use Rattle.text.specs.Lines.{nameByte?, name?, nameFrom, actionFields, used?, actionFrom, actionOf, aboveStarts?}
-use Rattle.text.specs.Lines.{startFrom, startOf, stepFrom, stepOf}
+use Rattle.text.specs.Lines.{rowLetter, rowCount, rowBounds, valueOr0, statesOf, rowFrom, rowOf, headFrom, headOf}
+use Rattle.text.specs.Lines.{levelOf, allOf, nameByte?, name?, nameFrom, actionFields, used?, actionFrom, actionOf}
+use Rattle.text.specs.Lines.{aboveStarts?, startFrom, startOf, stepFrom, stepOf}
 use Rattle.model.specs.Reading.{tooLong, faulty, onLine, orFault, readNothing, readEnd, readSteps}
 use Rattle.model.specs.Reading.{startLine?, startLines, readStarts, readActions, readModel, readText}
 

@@ -59,8 +59,8 @@ record Tested : Type 0 where
 
 tested : Tested
 unfolding good? holds? wellFormed? eachAfter? actionFits? startRises? stepRises? modelAt listed storeOf padded
-    actionNumbers actionsNumbers stepsNumbers headRow extraNumbers startFits? aboveStarts? lastStart stepFits? used? name?
-    nameByte? allOf headFits? fits? headBounds startBounds stepBounds inBounds? above? aboveLast? same? kindOf
+    actionNumbers actionsNumbers stepsNumbers headRow extraNumbers startFits? aboveStarts? lastStart stepFits? used?
+    name? nameByte? allOf headFits? fits? headBounds startBounds stepBounds inBounds? above? aboveLast? same? kindOf
 tested = record {
   one-state-good = refl;
   two-starts-good = refl;

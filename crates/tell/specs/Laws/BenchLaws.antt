@@ -240,7 +240,8 @@ joint-fact = record {
 
 pub second-start : SecondStart
 second-start = record {
-  woken-refused = judged-of-computed wokenPrintText wokenPrint (read .woken-print) (refusedAt 0 1) (computed .woken-print);
+  woken-refused =
+      judged-of-computed wokenPrintText wokenPrint (read .woken-print) (refusedAt 0 1) (computed .woken-print);
   woken-deterministic = unbranched?→DeterministicModel wokenPrint (unbranched .woken-print);
   woken-word = wordOf?→WordOf (stored-of-read wokenPrintText wokenPrint (read .woken-print)) 0 (scan ∷ []) Target
       (words .woken-print);

@@ -19,7 +19,8 @@ use Rattle.text.specs.declared.row.Row.the-variants.{HeadRow, StartRow, 
 use Rattle.text.specs.Bytes.{capital, comma, lineEnd, kindOf}
 use Rattle.text.specs.Numbers.{numberIn}
 use Rattle.text.specs.Lines.{Line, good, bad, consNumber, numbersOf}
-use Rattle.text.specs.Lines.{headBounds, startBounds, stepBounds, rowLetter, rowCount, rowBounds, valueOr0, statesOf}
+use Rattle.text.specs.Lines.{headBounds, startBounds, stepBounds, rowLetter, rowCount, rowBounds, valueOr0}
+use Rattle.text.specs.Lines.{statesOf}
 use Rattle.text.specs.Inner.NumberAt.{Separator}
 use Rattle.text.specs.Inner.Row.{separatorKind, prepend}
 use Rattle.text.specs.Laws.SplitLaws.{Is, same, other, is}

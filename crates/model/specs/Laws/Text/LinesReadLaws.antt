@@ -12,8 +12,8 @@ use Rattle.model.specs.WellFormed.{EachAfter}
 
 -- ---- a line, if it is there and good
 
-pub onLine-cons : (k : ℕ) (line : List ℕ) (rest : List (List ℕ)) (read : List ℕ → List (List ℕ) → Reading) → 0 < length rest
-    → onLine k (line ∷ rest) read ≡ read line rest
+pub onLine-cons : (k : ℕ) (line : List ℕ) (rest : List (List ℕ)) (read : List ℕ → List (List ℕ) → Reading)
+    → 0 < length rest → onLine k (line ∷ rest) read ≡ read line rest
 unfolding onLine
 onLine-cons k line [] read h = absurd (omega arith)
 onLine-cons k line (part ∷ parts) read h = refl

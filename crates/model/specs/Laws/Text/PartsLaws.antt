@@ -1,9 +1,9 @@
 -- The parts of a model's text are read to the model, and only the parts of its text are.
 -- Document 01, "The text"; document 02, (iii). Assumes nothing.
 use mathlib.Core.Bool.{Bool, true, false, cond}
-use mathlib.Core.List.{List, [], _∷_, _++_, map, append-assoc, append-nil}
+use mathlib.Core.List.{List, [], _∷_, _++_, map}
 use mathlib.Core.Path.{_≡_, refl, sym, ap, _∙_, subst}
-use Prim.Native.Nat.{ℕ, zero, suc, _<_}
+use Prim.Native.Nat.{ℕ, suc, _<_}
 use native.Mathlib.Omega.{arith}
 use lib.Dec.{T}
 use lib.ListN.{length, length-append}
@@ -15,7 +15,7 @@ use Rattle.text.specs.Split.{same?}
 use Rattle.text.specs.Join.{join}
 use Rattle.text.specs.Laws.SameLaws.{same?→eq}
 use Rattle.text.specs.Model.{ActionLine, Model}
-use Rattle.text.specs.Lines.{Line, good, bad, headFits?, headOf, actionOf, startOf, stepOf}
+use Rattle.text.specs.Lines.{good, headFits?, headOf, actionOf, startOf, stepOf}
 use Rattle.model.specs.Reading.{Reading, done, faulty, onLine, orFault, readNothing, readEnd, readSteps}
 use Rattle.model.specs.Reading.{readStarts, startLine?, startLines, readActions, headModel, readModel}
 use Rattle.model.specs.WellFormed.{EachAfter, ActionFits, StartFits, StepFits, WellFormed}
@@ -132,7 +132,8 @@ module _ (h : Head) (actions : List ActionLine) where
       ∙ ap (λ (n : ℕ). readSteps n (s .0) (model h actions starts []) from-steps) (sym c)
       ∙ readSteps-lines h actions starts (s .0) steps r f
 
-  readStarts-done : (n k : ℕ) (parts : List (List ℕ)) (m : Model) → readStarts n k (model h actions [] []) parts ≡ done m
+  readStarts-done : (n k : ℕ) (parts : List (List ℕ)) (m : Model)
+      → readStarts n k (model h actions [] []) parts ≡ done m
       → Stated lineOfStart (StartFits h) n [] parts
       (λ starts rest. (next : ℕ) × (readSteps (h .steps) next (model h actions starts []) rest ≡ done m))
   unfolding readStarts
@@ -191,7 +192,8 @@ partsOf-of-readModel parts m q = first (onLine-done 1 parts _ m q)
             extra-starts = i .fit;
             steps = s .fit;
           },
-          joined parts (model h (a .stated) (i .stated) (s .stated)) line rest (a .rest) (i .rest) (s .rest) p (l .0) (a .lines) (i .lines) (s .lines)
+          joined parts (model h (a .stated) (i .stated) (s .stated)) line rest (a .rest) (i .rest) (s .rest) p (l .0)
+              (a .lines) (i .lines) (s .lines)
               (s .after .0),
         )
 

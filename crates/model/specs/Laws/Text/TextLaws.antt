@@ -20,7 +20,8 @@ use Rattle.text.specs.Join.{join}
 use Rattle.text.specs.Laws.JoinLaws.{join-cons, all-join}
 use Rattle.text.specs.Model.{ActionLine, Model}
 use Rattle.text.specs.Lines.{good, headFits?, headOf, name?, actionOf, stepOf}
-use Rattle.model.specs.Text.{headText, levelByte, actionText, startText, stepText, actionsText, startsText, stepsText, modelText}
+use Rattle.model.specs.Text.{headText, levelByte, actionText, startText, stepText, actionsText, startsText}
+use Rattle.model.specs.Text.{stepsText, modelText}
 use Rattle.model.specs.Store.{headRow, stepRow}
 use Rattle.model.specs.WellFormed.{ActionFits, StepFits, WellFormed}
 use Rattle.model.specs.Laws.Store.EachLaws.{all-of-each}
