@@ -3,6 +3,7 @@ use crate::position::Position;
 use model::store;
 use text::Action;
 use text::Head;
+use text::State;
 use text::Step;
 use text::StepLine;
 use text::limits::LOW;
@@ -12,7 +13,8 @@ ghost use Prim.Native.Nat.{_+_, _≤_, _<_};
 ghost use lib.ListN.{length};
 ghost use Rattle.model.specs.StoredModel.{actionAt, modelAt};
 ghost use Rattle.model.specs.System.{nameOf};
-ghost use Rattle.model.specs.Text.{levelByte, headText, actionText, actionsText, stepText, stepsText, modelText};
+ghost use Rattle.model.specs.Text.{levelByte, headText, actionText, actionsText, startText, startsText};
+ghost use Rattle.model.specs.Text.{stepText, stepsText, modelText};
 ghost use Rattle.writer.specs.Inner.Writable.{Writable};
 ghost use Rattle.writer.specs.Wrote.{Wrote};
 
@@ -41,6 +43,16 @@ impl Position {
         let at = at.field(out, h.actions);
         let at = at.field(out, h.steps);
         let at = at.field(out, h.start.0);
+        at.byte(out, b'\n')
+    }
+
+    // `I,state` and the line end.
+    fn start_line(self, out: &mut [u8], p: State) -> Position
+        requires { ⌜ self .at + length (startText (p .0)) ≤ length (now out) ⌝ }
+        ensures { λ r. ⌜ Wrote (now (out .entry)) (self .at) (startText (p .0)) (now (out .exit)) (r .at) ⌝ }
+    {
+        let at = self.byte(out, b'I');
+        let at = at.field(out, p.0);
         at.byte(out, b'\n')
     }
 
@@ -103,6 +115,23 @@ impl Position {
         at
     }
 
+    // The lines of all extra starts that a store holds.
+    fn start_lines(self, out: &mut [u8], store: &[u16]) -> Position
+        requires { ⌜ Writable (now store) ⌝ }
+        requires { ⌜ self .at + length (startsText (modelAt (now store) .extraStarts)) ≤ length (now out) ⌝ }
+        ensures { λ r. ⌜ Wrote (now (out .entry)) (self .at) (startsText (modelAt (now (store .entry)) .extraStarts))
+            (now (out .exit)) (r .at) ⌝ }
+    {
+        let n = store::extra_count(store);
+        let mut at = self;
+        let mut i: u16 = 0;
+        while i < n {
+            at = at.start_line(out, store::extra_start(store, i));
+            i += 1;
+        }
+        at
+    }
+
     // The lines of all steps that a store holds.
     fn step_lines(self, out: &mut [u8], store: &[u16]) -> Position
         requires { ⌜ Writable (now store) ⌝ }
@@ -129,6 +158,7 @@ impl Position {
     {
         let at = self.head_line(out, store::head(store));
         let at = at.action_lines(out, store);
+        let at = at.start_lines(out, store);
         let at = at.step_lines(out, store);
         at.text(out, b"E\n")
     }

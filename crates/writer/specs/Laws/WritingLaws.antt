@@ -1,5 +1,5 @@
 -- The lengths of lines, and the texts of listed lines: one more, and room for one more.
--- Document 01, "The text". Assumes nothing.
+-- Document 01, "The text"; document 02, (iii). Assumes nothing.
 use mathlib.Core.Path.{_≡_, refl, sym}
 use mathlib.Core.List.{List, [], _∷_, _++_}
 use Prim.Native.Nat.{ℕ, zero, suc, _+_, _-_, _≤_, _<_}
@@ -13,7 +13,7 @@ use Rattle.text.specs.Model.{ActionLine, Model}
 use Rattle.model.specs.Laws.Store.BlocksLaws.{blocks-snoc}
 use Rattle.text.specs.Numbers.{digits}
 use Rattle.model.specs.StoredModel.{listed}
-use Rattle.model.specs.Text.{headText, actionText, stepText, actionsText, stepsText, modelText}
+use Rattle.model.specs.Text.{headText, actionText, startText, stepText, actionsText, startsText, stepsText, modelText}
 
 -- ---- lengths of lines
 
@@ -29,6 +29,10 @@ headText-length h = simp length-append (omega arith)
 pub actionText-length : (a : ActionLine) → length (actionText a) ≡ length (a .name) + 5
 unfolding actionText
 actionText-length a = simp length-append (omega arith)
+
+pub startText-length : (p : ℕ) → length (startText p) ≡ length (digits p) + 3
+unfolding startText
+startText-length p = simp length-append (omega arith)
 
 pub stepText-length : (s : StepLine) → length (stepText s)
     ≡ length (digits (s .source .0)) + length (digits (s .action .0)) + length (digits (s .target .0)) + 5
@@ -55,11 +59,15 @@ module _ {A : Type 0} (line : A → List ℕ) (text : List A → List ℕ) (nil 
       let e : n - suc i + suc i ≡ n = omega arith in
       rw (e, text-suc f i, length-append) at (text-le f (suc i) (n - suc i))
 
--- ---- the lines of actions, and of steps
+-- ---- the lines of actions, of extra starts, and of steps
 
 actionsText-cons : (a : ActionLine) (rest : List ActionLine) → actionsText (a ∷ rest) ≡ actionText a ++ actionsText rest
 unfolding actionsText
 actionsText-cons a rest = refl
+
+startsText-cons : (p : ℕ) (rest : List ℕ) → startsText (p ∷ rest) ≡ startText p ++ startsText rest
+unfolding startsText
+startsText-cons p rest = refl
 
 stepsText-cons : (s : StepLine) (rest : List StepLine) → stepsText (s ∷ rest) ≡ stepText s ++ stepsText rest
 unfolding stepsText
@@ -69,6 +77,10 @@ pub actionsText-nil : actionsText [] ≡ []
 unfolding actionsText
 actionsText-nil = refl
 
+pub startsText-nil : startsText [] ≡ []
+unfolding startsText
+startsText-nil = refl
+
 pub stepsText-nil : stepsText [] ≡ []
 unfolding stepsText
 stepsText-nil = refl
@@ -76,6 +88,10 @@ stepsText-nil = refl
 pub actionsText-next : (f : ℕ → ActionLine) (i : ℕ)
     → actionsText (listed i f) ++ actionText (f i) ≡ actionsText (listed (i + 1) f)
 actionsText-next f i = rw add-one (sym (text-suc actionText actionsText actionsText-nil actionsText-cons f i))
+
+pub startsText-next : (f : ℕ → ℕ) (i : ℕ)
+    → startsText (listed i f) ++ startText (f i) ≡ startsText (listed (i + 1) f)
+startsText-next f i = rw add-one (sym (text-suc startText startsText startsText-nil startsText-cons f i))
 
 pub stepsText-next : (f : ℕ → StepLine) (j : ℕ)
     → stepsText (listed j f) ++ stepText (f j) ≡ stepsText (listed (j + 1) f)
@@ -85,6 +101,10 @@ pub actionsText-room : (f : ℕ → ActionLine) (i n : ℕ) → i < n
     → length (actionsText (listed i f)) + length (actionText (f i)) ≤ length (actionsText (listed n f))
 actionsText-room f i n h = text-room actionText actionsText actionsText-nil actionsText-cons f i n h
 
+pub startsText-room : (f : ℕ → ℕ) (i n : ℕ) → i < n
+    → length (startsText (listed i f)) + length (startText (f i)) ≤ length (startsText (listed n f))
+startsText-room f i n h = text-room startText startsText startsText-nil startsText-cons f i n h
+
 pub stepsText-room : (f : ℕ → StepLine) (j n : ℕ) → j < n
     → length (stepsText (listed j f)) + length (stepText (f j)) ≤ length (stepsText (listed n f))
 stepsText-room f j n h = text-room stepText stepsText stepsText-nil stepsText-cons f j n h
@@ -92,6 +112,10 @@ stepsText-room f j n h = text-room stepText stepsText stepsText-nil stepsText-co
 -- ---- the text
 
 pub modelText-length : (m : Model) → length (modelText m)
-    ≡ length (headText (m .head)) + length (actionsText (m .actions)) + length (stepsText (m .steps)) + 2
+    ≡ length (headText (m .head))
+    + length (actionsText (m .actions))
+    + length (startsText (m .extraStarts))
+    + length (stepsText (m .steps))
+    + 2
 unfolding modelText
 modelText-length m = simp length-append

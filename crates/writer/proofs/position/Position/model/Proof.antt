@@ -1,4 +1,4 @@
--- Line 1, the actions, the steps and the end, each from where the last one ended. Assumes nothing.
+-- Line 1, the actions, the extra starts, the steps and the end, each from where the last one ended. Assumes nothing.
 use borrow.Author.Needs.{needs}
 use native.Mathlib.Omega.{arith}
 use mathlib.Core.Path.{ap}
@@ -29,13 +29,25 @@ action-lines-requires c κs =
     let e = ap (λ (h : Head). length (headText h)) (head .head .ensures) in
     (s .pre .0, omega (arith, s .pre .1, modelText-length (modelAt (now (s .args .store)))))
 
-step-lines-requires : tie.Need-step-lines-requires
+start-lines-requires : tie.Need-start-lines-requires
 unfolding modelAt
-step-lines-requires c κs =
+start-lines-requires c κs =
     let head = c .before .before .before .before .before .before .before .before in
     let s = head .before .before .before .before in
     let e = ap (λ (h : Head). length (headText h)) (head .head .ensures) in
     (s .pre .0, omega (arith, s .pre .1, modelText-length (modelAt (now (s .args .store)))))
+
+step-lines-requires : tie.Need-step-lines-requires
+unfolding modelAt
+step-lines-requires c κs =
+    let starts = c .before .before .before in
+    let actions = starts .before .before .before .before in
+    let head = actions .before .before .before .before in
+    let s = head .before .before .before .before .before in
+    let line = rw (head .before .head .ensures) at (head .head-line .ensures) in
+    let w = wrote-append (wrote-append line (actions .action-lines .ensures)) (starts .start-lines .ensures) in
+    let l = modelText-length (modelAt (now (s .args .store))) in
+    (s .pre .0, omega (arith, s .pre .1, wrote-length w, l, simp length-append at (w .place)))
 
 slice-aggregate-text : tie.Need-slice-aggregate-text
 slice-aggregate-text c = search needs
@@ -44,13 +56,15 @@ text-requires : tie.Need-text-requires
 unfolding modelAt
 text-requires c κs =
     let steps = c .before .before .before .before in
-    let actions = steps .before .before .before .before in
+    let starts = steps .before .before .before .before in
+    let actions = starts .before .before .before .before in
     let head = actions .before .before .before .before in
     let s = head .before .before .before .before .before in
     let line = rw (head .before .head .ensures) at (head .head-line .ensures) in
-    let w = wrote-append (wrote-append line (actions .action-lines .ensures)) (steps .step-lines .ensures) in
+    let lines = wrote-append (wrote-append line (actions .action-lines .ensures)) (starts .start-lines .ensures) in
+    let w = wrote-append lines (steps .step-lines .ensures) in
     let l = modelText-length (modelAt (now (s .args .store))) in
-    omega (arith, s .pre .1, wrote-length w, simp length-append at (w .place))
+    omega (arith, s .pre .1, wrote-length w, l, simp length-append at (w .place))
 
 same-length : tie.Need-same-length
 same-length c = search needs
@@ -60,12 +74,12 @@ unfolding modelText modelAt
 returns c =
     let end = c .before .before in
     let steps = end .before .before .before .before .before in
-    let actions = steps .before .before .before .before in
+    let starts = steps .before .before .before .before in
+    let actions = starts .before .before .before .before in
     let head = actions .before .before .before .before in
     let line = rw (head .before .head .ensures) at (head .head-line .ensures) in
-    wrote-append
-    (wrote-append (wrote-append line (actions .action-lines .ensures)) (steps .step-lines .ensures))
-    (end .text .ensures)
+    let lines = wrote-append (wrote-append line (actions .action-lines .ensures)) (starts .start-lines .ensures) in
+    wrote-append (wrote-append lines (steps .step-lines .ensures)) (end .text .ensures)
 
 pub model-spec : {M : Type 1} → statement M
 model-spec =
@@ -74,6 +88,7 @@ model-spec =
     head-requires
     head-line-requires
     action-lines-requires
+    start-lines-requires
     step-lines-requires
     slice-aggregate-text
     text-requires
