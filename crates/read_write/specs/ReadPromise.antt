@@ -1,5 +1,5 @@
 -- The promise of Read: text (no least length), store.
--- Document 01, operation 1, and both sections on refusals; document 02, (i) and (iii).
+-- Document 01, operation 1, and both sections on refusals; document 02, (iii).
 use mathlib.Core.List.{List, [], _∷_}
 use mathlib.Core.Option.{Option, none, some}
 use mathlib.Core.Path.{_≡_}
