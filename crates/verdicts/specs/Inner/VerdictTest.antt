@@ -16,7 +16,7 @@ use Rattle.model.specs.Inner.StepTest.{tests}
 abbrev pub rankIn : Model → ℕ → ℕ → ℕ
 rankIn m p q = lowRank (view m) (tests m) p q
 
--- Some run leads from the start to p: one of fewer steps than there are states.
+-- Some run leads from a start to p: one of fewer steps than there are states.
 abbrev pub reachable? : Model → ℕ → Bool
 reachable? m p = within? (view m) (tests m) (m .head .states - 1) p
 
