@@ -31,6 +31,7 @@ use Rattle.model.specs.Laws.Text.ReadingLaws.{readText-well-formed}
 use Rattle.model.specs.Store.{storeOf}
 use Rattle.model.specs.Laws.Store.StoreLaws.{storeOf-length}
 use Rattle.model.specs.Laws.Store.StoredModelLaws.{holds-storeOf}
+use Rattle.model.specs.Laws.Store.SystemLaws.{head-start}
 use Rattle.lts.specs.Run.{begin}
 use Rattle.model.specs.System.{ReachableIn, DeterministicModel, view}
 use Rattle.verdicts.specs.declared.judging.Verdict.{Verdict}
