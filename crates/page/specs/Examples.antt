@@ -1,6 +1,6 @@
 -- The worked example and the other starred bench models, from their texts to the bytes of their pages, and two to those
 -- of their rolls: what the promise of the path from a text makes of each.
--- Document 01, "The page": "Input, then the output whole"; "Bench models"; document 02, (ii). Assumes nothing.
+-- Document 01, "The page": "Input, then the output whole"; "Bench models"; document 02, (ii) and (iii). Assumes nothing.
 use mathlib.Core.List.{List, [], _∷_}
 use mathlib.Core.Option.{none, some}
 use mathlib.Core.Path.{_≡_}
@@ -11,7 +11,7 @@ use Rattle.verdicts.specs.declared.judging.Verdict.the-variants.{Passed}
 use Rattle.letters.specs.declared.word.End.the-variants.{Target}
 use Rattle.tell.specs.Bench.{refusedAt}
 use Rattle.tell.specs.BenchModels.{workedText, scannedOnceText, releasedText, closeLowText, branchingText, noStepsText}
-use Rattle.tell.specs.BenchModels.{printLoopText, unreachedPrintText}
+use Rattle.tell.specs.BenchModels.{printLoopText, unreachedPrintText, wokenPrintText}
 use Rattle.columns.specs.Rows.{rowsBytes}
 use Rattle.lines.specs.Examples.{workedPage, workedRoll}
 use Rattle.lines.specs.PageLines.{PageLine, verdict-line, state-line, word-line, allows-line, branch-line, last-line}
@@ -93,6 +93,18 @@ unreachedPrintLines =
     ∷ last-line
     ∷ []
 
+-- the same, waking in 1 too (document 02, (iii)): its print step is reached, from a start, so that no `R` line stands
+unfoldable pub wokenPrintLines : List PageLine
+wokenPrintLines =
+    verdict-line (refusedAt 0 1)
+    ∷ state-line 0 (some 0) 0
+    ∷ state-line 1 (some 0) 0
+    ∷ state-line 2 (some 1) 2
+    ∷ word-line (115 ∷ 99 ∷ 97 ∷ 110 ∷ [])
+    ∷ allows-line Target
+    ∷ last-line
+    ∷ []
+
 -- ---- a roll, line by line without its padding
 
 --     V,pass,1
@@ -121,6 +133,7 @@ pub record PagesPrinted : Type 0 where
   pub no-steps : PrintsBytes Page noStepsText (pageBytes oneStateLines)
   pub print-loop : PrintsBytes Page printLoopText (pageBytes oneStateLines)
   pub unreached-print : PrintsBytes Page unreachedPrintText (pageBytes unreachedPrintLines)
+  pub woken-print : PrintsBytes Page wokenPrintText (pageBytes wokenPrintLines)
 
 pub record RollsPrinted : Type 0 where
   -- byte by byte

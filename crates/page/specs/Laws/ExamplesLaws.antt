@@ -14,7 +14,8 @@ use Rattle.text.specs.Faults.{answers}
 use Rattle.text.specs.Model.{Model}
 use Rattle.model.specs.Laws.Text.ReadingLaws.{readText-well-formed}
 use Rattle.model.specs.System.{DeterministicModel, source, view}
-use Rattle.model.specs.Inner.StepTest.{step?}
+use Rattle.model.specs.Inner.StepTest.{step?, start?}
+use Rattle.model.specs.Laws.Store.SystemLaws.{head-start, extra-start}
 use Rattle.model.specs.Laws.System.GoodStoredLaws.{well-formed-stored}
 use Rattle.distances.specs.Runs.{at-start}
 use Rattle.verdicts.specs.declared.judging.Verdict.{Verdict}
@@ -24,8 +25,8 @@ use Rattle.letters.specs.declared.word.End.the-variants.{Source, Target}
 use Rattle.letters.specs.Words.{WordOf}
 use Rattle.tell.specs.Bench.{ReadsAndJudged, refusedAt}
 use Rattle.tell.specs.BenchModels.{worked, workedText, scannedOnce, released, closeLow, branching, noSteps, printLoop}
-use Rattle.tell.specs.BenchModels.{unreachedPrint, unreachedPrintText}
-use Rattle.tell.specs.Laws.BenchLaws.{joint-fact}
+use Rattle.tell.specs.BenchModels.{unreachedPrint, unreachedPrintText, wokenPrint}
+use Rattle.tell.specs.Laws.BenchLaws.{joint-fact, second-start}
 use Rattle.columns.specs.LowNames.{passing}
 use Rattle.columns.specs.Rows.{flushLeft, flushRight, rowsBytes, fill}
 use Rattle.columns.specs.StateRows.{distanceText, stateColumns}
@@ -43,7 +44,7 @@ use Rattle.page.specs.RollClaim.{lettered?, others, consUnlessPadding, u
 use Rattle.page.specs.PagePromise.{PagePrinted}
 use Rattle.page.specs.Examples.{PrintsBytes, PagesPrinted, RollsPrinted, scannedOnceLines, releasedLines}
 use Rattle.page.specs.Examples.{closeLowLines, branchingLines, oneStateLines, unreachedPrintLines}
-use Rattle.page.specs.Examples.{unreachedPrintRows}
+use Rattle.page.specs.Examples.{wokenPrintLines, unreachedPrintRows}
 use Rattle.page.specs.Inner.StateLinesTest.{leastPassing, stateLinesOf}
 use Rattle.page.specs.Laws.StateLinesTestLaws.{stateLinesOf-lines}
 
@@ -66,10 +67,11 @@ record Computed : Type 0 where
   no-steps : pageWith noSteps (Passed 0) [] ≡ oneStateLines
   print-loop : pageWith printLoop (Passed 0) [] ≡ oneStateLines
   unreached-print : pageWith unreachedPrint (Passed 1) [] ≡ unreachedPrintLines
+  woken-print : pageWith wokenPrint (refusedAt 0 1) (wordLines wokenPrint (0 ∷ []) Target) ≡ wokenPrintLines
 
 computed : Computed
-unfolding stateLinesOf leastPassing step? rankBelow alike? answers? answered? within? all any workedLines
-    scannedOnceLines releasedLines closeLowLines branchingLines oneStateLines unreachedPrintLines
+unfolding stateLinesOf leastPassing step? start? rankBelow alike? answers? answered? within? all any workedLines
+    scannedOnceLines releasedLines closeLowLines branchingLines oneStateLines unreachedPrintLines wokenPrintLines
 computed = record {
   worked = refl;
   scanned-once = refl;
@@ -79,6 +81,7 @@ computed = record {
   no-steps = refl;
   print-loop = refl;
   unreached-print = refl;
+  woken-print = refl;
 }
 
 -- ---- and so the promise says
@@ -126,7 +129,7 @@ module _ (form : Form) {text : List ℕ} {m : Model} where
       prints-lines form x [] e (λ word. word)
       (λ run word. record { run-kept = refl; word-kept = refl; lines-are = refl })
 
-  -- the step leaves the start, so that the run to its source is empty
+  -- the step leaves a start, so that the run to its source is empty
   module _ {j depth : ℕ} (x : ReadsAndJudged text m (refusedAt j depth)) (s : view m .Start (source m j)) where
     prints-word : {w : List ℕ} {end : End} {lines : List PageLine} → DeterministicModel m → WordOf m j w end
         → length w ≡ depth → pageWith m (refusedAt j depth) (wordLines m w end) ≡ lines
@@ -155,17 +158,19 @@ module _ (form : Form) {text : List ℕ} {m : Model} where
 pub pages-printed : PagesPrinted
 unfolding formBytes
 pages-printed = record {
-  worked = subst (PrintsBytes Page workedText) worked-bytes (prints-word Page (joint-fact .worked-refused) refl
-      (joint-fact .worked-deterministic) (joint-fact .worked-word) refl (computed .worked));
+  worked = subst (PrintsBytes Page workedText) worked-bytes (prints-word Page (joint-fact .worked-refused)
+      (head-start worked) (joint-fact .worked-deterministic) (joint-fact .worked-word) refl (computed .worked));
   scanned-once = prints-passed Page (joint-fact .scanned-once-passed) (computed .scanned-once);
   released = prints-passed Page (joint-fact .released-passed) (computed .released);
-  close-low = prints-word Page (joint-fact .close-low-refused) refl (joint-fact .close-low-deterministic)
-      (joint-fact .close-low-word) refl (computed .close-low);
-  branching = prints-branch Page (joint-fact .branching-refused) refl (joint-fact .branching-not-deterministic)
-      (computed .branching);
+  close-low = prints-word Page (joint-fact .close-low-refused) (head-start closeLow)
+      (joint-fact .close-low-deterministic) (joint-fact .close-low-word) refl (computed .close-low);
+  branching = prints-branch Page (joint-fact .branching-refused) (head-start branching)
+      (joint-fact .branching-not-deterministic) (computed .branching);
   no-steps = prints-passed Page (joint-fact .no-steps-passed) (computed .no-steps);
   print-loop = prints-passed Page (joint-fact .print-loop-passed) (computed .print-loop);
   unreached-print = prints-passed Page (joint-fact .unreached-print-passed) (computed .unreached-print);
+  woken-print = prints-word Page (second-start .woken-refused) (extra-start wokenPrint 0 (omega arith))
+      (second-start .woken-deterministic) (second-start .woken-word) refl (computed .woken-print);
 }
 
 -- ---- on the roll
@@ -178,8 +183,8 @@ unreached-print-rows = refl
 pub rolls-printed : RollsPrinted
 unfolding split consFirst kindOf others lettered? unpadded consUnlessPadding rowsBytes flushLeft unreachedPrintRows
 rolls-printed = record {
-  worked = subst (PrintsBytes Roll workedText) worked-roll (prints-word Roll (joint-fact .worked-refused) refl
-      (joint-fact .worked-deterministic) (joint-fact .worked-word) refl (computed .worked));
+  worked = subst (PrintsBytes Roll workedText) worked-roll (prints-word Roll (joint-fact .worked-refused)
+      (head-start worked) (joint-fact .worked-deterministic) (joint-fact .worked-word) refl (computed .worked));
   unreached-print = subst (PrintsBytes Roll unreachedPrintText) unreached-print-rows (prints-passed Roll
       (joint-fact .unreached-print-passed) (computed .unreached-print));
   unreached-print-others = refl;
