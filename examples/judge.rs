@@ -46,7 +46,7 @@ fn judge(store: &[u16], distances: &mut [u16], table: &mut [u8]) -> TillAnswer {
 
 /// What is said of a text, and the status.
 fn told(text: &[u8]) -> io::Result<(String, u8)> {
-    let mut store = [0; 3_972];
+    let mut store = [0; 4_100];
     let answer = read(text, &mut store);
     if answer.number != 0 {
         let (number, place) = (answer.number, answer.place);

@@ -1,7 +1,7 @@
 //! The models that are measured.
 use std::collections::BTreeSet;
 
-use second::gen::{greatest_roll, Rng};
+use second::gen::{greatest_roll, with_all_starts, Rng};
 use second::{Action, Level, Model, Step};
 
 const SEED: u64 = 0x7113;
@@ -24,6 +24,7 @@ fn low(states: u16, start: u16, steps: impl IntoIterator<Item = (u16, u16, u16)>
     Model {
         states,
         start,
+        extra_starts: Vec::new(),
         actions: (0..=high).map(action).collect(),
         steps,
     }
@@ -117,6 +118,7 @@ fn typical() -> Model {
     Model {
         states: 40,
         start: 0,
+        extra_starts: Vec::new(),
         steps: steps.collect(),
         actions: actions
             .map(|(level, name)| Action {
@@ -132,6 +134,7 @@ pub fn shapes() -> Vec<(&'static str, Model)> {
     vec![
         ("chain of 128, 8 actions", chain(128, 8)),
         ("chain of 128, 1 action", chain(128, 1)),
+        ("chain of 128 starts", with_all_starts(&chain(128, 8))),
         ("fan, 1 action", fan(true)),
         ("fan, 8 actions", fan(false)),
         ("on and back, 1 action", on_and_back(true)),
@@ -147,10 +150,11 @@ pub fn shapes() -> Vec<(&'static str, Model)> {
 
 /// What the names mean.
 pub const LEGEND: &str = "\
-Chain: from each state to the next. Fan: from i to i+1 up to i+8. On and back: from i to i+1 and to 0 up to 6. Two
-states of 400 steps: they lead to each state of a chain of 100 with 4 actions; two of 63 steps: to states of such a
-chain, as wide as 64 actions allow without branching. Dense: 128 states, 1,023 random steps. These have one high step,
-from the start to the state after it. Greatest roll: a ring with 7 or 9 actions from each state to the next, whose roll
-has 832 lines; its leak is 127 steps from the start. Typical: a till of 20 stages of a sale, its printer free or busy,
-40 states; its leak is 10 steps from the start.
+Chain: from each state to the next; of 128 starts: with 8 actions, and each state a start, 127 of them in `I` lines.
+Fan: from i to i+1 up to i+8. On and back: from i to i+1 and to 0 up to 6. Two states of 400 steps: they lead to each
+state of a chain of 100 with 4 actions; two of 63 steps: to states of such a chain, as wide as 64 actions allow without
+branching. Dense: 128 states, 1,023 random steps. These have one high step, from the start of line 1 to the state after
+it. Greatest roll: a ring with 7 or 9 actions from each state to the next, whose roll has 832 lines; its leak is 127
+steps from the start. Typical: a till of 20 stages of a sale, its printer free or busy, 40 states; its leak is 10 steps
+from the start.
 ";

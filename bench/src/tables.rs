@@ -156,8 +156,8 @@ fn machine() -> String {
 const COLUMNS: &str = "\
 Letters: the length of the word that Word shows. *: the model branches and has no word, and Word's time is that of its
 refusal, 23; the row below it has its deterministic variant, which is refused with a word. Run goes to a reachable state
-as far from the start as any. Print is the way from the text to the page in one call, and tell is Read, Judge and Word
-in one; program is `till`: print with its process, from its start to its end.
+as far from the nearest start as any. Print is the way from the text to the page in one call, and tell is Read, Judge
+and Word in one; program is `till`: print with its process, from its start to its end.
 ";
 
 const RATIOS: &str = "\

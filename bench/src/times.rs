@@ -7,7 +7,7 @@ use second::store::TABLE;
 use second::Model;
 use suite::input::Input;
 use suite::lists::{Lists, LEAST};
-use suite::operations::{AnyOperation, ALL, JUDGE, PRINT, WORD, WRITE};
+use suite::operations::{AnyOperation, ALL, JUDGE, PRINT, READ, WORD, WRITE};
 use suite::stores::Store;
 
 use crate::plain;
@@ -69,6 +69,12 @@ pub fn least(times: &mut Each, others: &Each) {
     }
 }
 
+/// Whether the archive reads a model's text.
+pub fn is_read(model: &Model) -> bool {
+    let mut lists = Lists::anything(&mut Rng::new(0), LEAST);
+    READ.told(&model.to_text(), &mut lists).is_ok()
+}
+
 /// The best times of one model.
 pub struct Times {
     pub ours: Each,
@@ -79,7 +85,7 @@ pub struct Times {
 /// A model and its lists, which are filled over and over.
 pub struct Timed {
     operations: Vec<&'static dyn AnyOperation>,
-    /// Run goes to a reachable state as far from the start as any.
+    /// Run goes to a reachable state as far from the nearest start as any.
     input: Input,
     lists: Lists,
     /// The letters of Word's answer, or its refusal's number.
@@ -103,6 +109,8 @@ impl Timed {
             lists: Lists::anything(&mut Rng::new(0), LEAST),
             letters: Ok(0),
         };
+        // Past its own least length an archive of a shorter store leaves the list as it is.
+        timed.lists.store.copy_from_slice(&timed.input.store);
         timed.fill();
         timed.compare();
         timed

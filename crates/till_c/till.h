@@ -4,7 +4,11 @@
    For firmware: the archive has no globals, allocates nothing, calls nothing back, and needs only memcpy and memset
    from outside; its code and constants take less than 22 kB of read-only memory, and a call takes less than 16 kB of
    stack (till_read less than 9 kB; till_reach, till_run and till_write less than 1 kB). It is for x86-64 and uses the
-   SSE registers. */
+   SSE registers.
+
+   A program that was compiled when a model had one start lends stores of 3,972 numbers, and till_write an out of
+   14,420 bytes: each such call gets TILL_SHORT_LIST until the program is compiled anew. Of a store that was kept, read
+   the text again. */
 #ifndef TILL_H
 #define TILL_H
 
@@ -19,17 +23,19 @@ extern "C" {
 #define TILL_STATE_LIMIT 128
 #define TILL_ACTION_LIMIT 64
 #define TILL_STEP_LIMIT 1024
-#define TILL_NAME_LIMIT 12    /* bytes of a name */
-#define TILL_TEXT_LIMIT 16384 /* bytes of a text */
+#define TILL_EXTRA_START_LIMIT (TILL_STATE_LIMIT - 1) /* they rise, and are above the start of line 1 */
+#define TILL_NAME_LIMIT 12                            /* bytes of a name */
+#define TILL_TEXT_LIMIT 16384                         /* bytes of a text */
 
-/* The store has a head, a row for each action and a row for each step. Unused places are 0. */
+/* The store has a head, a row for each action, a row for each step, and the extra starts: a model has the start of
+   line 1 and one for each I line. Unused places are 0. */
 #define TILL_HEAD_SIZE 4
 #define TILL_ACTION_SIZE (2 + TILL_NAME_LIMIT)
 #define TILL_STEP_SIZE 3
 #define TILL_ACTIONS_AT TILL_HEAD_SIZE
 #define TILL_STEPS_AT (TILL_ACTIONS_AT + TILL_ACTION_LIMIT * TILL_ACTION_SIZE)
 
-/* Places of the head: how many states, actions and steps there are, and the start. */
+/* Places of the head: how many states, actions and steps there are, and the start of line 1. */
 #define TILL_STATES 0
 #define TILL_ACTIONS 1
 #define TILL_STEPS 2
@@ -45,35 +51,40 @@ extern "C" {
 #define TILL_STEP_ACTION(j) (TILL_STEP_SOURCE(j) + 1)
 #define TILL_STEP_TARGET(j) (TILL_STEP_SOURCE(j) + 2)
 
+/* The place of how many extra starts there are, and that of extra start k. */
+#define TILL_EXTRA_STARTS (TILL_STEPS_AT + TILL_STEP_LIMIT * TILL_STEP_SIZE)
+#define TILL_EXTRA_START(k) (TILL_EXTRA_STARTS + 1 + (k))
+
 /* Levels. */
 #define TILL_LOW 0
 #define TILL_RELEASE 1
 #define TILL_HIGH 2
 
 /* Least lengths of the lists, in elements. */
-#define TILL_STORE (TILL_STEPS_AT + TILL_STEP_LIMIT * TILL_STEP_SIZE)
+#define TILL_STORE TILL_EXTRA_START(TILL_EXTRA_START_LIMIT)
 #define TILL_DISTANCES TILL_STATE_LIMIT
 #define TILL_TABLE (TILL_STATE_LIMIT * TILL_STATE_LIMIT)
 #define TILL_RUN (TILL_STATE_LIMIT - 1)
 #define TILL_WORD (TILL_STATE_LIMIT - 1)
 #define TILL_PAGE 5000
 #define TILL_ROLL 35840
-#define TILL_WRITTEN 14420
+#define TILL_WRITTEN 15182
 
-/* The distance of a state that cannot be reached, and of places past the states. */
+/* The distance of a state that no start leads to, and of places past the states. */
 #define TILL_NO_DISTANCE 65535
 
 /* The place in the table of the rank of states p and q. */
 #define TILL_PAIR(p, q) ((p) * TILL_STATE_LIMIT + (q))
 
 /* Refusals: of a text, by till_read. */
-#define TILL_TOO_LONG 1 /* more than TILL_TEXT_LIMIT bytes */
-#define TILL_FORM 2     /* wrong letter, field count, level or name */
-#define TILL_RANGE 3    /* a number outside its range */
-#define TILL_REPEATED 4 /* a name used before */
-#define TILL_ORDER 5    /* a step not above the one before it */
-#define TILL_DIGITS 31  /* a number field that is not 1 to 5 digits without a leading zero */
-#define TILL_ABSENT 32  /* a line that is absent or has no line end; bytes after E */
+#define TILL_TOO_LONG 1     /* more than TILL_TEXT_LIMIT bytes */
+#define TILL_FORM 2         /* wrong letter, field count, level or name */
+#define TILL_RANGE 3        /* a number outside its range */
+#define TILL_REPEATED 4     /* a name used before */
+#define TILL_ORDER 5        /* a step not above the one before it */
+#define TILL_DIGITS 31      /* a number field that is not 1 to 5 digits without a leading zero */
+#define TILL_ABSENT 32      /* a line that is absent or has no line end; bytes after E */
+#define TILL_START_ORDER 33 /* an I line not above the one before it, the first not above line 1's start */
 
 /* Refusals: of what a call finds. */
 #define TILL_SHORT_LIST 21        /* a list below its least length */
@@ -81,7 +92,7 @@ extern "C" {
 #define TILL_NOT_DETERMINISTIC 23 /* till_word: some reachable state has two steps of one action */
 #define TILL_NO_LEAK 24           /* till_word: deterministic and passed */
 #define TILL_NO_STATE 25          /* till_run: the state is not below states */
-#define TILL_UNREACHABLE 26       /* till_run: the state cannot be reached */
+#define TILL_UNREACHABLE 26       /* till_run: no start leads to the state */
 
 /* Ends of a step, as till_word names them. */
 #define TILL_SOURCE 0
@@ -116,7 +127,7 @@ static inline int till_refused(TillAnswer judged) {
 /* Fills the store from a text. No value. */
 TillAnswer till_read(const uint8_t *text, size_t text_len, uint16_t *store, size_t store_len);
 
-/* Fills the least numbers of steps from the start. No value. */
+/* Fills the least numbers of steps to each state from the nearest start. No value. */
 TillAnswer till_reach(const uint16_t *store, size_t store_len, uint16_t *distances, size_t distances_len);
 
 /* Fills the ranks. One value: the last round that separated two states. */
@@ -126,7 +137,9 @@ TillAnswer till_rank(const uint16_t *store, size_t store_len, uint8_t *table, si
 TillAnswer till_judge(const uint16_t *store, size_t store_len, uint16_t *distances, size_t distances_len,
                       uint8_t *table, size_t table_len);
 
-/* Fills distances, and the steps of a shortest run to the state. One value: its length. */
+/* Fills distances, and the steps of a shortest run to the state: each of its states is entered by the lowest-numbered
+   step from a distance one less. It begins at the start that this leads back to: the source of its first step, or the
+   state itself where there is none. One value: its length. */
 TillAnswer till_run(const uint16_t *store, size_t store_len, uint16_t *distances, size_t distances_len,
                     uint16_t *run, size_t run_len, uint16_t state);
 

@@ -31,6 +31,14 @@ pub fn worked_roll() -> String {
     lines.map(|line| format!("{line:<42}\n")).concat()
 }
 
+/// A till that wakes in two states, 0 and 4, and leaks from the second only: the example `two_starts`.
+pub const TWO_STARTS: &[u8] = b"M,8,3,11,0\nA,L,scan\nA,H,print\nA,D,close\nI,4\n\
+    S,0,0,1\nS,1,0,2\nS,2,0,3\nS,2,1,3\nS,3,0,3\nS,3,2,0\n\
+    S,4,0,5\nS,4,2,3\nS,5,0,3\nS,5,1,6\nS,6,0,7\nE\n";
+pub const TWO_STARTS_PAGE: &[u8] = b"V,refuse,9,2\n\
+    C,0,0,0\nC,1,1,0\nC,2,2,0\nC,3,1,0\nC,4,0,0\nC,5,1,0\nC,6,2,6\nC,7,3,7\n\
+    R,6\nW,scan\nW,scan\nB,source\nE\n";
+
 /// The distances of the worked example.
 pub fn worked_distances() -> Vec<u16> {
     let mut distances = vec![65_535; DISTANCES];
@@ -59,8 +67,21 @@ pub fn store_of(text: &[u8]) -> Store {
 
 /// A text with start 0 and these action lines and steps.
 pub fn text_of(states: u16, actions: &str, steps: &[(u16, u16, u16)]) -> Vec<u8> {
-    let count = actions.lines().count();
-    let mut text = format!("M,{states},{count},{},0\n{actions}", steps.len());
+    waking_text(states, actions, &[0], steps)
+}
+
+/// A text with these starts, of which the first stands in line 1.
+pub fn waking_text(
+    states: u16,
+    actions: &str,
+    starts: &[u16],
+    steps: &[(u16, u16, u16)],
+) -> Vec<u8> {
+    let (first, count) = (starts[0], actions.lines().count());
+    let mut text = format!("M,{states},{count},{},{first}\n{actions}", steps.len());
+    for start in &starts[1..] {
+        text += &format!("I,{start}\n");
+    }
     for (source, action, target) in steps {
         text += &format!("S,{source},{action},{target}\n");
     }
@@ -138,7 +159,7 @@ pub fn examples() -> Vec<(PathBuf, Vec<u8>, Vec<u8>)> {
         let page = fs::read(file.with_extension("page")).expect("a page beside each text");
         (file, text, page)
     };
-    files("txt", 11).into_iter().map(with_page).collect()
+    files("txt", 26).into_iter().map(with_page).collect()
 }
 
 /// The file, the text and what the roll's program prints of each example that has a roll, and of each that is not read:
@@ -150,7 +171,7 @@ pub fn rolls() -> Vec<(PathBuf, Vec<u8>, Vec<u8>)> {
         let text = fs::read(&file).expect("a text beside each roll");
         (file, text, printed)
     };
-    let mut rolls: Vec<_> = files("roll", 4).into_iter().map(with_text).collect();
+    let mut rolls: Vec<_> = files("roll", 5).into_iter().map(with_text).collect();
     let not_read = examples().into_iter();
     rolls.extend(not_read.filter(|(_, _, page)| page.starts_with(b"F,")));
     rolls

@@ -3,12 +3,18 @@ use second::gen::{self, Fault, Rng};
 use second::Model;
 use std::collections::BTreeSet;
 
-/// Models of every kind whose texts are to be damaged: random ones, the longest, one with no step, one with a single
-/// state.
+/// Models of every kind whose texts are to be damaged: random ones, the longest of one start, two with no step, one of
+/// them with 128 starts, and one with a single state.
 pub fn models_to_damage(rng: &mut Rng, random: usize) -> Vec<Model> {
     let mut models = vec![gen::chain(2)];
+    let limits = [
+        "longest text",
+        "no steps",
+        "one state",
+        "all starts, no steps",
+    ];
     for (what, model) in gen::limit_models(rng) {
-        if ["longest text", "no steps", "one state"].contains(&what) {
+        if limits.contains(&what) {
             models.push(model);
         }
     }

@@ -1,5 +1,6 @@
 //! What is told of a text that is not read: the number and the place of its first bad line. In a line 32 is tested
-//! first, then 2, then 31, then 3, then 4 or 5, each over the whole line. By the operations, the programs, the script.
+//! first, then 2, then 31, then 3, then 4, 5 or 33, each over the whole line. By the operations, the programs and the
+//! script.
 use std::collections::BTreeSet;
 use std::fs;
 use std::process::Command;
@@ -7,7 +8,7 @@ use std::process::Command;
 use second::gen::{self, BadLine};
 use second::text::{self, Cause};
 use second::Refusal;
-use suite::bench::{root, WORKED};
+use suite::bench::{root, waking_text, ACTIONS, TWO_STARTS, WORKED};
 use suite::command::{prints, run};
 use suite::lists::Lists;
 use suite::operations::{PRINT, READ, TELL};
@@ -15,7 +16,7 @@ use suite::texts::models_to_damage;
 
 const SEED: u64 = 7_900;
 
-/// Texts of the causes that request (i) names, and of 4 and 5, each with its number and its place.
+/// Texts of the causes that requests (i) and (iii) name, and of 4 and 5, each with its number and its place.
 const REQUESTED: &[(&str, u16, u64)] = &[
     // the empty text
     ("", 32, 1),
@@ -49,6 +50,26 @@ const REQUESTED: &[(&str, u16, u64)] = &[
     // a name used before, a step not above the one before it
     ("M,1,2,0,0\nA,L,scan\nA,H,scan\nE\n", 4, 3),
     ("M,1,1,2,0\nA,H,print\nS,0,0,0\nS,0,0,0\nE\n", 5, 4),
+    // an `I` line equal to the one before it and one below, the first equal to line 1's start and below
+    ("M,3,1,0,0\nA,H,print\nI,1\nI,1\nE\n", 33, 4),
+    ("M,3,1,0,0\nA,H,print\nI,2\nI,1\nE\n", 33, 4),
+    ("M,3,1,0,1\nA,H,print\nI,1\nE\n", 33, 3),
+    ("M,3,1,0,2\nA,H,print\nI,1\nE\n", 33, 3),
+    // where no state is left: 3 comes before 33
+    ("M,3,1,0,0\nA,H,print\nI,2\nI,3\nE\n", 3, 4),
+    ("M,1,1,0,0\nA,H,print\nI,1\nE\n", 3, 3),
+    ("M,1,1,0,0\nA,H,print\nI,0\nE\n", 33, 3),
+    // elsewhere its letter is wrong: before line 1, before an action, after a step
+    ("I,1\nM,2,1,0,0\nA,H,print\nE\n", 2, 1),
+    ("M,2,1,0,0\nI,1\nA,H,print\nE\n", 2, 2),
+    ("M,2,2,0,0\nA,H,print\nI,1\nA,L,scan\nE\n", 2, 3),
+    ("M,2,1,1,0\nA,H,print\nS,0,0,1\nI,1\nE\n", 2, 4),
+    ("M,2,1,2,0\nA,H,a\nS,0,0,0\nI,1\nS,0,0,1\nE\n", 2, 4),
+    ("M,3,1,1,0\nA,H,print\nI,1\nS,0,0,1\nI,2\nE\n", 2, 5),
+    // no line end; bytes after `E`
+    ("M,2,1,0,0\nA,H,print\nI,1", 32, 3),
+    ("M,2,1,0,0\nA,H,print\nI,1\n", 32, 4),
+    ("M,2,1,0,0\nA,H,print\nE\nI,1\n", 32, 4),
 ];
 
 /// Another line in place of one of the worked example's: its place, which is the refusal's, and the number.
@@ -117,6 +138,65 @@ const LINES: &[(usize, &str, u16)] = &[
     (9, "S,2,0,x", 2),
 ];
 
+/// A line after `I,1` in the worked example, which has 4 states, with its number. Its place is 6.
+const STARTS: &[(&str, u16)] = &[
+    // it begins with `I`, and has a wrong letter field or field count
+    ("I", 2),
+    ("I2", 2),
+    ("II,2", 2),
+    ("IX,2", 2),
+    ("I ,2", 2),
+    ("I,2,", 2),
+    ("I,2,3", 2),
+    ("I,,", 2),
+    // it does not, and a step is due
+    ("", 2),
+    ("i,2", 2),
+    (" I,2", 2),
+    (",I,2", 2),
+    ("A,H,void", 2),
+    ("M,4,3,4,0", 2),
+    ("E", 2),
+    // not 1 to 5 digits
+    ("I,", 31),
+    ("I,x", 31),
+    ("I,02", 31),
+    ("I,+2", 31),
+    ("I, 2", 31),
+    ("I,2\r", 31),
+    ("I,100000", 31),
+    // not below states, also where 16 bits or 8 would hold a 2
+    ("I,4", 3),
+    ("I,128", 3),
+    ("I,258", 3),
+    ("I,65538", 3),
+    ("I,99999", 3),
+    // not above the one before it
+    ("I,1", 33),
+    ("I,0", 33),
+    // 2 before all others, and 31 before 33
+    ("IX,x", 2),
+    ("IX,4", 2),
+    ("IX,1", 2),
+    ("I,x,2", 2),
+    ("I,4,", 2),
+    ("I,1,2", 2),
+    ("I,01", 31),
+];
+
+/// A 128th `I` line, with its number. Its place is 132, after line 1, 3 actions and 127 starts.
+const PAST_THE_LAST: &[(&str, u16)] = &[
+    ("I,128", 3),
+    ("I,99999", 3),
+    ("I,127", 33),
+    ("I,1", 33),
+    ("I,0", 33),
+    ("I,x", 31),
+    ("I,128,", 2),
+    ("IX,128", 2),
+    ("I", 2),
+];
+
 /// What stands after `E` has no part in the number.
 const AFTER_END: &[&[u8]] = &[
     b"\n",
@@ -159,6 +239,29 @@ fn long_lines() -> Vec<(Vec<u8>, Refusal)> {
     cases
 }
 
+/// Each line of `STARTS` and of `PAST_THE_LAST` in its place; without its line end it gets 32.
+fn starts() -> Vec<(Vec<u8>, Refusal)> {
+    let mut cases = Vec::new();
+    let mut add = |before: &[u8], line: &str, after: &[u8], number: u16, place: u64| {
+        let unended = [before, line.as_bytes()].concat();
+        let ended = [&unended[..], b"\n", after].concat();
+        cases.push((unended, Refusal::new(32, place)));
+        cases.push((ended, Refusal::new(number, place)));
+    };
+    let steps = WORKED.windows(2).position(|two| two == b"S,");
+    let (before, after) = WORKED.split_at(steps.expect("a step"));
+    for &(line, number) in STARTS {
+        add(&[before, b"I,1\n"].concat(), line, after, number, 6);
+    }
+    let all: Vec<u16> = (0..128).collect();
+    let text = waking_text(128, ACTIONS, &all, &[]);
+    let before = text.strip_suffix(b"E\n").expect("the last line");
+    for &(line, number) in PAST_THE_LAST {
+        add(before, line, b"E\n", number, 132);
+    }
+    cases
+}
+
 /// Texts with their refusals.
 fn cases() -> Vec<(Vec<u8>, Refusal)> {
     let mut cases = Vec::new();
@@ -180,6 +283,7 @@ fn cases() -> Vec<(Vec<u8>, Refusal)> {
     for bytes in AFTER_END {
         cases.push(([WORKED, bytes].concat(), Refusal::new(32, 10)));
     }
+    cases.extend(starts());
     cases.extend(long_lines());
     cases
 }
@@ -240,14 +344,15 @@ fn by_the_script() {
 }
 
 /// For each number, those that a line can have besides and that are tested later. No line has both a number field and a
-/// name.
+/// name, and the one number of an `I` line has one cause alone.
 const LATER: &[(u16, &[u16])] = &[
-    (32, &[2, 31, 3, 4, 5]),
-    (2, &[2, 31, 3, 4, 5]),
+    (32, &[2, 31, 3, 4, 5, 33]),
+    (2, &[2, 31, 3, 4, 5, 33]),
     (31, &[3, 5]),
     (3, &[5]),
     (4, &[]),
     (5, &[]),
+    (33, &[]),
 ];
 
 /// Each number alone and with each other of one line.
@@ -286,7 +391,7 @@ fn every_cause_and_every_pair() {
 
 #[test]
 fn every_cause_and_every_pair_by_the_programs() {
-    let model = text::parse(WORKED).expect("the text is good");
+    let model = text::parse(TWO_STARTS).expect("the text is good");
     let bad_lines = gen::bad_lines(&model);
     for bad in &bad_lines {
         printed_by_the_programs(&bad.fault.text, bad.fault.refusal);

@@ -1,10 +1,11 @@
 //! Page, and the path from a text to its page, against the second checker.
 use std::collections::BTreeSet;
+use std::fs;
 
 use second::gen::{self, Rng};
 use second::store::{DISTANCES, TABLE};
 use second::{Level, Model, Verdict};
-use suite::bench::{examples, store_of, worked_distances, worked_table, WORKED, WORKED_PAGE};
+use suite::bench::{examples, root, store_of, worked_distances, worked_table, WORKED, WORKED_PAGE};
 use suite::lists::{Lists, LEAST};
 use suite::operations::{JUDGE, PAGE, PRINT, READ};
 use suite::stores::Store;
@@ -75,6 +76,26 @@ fn the_examples() {
         }
     }
     assert!(refused > 2, "{refused}");
+}
+
+/// The README reads texts and pages line by line, each with a remark past some blanks.
+#[test]
+fn the_readme() {
+    let readme = fs::read_to_string(root().join("README.md")).expect("the README");
+    let first = |line: &str| line.split_whitespace().next().map(str::to_string);
+    let readme: Vec<Option<String>> = readme.lines().map(first).collect();
+    for (name, count) in [
+        ("worked.txt", 9),
+        ("worked.page", 9),
+        ("two_starts.txt", 5),
+        ("two_starts.page", 14),
+    ] {
+        let file = fs::read_to_string(root().join("examples").join(name)).expect("an example");
+        let lines: Vec<Option<String>> = file.lines().map(first).take(count).collect();
+        assert_eq!(lines.len(), count, "{name}");
+        let shown = readme.windows(count).any(|part| part == lines);
+        assert!(shown, "{name}");
+    }
 }
 
 #[test]

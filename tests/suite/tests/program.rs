@@ -98,11 +98,14 @@ fn sizes_of(program: &Program) {
     }
     let mut rng = gen::seeded("program::sizes", SEED);
     let limits = gen::limit_models(&mut rng).into_iter();
+    let mut longest = 0;
     for (_, model) in limits {
         let mut text = model.to_text();
+        longest = longest.max(text.len());
         let printed = same(&text);
         assert!(printed.starts_with(b"V,"));
-        let after_end = 1 + model.actions.len() + model.steps.len() + 2;
+        let starts = model.extra_starts.len();
+        let after_end = 1 + model.actions.len() + starts + model.steps.len() + 2;
         text.resize(LONGEST, b'\n');
         assert_eq!(same(&text), format!("F,32,{after_end}\n").into_bytes());
         for length in [LONGEST + 1, 20_000, 200_000] {
@@ -110,6 +113,7 @@ fn sizes_of(program: &Program) {
             assert_eq!(same(&text), b"F,1,0\n");
         }
     }
+    assert_eq!(longest, 15_072, "the most bytes of a model's text");
 }
 
 /// A text in pieces of up to so many bytes.

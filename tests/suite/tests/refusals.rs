@@ -5,10 +5,10 @@ use std::collections::BTreeMap;
 use second::gen;
 use second::store::{action_place, DISTANCES, STORE};
 use second::{Model, Refusal};
-use suite::bench::{store_of, text_of, ACTIONS, WORKED};
+use suite::bench::{store_of, text_of, waking_text, ACTIONS, TWO_STARTS, WORKED};
 use suite::input::Input;
 use suite::lists::{every_length, with_length, Lengths, List, Lists, LEAST};
-use suite::operations::{on_stores, AnyOperation, PRINT, READ, RUN, WORD};
+use suite::operations::{on_stores, AnyOperation, PRINT, READ, RUN, TELL, WORD};
 use suite::stores::{self, Store};
 
 const SEED: u64 = 7_600;
@@ -148,6 +148,105 @@ fn damage_at_every_place() {
     }
 }
 
+/// What no store of these starts has at a place of the extra starts: a count past 127 or of more or fewer starts than
+/// there are; a start not above the one before it, not below states, or one that is not counted.
+fn wrong_numbers(states: u16, starts: &[u16], place: usize) -> Vec<u16> {
+    let count = starts.len() as u16 - 1;
+    if place == 3_972 {
+        let other = [count.saturating_sub(1), count + 1, 127, 128, 256 + count];
+        return other
+            .into_iter()
+            .filter(|&number| number != count)
+            .collect();
+    }
+    match starts.get(place - 3_972) {
+        Some(_) => {
+            let before = starts[place - 3_973];
+            vec![0, before, states, 128, 256 + before + 1]
+        }
+        None => vec![1, states - 1, states, 127],
+    }
+}
+
+/// 22 at each place of the extra starts: with none, with a few and with all.
+#[test]
+fn damage_at_every_extra_start() {
+    let mut rng = gen::seeded("refusals::damage_at_every_extra_start", SEED + 8);
+    let every: Vec<u16> = (0..128).collect();
+    let choices: [(u16, &[u16]); 5] = [
+        (4, &[0]),
+        (4, &[1, 3]),
+        (128, &[0, 1, 64, 127]),
+        (100, &every[..100]),
+        (128, &every),
+    ];
+    for (states, starts) in choices {
+        let store = store_of(&waking_text(states, ACTIONS, starts, &[(0, 0, 1)]));
+        let lists = Lists::enough(&mut rng);
+        for place in 3_972..4_100 {
+            for number in wrong_numbers(states, starts, place) {
+                let damaged = store.damaged("an extra start", &[(place, number)]);
+                for operation in on_stores() {
+                    refuses(operation, &damaged, &lists, NOT_GOOD);
+                }
+            }
+        }
+    }
+}
+
+/// 22 where line 1's start or the number of states does not fit the extra starts. They just fit before.
+#[test]
+fn damage_beside_the_extra_starts() {
+    let mut rng = gen::seeded("refusals::damage_beside_the_extra_starts", SEED + 9);
+    let store = store_of(&waking_text(6, ACTIONS, &[1, 2, 5], &[]));
+    let lists = Lists::enough(&mut rng);
+    let bad: [&[(usize, u16)]; 7] = [
+        &[(3, 2)],
+        &[(3, 3)],
+        &[(3, 5)],
+        &[(0, 5)],
+        &[(0, 2)],
+        &[(3_973, 5), (3_974, 2)],
+        &[(3, 5), (3_974, 1)],
+    ];
+    for changes in bad {
+        let damaged = store.damaged("extra starts", changes);
+        for operation in on_stores() {
+            refuses(operation, &damaged, &lists, NOT_GOOD);
+        }
+    }
+    for operation in on_stores() {
+        let (refusal, _) = operation.refusal(&(&store).into(), &lists);
+        assert!(refusal.is_none_or(|refusal| refusal.number > 22));
+    }
+}
+
+/// A store of 3,972 numbers, as it was when a model had one start, gets 21 from every operation, and no list changes.
+/// The text reads to such numbers with 128 zeros behind them.
+#[test]
+fn stores_of_one_start() {
+    let mut rng = gen::seeded("refusals::stores_of_one_start", SEED + 10);
+    let lists = Lists::anything(&mut rng, LEAST);
+    for text in [WORKED, TWO_STARTS] {
+        let store = store_of(text);
+        for length in [3_971, 3_972, 3_973, 4_099] {
+            let mut short = store.clone();
+            short.numbers.truncate(length);
+            for operation in on_stores() {
+                refuses(operation, &short, &lists, Refusal::new(21, 1));
+            }
+            let lists = lists.of_lengths(with_length(LEAST, List::store, length));
+            refuses(&READ, text, &lists, Refusal::new(21, 2));
+            refuses(&PRINT, text, &lists, Refusal::new(21, 2));
+            let (told, after) = TELL.same(text, &lists);
+            let told = told.expect("an answer for each of the three");
+            assert_eq!(told.read, Err(Refusal::new(21, 2)));
+            assert!(told.judged.is_none() && after == lists, "tell");
+        }
+    }
+    assert_eq!(store_of(WORKED)[3_972..], [0; 128]);
+}
+
 /// The distances and the table are as Judge leaves them; the rest is as it was.
 fn as_judged(store: &Store, before: &Lists, after: &Lists) {
     let mut expected = before.clone();
@@ -172,7 +271,7 @@ fn word_in_order() {
         let (answer, after) = WORD.same(&store, &lists);
         assert_eq!(answer, Err(Refusal::new(number, place)), "{store}");
         as_judged(&store, &lists, &after);
-        let damaged = store.damaged("unused step", &[(STORE - 1, 1)]);
+        let damaged = store.damaged("unused start", &[(STORE - 1, 1)]);
         refuses(&WORD, &damaged, &lists, NOT_GOOD);
         refuses_short_lists(&WORD, &store, &lists, 0);
         refuses_short_lists(&WORD, &damaged, &lists, 0);
@@ -227,7 +326,7 @@ fn a_short_store_comes_before_every_fault() {
     let mut numbers = BTreeMap::new();
     for _ in 0..4 {
         let model = gen::any_model(&mut rng);
-        for length in [0, STORE - 1] {
+        for length in [0, 3_972, STORE - 1] {
             let before = Lists::anything(&mut rng, with_length(LEAST, List::store, length));
             for fault in gen::faults(&model) {
                 let _case = gen::text_case(&fault.text);
@@ -238,7 +337,8 @@ fn a_short_store_comes_before_every_fault() {
             }
         }
     }
-    assert!(numbers.keys().eq(&[1, 2, 3, 4, 5, 31, 32]), "{numbers:?}");
+    let all = [1, 2, 3, 4, 5, 31, 32, 33];
+    assert!(numbers.keys().eq(&all), "{numbers:?}");
     assert!(numbers.values().all(|&count| count > 10), "{numbers:?}");
 }
 

@@ -8,19 +8,21 @@
 
 _Static_assert(TILL_ACTION_LEVEL(0) == 4 && TILL_ACTION_NAME(1) == 20, "actions");
 _Static_assert(TILL_STEP_SOURCE(0) == 900 && TILL_STEP_TARGET(1) == 905, "steps");
+_Static_assert(TILL_EXTRA_STARTS == 3972 && TILL_EXTRA_START(0) == 3973, "extra starts");
+_Static_assert(TILL_EXTRA_START_LIMIT == 127 && TILL_EXTRA_START(126) == 4099, "extra starts");
 _Static_assert(TILL_PAIR(1, 2) == 130, "pairs");
 _Static_assert(TILL_TEXT_LIMIT == 16384, "text");
-_Static_assert(TILL_STORE == 3972, "store");
+_Static_assert(TILL_STORE == 4100, "store");
 _Static_assert(TILL_DISTANCES == 128, "distances");
 _Static_assert(TILL_TABLE == 16384, "table");
 _Static_assert(TILL_RUN == 127, "run");
 _Static_assert(TILL_WORD == 127, "word");
 _Static_assert(TILL_PAGE == 5000, "page");
 _Static_assert(TILL_ROLL == 35840, "roll");
-_Static_assert(TILL_WRITTEN == 14420, "written");
+_Static_assert(TILL_WRITTEN == 15182, "written");
 _Static_assert(TILL_TOO_LONG == 1 && TILL_FORM == 2 && TILL_RANGE == 3, "refusals of a text");
 _Static_assert(TILL_REPEATED == 4 && TILL_ORDER == 5, "refusals of a text");
-_Static_assert(TILL_DIGITS == 31 && TILL_ABSENT == 32, "refusals of a text");
+_Static_assert(TILL_DIGITS == 31 && TILL_ABSENT == 32 && TILL_START_ORDER == 33, "refusals of a text");
 
 static const char text[] = "M,4,3,4,0\nA,L,scan\nA,H,print\nA,D,close\n"
                            "S,0,0,1\nS,0,1,2\nS,1,0,1\nS,2,0,3\nE\n";
@@ -105,6 +107,7 @@ static void expect_store(void) {
         expect("an action", store[TILL_STEP_ACTION(j)], steps[j][1]);
         expect("a target", store[TILL_STEP_TARGET(j)], steps[j][2]);
     }
+    expect("the number of extra starts", store[TILL_EXTRA_STARTS], 0);
     expect("an unused number", store[TILL_STORE - 1], 0);
     expect("the number after the store", store[TILL_STORE], 0x0707);
 }
@@ -129,6 +132,8 @@ static void refuses_texts(void) {
         {"M,4,3,4,0\nA,X", TILL_ABSENT, 2},
         {"", TILL_ABSENT, 1},
         {"M,1,1,0,0\nA,H,print\nE\n\n", TILL_ABSENT, 4},
+        {"M,4,1,0,1\nA,H,print\nI,1\nE\n", TILL_START_ORDER, 3},
+        {"M,4,1,0,1\nA,H,print\nI,2\nI,3\nI,3\nE\n", TILL_START_ORDER, 5},
     };
     memset(store, 7, sizeof store);
     for (size_t i = 0; i < sizeof bad / sizeof *bad; i++)
@@ -196,6 +201,29 @@ static void shows(void) {
     refuses("Write", till_write(store, TILL_STORE, out, TILL_WRITTEN - 1), TILL_SHORT_LIST, 2);
 }
 
+/* A till that wakes in states 0, 2 and 3. Only state 2 leads to the print, from state 1. */
+static void wakes(void) {
+    static const char waking[] = "M,5,3,3,0\nA,L,scan\nA,H,print\nA,D,close\nI,2\nI,3\n"
+                                 "S,1,1,4\nS,2,2,1\nS,4,0,4\nE\n";
+    static const uint16_t starts[3] = {2, 3, 0}, nearest[5] = {0, 1, 0, 0, 2};
+    memset(store, 7, sizeof store);
+    answers("Read", till_read((const uint8_t *)waking, sizeof waking - 1, store, TILL_STORE), 0, 0, 0);
+    expect("the number of extra starts", store[TILL_EXTRA_STARTS], 2);
+    for (size_t k = 0; k < 3; k++) expect("an extra start", store[TILL_EXTRA_START(k)], starts[k]);
+    forget();
+    answers("Judge", till_judge(store, TILL_STORE, distances, TILL_DISTANCES, table, TILL_TABLE), 2, 0, 1);
+    for (size_t state = 0; state < 5; state++) expect("a distance", distances[state], nearest[state]);
+    answers("Run", till_run(store, TILL_STORE, distances, TILL_DISTANCES, run, TILL_RUN, 1), 1, 1, 0);
+    expect("the run's first step", run[0], 1);
+    expect("the run's start", store[TILL_STEP_SOURCE(run[0])], store[TILL_EXTRA_START(0)]);
+    answers("Write", till_write(store, TILL_STORE, out, TILL_WRITTEN), 1, sizeof waking - 1, 0);
+    expect_out(waking, sizeof waking - 1);
+    /* The lengths that lists had before there were extra starts. */
+    refuses("Read", till_read((const uint8_t *)waking, sizeof waking - 1, store, 3972), TILL_SHORT_LIST, 2);
+    refuses("Reach", till_reach(store, 3972, distances, TILL_DISTANCES), TILL_SHORT_LIST, 1);
+    refuses("Write", till_write(store, TILL_STORE, out, 14420), TILL_SHORT_LIST, 2);
+}
+
 static TillTold tell(size_t length) {
     forget();
     memset(store, 7, sizeof store);
@@ -233,6 +261,7 @@ int main(void) {
     reads();
     judges();
     shows();
+    wakes();
     tells();
     answers("print", print(TEXT_LENGTH - 1), 1, 7, 0);
     expect_out("F,32,9\n", 7);
