@@ -140,7 +140,7 @@ fn head(lines: &mut Lines) -> Result<(Model, usize, usize), Refused> {
     ];
     let numbers = lines.numbers(&fields, &ranges)?;
     let (states, actions, steps, start) = (numbers[0], numbers[1], numbers[2], numbers[3]);
-    // The start's range hangs on another number of the line.
+    // The start's range depends on another number of the line.
     if start >= states {
         return Err(lines.refused(Cause::Range));
     }

@@ -429,7 +429,7 @@ struct Alone {
     refused: BTreeSet<(u16, u16, u16)>,
 }
 
-/// Judges a model from each of its starts. Ranks don't hang on the starts.
+/// Judges a model from each of its starts. Ranks don't depend on the starts.
 fn alone(model: &Model, table: &[u8]) -> Alone {
     let mut distances = vec![65_535; 128];
     let mut refused = BTreeSet::new();

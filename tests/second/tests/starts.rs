@@ -457,7 +457,7 @@ fn distances_are_from_the_nearest_start() {
     assert_eq!(run_of(&text, 3), Ok(vec![1, 2]));
 }
 
-/// A start that another leads to has distance 0, and no run leads there.
+/// A start that another leads to has distance 0, and its run is empty.
 #[test]
 fn starts_that_lead_to_each_other() {
     let steps = [(0, SCAN, 1), (1, SCAN, 2), (2, SCAN, 3), (3, SCAN, 0)];
@@ -654,7 +654,7 @@ fn a_till_that_wakes_in_128_states() {
     assert_eq!(text[..], waking_till(128, &all, &steps));
 
     // The last of 255 steps. 127 scans tell the last state from the one before,
-    // no run leads there, and each state has its own class.
+    // there is no `R` line, and each state has its own class.
     let mut page = "V,refuse,254,127\n".to_string();
     for state in 0..128 {
         page += &format!("C,{state},0,{state}\n");
