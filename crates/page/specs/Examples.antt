@@ -1,6 +1,7 @@
 -- The worked example and the other starred bench models, from their texts to the bytes of their pages, and two to those
 -- of their rolls: what the promise of the path from a text makes of each.
--- Document 01, "The page": "Input, then the output whole"; "Bench models"; document 02, (ii) and (iii). Assumes nothing.
+-- Document 01, "The page": "Input, then the output whole"; "Bench models"; document 02, (ii) and (iii). Assumes
+-- nothing.
 use mathlib.Core.List.{List, [], _∷_}
 use mathlib.Core.Option.{none, some}
 use mathlib.Core.Path.{_≡_}

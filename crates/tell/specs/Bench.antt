@@ -1,4 +1,5 @@
--- The starred bench models as one joint fact on the definitions, from their texts on.
+-- The starred bench models as one joint fact on the definitions, from their texts on; and one of them that wakes in a
+-- second state (document 02, (iii)).
 -- Document 01, "Bench models": "Those marked * are shown of the definitions as one joint fact". Where a model is
 -- deterministic that is part of it: "24 (Word): deterministic and passed".
 use mathlib.Core.List.{List, [], _∷_}
@@ -61,9 +62,10 @@ pub record JointFact : Type 0 where
   pub thinned : thin (view worked .levels) (print ∷ scan ∷ close ∷ print ∷ scan ∷ []) ≡ print ∷ scan ∷ close ∷ scan ∷ []
   pub thinned-empty : thin (view worked .levels) [] ≡ []
 
--- A leak from the second start only: the last bench model passes, and with a second start it is refused.
--- Document 02, (iii): "Reachable is from any start".
+-- A leak from the second start only: the model whose print step is unreachable passes, and waking in that step's source
+-- too it is refused. Document 02, (iii): "Reachable is from any start".
 pub record SecondStart : Type 0 where
+  pub first-passed : ReadsAndJudged unreachedPrintText unreachedPrint (Passed 1)
   pub woken-refused : ReadsAndJudged wokenPrintText wokenPrint (refusedAt 0 1)
   pub woken-deterministic : DeterministicModel wokenPrint
   pub woken-word : WordOf wokenPrint 0 (scan ∷ []) Target

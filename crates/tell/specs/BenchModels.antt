@@ -53,17 +53,17 @@ close = 2
 abbrev arrow : ℕ → ℕ → ℕ → StepLine
 arrow p a q = record { source = record { 0 = p }; action = record { 0 = a }; target = record { 0 = q } }
 
--- The model with so many states and steps, start 0, scan low, print high, and close of the given level, that wakes in
--- further states too.
+-- The model with so many states and steps, start 0, scan low, print high, and close of the given level, with these extra
+-- starts.
 abbrev modelFrom : List ℕ → ℕ → ℕ → ℕ → List StepLine → Model
-modelFrom further closeLevel states steps arrows = record {
+modelFrom extra closeLevel states steps arrows = record {
   head = record { states = states; actions = 3; steps = steps; start = record { 0 = 0 } };
   actions =
       record { level = low; name = 115 ∷ 99 ∷ 97 ∷ 110 ∷ [] }
       ∷ record { level = high; name = 112 ∷ 114 ∷ 105 ∷ 110 ∷ 116 ∷ [] }
       ∷ record { level = closeLevel; name = 99 ∷ 108 ∷ 111 ∷ 115 ∷ 101 ∷ [] }
       ∷ [];
-  extraStarts = further;
+  extraStarts = extra;
   steps = arrows;
 }
 

@@ -20,7 +20,7 @@ leastPassing (suc n) f =
     let b = f n in
     cond (ltb i n) i (cond b n (suc n))
 
--- At most k steps lead from the start to p.
+-- At most k steps lead from a start to p.
 abbrev pub near? : Model → ℕ → ℕ → Bool
 near? m p k = within? (view m) (tests m) k p
 

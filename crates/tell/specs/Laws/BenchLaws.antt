@@ -241,6 +241,7 @@ joint-fact = record {
 
 pub second-start : SecondStart
 second-start = record {
+  first-passed = joint-fact .unreached-print-passed;
   woken-refused =
       judged-of-computed wokenPrintText wokenPrint (read .woken-print) (refusedAt 0 1) (computed .woken-print);
   woken-deterministic = unbranched?→DeterministicModel wokenPrint (unbranched .woken-print);
