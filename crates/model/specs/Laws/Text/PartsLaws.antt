@@ -112,6 +112,12 @@ unfolding startLines
 startLines-all [] steps = startLines-steps steps
 startLines-all (p ∷ ps) steps = rw (startLine?-start p, startLines-all ps steps)
 
+-- where no `I` line follows the `A` lines the steps are read next, as of a text that has none
+pub readActions-no-starts : (k : ℕ) (m : Model) (parts : List (List ℕ)) → startLines parts ≡ 0
+    → readActions 0 k m parts ≡ readSteps (m .head .steps) k m parts
+unfolding readActions readStarts
+readActions-no-starts k m parts e = ap (λ (n : ℕ). readStarts n k m parts) e
+
 module _ (h : Head) (actions : List ActionLine) where
   abbrev startsRead : ℕ → ℕ → List ℕ → List (List ℕ) → Reading
   startsRead n k before parts = readStarts n k (model h actions before []) parts
