@@ -22,7 +22,8 @@ use Rattle.model.specs.WellFormed.{EachAfter, ActionFits, StartFits, Ste
 use Rattle.text.specs.Inner.Ranges.{HeadRanges}
 use Rattle.text.specs.Laws.RangesLaws.{headFits?→HeadRanges}
 use Rattle.model.specs.Inner.LineText.{lineOfHead, lineOfAction, lineOfStart, lineOfStep, partsOf}
-use Rattle.model.specs.Laws.Text.LinesReadLaws.{onLine-cons, onLine-done, orFault-done, Stated, lines-read}
+use Rattle.model.specs.Inner.StatedLines.{Stated}
+use Rattle.model.specs.Laws.Text.LinesReadLaws.{onLine-cons, onLine-done, orFault-done, lines-read}
 use Rattle.model.specs.Laws.Text.LinesReadLaws.{lines-of-done, stated-after}
 use Rattle.model.specs.Laws.Text.LineTextLaws.{headOf-line, line-of-headOf, startOf-line, line-of-startOf}
 use Rattle.model.specs.Laws.Text.LineTextLaws.{stepOf-line, line-of-stepOf}
