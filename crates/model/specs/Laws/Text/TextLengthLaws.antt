@@ -1,6 +1,6 @@
 -- The lengths of a model's lines, and of its text: at most the 15,182 bytes that Write's list has.
 -- Document 01, "The operations, in the order of the work", 8; document 02, (iii). Assumes nothing.
-use mathlib.Core.List.{List, [], _∷_, _++_}
+use mathlib.Core.List.{List, []}
 use mathlib.Core.Path.{refl}
 use Prim.Native.Nat.{ℕ, _*_, _≤_, _<_}
 use native.Mathlib.Omega.{arith}
