@@ -1,47 +1,44 @@
 -- Damaged texts, each refused by evaluation with its fault at its line.
--- Document 01, "Refused because of the input" and "Bench models"; document 02, (i) and (iii).
+-- Document 01, "Refused because of the input" and "Bench models"; document 02, (i).
 use mathlib.Core.List.{List, [], _∷_, _++_}
 use mathlib.Core.Path.{_≡_, refl}
 use Prim.Native.Nat.{ℕ, _+_}
 use lib.ListN.{replicate}
-use Rattle.text.specs.declared.Fault.the-variants.{Absent, Shape, Digits, Range, Repeated, Order, StartOrder}
+use Rattle.text.specs.declared.Fault.the-variants.{Absent, Shape, Digits, Range, Repeated, Order}
 use Rattle.text.specs.Bytes.{kindOf}
 use Rattle.text.specs.Numbers.{digitsValue, numberShape?, numberOf, inBounds?, bounded, numberIn}
 use Rattle.text.specs.Split.{consFirst, split, same?}
-use Rattle.text.specs.Model.{lastStart, above?, aboveLast?}
-use Rattle.text.specs.Lines.{checked, fieldsFrom, fieldsOf, consNumber, numbersOf, headBounds, startBounds, stepBounds}
+use Rattle.text.specs.Model.{above?, aboveLast?}
+use Rattle.text.specs.Lines.{checked, fieldsFrom, fieldsOf, consNumber, numbersOf, headBounds, stepBounds}
 use Rattle.text.specs.Lines.{rowLetter, rowCount, rowBounds, valueOr0, statesOf, rowFrom, rowOf, headFrom, headOf}
 use Rattle.text.specs.Lines.{levelOf, allOf, nameByte?, name?, nameFrom, actionFields, used?, actionFrom, actionOf}
-use Rattle.text.specs.Lines.{aboveStarts?, startFrom, startOf, stepFrom, stepOf}
+use Rattle.text.specs.Lines.{stepFrom, stepOf}
 use Rattle.model.specs.Reading.{tooLong, faulty, onLine, orFault, readNothing, readEnd, readSteps}
 use Rattle.model.specs.Reading.{startLine?, startLines, readStarts, readActions, readModel, readText}
 
--- M,2,2,2,0 / A,L,a / A,H,b / S,0,0,0 / S,0,0,1 / E
-head : List ℕ
+-- the text whose damage is shown: M,2,2,2,0 / A,L,a / A,H,b / S,0,0,0 / S,0,0,1 / E, line by line
+abbrev head : List ℕ
 head = 77 ∷ 44 ∷ 50 ∷ 44 ∷ 50 ∷ 44 ∷ 50 ∷ 44 ∷ 48 ∷ 10 ∷ []
 
-low : List ℕ
+-- A,L,a
+abbrev pub low : List ℕ
 low = 65 ∷ 44 ∷ 76 ∷ 44 ∷ 97 ∷ 10 ∷ []
 
-high : List ℕ
+-- A,H,b
+abbrev pub high : List ℕ
 high = 65 ∷ 44 ∷ 72 ∷ 44 ∷ 98 ∷ 10 ∷ []
 
-first : List ℕ
+-- S,0,0,0
+abbrev pub first : List ℕ
 first = 83 ∷ 44 ∷ 48 ∷ 44 ∷ 48 ∷ 44 ∷ 48 ∷ 10 ∷ []
 
-second : List ℕ
+-- S,0,0,1
+abbrev pub second : List ℕ
 second = 83 ∷ 44 ∷ 48 ∷ 44 ∷ 48 ∷ 44 ∷ 49 ∷ 10 ∷ []
 
-end : List ℕ
+-- E
+abbrev pub end : List ℕ
 end = 69 ∷ 10 ∷ []
-
--- M,4,2,2,1, for texts with `I` lines
-four : List ℕ
-four = 77 ∷ 44 ∷ 52 ∷ 44 ∷ 50 ∷ 44 ∷ 50 ∷ 44 ∷ 49 ∷ 10 ∷ []
-
--- I,p
-wakes : ℕ → List ℕ
-wakes p = 73 ∷ 44 ∷ (48 + p) ∷ 10 ∷ []
 
 -- each text and its reading
 record Refused : Type 0 where
@@ -103,34 +100,16 @@ record Refused : Type 0 where
   -- a step given twice, and steps that fall
   step-given-twice : readText (head ++ low ++ high ++ first ++ first ++ end) ≡ faulty Order 5
   steps-falling : readText (head ++ low ++ high ++ second ++ first ++ end) ≡ faulty Order 5
-  -- I,2 twice: "An `I` line not above the one before it"; I,1 and I,0: "the first not above line 1's start"
-  start-given-twice : readText (four ++ low ++ high ++ wakes 2 ++ wakes 2 ++ first) ≡ faulty StartOrder 5
-  starts-falling : readText (four ++ low ++ high ++ wakes 3 ++ wakes 2 ++ first) ≡ faulty StartOrder 5
-  start-of-head : readText (four ++ low ++ high ++ wakes 1 ++ first) ≡ faulty StartOrder 4
-  start-below-head : readText (four ++ low ++ high ++ wakes 0 ++ first) ≡ faulty StartOrder 4
-  -- I,4 / I,02 / I,2,3 / I / I,2 where no line end follows
-  start-equal-to-states : readText (four ++ low ++ high ++ wakes 4 ++ first) ≡ faulty Range 4
-  start-leading-zero : readText (four ++ low ++ high ++ (73 ∷ 44 ∷ 48 ∷ 50 ∷ 10 ∷ []) ++ first) ≡ faulty Digits 4
-  start-and-more : readText (four ++ low ++ high ++ (73 ∷ 44 ∷ 50 ∷ 44 ∷ 51 ∷ 10 ∷ []) ++ first) ≡ faulty Shape 4
-  start-letter-only : readText (four ++ low ++ high ++ (73 ∷ 10 ∷ []) ++ first) ≡ faulty Shape 4
-  start-cut : readText (four ++ low ++ high ++ (73 ∷ 44 ∷ 50 ∷ [])) ≡ faulty Absent 4
-  -- past the last state: 3 or 33
-  start-past-states : readText (four ++ low ++ high ++ wakes 2 ++ wakes 3 ++ wakes 4 ++ first) ≡ faulty Range 6
-  start-past-last : readText (four ++ low ++ high ++ wakes 2 ++ wakes 3 ++ wakes 3 ++ first) ≡ faulty StartOrder 6
-  -- before the last `A` line, and behind an `S` line
-  start-before-action : readText (four ++ low ++ wakes 2 ++ high ++ first) ≡ faulty Shape 3
-  start-behind-step : readText (four ++ low ++ high ++ first ++ wakes 2 ++ second ++ end) ≡ faulty Shape 5
   -- "A text of 16,384 bytes is judged by its lines, one of 16,385 gets 1."
   most-bytes : readText (replicate 16384 10) ≡ faulty Shape 1
   too-many-bytes : readText (replicate 16385 10) ≡ tooLong
 
 refused : Refused
 unfolding readText readModel readActions startLines startLine? readStarts readSteps readEnd readNothing orFault onLine
-    stepOf stepFrom startOf startFrom aboveStarts? lastStart actionOf actionFrom used? actionFields nameFrom name?
+    stepOf stepFrom actionOf actionFrom used? actionFields nameFrom name?
     nameByte? allOf levelOf headOf headFrom rowOf rowFrom statesOf valueOr0 rowBounds rowCount rowLetter stepBounds
-    startBounds headBounds numbersOf consNumber fieldsOf fieldsFrom checked above? aboveLast? same? split consFirst
-    numberIn bounded inBounds? numberOf numberShape? digitsValue kindOf head low high
-    first second end four wakes
+    headBounds numbersOf consNumber fieldsOf fieldsFrom checked above? aboveLast? same? split consFirst
+    numberIn bounded inBounds? numberOf numberShape? digitsValue kindOf
 refused = record {
   empty = refl;
   absent-before-shape = refl;
@@ -163,19 +142,6 @@ refused = record {
   target-equal-to-states = refl;
   step-given-twice = refl;
   steps-falling = refl;
-  start-given-twice = refl;
-  starts-falling = refl;
-  start-of-head = refl;
-  start-below-head = refl;
-  start-equal-to-states = refl;
-  start-leading-zero = refl;
-  start-and-more = refl;
-  start-letter-only = refl;
-  start-cut = refl;
-  start-past-states = refl;
-  start-past-last = refl;
-  start-before-action = refl;
-  start-behind-step = refl;
   most-bytes = refl;
   too-many-bytes = refl;
 }

@@ -1,5 +1,7 @@
 pub mod EachFrom
 pub mod LineText
+pub mod StatedLines
+pub mod Sections
 pub mod GoodPlaces
 pub mod Stored
 pub mod StoredActions

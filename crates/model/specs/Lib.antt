@@ -12,4 +12,5 @@ pub mod StoredModel
 pub mod Examples
 pub mod GoodTestExamples
 pub mod CornerCases
+pub mod StartCases
 pub mod OnStore

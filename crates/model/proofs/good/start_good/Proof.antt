@@ -1,19 +1,11 @@
 -- What is tested of the start that was read holds of the start that stands there.
-use mathlib.Core.Bool.{Bool}
-use mathlib.Core.Path.{_≡_, subst}
-use Prim.Native.Nat.{ℕ}
+use mathlib.Core.Path.{ap, _∙_}
 use native.Mathlib.Omega.{arith}
-use lib.Dec.{T}
-use Rattle.text.specs.declared.Head.{Head}
-use Rattle.text.specs.Decides.{Decides}
 use Rattle.text.specs.Laws.DecidesLaws.{decides-passed, decides-refused, decides-test}
 use Rattle.text.specs.Lines.{startFits?}
 use borrow.Author.Needs.{needs}
 use Rattle.model.proofs.good.start_good.Statement.{statement}
 use Rattle.model.proofs.good.start_good.Tie as tie
-
-fits-at : (h : Head) {p q : ℕ} (r : Bool) → p ≡ q → r ≡ startFits? h p → Decides r (T (startFits? h q))
-fits-at h {p} r e d = subst (λ (x : ℕ). Decides r (T (startFits? h x))) e (decides-test r (startFits? h p) d)
 
 extra-start-requires : tie.Need-extra-start-requires
 extra-start-requires c κs = search needs
@@ -24,7 +16,7 @@ start-fits-requires c κs = search needs
 returns : tie.Need-returns
 returns c =
     let f = c .before .start-fits in
-    let d = fits-at _ (f .result) (c .before .before .extra-start .ensures) (f .ensures) in
+    let d = decides-test (f .result) _ (f .ensures ∙ ap (startFits? _) (c .before .before .extra-start .ensures)) in
     λ p. decides-refused (f .result) _ d (c .if1 .taken) (p .in-range)
 
 start-before-requires : tie.Need-start-before-requires
@@ -34,7 +26,7 @@ returns-2 : tie.Need-returns-2
 returns-2 c =
     let passed = c .before .before .before .before in
     let f = passed .before .start-fits in
-    let d = fits-at _ (f .result) (passed .before .before .extra-start .ensures) (f .ensures) in
+    let d = decides-test (f .result) _ (f .ensures ∙ ap (startFits? _) (passed .before .before .extra-start .ensures)) in
     record {
       in-range = decides-passed (f .result) _ d (passed .if1 .left);
       rising = omega arith;

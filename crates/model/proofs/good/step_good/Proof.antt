@@ -1,11 +1,8 @@
 -- What is tested of the step that was read holds of the step that stands there.
 use mathlib.Core.Bool.{Bool}
-use mathlib.Core.Path.{_≡_, sym, subst, _∙_}
+use mathlib.Core.Path.{_≡_, sym, ap, _∙_}
 use native.Mathlib.Omega.{arith}
-use lib.Dec.{T}
-use Rattle.text.specs.declared.Head.{Head}
 use Rattle.text.specs.declared.StepLine.{StepLine}
-use Rattle.text.specs.Decides.{Decides}
 use Rattle.text.specs.Laws.DecidesLaws.{decides-passed, decides-refused, decides-test}
 use Rattle.text.specs.Laws.DecidesLaws.{T-of-true, not-T-of-false}
 use Rattle.text.specs.Model.{above?}
@@ -13,9 +10,6 @@ use Rattle.text.specs.Lines.{stepFits?}
 use borrow.Author.Needs.{needs}
 use Rattle.model.proofs.good.step_good.Statement.{statement}
 use Rattle.model.proofs.good.step_good.Tie as tie
-
-fits-at : (h : Head) {s t : StepLine} (r : Bool) → s ≡ t → r ≡ stepFits? h s → Decides r (T (stepFits? h t))
-fits-at h {s} r e d = subst (λ (x : StepLine). Decides r (T (stepFits? h x))) e (decides-test r (stepFits? h s) d)
 
 above-at : {a b s t : StepLine} {r : Bool} → a ≡ s → b ≡ t → r ≡ above? a b → r ≡ above? s t
 above-at d e f = cc
@@ -29,14 +23,14 @@ step-fits-requires c κs = search needs
 returns : tie.Need-returns
 returns c =
     let f = c .before .step-fits in
-    let d = fits-at _ (f .result) (c .before .before .step-line .ensures) (f .ensures) in
+    let d = decides-test (f .result) _ (f .ensures ∙ ap (stepFits? _) (c .before .before .step-line .ensures)) in
     λ p. decides-refused (f .result) _ d (c .if1 .taken) (p .in-range)
 
 returns-2 : tie.Need-returns-2
 returns-2 c =
     let fits = c .before .before .before in
     let f = fits .step-fits in
-    let d = fits-at _ (f .result) (fits .before .step-line .ensures) (f .ensures) in
+    let d = decides-test (f .result) _ (f .ensures ∙ ap (stepFits? _) (fits .before .step-line .ensures)) in
     record {
       in-range = decides-passed (f .result) _ d (c .before .before .if1 .left);
       rising = λ h. let e = c .if2 .taken in absurd (omega arith);
@@ -56,7 +50,7 @@ returns-3 c =
     let passed = c .before .before .before .before .before .before in
     let f = passed .before .step-fits in
     let s = passed .before .before .step-line .ensures in
-    let d = fits-at _ (f .result) s (f .ensures) in
+    let d = decides-test (f .result) _ (f .ensures ∙ ap (stepFits? _) s) in
     let a = above-at (c .before .before .step-line2 .ensures) s (c .before .is-above .ensures) in
     record {
       in-range = decides-passed (f .result) _ d (passed .if1 .left);

@@ -46,6 +46,14 @@ module _ {A : Type 0} (block : A → List ℕ) (blocks : List A → List ℕ) (w
       let m = mul-suc width (length xs) in
       ap length (cons x xs) ∙ simp length-append (omega arith)
 
+  pub blocks-length-le : (xs : List A) → All (λ x. length (block x) ≤ width) xs → length (blocks xs) ≤ width * length xs
+  blocks-length-le [] a = rw nil (omega arith)
+  blocks-length-le (x ∷ xs) a =
+      let i = blocks-length-le xs (a .1) in
+      let w = a .0 in
+      let m = mul-suc width (length xs) in
+      rw (cons x xs) (simp length-append (omega arith))
+
   pub blocks-all : (P : ℕ → Type 0) (xs : List A) → All (λ x. All P (block x)) xs → All P (blocks xs)
   blocks-all P [] a = rw nil tt
   blocks-all P (x ∷ xs) a = rw (cons x xs) (all-append P (block x) (blocks xs) (a .0) (blocks-all P xs (a .1)))

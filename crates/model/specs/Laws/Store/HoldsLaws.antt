@@ -18,11 +18,12 @@ use Rattle.text.specs.Lines.{allOf, nameByte?, name?, used?}
 use Rattle.model.specs.Store.{padded, actionNumbers, actionsNumbers, stepsNumbers, headRow, extraNumbers, storeOf}
 use Rattle.model.specs.WellFormed.{ActionFits, StartFits, StepFits}
 use Rattle.model.specs.StoredModel.{headAt, actionAt, stepAt, extraCountAt, extraStartAt, listed, modelAt, Holds}
+use Rattle.model.specs.Inner.Sections.{beforeSteps}
 use Rattle.text.specs.Inner.Ranges.{HeadRanges}
 use Rattle.text.specs.Laws.RangesLaws.{headFits?→HeadRanges, aboveStarts?→lt}
 use Rattle.model.specs.Laws.Text.ActionLineLaws.{name-length}
 use Rattle.model.specs.Laws.Store.StoreLaws.{actionsNumbers-length, stepsNumbers-length}
-use Rattle.model.specs.Laws.Store.StoreLaws.{beforeSteps, beforeSteps-length, actions-places, storeOf-action}
+use Rattle.model.specs.Laws.Store.StoreLaws.{beforeSteps-length, actions-places, storeOf-action}
 use Rattle.model.specs.Laws.Store.StartsLaws.{lastStart-listed, extra-count-le}
 use Rattle.model.specs.Laws.Store.StoredModelLaws.{listed-length, getD-of-drop, holds-store, actionAt-holds}
 use Rattle.model.specs.Laws.Store.StoredModelLaws.{extra-drop}

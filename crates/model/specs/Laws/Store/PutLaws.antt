@@ -16,10 +16,11 @@ use Rattle.text.specs.Model.{ActionLine}
 use Rattle.model.specs.Reading.{headModel}
 use Rattle.model.specs.Store.{padded, actionNumbers, actionsNumbers, stepRow, stepsNumbers, headRow}
 use Rattle.model.specs.Store.{extraNumbers, storeOf}
+use Rattle.model.specs.Inner.Sections.{beforeSteps, beforeExtra}
 use Rattle.model.specs.Inner.StoredActions.{Short}
 use Rattle.model.specs.Laws.Store.BlocksLaws.{blocks-snoc}
 use Rattle.model.specs.Laws.Store.StoreLaws.{actionNumbers-length, stepsNumbers-length}
-use Rattle.model.specs.Laws.Store.StoreLaws.{beforeSteps, beforeExtra, beforeSteps-length, beforeExtra-length}
+use Rattle.model.specs.Laws.Store.StoreLaws.{beforeSteps-length, beforeExtra-length}
 
 -- ---- numbers over zeros
 

@@ -17,6 +17,7 @@ use Rattle.text.specs.Laws.AllLaws.{all-intro, all-of-all, all-append}
 use Rattle.text.specs.Model.{ActionLine, Model}
 use Rattle.model.specs.Store.{padded, actionNumbers, actionsNumbers, stepRow, stepsNumbers, headRow}
 use Rattle.model.specs.Store.{extraNumbers, storeOf}
+use Rattle.model.specs.Inner.Sections.{beforeSteps, beforeExtra}
 use Rattle.model.specs.WellFormed.{EachAfter, ActionFits, StartFits, StepFits, WellFormed}
 use Rattle.model.specs.Laws.Store.EachLaws.{all-of-each}
 use Rattle.model.specs.Laws.Store.StartsLaws.{extra-count-le}
@@ -57,13 +58,6 @@ unfolding extraNumbers
 extraNumbers-length ps l = rw (padded-length extraLimit ps l)
 
 -- ---- sections, each behind those before it
-
--- what stands before the steps, and before the count of the extra starts
-abbrev pub beforeSteps : Head → List ActionLine → List ℕ
-beforeSteps h actions = headRow h ++ padded actionsLength (actionsNumbers actions)
-
-abbrev pub beforeExtra : Head → List ActionLine → List StepLine → List ℕ
-beforeExtra h actions steps = beforeSteps h actions ++ padded stepsLength (stepsNumbers steps)
 
 module _ (h : Head) (actions : List ActionLine) (a : length (actionsNumbers actions) ≤ actionsLength) where
   pub beforeSteps-length : length (beforeSteps h actions) ≡ stepsBegin

@@ -20,7 +20,7 @@ use Rattle.model.specs.Text.{modelText}
 use Rattle.model.specs.Store.{actionNumbers, stepRow, headRow, extraNumbers, storeOf, Good}
 use Rattle.model.specs.Laws.Store.StoreLaws.{storeOf-length, storeOf-action, storeOf-step, storeOf-extra}
 use Rattle.model.specs.StoredModel.{headAt, actionAt, stepAt, extraCountAt, extraStartAt, listed, modelAt, Holds}
-use Rattle.model.specs.System.{source, action, target, level}
+use Rattle.model.specs.System.{level}
 use Rattle.model.specs.WellFormed.{WellFormed}
 use Rattle.model.specs.StatedText.{MText}
 use Rattle.model.specs.Laws.Store.BlocksLaws.{padded-append}
@@ -143,15 +143,6 @@ module _ (s : List ℕ) (m : Model) (h : Holds s m) where
   pub level-holds : (a : ℕ) → a < length (m .actions) → getD s (actionPlace a) 0 ≡ level m a
   level-holds a l = ap (λ (x : ActionLine). x .level) (actionAt-holds a _ l)
 
-  pub source-holds : (j : ℕ) → j < length (m .steps) → getD s (stepPlace j) 0 ≡ source m j
-  source-holds j l = ap (λ (x : StepLine). x .source .0) (stepAt-holds j _ l)
-
-  pub action-holds : (j : ℕ) → j < length (m .steps) → getD s (actionOfStepPlace j) 0 ≡ action m j
-  action-holds j l = ap (λ (x : StepLine). x .action .0) (stepAt-holds j _ l)
-
-  pub target-holds : (j : ℕ) → j < length (m .steps) → getD s (targetPlace j) 0 ≡ target m j
-  target-holds j l = ap (λ (x : StepLine). x .target .0) (stepAt-holds j _ l)
-
 -- ---- good stores
 
 -- the store of a well-formed model holds it, whatever follows
@@ -169,9 +160,6 @@ holds-unique s m n h k = sym (modelAt-holds s m h) ∙ modelAt-holds s n k
 pub good-of-holds : (s : List ℕ) (m : Model) → Holds s m → Good s
 good-of-holds s m h =
     record { text = modelText m; model = m; reads = readText-modelText m (h .well-formed); stored = h .stored }
-
-pub storeOf-good : (m : Model) (rest : List ℕ) → WellFormed m → Good (storeOf m ++ rest)
-storeOf-good m rest w = good-of-holds (storeOf m ++ rest) m (holds-storeOf m rest w)
 
 pub holds-of-good : (s : List ℕ) (g : Good s) → Holds s (g .model)
 holds-of-good s g = record { well-formed = readText-well-formed (g .text) (g .model) (g .reads); stored = g .stored }

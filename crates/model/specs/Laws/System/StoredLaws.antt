@@ -1,7 +1,6 @@
 -- The places of a good store, as numbers of its model.
 -- Document 01, "The model store"; document 02, (iii). Assumes nothing.
 use mathlib.Core.List.{List}
-use mathlib.Core.Logic.{_⊎_, inl, inr, ⊎-elim}
 use mathlib.Core.Path.{_≡_, sym, ap, _∙_, subst}
 use Prim.Native.Nat.{ℕ, _<_}
 use native.Mathlib.Omega.{arith}
@@ -13,7 +12,7 @@ use Rattle.text.specs.Model.{Model}
 use Rattle.model.specs.StoredModel.{headAt, extraCountAt, extraStartAt}
 use Rattle.model.specs.System.{source, action, target, IsStart}
 use Rattle.model.specs.Inner.Stored.{Stored}
-use Rattle.model.specs.Laws.Store.SystemLaws.{head-start, extra-start, start-cases}
+use Rattle.model.specs.Laws.Store.SystemLaws.{head-start, extra-start}
 
 module _ {s : List ℕ} {m : Model} (st : Stored s m) where
   pub stored-states : headAt s .states ≡ m .head .states
@@ -28,7 +27,7 @@ module _ {s : List ℕ} {m : Model} (st : Stored s m) where
   pub stored-start : headAt s .start .0 ≡ m .head .start .0
   stored-start = ap (λ (h : Head). h .start .0) (st .head-is)
 
-  -- the start of line 1 and the extra ones are starts of the model, and there are no others
+  -- the start of line 1 and the extra ones are starts of the model
   pub stored-head-start : IsStart m (headAt s .start .0)
   stored-head-start = subst (IsStart m) (sym stored-start) (head-start m)
 
@@ -36,14 +35,6 @@ module _ {s : List ℕ} {m : Model} (st : Stored s m) where
   stored-extra-start i l =
       let k : i < length (m .extraStarts) = omega (arith, st .extra-count-is) in
       subst (IsStart m) (sym (st .extra-start-is i k)) (extra-start m i k)
-
-  pub stored-start-cases : {p : ℕ} → IsStart m p
-      → (p ≡ headAt s .start .0) ⊎ ((i : ℕ) × (i < extraCountAt s) × (extraStartAt s i ≡ p))
-  stored-start-cases x =
-      ⊎-elim
-      (λ e. inl (e ∙ sym stored-start))
-      (λ i. inr (i .0, omega (arith, st .extra-count-is, i .1), st .extra-start-is (i .0) (i .1) ∙ i .2))
-      (start-cases m x)
 
   pub stored-source : (j : ℕ) → j < length (m .steps) → getD s (stepPlace j) 0 ≡ source m j
   stored-source j l = ap (λ (x : StepLine). x .source .0) (st .step-is j l)

@@ -9,6 +9,7 @@ use Rattle.text.specs.Model.{Model}
 use Rattle.text.specs.Lines.{Line, good, bad}
 use Rattle.model.specs.Reading.{Reading, done, onLine, orFault}
 use Rattle.model.specs.WellFormed.{EachAfter}
+use Rattle.model.specs.Inner.StatedLines.{Stated}
 
 -- ---- a line, if it is there and good
 
@@ -33,16 +34,6 @@ orFault-done k (good a) read m h = (a, refl, h)
 orFault-done k (bad fault) read m h = let z : _≡_ {A = ℕ} 0 1 = cc in absurd (omega arith)
 
 -- ---- lines of one kind, one after the other
-
--- what n lines state that stand at the front of `parts`, and what holds of it and of the parts after them
-pub record Stated {A : Type 0} (line : A → List ℕ) (Fits : List A → A → Type 0) (n : ℕ) (before : List A)
-    (parts : List (List ℕ)) (After : List A → List (List ℕ) → Type 0) : Type 0 where
-  pub stated : List A
-  pub rest : List (List ℕ)
-  pub count : length stated ≡ n
-  pub lines : parts ≡ map line stated ++ rest
-  pub fit : EachAfter Fits before stated
-  pub after : After stated rest
 
 -- what holds of what follows the lines, by what held of it
 pub stated-after : {A : Type 0} {line : A → List ℕ} {Fits : List A → A → Type 0} {n : ℕ} {before : List A}

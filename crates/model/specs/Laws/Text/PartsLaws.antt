@@ -22,7 +22,8 @@ use Rattle.model.specs.WellFormed.{EachAfter, ActionFits, StartFits, Ste
 use Rattle.text.specs.Inner.Ranges.{HeadRanges}
 use Rattle.text.specs.Laws.RangesLaws.{headFits?→HeadRanges}
 use Rattle.model.specs.Inner.LineText.{lineOfHead, lineOfAction, lineOfStart, lineOfStep, partsOf}
-use Rattle.model.specs.Laws.Text.LinesReadLaws.{onLine-cons, onLine-done, orFault-done, Stated, lines-read}
+use Rattle.model.specs.Inner.StatedLines.{Stated}
+use Rattle.model.specs.Laws.Text.LinesReadLaws.{onLine-cons, onLine-done, orFault-done, lines-read}
 use Rattle.model.specs.Laws.Text.LinesReadLaws.{lines-of-done, stated-after}
 use Rattle.model.specs.Laws.Text.LineTextLaws.{headOf-line, line-of-headOf, startOf-line, line-of-startOf}
 use Rattle.model.specs.Laws.Text.LineTextLaws.{stepOf-line, line-of-stepOf}
@@ -111,6 +112,12 @@ startLines-all : (ps : List ℕ) (steps : List StepLine)
 unfolding startLines
 startLines-all [] steps = startLines-steps steps
 startLines-all (p ∷ ps) steps = rw (startLine?-start p, startLines-all ps steps)
+
+-- where no `I` line follows the `A` lines the steps are read next, as of a text that has none
+pub readActions-no-starts : (k : ℕ) (m : Model) (parts : List (List ℕ)) → startLines parts ≡ 0
+    → readActions 0 k m parts ≡ readSteps (m .head .steps) k m parts
+unfolding readActions readStarts
+readActions-no-starts k m parts e = ap (λ (n : ℕ). readStarts n k m parts) e
 
 module _ (h : Head) (actions : List ActionLine) where
   abbrev startsRead : ℕ → ℕ → List ℕ → List (List ℕ) → Reading

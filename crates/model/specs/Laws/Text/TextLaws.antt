@@ -2,7 +2,7 @@
 -- Document 01, "The text"; document 02, (iii). Assumes nothing.
 use mathlib.Core.List.{List, [], _∷_, _++_, map, append-assoc}
 use mathlib.Core.Logic.{inl, inr}
-use mathlib.Core.Path.{_≡_, refl, sym, ap, _∙_}
+use mathlib.Core.Path.{_≡_, refl, sym, _∙_}
 use Prim.Native.Nat.{ℕ, _<_}
 use native.Mathlib.Omega.{arith}
 use lib.Dec.{T, lit<}
@@ -19,16 +19,15 @@ use Rattle.text.specs.Laws.AllLaws.{all-intro, all-append, all-map, all-of-all}
 use Rattle.text.specs.Join.{join}
 use Rattle.text.specs.Laws.JoinLaws.{join-cons, all-join}
 use Rattle.text.specs.Model.{ActionLine, Model}
-use Rattle.text.specs.Lines.{good, headFits?, headOf, name?, actionOf, stepOf}
+use Rattle.text.specs.Lines.{name?}
 use Rattle.model.specs.Text.{headText, levelByte, actionText, startText, stepText, actionsText, startsText}
 use Rattle.model.specs.Text.{stepsText, modelText}
 use Rattle.model.specs.Store.{headRow, stepRow}
-use Rattle.model.specs.WellFormed.{ActionFits, StepFits, WellFormed}
+use Rattle.model.specs.WellFormed.{ActionFits, WellFormed}
 use Rattle.model.specs.Laws.Store.EachLaws.{all-of-each}
 use Rattle.model.specs.Inner.LineText.{NameByte, LineByte, lineOf, lineOfHead, lineOfAction}
 use Rattle.model.specs.Inner.LineText.{lineOfStart, lineOfStep, partsOf}
-use Rattle.model.specs.Laws.Text.ActionLineLaws.{name-bytes, levelByte-capital, line-of-actionOf}
-use Rattle.model.specs.Laws.Text.LineTextLaws.{line-of-headOf, line-of-stepOf}
+use Rattle.model.specs.Laws.Text.ActionLineLaws.{name-bytes, levelByte-capital}
 
 -- ---- a line's text is the line and its end
 
@@ -47,26 +46,6 @@ startText-line p = refl
 pub stepText-line : (s : StepLine) → stepText s ≡ lineOfStep s ++ (byteLineEnd ∷ [])
 unfolding stepText join
 stepText-line s = simp append-assoc
-
--- ---- a line that reads is, with its end, the text of what it states
-
-pub headText-of-headOf : (line : List ℕ) (h : Head) → headOf line ≡ good h
-    → (line ++ (byteLineEnd ∷ []) ≡ headText h) × T (headFits? h)
-headText-of-headOf line h q =
-    let l = line-of-headOf line h q in
-    (ap (λ (x : List ℕ). x ++ (byteLineEnd ∷ [])) (l .0) ∙ sym (headText-line h), l .1)
-
-pub actionText-of-actionOf : (before : List ActionLine) (line : List ℕ) (a : ActionLine) → actionOf before line ≡ good a
-    → (line ++ (byteLineEnd ∷ []) ≡ actionText a) × ActionFits before a
-actionText-of-actionOf before line a q =
-    let l = line-of-actionOf before line a q in
-    (ap (λ (x : List ℕ). x ++ (byteLineEnd ∷ [])) (l .0) ∙ sym (actionText-line a), l .1)
-
-pub stepText-of-stepOf : (h : Head) (before : List StepLine) (line : List ℕ) (s : StepLine)
-    → stepOf h before line ≡ good s → (line ++ (byteLineEnd ∷ []) ≡ stepText s) × StepFits h before s
-stepText-of-stepOf h before line s q =
-    let l = line-of-stepOf h before line s q in
-    (ap (λ (x : List ℕ). x ++ (byteLineEnd ∷ [])) (l .0) ∙ sym (stepText-line s), l .1)
 
 -- ---- the text is the lines joined
 

@@ -1,6 +1,7 @@
 -- The lengths of a model's lines, and of its text: at most the 15,182 bytes that Write's list has.
 -- Document 01, "The operations, in the order of the work", 8; document 02, (iii). Assumes nothing.
-use mathlib.Core.List.{List, [], _∷_, _++_}
+use mathlib.Core.List.{List, []}
+use mathlib.Core.Path.{refl}
 use Prim.Native.Nat.{ℕ, _*_, _≤_, _<_}
 use native.Mathlib.Omega.{arith}
 use lib.Dec.{T}
@@ -16,6 +17,8 @@ use Rattle.model.specs.Text.{modelText}
 use Rattle.text.specs.Inner.Ranges.{HeadRanges, StepRanges}
 use Rattle.text.specs.Laws.RangesLaws.{headFits?→HeadRanges, startFits?→lt, stepFits?→StepRanges}
 use Rattle.model.specs.WellFormed.{EachAfter, ActionFits, StartFits, StepFits, WellFormed}
+use Rattle.model.specs.Laws.Store.BlocksLaws.{blocks-length-le}
+use Rattle.model.specs.Laws.Store.EachLaws.{all-of-each}
 use Rattle.model.specs.Laws.Store.StartsLaws.{extra-count-le}
 use Rattle.model.specs.Laws.Text.ActionLineLaws.{name-length}
 
@@ -51,30 +54,25 @@ stepText-length-le h s r u =
 
 pub actionsText-length-le : (before rest : List ActionLine) → EachAfter ActionFits before rest
     → length (actionsText rest) ≤ 17 * length rest
-unfolding EachAfter actionsText
-actionsText-length-le before [] e = omega arith
-actionsText-length-le before (a ∷ rest) e =
-    let l = actionText-length-le a (e .0 .name) in
-    let i = actionsText-length-le (before ++ (a ∷ [])) rest (e .1) in
-    simp length-append (omega arith)
+unfolding actionsText
+actionsText-length-le before rest e =
+    blocks-length-le actionText actionsText 17 refl (λ a acts. refl) rest
+    (all-of-each ActionFits _ (λ b a f. actionText-length-le a (f .name)) before rest e)
 
 pub startsText-length-le : (h : Head) (before rest : List ℕ) → HeadRanges h → EachAfter (StartFits h) before rest
     → length (startsText rest) ≤ 6 * length rest
-unfolding EachAfter startsText
-startsText-length-le h before [] r e = omega arith
-startsText-length-le h before (p ∷ rest) r e =
-    let l = startText-length-le h p r (startFits?→lt h p (e .0 .in-range)) in
-    let i = startsText-length-le h (before ++ (p ∷ [])) rest r (e .1) in
-    simp length-append (omega arith)
+unfolding startsText
+startsText-length-le h before rest r e =
+    blocks-length-le startText startsText 6 refl (λ p ps. refl) rest
+    (all-of-each (StartFits h) _ (λ b p f. startText-length-le h p r (startFits?→lt h p (f .in-range))) before rest e)
 
 pub stepsText-length-le : (h : Head) (before rest : List StepLine) → HeadRanges h → EachAfter (StepFits h) before rest
     → length (stepsText rest) ≤ 13 * length rest
-unfolding EachAfter stepsText
-stepsText-length-le h before [] r e = omega arith
-stepsText-length-le h before (s ∷ rest) r e =
-    let l = stepText-length-le h s r (stepFits?→StepRanges h s (e .0 .in-range)) in
-    let i = stepsText-length-le h (before ++ (s ∷ [])) rest r (e .1) in
-    simp length-append (omega arith)
+unfolding stepsText
+stepsText-length-le h before rest r e =
+    let fits = StepFits h in
+    blocks-length-le stepText stepsText 13 refl (λ s ss. refl) rest
+    (all-of-each fits _ (λ b s f. stepText-length-le h s r (stepFits?→StepRanges h s (f .in-range))) before rest e)
 
 pub modelText-length-le : (m : Model) → WellFormed m → length (modelText m) ≤ outLength
 unfolding modelText
