@@ -36,6 +36,12 @@ pub fn chain(states: u16, actions: u16) -> Model {
     low(states, 0, (0..states - 1).flat_map(on))
 }
 
+/// The chain of 128 with 8 actions, with a start in each of its last 63 states too. Only that of line 1 leads to the 64
+/// states before them.
+fn chain_of_64_starts() -> Model {
+    chain(128, 8).with_starts(&BTreeSet::from_iter([0].into_iter().chain(65..128)))
+}
+
 /// From i to i+1..i+8, all with one action, or each with its own.
 fn fan(one_action: bool) -> Model {
     let action = move |k| if one_action { 0 } else { k - 1 };
@@ -135,6 +141,7 @@ pub fn shapes() -> Vec<(&'static str, Model)> {
         ("chain of 128, 8 actions", chain(128, 8)),
         ("chain of 128, 1 action", chain(128, 1)),
         ("chain of 128 starts", with_all_starts(&chain(128, 8))),
+        ("chain of 64 starts", chain_of_64_starts()),
         ("fan, 1 action", fan(true)),
         ("fan, 8 actions", fan(false)),
         ("on and back, 1 action", on_and_back(true)),
@@ -150,9 +157,12 @@ pub fn shapes() -> Vec<(&'static str, Model)> {
 
 /// What the names mean.
 pub const LEGEND: &str = "\
-Chain: from each state to the next; of 128 starts: with 8 actions, and each state a start, 127 of them in `I` lines.
-Fan: from i to i+1 up to i+8. On and back: from i to i+1 and to 0 up to 6. Two states of 400 steps: they lead to each
-state of a chain of 100 with 4 actions; two of 63 steps: to states of such a chain, as wide as 64 actions allow without
+Chain: from each state to the next. Chain of 128 starts: that of 8 actions with 127 `I` lines, so that each state is a
+start and Run's run is empty; it shows what the greatest number of starts takes by itself. Chain of 64 starts: that of 8
+actions with 63 `I` lines, for its last states; only the start of line 1 leads to the 64 states before these, so that
+Reach counts up to 64 and Run's run has 64 steps; it shows what many starts take where the way is long as well. Fan:
+from i to i+1 up to i+8. On and back: from i to i+1 and to 0 up to 6. Two states of 400 steps: they lead to each state
+of a chain of 100 with 4 actions; two of 63 steps: to states of such a chain, as wide as 64 actions allow without
 branching. Dense: 128 states, 1,023 random steps. These have one high step, from the start of line 1 to the state after
 it. Greatest roll: a ring with 7 or 9 actions from each state to the next, whose roll has 832 lines; its leak is 127
 steps from the start. Typical: a till of 20 stages of a sale, its printer free or busy, 40 states; its leak is 10 steps

@@ -195,6 +195,9 @@ fn calls() -> String {
     .concat()
 }
 
+/// A kB, as the header and the README take it.
+const KB: usize = 1_000;
+
 /// How many kB of read-only memory the archive stays below. The header says it, and the README says the same.
 fn read_only_kilobytes() -> usize {
     let said_by = |file: &str| -> usize {
@@ -228,7 +231,7 @@ fn the_needs() {
     let sizes = String::from_utf8(sizes.stdout).expect("sizes");
     let sizes = sizes.lines().skip(1).flat_map(str::split_whitespace);
     let sizes: Vec<usize> = sizes.map_while(|size| size.parse().ok()).collect();
-    let most = read_only_kilobytes() << 10;
+    let most = read_only_kilobytes() * KB;
     assert!(0 < sizes[0] && sizes[0] < most, "{sizes:?}");
     let stack = String::from_utf8(printed("stack", &calls())).expect("lines");
     let mut measured = Vec::new();
@@ -236,9 +239,9 @@ fn the_needs() {
         let (name, bytes) = line.split_once(' ').expect("a name and a number");
         measured.push(name);
         let most = match name {
-            "till_reach" | "till_run" | "till_write" => 1 << 10,
-            "till_read" => 9 << 10,
-            _ => 16 << 10,
+            "till_reach" | "till_run" | "till_write" => KB,
+            "till_read" => 9 * KB,
+            _ => 16 * KB,
         };
         let bytes: usize = bytes.parse().expect("a number");
         assert!(0 < bytes && bytes < most, "{line}");

@@ -78,23 +78,44 @@ fn the_examples() {
     assert!(refused > 2, "{refused}");
 }
 
-/// The README reads texts and pages line by line, each with a remark past some blanks.
+/// What an indented line of the README shows of a file: a line of a text or a page ends before the first blank and one
+/// of a roll in column 42, and past some blanks there may be a remark.
+fn shown(line: &str, is_roll: bool) -> Option<&str> {
+    let line = line.strip_prefix("    ")?;
+    let end = if is_roll {
+        line.char_indices().nth(42).map(|(index, _)| index)
+    } else {
+        line.find(' ')
+    };
+    Some(line[..end.unwrap_or(line.len())].trim_end())
+}
+
+/// The README reads texts, pages and rolls line by line: from this line of the file on, counted from 1, so many make a
+/// block of their own.
 #[test]
 fn the_readme() {
     let readme = fs::read_to_string(root().join("README.md")).expect("the README");
-    let first = |line: &str| line.split_whitespace().next().map(str::to_string);
-    let readme: Vec<Option<String>> = readme.lines().map(first).collect();
-    for (name, count) in [
-        ("worked.txt", 9),
-        ("worked.page", 9),
-        ("two_starts.txt", 5),
-        ("two_starts.page", 14),
+    for (name, first, count) in [
+        ("worked.txt", 1, 9),
+        ("worked.page", 1, 9),
+        ("worked.roll", 1, 9),
+        ("close_low.page", 5, 3),
+        ("leak_later.page", 10, 6),
+        ("two_starts.txt", 1, 5),
+        ("two_starts.page", 1, 14),
+        ("wrapping.roll", 3, 5),
     ] {
         let file = fs::read_to_string(root().join("examples").join(name)).expect("an example");
-        let lines: Vec<Option<String>> = file.lines().map(first).take(count).collect();
+        let lines = file.lines().skip(first - 1).take(count);
+        let lines: Vec<Option<&str>> = lines.map(|line| Some(line.trim_end())).collect();
         assert_eq!(lines.len(), count, "{name}");
-        let shown = readme.windows(count).any(|part| part == lines);
-        assert!(shown, "{name}");
+        let is_roll = name.ends_with(".roll");
+        let mut blocks = readme.split("\n\n");
+        let is_shown = |block: &str| {
+            let block = block.lines().map(|line| shown(line, is_roll));
+            block.eq(lines.iter().copied())
+        };
+        assert!(blocks.any(is_shown), "{name}");
     }
 }
 

@@ -221,7 +221,7 @@ fn damage_beside_the_extra_starts() {
     }
 }
 
-/// A store of 3,972 numbers, as it was when a model had one start, gets 21 from every operation, and no list changes.
+/// A store of 3,972 numbers, as it was before there were `I` lines, gets 21 from every operation, and no list changes.
 /// The text reads to such numbers with 128 zeros behind them.
 #[test]
 fn stores_of_one_start() {

@@ -214,7 +214,7 @@ fn either_start_alone() {
     assert_eq!(second.run(2), Ok(vec![7, 5, 0, 1]));
 }
 
-/// A ring, and three starts on it. One that another leads to is a start still: no run leads there.
+/// A ring, and three starts on it. One that another leads to is a start still: its run is empty.
 #[test]
 fn distances_are_from_the_nearest_start() {
     let ring: Vec<_> = (0..8).map(|state| (state, SCAN, (state + 1) % 8)).collect();
@@ -465,10 +465,9 @@ fn every_state_a_start() {
 }
 
 /// Judge's verdict and distances.
-fn judged(model: &Model) -> (Verdict, Vec<u16>) {
-    let mut lists = Lists::enough(&mut Rng::new(SEED));
-    let verdict = JUDGE.told(&Store::of(model), &mut lists);
-    let distances = lists.distances[..DISTANCES].to_vec();
+fn judged(model: &Model, before: &Lists) -> (Verdict, Vec<u16>) {
+    let (verdict, after) = JUDGE.same(&Store::of(model), before);
+    let distances = after.distances[..DISTANCES].to_vec();
     (verdict.expect("the store is good"), distances)
 }
 
@@ -493,12 +492,14 @@ fn as_from_each_start_alone() {
         let starts: Vec<u16> = model.starts().into_iter().take(12).collect();
         let model = model.with_starts(&starts.iter().copied().collect());
         let _case = gen::model_case(&model);
+        let before = Lists::enough(&mut rng);
         let alone = starts.iter().map(|&start| with_one_start(&model, start));
-        let (verdicts, distances): (Vec<_>, Vec<_>) = alone.map(|model| judged(&model)).unzip();
+        let (verdicts, distances): (Vec<_>, Vec<_>) =
+            alone.map(|model| judged(&model, &before)).unzip();
         let nearest = |state: usize| distances.iter().map(|list| list[state]).min();
         let nearest = (0..DISTANCES).map(|state| nearest(state).expect("a start"));
         let verdict = together(&verdicts);
-        assert_eq!(judged(&model), (verdict, nearest.collect()));
+        assert_eq!(judged(&model, &before), (verdict, nearest.collect()));
         let passes = |verdict: &Verdict| matches!(verdict, Verdict::Passed { .. });
         all_pass += usize::from(passes(&verdict));
         some_pass += usize::from(!passes(&verdict) && verdicts.iter().any(passes));
