@@ -3,7 +3,7 @@
 -- Document 01, "The text" and "Refused because of the input". Assumes nothing.
 use mathlib.Core.Bool.{true, false}
 use mathlib.Core.List.{List, [], _∷_, _++_}
-use mathlib.Core.Logic.{_⊎_, inl, inr}
+use mathlib.Core.Logic.{inl, inr}
 use mathlib.Core.Path.{_≡_, refl, sym, ap, _∙_}
 use Prim.Native.Nat.{ℕ, suc, _+_, _-_, _≤_, _<_}
 use native.Mathlib.Omega.{arith}
@@ -22,7 +22,7 @@ use Rattle.text.specs.Laws.SplitLaws.{split-first, split-part, split-last}
 use Rattle.text.specs.Model.{ActionLine, Model, withAction}
 use Rattle.text.specs.Lines.{Line, good, bad, headOf, levelOf}
 use Rattle.text.specs.Lines.{actionFields, fieldsOf, used?, actionFrom, actionOf}
-use Rattle.text.specs.Inner.Row.{LineAt, NoLineAt}
+use Rattle.text.specs.Inner.Row.{LineAt, LineRefused}
 use Rattle.text.specs.Laws.RangesLaws.{headFits?→HeadRanges}
 use Rattle.model.specs.Laws.Text.ActionLineLaws.{good-nameFrom, name-length}
 use Rattle.model.specs.Laws.Text.LineTextLaws.{line-of-headOf}
@@ -63,8 +63,7 @@ module _ {A : Type 0} (text : List ℕ) (start : LineStart) (le : start .at ≤ 
     (readOn : ℕ → A → List (List ℕ) → Reading)
     (rest : whole text ≡ onLine (start .line) (partsFrom text start) (λ line parts.
     orFault (start .line) (read line) (λ a. readOn (suc (start .line)) a parts))) where
-  pub line-refused : (fault : Fault)
-      → (e : ℕ) × (NoLineAt text (start .at) fault e ⊎ LineAt read text (start .at) (bad fault) e)
+  pub line-refused : (fault : Fault) → LineRefused read text (start .at) fault
       → whole text ≡ faulty fault (start .line)
   line-refused fault (e, inl n) =
       rest ∙ onLine-absent text (start .at) e le (n .found) (start .line) _ (n .outside)

@@ -2,7 +2,6 @@
 -- Document 02, (iii): "Lines `I,state` may follow the `A` lines". Assumes nothing.
 use mathlib.Core.Bool.{true}
 use mathlib.Core.List.{List, [], _∷_, _++_}
-use mathlib.Core.Logic.{_⊎_}
 use mathlib.Core.Path.{_≡_, refl, sym, ap, _∙_}
 use Prim.Native.Nat.{ℕ, suc, _+_, _-_, _≤_, _<_}
 use native.Mathlib.Omega.{arith}
@@ -18,8 +17,8 @@ use Rattle.text.specs.Split.{consFirst, split}
 use Rattle.text.specs.Laws.SplitLaws.{Is, same, other, is, split-nil, split-end, split-cons, split-first}
 use Rattle.text.specs.Laws.RangesLaws.{startFits?→lt, aboveStarts?→lt}
 use Rattle.text.specs.Model.{Model, withExtraStart}
-use Rattle.text.specs.Lines.{good, bad, startOf}
-use Rattle.text.specs.Inner.Row.{LineAt, NoLineAt}
+use Rattle.text.specs.Lines.{startOf}
+use Rattle.text.specs.Inner.Row.{LineTaken, LineRefused}
 use Rattle.model.specs.Reading.{Reading, faulty, onLine, orFault, startLine?, startLines, readStarts, readActions}
 use Rattle.model.specs.Laws.Text.LineTextLaws.{line-of-startOf}
 use Rattle.model.specs.Laws.Store.StartsLaws.{lastStart-nil, lastStart-snoc}
@@ -142,14 +141,11 @@ module _ (h : Head) (text : List ℕ) (start : LineStart) (i last : ℕ) (store 
         orFault (start .line) (startOf h (b .extraStarts) line) (λ p. readOn (suc (start .line)) p parts))
     ahead = b .rest ∙ readStarts-line text start _ letter
 
-    pub start-refused : (fault : Fault)
-        → (e : ℕ)
-        × (NoLineAt text (start .at) fault e ⊎ LineAt (startOf h (b .extraStarts)) text (start .at) (bad fault) e)
+    pub start-refused : (fault : Fault) → LineRefused (startOf h (b .extraStarts)) text (start .at) fault
         → whole text ≡ faulty fault (start .line)
     start-refused = line-refused text start (b .inside .place) (startOf h (b .extraStarts)) readOn ahead
 
-  module _ (p next : ℕ)
-      (l : (e : ℕ) × (next ≡ e + 1) × LineAt (startOf h (b .extraStarts)) text (start .at) (good p) e) where
+  module _ (p next : ℕ) (l : LineTaken (startOf h (b .extraStarts)) text (start .at) p next) where
     -- a start that was read stands above the last one and below the states
     between : (last < p) × (p < h .states)
     between =
