@@ -12,11 +12,12 @@ use Rattle.reader.specs.declared.answers.LinesRead.{LinesRead}
 use Rattle.reader.specs.declared.answers.LinesRead.the-variants as lines-read
 use Rattle.reader.specs.declared.answers.TextRead.{TextRead}
 use Rattle.reader.specs.declared.answers.TextRead.the-variants as text-read
-use Rattle.text.specs.Limits.{stateLimit, actionLimit, stepLimit, extraLimit, actionsLength}
+use Rattle.text.specs.Limits.{extraLimit, actionsLength}
 use Rattle.text.specs.Bytes.{lineEnd}
 use Rattle.text.specs.Split.{split}
 use Rattle.text.specs.Model.{ActionLine, Model, noStep, lastStart}
 use Rattle.text.specs.Inner.LineAnswers.{Last}
+use Rattle.text.specs.Inner.Ranges.{HeadRanges}
 use Rattle.model.specs.Reading.{Reading, faulty, done, headModel, readModel, readActions, startLines, readStarts}
 use Rattle.model.specs.Reading.{readSteps, readEnd}
 use Rattle.model.specs.Store.{actionsNumbers, storeOf}
@@ -28,13 +29,6 @@ use Rattle.reader.specs.Answers.{readingStore, ReadAs}
 -- what reading a text comes to, by its lines
 abbrev pub whole : List ℕ → Reading
 whole text = readModel (split lineEnd text)
-
--- the limits that a good first line keeps
-pub record InLimits (h : Head) : Type 0 where
-  pub states : h .states ≤ stateLimit
-  pub actions : h .actions ≤ actionLimit
-  pub steps : h .steps ≤ stepLimit
-  pub start : h .start .0 < h .states
 
 -- A line begins inside the text, and each line before it but the first has at least its line end, so that the lines
 -- are no more than the bytes and two.
@@ -48,13 +42,13 @@ partsFrom text start = split lineEnd (drop (start .at) text)
 
 -- after a first line that states h, where the next line begins
 pub record AfterHead (h : Head) (text : List ℕ) (start : LineStart) : Type 0 where
-  pub limits : InLimits h
+  pub ranges : HeadRanges h
   pub inside : InText text start
   pub rest : whole text ≡ readActions (h .actions) (start .line) (headModel h) (partsFrom text start)
 
 -- after i actions
 pub record AfterActions (h : Head) (text : List ℕ) (start : LineStart) (i : ℕ) (store : List ℕ) : Type 0 where
-  pub limits : InLimits h
+  pub ranges : HeadRanges h
   pub inside : InText text start
   pub actions : List ActionLine
   pub count : length actions ≡ i
@@ -67,7 +61,7 @@ pub record AfterActions (h : Head) (text : List ℕ) (start : LineStart) (i : �
 -- After all actions and i extra starts, of which `last` is the last, or line 1's start. They rise below the states, so
 -- that there are no more of them than `last` says.
 pub record AfterStart (h : Head) (text : List ℕ) (start : LineStart) (i last : ℕ) (store : List ℕ) : Type 0 where
-  pub limits : InLimits h
+  pub ranges : HeadRanges h
   pub inside : InText text start
   pub actions : List ActionLine
   pub action-places : length (actionsNumbers actions) ≤ actionsLength
@@ -84,7 +78,7 @@ pub record AfterStart (h : Head) (text : List ℕ) (start : LineStart) (i last :
 -- after all actions, all extra starts and j steps, of which `last` is the last
 pub record AfterStep (h : Head) (text : List ℕ) (start : LineStart) (j : ℕ) (last : StepLine) (store : List ℕ)
     : Type 0 where
-  pub limits : InLimits h
+  pub ranges : HeadRanges h
   pub inside : InText text start
   pub actions : List ActionLine
   pub action-places : length (actionsNumbers actions) ≤ actionsLength

@@ -85,9 +85,9 @@ unfolding readActions
 after-actions h text start store b =
     let z : h .actions - h .actions ≡ 0 = omega arith in
     let n = actionsNumbers-length-of-short (b .actions) (b .short) in
-    let m = b .limits .actions in
+    let m = b .ranges .actions in
     record {
-      limits = b .limits;
+      ranges = b .ranges;
       inside = b .inside;
       actions = b .actions;
       action-places = omega (arith, n, m, b .count);
@@ -95,7 +95,7 @@ after-actions h text start store b =
       count = refl;
       last-start = lastStart-nil (h .start .0);
       count-le = omega arith;
-      last-lt = b .limits .start;
+      last-lt = b .ranges .start;
       stored = b .stored;
       rest = b .rest ∙ rw z;
     }
@@ -104,7 +104,7 @@ module _ (h : Head) (text : List ℕ) (start : LineStart) (i last : ℕ) (store 
     (b : AfterStart h text start i last store) where
   -- "so at most 127"
   extra-count-le : length (b .extraStarts) ≤ extraLimit
-  extra-count-le = omega (arith, b .count, b .count-le, b .last-lt, b .limits .states)
+  extra-count-le = omega (arith, b .count, b .count-le, b .last-lt, b .ranges .states)
 
   pub afterStart-length : length store ≡ storeLength
   afterStart-length =
@@ -118,7 +118,7 @@ module _ (h : Head) (text : List ℕ) (start : LineStart) (i last : ℕ) (store 
       let z = startLines-none text start n in
       let y : h .steps - 0 ≡ h .steps = omega arith in
       record {
-        limits = b .limits;
+        ranges = b .ranges;
         inside = b .inside;
         actions = b .actions;
         action-places = b .action-places;
@@ -155,7 +155,7 @@ module _ (h : Head) (text : List ℕ) (start : LineStart) (i last : ℕ) (store 
 
     -- so there is room for it
     pub start-room : i < extraLimit
-    start-room = let r = between in omega (arith, r .0, r .1, b .count-le, b .limits .states)
+    start-room = let r = between in omega (arith, r .0, r .1, b .count-le, b .ranges .states)
 
     pub start-taken : getD text (start .at) 0 ≡ byteI
         → AfterStart h text (record { at = next; line = start .line + 1 }) (i + 1) p
@@ -163,7 +163,7 @@ module _ (h : Head) (text : List ℕ) (start : LineStart) (i last : ℕ) (store 
     start-taken letter =
         let r = between in
         rw (l .1) (record {
-          limits = b .limits;
+          ranges = b .ranges;
           inside = inText-next text start (l .0) (b .inside) (l .2 .found) (l .2 .inside);
           actions = b .actions;
           action-places = b .action-places;

@@ -60,9 +60,9 @@ module _ (h : Head) (text : List ℕ) (start : LineStart) (j : ℕ) (last : Step
       → AfterStep h text (record { at = next; line = start .line + 1 }) (j + 1) s
       (sets store (stepPlace j) (stepRow s))
   step-taken s next (e, n, l) =
-      let m = b .limits .steps in
+      let m = b .ranges .steps in
       rw n (record {
-        limits = b .limits;
+        ranges = b .ranges;
         inside = inText-next text start e (b .inside) (l .found) (l .inside);
         actions = b .actions;
         action-places = b .action-places;
@@ -80,7 +80,7 @@ module _ (h : Head) (text : List ℕ) (start : LineStart) (j : ℕ) (last : Step
 pub afterStep-length : (h : Head) (text : List ℕ) (start : LineStart) (j : ℕ) (last : StepLine) (store : List ℕ)
     → AfterStep h text start j last store → j ≤ h .steps → length store ≡ storeLength
 afterStep-length h text start j last store b l =
-    let n = b .limits .steps in
+    let n = b .ranges .steps in
     let c = b .count in
     let model : Model = record {
       head = h;

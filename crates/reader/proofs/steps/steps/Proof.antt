@@ -53,7 +53,7 @@ put-step-requires c κs =
     let l = c .before .before .before .before .before .before in
     let b = l .loop .inv .2 in
     let n = afterStep-length _ _ _ (l .loop .j) _ _ b (l .loop .inv .0) in
-    let m = b .limits .steps in
+    let m = b .ranges .steps in
     omega arith
 
 add-t23 : tie.Need-add-t23 Inv-loop μ-loop
