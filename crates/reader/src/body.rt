@@ -87,6 +87,24 @@ fn last_line(text: &[u8], start: LineStart, out: &[u16]) -> TextRead
     TextRead::Done
 }
 
+// The lines behind the actions, into a store that holds the first line and the actions.
+fn after_actions(text: &[u8], start: LineStart, head: Head, out: &mut [u16]) -> TextRead
+    requires { ⌜ AfterActions head (now text) start (head .actions) (now out) ⌝ }
+    ensures { λ r. ⌜ Through (now (text .entry)) (now (out .exit)) r ⌝ }
+{
+    let started = starts(text, start, head, out);
+    match started {
+        LinesRead::Faulty { fault, line } => TextRead::Faulty { fault, line },
+        LinesRead::Next(a) => {
+            let stepped = steps(text, a, head, out);
+            match stepped {
+                LinesRead::Faulty { fault, line } => TextRead::Faulty { fault, line },
+                LinesRead::Next(b) => last_line(text, b, out),
+            }
+        }
+    }
+}
+
 // The lines behind the first, into a store that holds what the first states.
 fn lines(text: &[u8], start: LineStart, head: Head, out: &mut [u16]) -> TextRead
     requires { ⌜ AfterActions head (now text) start 0 (now out) ⌝ }
@@ -95,19 +113,7 @@ fn lines(text: &[u8], start: LineStart, head: Head, out: &mut [u16]) -> TextRead
     let acted = actions(text, start, head, out);
     match acted {
         LinesRead::Faulty { fault, line } => TextRead::Faulty { fault, line },
-        LinesRead::Next(a) => {
-            let started = starts(text, a, head, out);
-            match started {
-                LinesRead::Faulty { fault, line } => TextRead::Faulty { fault, line },
-                LinesRead::Next(b) => {
-                    let stepped = steps(text, b, head, out);
-                    match stepped {
-                        LinesRead::Faulty { fault, line } => TextRead::Faulty { fault, line },
-                        LinesRead::Next(c) => last_line(text, c, out),
-                    }
-                }
-            }
-        }
+        LinesRead::Next(a) => after_actions(text, a, head, out),
     }
 }
 

@@ -23,13 +23,13 @@ fn is_start_line(text: &[u8], at: usize) -> bool
 }
 
 // The lines of the extra starts, into a store that holds the first line and the actions.
-pub fn starts(text: &[u8], start: LineStart, head: Head, out: &mut [u16]) -> LinesRead
-    requires { ⌜ AfterActions head (now text) start (head .actions) (now out) ⌝ }
+pub fn starts(text: &[u8], from: LineStart, head: Head, out: &mut [u16]) -> LinesRead
+    requires { ⌜ AfterActions head (now text) from (head .actions) (now out) ⌝ }
     ensures { λ r. ⌜ Further (λ next. AfterStarts head (now (text .entry)) next (now (out .exit)))
         (now (text .entry)) r ⌝ }
 {
     let mut last = head.start;
-    let mut from = start;
+    let mut from = from;
     let mut i = 0;
     while is_start_line(text, from.at) {
         let read = start_at(text, from.at, head, last);

@@ -15,9 +15,11 @@ ghost use mathlib.Core.Path.{_≡_};
 ghost use Prim.Native.Nat.{ℕ, _+_, _^_, _≤_, _<_};
 ghost use lib.ListN.{length};
 ghost use Rattle.text.specs.declared.Head.{Head};
+ghost use Rattle.text.specs.declared.StepLine.{StepLine};
 ghost use Rattle.text.specs.declared.row.Row.the-variants.{StepRow};
 ghost use Rattle.text.specs.Model.{lastStart};
-ghost use Rattle.text.specs.Lines.{good, rowOf, startOf, stepNumbers};
+ghost use Rattle.text.specs.Lines.{good, rowOf, startOf, stepNumbers, stepOf};
+ghost use Rattle.text.specs.Inner.LineAnswers.{Last};
 ghost use Rattle.text.specs.Inner.Row.{LineAt};
 ghost use Rattle.text.specs.Inner.Scan.{HeadAt, StartAtRead, StepAtRead};
 
@@ -78,7 +80,7 @@ fn rising(step: StepLine, end: usize, j: usize, last: StepLine) -> StepAt
     requires { ⌜ end + 1 < 2 ^ 64 ⌝ }
     ensures { λ r. ⌜ ((head : Head) (text : List ℕ) (at : ℕ) (ns : List ℕ)
         → LineAt (rowOf (StepRow head)) text at (good ns) end → stepNumbers ns ≡ step
-        → StepAtRead head text at j last r) ⌝ }
+        → (before : List StepLine) → Last before j last → StepAtRead (stepOf head before) text at r) ⌝ }
 {
     if j == 0 {
         return StepAt::Good {
@@ -98,7 +100,8 @@ fn rising(step: StepLine, end: usize, j: usize, last: StepLine) -> StepAt
 // The line of step j at a place, where `last` is the step before it: `S,source,action,target`.
 pub fn step_at(text: &[u8], at: usize, head: Head, j: usize, last: StepLine) -> StepAt
     requires { ⌜ at ≤ length (now text) ⌝ }
-    ensures { λ r. ⌜ StepAtRead head (now (text .entry)) at j last r ⌝ }
+    ensures { λ r. ⌜ ((before : List StepLine) → Last before j last
+        → StepAtRead (stepOf head before) (now (text .entry)) at r) ⌝ }
 {
     let mut ns = [0u16; COLUMNS];
     let read = row_at(text, at, Row::StepRow(head), &mut ns);

@@ -12,11 +12,12 @@ use Rattle.reader.specs.declared.answers.LinesRead.{LinesRead}
 use Rattle.reader.specs.declared.answers.LinesRead.the-variants as lines-read
 use Rattle.reader.specs.declared.answers.TextRead.{TextRead}
 use Rattle.reader.specs.declared.answers.TextRead.the-variants as text-read
-use Rattle.text.specs.Limits.{stateLimit, actionLimit, stepLimit, extraLimit, actionsLength}
+use Rattle.text.specs.Limits.{extraLimit, actionsLength}
 use Rattle.text.specs.Bytes.{lineEnd}
 use Rattle.text.specs.Split.{split}
 use Rattle.text.specs.Model.{ActionLine, Model, noStep, lastStart}
 use Rattle.text.specs.Inner.LineAnswers.{Last}
+use Rattle.text.specs.Inner.Ranges.{HeadRanges}
 use Rattle.model.specs.Reading.{Reading, faulty, done, headModel, readModel, readActions, startLines, readStarts}
 use Rattle.model.specs.Reading.{readSteps, readEnd}
 use Rattle.model.specs.Store.{actionsNumbers, storeOf}
@@ -29,46 +30,39 @@ use Rattle.reader.specs.Answers.{readingStore, ReadAs}
 abbrev pub whole : List ℕ → Reading
 whole text = readModel (split lineEnd text)
 
--- the limits that a good first line keeps
-pub record InLimits (h : Head) : Type 0 where
-  pub states : h .states ≤ stateLimit
-  pub actions : h .actions ≤ actionLimit
-  pub steps : h .steps ≤ stepLimit
-  pub start : h .start .0 < h .states
-
 -- A line begins inside the text, and each line before it but the first has at least its line end, so that the lines
 -- are no more than the bytes and two.
-pub record InText (text : List ℕ) (start : LineStart) : Type 0 where
-  pub place : start .at ≤ length text
-  pub line-le : start .line ≤ start .at + 2
+pub record InText (text : List ℕ) (from : LineStart) : Type 0 where
+  pub place : from .at ≤ length text
+  pub line-le : from .line ≤ from .at + 2
 
 -- the parts of the text from a line on
 abbrev pub partsFrom : List ℕ → LineStart → List (List ℕ)
-partsFrom text start = split lineEnd (drop (start .at) text)
+partsFrom text from = split lineEnd (drop (from .at) text)
 
 -- after a first line that states h, where the next line begins
-pub record AfterHead (h : Head) (text : List ℕ) (start : LineStart) : Type 0 where
-  pub limits : InLimits h
-  pub inside : InText text start
-  pub rest : whole text ≡ readActions (h .actions) (start .line) (headModel h) (partsFrom text start)
+pub record AfterHead (h : Head) (text : List ℕ) (from : LineStart) : Type 0 where
+  pub ranges : HeadRanges h
+  pub inside : InText text from
+  pub rest : whole text ≡ readActions (h .actions) (from .line) (headModel h) (partsFrom text from)
 
 -- after i actions
-pub record AfterActions (h : Head) (text : List ℕ) (start : LineStart) (i : ℕ) (store : List ℕ) : Type 0 where
-  pub limits : InLimits h
-  pub inside : InText text start
+pub record AfterActions (h : Head) (text : List ℕ) (from : LineStart) (i : ℕ) (store : List ℕ) : Type 0 where
+  pub ranges : HeadRanges h
+  pub inside : InText text from
   pub actions : List ActionLine
   pub count : length actions ≡ i
   pub short : Short actions
   pub stored : store ≡ storeOf (record { head = h; actions = actions; extraStarts = []; steps = [] })
   pub rest : whole text
-      ≡ readActions (h .actions - i) (start .line)
-      (record { head = h; actions = actions; extraStarts = []; steps = [] }) (partsFrom text start)
+      ≡ readActions (h .actions - i) (from .line)
+      (record { head = h; actions = actions; extraStarts = []; steps = [] }) (partsFrom text from)
 
 -- After all actions and i extra starts, of which `last` is the last, or line 1's start. They rise below the states, so
 -- that there are no more of them than `last` says.
-pub record AfterStart (h : Head) (text : List ℕ) (start : LineStart) (i last : ℕ) (store : List ℕ) : Type 0 where
-  pub limits : InLimits h
-  pub inside : InText text start
+pub record AfterStart (h : Head) (text : List ℕ) (from : LineStart) (i last : ℕ) (store : List ℕ) : Type 0 where
+  pub ranges : HeadRanges h
+  pub inside : InText text from
   pub actions : List ActionLine
   pub action-places : length (actionsNumbers actions) ≤ actionsLength
   pub extraStarts : List ℕ
@@ -78,14 +72,14 @@ pub record AfterStart (h : Head) (text : List ℕ) (start : LineStart) (i last :
   pub last-lt : last < h .states
   pub stored : store ≡ storeOf (record { head = h; actions = actions; extraStarts = extraStarts; steps = [] })
   pub rest : whole text
-      ≡ readStarts (startLines (partsFrom text start)) (start .line)
-      (record { head = h; actions = actions; extraStarts = extraStarts; steps = [] }) (partsFrom text start)
+      ≡ readStarts (startLines (partsFrom text from)) (from .line)
+      (record { head = h; actions = actions; extraStarts = extraStarts; steps = [] }) (partsFrom text from)
 
 -- after all actions, all extra starts and j steps, of which `last` is the last
-pub record AfterStep (h : Head) (text : List ℕ) (start : LineStart) (j : ℕ) (last : StepLine) (store : List ℕ)
+pub record AfterStep (h : Head) (text : List ℕ) (from : LineStart) (j : ℕ) (last : StepLine) (store : List ℕ)
     : Type 0 where
-  pub limits : InLimits h
-  pub inside : InText text start
+  pub ranges : HeadRanges h
+  pub inside : InText text from
   pub actions : List ActionLine
   pub action-places : length (actionsNumbers actions) ≤ actionsLength
   pub extraStarts : List ℕ
@@ -95,19 +89,19 @@ pub record AfterStep (h : Head) (text : List ℕ) (start : LineStart) (j : ℕ) 
   pub last-step : Last steps j last
   pub stored : store ≡ storeOf (record { head = h; actions = actions; extraStarts = extraStarts; steps = steps })
   pub rest : whole text
-      ≡ readSteps (h .steps - j) (start .line)
-      (record { head = h; actions = actions; extraStarts = extraStarts; steps = steps }) (partsFrom text start)
+      ≡ readSteps (h .steps - j) (from .line)
+      (record { head = h; actions = actions; extraStarts = extraStarts; steps = steps }) (partsFrom text from)
 
--- after all actions and extra starts
+-- after all actions and extra starts; `noStep`, of zeros, is what `steps` has for the step before the first
 abbrev pub AfterStarts : Head → List ℕ → LineStart → List ℕ → Type 0
-AfterStarts h text start store = AfterStep h text start 0 noStep store
+AfterStarts h text from store = AfterStep h text from 0 noStep store
 
 -- after all actions, extra starts and steps
-pub record AfterSteps (text : List ℕ) (start : LineStart) (store : List ℕ) : Type 0 where
-  pub inside : InText text start
+pub record AfterSteps (text : List ℕ) (from : LineStart) (store : List ℕ) : Type 0 where
+  pub inside : InText text from
   pub model : Model
   pub stored : store ≡ storeOf model
-  pub rest : whole text ≡ readEnd (start .line) model (partsFrom text start)
+  pub rest : whole text ≡ readEnd (from .line) model (partsFrom text from)
 
 -- after the end of the text
 pub record AfterEnd (text store : List ℕ) : Type 0 where
@@ -117,7 +111,7 @@ pub record AfterEnd (text store : List ℕ) : Type 0 where
 
 -- what reading some lines comes to: P of the start of the line after them, or the text is refused
 unfoldable pub Further : (LineStart → Type 0) → List ℕ → LinesRead → Type 0
-Further P text (lines-read.Next start) = P start
+Further P text (lines-read.Next from) = P from
 Further P text (lines-read.Faulty fault line) = whole text ≡ faulty fault line
 
 -- what reading all lines comes to: the store holds the model, or the text is refused

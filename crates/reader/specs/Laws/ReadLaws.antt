@@ -3,7 +3,7 @@
 -- Document 01, "The text" and "Refused because of the input". Assumes nothing.
 use mathlib.Core.Bool.{true, false}
 use mathlib.Core.List.{List, [], _∷_, _++_}
-use mathlib.Core.Logic.{_⊎_, inl, inr}
+use mathlib.Core.Logic.{inl, inr}
 use mathlib.Core.Path.{_≡_, refl, sym, ap, _∙_}
 use Prim.Native.Nat.{ℕ, suc, _+_, _-_, _≤_, _<_}
 use native.Mathlib.Omega.{arith}
@@ -22,13 +22,14 @@ use Rattle.text.specs.Laws.SplitLaws.{split-first, split-part, split-last}
 use Rattle.text.specs.Model.{ActionLine, Model, withAction}
 use Rattle.text.specs.Lines.{Line, good, bad, headOf, levelOf}
 use Rattle.text.specs.Lines.{actionFields, fieldsOf, used?, actionFrom, actionOf}
-use Rattle.text.specs.Inner.Row.{LineAt, NoLineAt}
+use Rattle.text.specs.Inner.Ranges.{HeadRanges}
+use Rattle.text.specs.Inner.Row.{LineAt, LineRefused}
 use Rattle.text.specs.Laws.RangesLaws.{headFits?→HeadRanges}
 use Rattle.model.specs.Laws.Text.ActionLineLaws.{good-nameFrom, name-length}
 use Rattle.model.specs.Laws.Text.LineTextLaws.{line-of-headOf}
 use Rattle.model.specs.Reading.{Reading, faulty, onLine, orFault, readActions, headModel}
 use Rattle.model.specs.Store.{storeOf}
-use Rattle.reader.specs.Inner.ReadSoFar.{whole, InLimits, InText, partsFrom, AfterHead, AfterActions, Further}
+use Rattle.reader.specs.Inner.ReadSoFar.{whole, InText, partsFrom, AfterHead, AfterActions, Further}
 use Rattle.model.specs.Inner.StoredActions.{Short}
 use Rattle.model.specs.Laws.Store.StoreLaws.{storeOf-length-of-places}
 use Rattle.model.specs.Laws.Store.PutLaws.{actionsNumbers-length-of-short, short-snoc, storeOf-withAction}
@@ -63,8 +64,7 @@ module _ {A : Type 0} (text : List ℕ) (start : LineStart) (le : start .at ≤ 
     (readOn : ℕ → A → List (List ℕ) → Reading)
     (rest : whole text ≡ onLine (start .line) (partsFrom text start) (λ line parts.
     orFault (start .line) (read line) (λ a. readOn (suc (start .line)) a parts))) where
-  pub line-refused : (fault : Fault)
-      → (e : ℕ) × (NoLineAt text (start .at) fault e ⊎ LineAt read text (start .at) (bad fault) e)
+  pub line-refused : (fault : Fault) → LineRefused read text (start .at) fault
       → whole text ≡ faulty fault (start .line)
   line-refused fault (e, inl n) =
       rest ∙ onLine-absent text (start .at) e le (n .found) (start .line) _ (n .outside)
@@ -100,10 +100,8 @@ further-next P text r start e h = rw e at h
 
 -- ---- what a good line keeps
 
-pub headOf-limits : (line : List ℕ) (h : Head) → headOf line ≡ good h → InLimits h
-headOf-limits line h e =
-    let r = headFits?→HeadRanges h (line-of-headOf line h e .1) in
-    record { states = r .states; actions = r .actions; steps = r .steps; start = r .start }
+pub headOf-ranges : (line : List ℕ) (h : Head) → headOf line ≡ good h → HeadRanges h
+headOf-ranges line h e = headFits?→HeadRanges h (line-of-headOf line h e .1)
 
 -- a name that was read has 1 to 12 bytes
 pub actionFields-length : (l : Line (List (List ℕ))) (a : ActionLine) → actionFields l ≡ good a
@@ -121,7 +119,7 @@ unfolding Short
 after-head h text start b =
     let z : h .actions - 0 ≡ h .actions = omega arith in
     record {
-      limits = b .limits;
+      ranges = b .ranges;
       inside = b .inside;
       actions = [];
       count = refl;
@@ -137,7 +135,7 @@ afterActions-count h text start i k store e b = rw e at b
 pub afterActions-length : (h : Head) (text : List ℕ) (start : LineStart) (i : ℕ) (store : List ℕ)
     → AfterActions h text start i store → i ≤ h .actions → length store ≡ storeLength
 afterActions-length h text start i store b l =
-    let n = b .limits .actions in
+    let n = b .ranges .actions in
     let c = b .count in
     let m = actionsNumbers-length-of-short (b .actions) (b .short) in
     let model : Model = record { head = h; actions = b .actions; extraStarts = []; steps = [] } in
@@ -181,9 +179,9 @@ module _ (h : Head) (text : List ℕ) (start : LineStart) (i : ℕ) (store : Lis
           → AfterActions h text (record { at = e + 1; line = start .line + 1 }) (i + 1)
           (sets store (actionPlace i) (a .level ∷ length (a .name) ∷ a .name))
       action-next a r n =
-          let m = b .limits .actions in
+          let m = b .ranges .actions in
           record {
-            limits = b .limits;
+            ranges = b .ranges;
             inside = inText-next text start e (b .inside) found l;
             actions = b .actions ++ (a ∷ []);
             count = length-append (b .actions) (a ∷ []) ∙ omega arith;

@@ -2,7 +2,6 @@
 -- Document 02, (iii): "Lines `I,state` may follow the `A` lines". Assumes nothing.
 use mathlib.Core.Bool.{true}
 use mathlib.Core.List.{List, [], _∷_, _++_}
-use mathlib.Core.Logic.{_⊎_}
 use mathlib.Core.Path.{_≡_, refl, sym, ap, _∙_}
 use Prim.Native.Nat.{ℕ, suc, _+_, _-_, _≤_, _<_}
 use native.Mathlib.Omega.{arith}
@@ -18,8 +17,8 @@ use Rattle.text.specs.Split.{consFirst, split}
 use Rattle.text.specs.Laws.SplitLaws.{Is, same, other, is, split-nil, split-end, split-cons, split-first}
 use Rattle.text.specs.Laws.RangesLaws.{startFits?→lt, aboveStarts?→lt}
 use Rattle.text.specs.Model.{Model, withExtraStart}
-use Rattle.text.specs.Lines.{good, bad, startOf}
-use Rattle.text.specs.Inner.Row.{LineAt, NoLineAt}
+use Rattle.text.specs.Lines.{startOf}
+use Rattle.text.specs.Inner.Row.{LineTaken, LineRefused}
 use Rattle.model.specs.Reading.{Reading, faulty, onLine, orFault, startLine?, startLines, readStarts, readActions}
 use Rattle.model.specs.Laws.Text.LineTextLaws.{line-of-startOf}
 use Rattle.model.specs.Laws.Store.StartsLaws.{lastStart-nil, lastStart-snoc}
@@ -47,48 +46,48 @@ first-part (b ∷ bs) = go (is (kindOf b) lineEnd) (split-first lineEnd bs)
     go (same e) w = ([], split lineEnd bs, split-end lineEnd b bs e, sym (ne-eqb b byteI (no-letter e)))
     go (other e) w = (b ∷ w .0, w .1, rw (split-cons lineEnd b bs e, w .2), refl)
 
-module _ (text : List ℕ) (start : LineStart) where
-  part-ahead : (line : List ℕ) × (parts : List (List ℕ)) × (partsFrom text start ≡ line ∷ parts)
-      × (startLine? line ≡ eqb (getD text (start .at) 0) byteI)
+module _ (text : List ℕ) (from : LineStart) where
+  part-ahead : (line : List ℕ) × (parts : List (List ℕ)) × (partsFrom text from ≡ line ∷ parts)
+      × (startLine? line ≡ eqb (getD text (from .at) 0) byteI)
   part-ahead =
-      let w = first-part (drop (start .at) text) in
-      let z : start .at + 0 ≡ start .at = omega arith in
+      let w = first-part (drop (from .at) text) in
+      let z : from .at + 0 ≡ from .at = omega arith in
       (w .0, w .1, w .2, w .3 ∙ rw (getD-drop, z))
 
-  startLines-none : (getD text (start .at) 0 ≡ byteI → ⊥) → startLines (partsFrom text start) ≡ 0
+  startLines-none : (getD text (from .at) 0 ≡ byteI → ⊥) → startLines (partsFrom text from) ≡ 0
   unfolding startLines
-  startLines-none n = let w = part-ahead in rw (w .2, w .3, ne-eqb (getD text (start .at) 0) byteI n)
+  startLines-none n = let w = part-ahead in rw (w .2, w .3, ne-eqb (getD text (from .at) 0) byteI n)
 
   -- what is read of a line that begins with `I`, and of the lines behind it
-  readStarts-line : (m : Model) → getD text (start .at) 0 ≡ byteI
-      → readStarts (startLines (partsFrom text start)) (start .line) m (partsFrom text start)
-      ≡ onLine (start .line) (partsFrom text start) (λ line parts.
-      orFault (start .line) (startOf (m .head) (m .extraStarts) line) (λ p.
-      readStarts (startLines parts) (suc (start .line)) (withExtraStart m p) parts))
+  readStarts-line : (m : Model) → getD text (from .at) 0 ≡ byteI
+      → readStarts (startLines (partsFrom text from)) (from .line) m (partsFrom text from)
+      ≡ onLine (from .line) (partsFrom text from) (λ line parts.
+      orFault (from .line) (startOf (m .head) (m .extraStarts) line) (λ p.
+      readStarts (startLines parts) (suc (from .line)) (withExtraStart m p) parts))
   unfolding startLines readStarts onLine
   readStarts-line m e =
-      let w = part-ahead in rw (w .2) (go (w .0) (w .1) (w .3 ∙ eq-eqb (getD text (start .at) 0) byteI e))
+      let w = part-ahead in rw (w .2) (go (w .0) (w .1) (w .3 ∙ eq-eqb (getD text (from .at) 0) byteI e))
     where
       go : (line : List ℕ) (parts : List (List ℕ)) → startLine? line ≡ true
-          → readStarts (startLines (line ∷ parts)) (start .line) m (line ∷ parts)
-          ≡ onLine (start .line) (line ∷ parts) (λ l rest.
-          orFault (start .line) (startOf (m .head) (m .extraStarts) l) (λ p.
-          readStarts (startLines rest) (suc (start .line)) (withExtraStart m p) rest))
+          → readStarts (startLines (line ∷ parts)) (from .line) m (line ∷ parts)
+          ≡ onLine (from .line) (line ∷ parts) (λ l rest.
+          orFault (from .line) (startOf (m .head) (m .extraStarts) l) (λ p.
+          readStarts (startLines rest) (suc (from .line)) (withExtraStart m p) rest))
       go line [] s = rw s
       go line (part ∷ parts) s = rw s
 
 -- ---- the extra starts
 
 -- after the last action come the extra starts
-pub after-actions : (h : Head) (text : List ℕ) (start : LineStart) (store : List ℕ)
-    → AfterActions h text start (h .actions) store → AfterStart h text start 0 (h .start .0) store
+pub after-actions : (h : Head) (text : List ℕ) (from : LineStart) (store : List ℕ)
+    → AfterActions h text from (h .actions) store → AfterStart h text from 0 (h .start .0) store
 unfolding readActions
-after-actions h text start store b =
+after-actions h text from store b =
     let z : h .actions - h .actions ≡ 0 = omega arith in
     let n = actionsNumbers-length-of-short (b .actions) (b .short) in
-    let m = b .limits .actions in
+    let m = b .ranges .actions in
     record {
-      limits = b .limits;
+      ranges = b .ranges;
       inside = b .inside;
       actions = b .actions;
       action-places = omega (arith, n, m, b .count);
@@ -96,35 +95,35 @@ after-actions h text start store b =
       count = refl;
       last-start = lastStart-nil (h .start .0);
       count-le = omega arith;
-      last-lt = b .limits .start;
+      last-lt = b .ranges .start;
       stored = b .stored;
       rest = b .rest ∙ rw z;
     }
 
-module _ (h : Head) (text : List ℕ) (start : LineStart) (i last : ℕ) (store : List ℕ)
-    (b : AfterStart h text start i last store) where
+module _ (h : Head) (text : List ℕ) (from : LineStart) (i last : ℕ) (store : List ℕ)
+    (b : AfterStart h text from i last store) where
   -- "so at most 127"
-  extra-count-le : length (b .extraStarts) ≤ extraLimit
-  extra-count-le = omega (arith, b .count, b .count-le, b .last-lt, b .limits .states)
+  afterStart-count-le : length (b .extraStarts) ≤ extraLimit
+  afterStart-count-le = omega (arith, b .count, b .count-le, b .last-lt, b .ranges .states)
 
   pub afterStart-length : length store ≡ storeLength
   afterStart-length =
       let model : Model = record { head = h; actions = b .actions; extraStarts = b .extraStarts; steps = [] } in
-      rw (b .stored) (storeOf-length-of-places model (b .action-places) extra-count-le (omega arith))
+      rw (b .stored) (storeOf-length-of-places model (b .action-places) afterStart-count-le (omega arith))
 
   -- a line that does not begin with `I` ends them
-  pub after-starts : (getD text (start .at) 0 ≡ byteI → ⊥) → AfterStarts h text start store
+  pub after-starts : (getD text (from .at) 0 ≡ byteI → ⊥) → AfterStarts h text from store
   unfolding readStarts
   after-starts n =
-      let z = startLines-none text start n in
+      let z = startLines-none text from n in
       let y : h .steps - 0 ≡ h .steps = omega arith in
       record {
-        limits = b .limits;
+        ranges = b .ranges;
         inside = b .inside;
         actions = b .actions;
         action-places = b .action-places;
         extraStarts = b .extraStarts;
-        extra-count-le = extra-count-le;
+        extra-count-le = afterStart-count-le;
         steps = [];
         count = refl;
         last-step = record { nil = λ e. refl; cons = λ p t. absurd (omega arith) };
@@ -132,24 +131,21 @@ module _ (h : Head) (text : List ℕ) (start : LineStart) (i last : ℕ) (store 
         rest = b .rest ∙ rw (z, y);
       }
 
-  module _ (letter : getD text (start .at) 0 ≡ byteI) where
+  module _ (letter : getD text (from .at) 0 ≡ byteI) where
     abbrev readOn : ℕ → ℕ → List (List ℕ) → Reading
     readOn k p parts =
         readStarts (startLines parts) k
         (withExtraStart (record { head = h; actions = b .actions; extraStarts = b .extraStarts; steps = [] }) p) parts
 
-    ahead : whole text ≡ onLine (start .line) (partsFrom text start) (λ line parts.
-        orFault (start .line) (startOf h (b .extraStarts) line) (λ p. readOn (suc (start .line)) p parts))
-    ahead = b .rest ∙ readStarts-line text start _ letter
+    ahead : whole text ≡ onLine (from .line) (partsFrom text from) (λ line parts.
+        orFault (from .line) (startOf h (b .extraStarts) line) (λ p. readOn (suc (from .line)) p parts))
+    ahead = b .rest ∙ readStarts-line text from _ letter
 
-    pub start-refused : (fault : Fault)
-        → (e : ℕ)
-        × (NoLineAt text (start .at) fault e ⊎ LineAt (startOf h (b .extraStarts)) text (start .at) (bad fault) e)
-        → whole text ≡ faulty fault (start .line)
-    start-refused = line-refused text start (b .inside .place) (startOf h (b .extraStarts)) readOn ahead
+    pub start-refused : (fault : Fault) → LineRefused (startOf h (b .extraStarts)) text (from .at) fault
+        → whole text ≡ faulty fault (from .line)
+    start-refused = line-refused text from (b .inside .place) (startOf h (b .extraStarts)) readOn ahead
 
-  module _ (p next : ℕ)
-      (l : (e : ℕ) × (next ≡ e + 1) × LineAt (startOf h (b .extraStarts)) text (start .at) (good p) e) where
+  module _ (p next : ℕ) (l : LineTaken (startOf h (b .extraStarts)) text (from .at) p next) where
     -- a start that was read stands above the last one and below the states
     between : (last < p) × (p < h .states)
     between =
@@ -159,16 +155,16 @@ module _ (h : Head) (text : List ℕ) (start : LineStart) (i last : ℕ) (store 
 
     -- so there is room for it
     pub start-room : i < extraLimit
-    start-room = let r = between in omega (arith, r .0, r .1, b .count-le, b .limits .states)
+    start-room = let r = between in omega (arith, r .0, r .1, b .count-le, b .ranges .states)
 
-    pub start-taken : getD text (start .at) 0 ≡ byteI
-        → AfterStart h text (record { at = next; line = start .line + 1 }) (i + 1) p
+    pub start-taken : getD text (from .at) 0 ≡ byteI
+        → AfterStart h text (record { at = next; line = from .line + 1 }) (i + 1) p
         (set (set store extraCountPlace (i + 1)) (extraPlace i) p)
     start-taken letter =
         let r = between in
         rw (l .1) (record {
-          limits = b .limits;
-          inside = inText-next text start (l .0) (b .inside) (l .2 .found) (l .2 .inside);
+          ranges = b .ranges;
+          inside = inText-next text from (l .0) (b .inside) (l .2 .found) (l .2 .inside);
           actions = b .actions;
           action-places = b .action-places;
           extraStarts = b .extraStarts ++ (p ∷ []);
@@ -178,6 +174,6 @@ module _ (h : Head) (text : List ℕ) (start : LineStart) (i last : ℕ) (store 
           last-lt = r .1;
           stored = rw (b .stored)
               (storeOf-withExtraStart h (b .actions) (b .extraStarts) p i (b .action-places) (b .count) start-room);
-          rest = line-taken text start (b .inside .place) (startOf h (b .extraStarts)) (readOn letter) (ahead letter)
+          rest = line-taken text from (b .inside .place) (startOf h (b .extraStarts)) (readOn letter) (ahead letter)
               p (l .0) (l .2);
         })

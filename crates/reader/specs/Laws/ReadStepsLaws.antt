@@ -2,7 +2,6 @@
 -- Document 01, "The text" and "Refused because of the input". Assumes nothing.
 use mathlib.Core.Bool.{Bool, true, false, cond}
 use mathlib.Core.List.{List, [], _∷_, _++_}
-use mathlib.Core.Logic.{_⊎_, inl, inr}
 use mathlib.Core.Path.{_≡_, refl, _∙_}
 use Prim.Native.Nat.{ℕ, suc, _+_, _-_, _≤_, _<_}
 use native.Mathlib.Omega.{arith}
@@ -19,11 +18,10 @@ use Rattle.text.specs.Laws.SplitLaws.{Is, same, other, is, split-nil, split-end
 use Rattle.text.specs.Laws.SameLaws.{same?-length}
 use Rattle.text.specs.Laws.FieldsLaws.{same?-byte, same?-other, take-one}
 use Rattle.text.specs.Model.{Model, withStep, above?, aboveLast?}
-use Rattle.text.specs.Lines.{Line, good, bad, stepOf}
+use Rattle.text.specs.Lines.{stepOf}
 use Rattle.text.specs.Inner.LineAnswers.{Last}
 use Rattle.model.specs.Reading.{Reading, done, faulty, onLine, orFault, readNothing, readEnd, readSteps}
-use Rattle.text.specs.Inner.Row.{LineAt, NoLineAt}
-use Rattle.text.specs.Inner.Scan.{StepLineAt}
+use Rattle.text.specs.Inner.Row.{LineTaken, LineRefused}
 use Rattle.reader.specs.declared.answers.LineStart.{LineStart}
 use Rattle.reader.specs.Inner.ReadSoFar.{whole, partsFrom, AfterStep, AfterSteps, AfterEnd}
 use Rattle.model.specs.Store.{stepRow}
@@ -54,29 +52,17 @@ module _ (h : Head) (text : List ℕ) (start : LineStart) (j : ℕ) (last : Step
   unfolding readSteps
   ahead = let c : h .steps - j ≡ suc (h .steps - (j + 1)) = omega arith in b .rest ∙ rw c
 
-  line-at : (stated : Line StepLine) (e : ℕ) → StepLineAt h text (start .at) j last stated e
-      → LineAt (stepOf h (b .steps)) text (start .at) stated e
-  line-at stated e l =
-      record { found = l .found; inside = l .inside; reads = l .reads (b .steps) (b .last-step) }
-
-  -- by what the line at the place was read as
-  pub step-refused : (fault : Fault)
-      → (e : ℕ) × (NoLineAt text (start .at) fault e ⊎ StepLineAt h text (start .at) j last (bad fault) e)
+  pub step-refused : (fault : Fault) → LineRefused (stepOf h (b .steps)) text (start .at) fault
       → whole text ≡ faulty fault (start .line)
-  step-refused fault (e, inl n) =
-      line-refused text start (b .inside .place) (stepOf h (b .steps)) readOn ahead fault (e, inl n)
-  step-refused fault (e, inr l) =
-      line-refused text start (b .inside .place) (stepOf h (b .steps)) readOn ahead fault
-      (e, inr (line-at (bad fault) e l))
+  step-refused = line-refused text start (b .inside .place) (stepOf h (b .steps)) readOn ahead
 
-  pub step-taken : (s : StepLine) (next : ℕ)
-      → (e : ℕ) × (next ≡ e + 1) × StepLineAt h text (start .at) j last (good s) e
+  pub step-taken : (s : StepLine) (next : ℕ) → LineTaken (stepOf h (b .steps)) text (start .at) s next
       → AfterStep h text (record { at = next; line = start .line + 1 }) (j + 1) s
       (sets store (stepPlace j) (stepRow s))
   step-taken s next (e, n, l) =
-      let m = b .limits .steps in
+      let m = b .ranges .steps in
       rw n (record {
-        limits = b .limits;
+        ranges = b .ranges;
         inside = inText-next text start e (b .inside) (l .found) (l .inside);
         actions = b .actions;
         action-places = b .action-places;
@@ -88,14 +74,13 @@ module _ (h : Head) (text : List ℕ) (start : LineStart) (j : ℕ) (last : Step
         stored = rw (b .stored)
             (storeOf-withStep h (b .actions) (b .extraStarts) (b .steps) s j (b .action-places) (b .count)
             (omega arith));
-        rest = line-taken text start (b .inside .place) (stepOf h (b .steps)) readOn ahead s e
-            (line-at (good s) e l);
+        rest = line-taken text start (b .inside .place) (stepOf h (b .steps)) readOn ahead s e l;
       })
 
 pub afterStep-length : (h : Head) (text : List ℕ) (start : LineStart) (j : ℕ) (last : StepLine) (store : List ℕ)
     → AfterStep h text start j last store → j ≤ h .steps → length store ≡ storeLength
 afterStep-length h text start j last store b l =
-    let n = b .limits .steps in
+    let n = b .ranges .steps in
     let c = b .count in
     let model : Model = record {
       head = h;

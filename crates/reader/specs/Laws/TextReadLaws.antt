@@ -24,7 +24,7 @@ use Rattle.model.specs.Reading.{faulty, onLine, orFault, readModel}
 use Rattle.reader.specs.Answers.{readingStore, ReadAs}
 use Rattle.reader.specs.Inner.ReadSoFar.{whole, AfterHead, AfterEnd, Through, ReadOut}
 use Rattle.reader.specs.Inner.FirstLine.{AfterLine, AfterFirst, firstLine}
-use Rattle.reader.specs.Laws.ReadLaws.{headOf-limits}
+use Rattle.reader.specs.Laws.ReadLaws.{headOf-ranges}
 
 -- ---- the first line
 
@@ -101,7 +101,7 @@ after-first r text at e b = go (split lineEnd text) refl r e
     go (line ∷ []) s (head-read.Bad f) d = let f′ : f ≡ Absent = cc in rw (s, f′)
     go (line ∷ part ∷ parts) s (head-read.Good h) d =
         record {
-          limits = headOf-limits line h (sym d);
+          ranges = headOf-ranges line h (sym d);
           inside = record { place = b .place; line-le = omega arith };
           rest = rw (s, ← d, b .rest line part parts s);
         }

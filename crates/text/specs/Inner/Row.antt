@@ -50,6 +50,14 @@ pub record NoLineAt (text : List ℕ) (at : ℕ) (fault : Fault) (e : ℕ) : Typ
   pub outside : length text ≤ e
   pub absent : fault ≡ Absent
 
+-- the line at a place states a, and the next one begins at place `next`
+abbrev pub LineTaken : {A : Type 0} → (List ℕ → Line A) → List ℕ → ℕ → A → ℕ → Type 0
+LineTaken read text at a next = (e : ℕ) × (next ≡ e + 1) × LineAt read text at (good a) e
+
+-- the line at a place has a fault
+abbrev pub LineRefused : {A : Type 0} → (List ℕ → Line A) → List ℕ → ℕ → Fault → Type 0
+LineRefused read text at fault = (e : ℕ) × (NoLineAt text at fault e ⊎ LineAt read text at (bad fault) e)
+
 -- ---- rows
 
 -- the line at a place begins with a letter and a comma
@@ -103,7 +111,7 @@ RowScanned row text at out i row-scan.Bad = BadNumbers row text at
 
 -- the row at a place is refused
 abbrev pub RowRefused : Row → List ℕ → ℕ → Fault → Type 0
-RowRefused row text at fault = (e : ℕ) × (NoLineAt text at fault e ⊎ LineAt (rowOf row) text at (bad fault) e)
+RowRefused row = LineRefused (rowOf row)
 
 -- what the row at a place comes to
 unfoldable pub RowAt : Row → List ℕ → ℕ → List ℕ → RowRead → Type 0

@@ -1,4 +1,4 @@
--- The order of steps, part by part, and what the lines of extra starts and of steps state by their numbers.
+-- The order of steps, part by part, and what line 1 and the lines of extra starts and of steps state by their rows.
 -- Document 01, "The text"; document 02, (iii). Assumes nothing.
 use mathlib.Core.Bool.{Bool, true, false, _&&_, _||_}
 use mathlib.Core.List.{List}
@@ -12,13 +12,14 @@ use Rattle.text.specs.declared.Fault.{Fault}
 use Rattle.text.specs.declared.Fault.the-variants.{Order, StartOrder}
 use Rattle.text.specs.declared.Head.{Head}
 use Rattle.text.specs.declared.StepLine.{StepLine}
-use Rattle.text.specs.declared.row.Row.the-variants.{StartRow, StepRow}
+use Rattle.text.specs.declared.row.Row.the-variants.{HeadRow, StartRow, StepRow}
 use Rattle.text.specs.Model.{lastStart, above?, aboveLast?}
-use Rattle.text.specs.Lines.{good, bad, checked, rowOf, aboveStarts?, startFrom, startOf}
+use Rattle.text.specs.Lines.{good, bad, checked, rowOf, headNumbers, headFrom, headOf}
+use Rattle.text.specs.Lines.{aboveStarts?, startFrom, startOf}
 use Rattle.text.specs.Lines.{stepNumbers, stepFrom, stepOf}
 use Rattle.text.specs.Inner.LineAnswers.{Last}
 
--- ---- steps
+-- ---- the order of steps
 
 -- source, then action, then target
 module _ (s t : StepLine) where
@@ -57,27 +58,40 @@ module _ (s t : StepLine) where
         tests (le-ltb (s .source .0) (t .source .0) le) same-source (le-ltb (s .action .0) (t .action .0) m)
         (eq-eqb (s .action .0) (t .action .0) (omega arith))
 
--- the line of an extra start, where `last` is the start before it
-module _ (h : Head) (before line : List ℕ) {last : ℕ} (l : lastStart (h .start .0) before ≡ last) where
-  pub startOf-bad : {fault : Fault} → rowOf (StartRow h) line ≡ bad fault → startOf h before line ≡ bad fault
+-- ---- lines by their rows
+
+pub headOf-bad : {fault : Fault} (line : List ℕ) → rowOf HeadRow line ≡ bad fault → headOf line ≡ bad fault
+unfolding headOf headFrom
+headOf-bad line e = ap headFrom e
+
+pub headOf-good : {ns : List ℕ} (line : List ℕ) → rowOf HeadRow line ≡ good ns → headOf line ≡ good (headNumbers ns)
+unfolding headOf headFrom
+headOf-good line e = ap headFrom e
+
+module _ (h : Head) (before : List ℕ) where
+  pub startOf-bad : {fault : Fault} (line : List ℕ) → rowOf (StartRow h) line ≡ bad fault
+      → startOf h before line ≡ bad fault
   unfolding startOf startFrom
-  startOf-bad e = ap (startFrom h before) e
+  startOf-bad line e = ap (startFrom h before) e
 
-  pub startOf-order : {ns : List ℕ} {p : ℕ} {t : Bool} → rowOf (StartRow h) line ≡ good ns → getD ns 0 0 ≡ p
-      → ltb last p ≡ t → startOf h before line ≡ checked StartOrder t p
+  -- by whether the start is above the last one
+  pub startOf-order : {last p : ℕ} {ns : List ℕ} {t : Bool} → lastStart (h .start .0) before ≡ last
+      → getD ns 0 0 ≡ p → ltb last p ≡ t → (line : List ℕ) → rowOf (StartRow h) line ≡ good ns
+      → startOf h before line ≡ checked StartOrder t p
   unfolding startOf startFrom aboveStarts?
-  startOf-order {ns} {p} {t} e f g =
-      ap (startFrom h before) e ∙ rw (l, f, g)
+  startOf-order l n o line e = ap (startFrom h before) e ∙ rw (l, n, o)
 
-module _ (h : Head) (before : List StepLine) (line : List ℕ) where
-  pub stepOf-bad : {fault : Fault} → rowOf (StepRow h) line ≡ bad fault → stepOf h before line ≡ bad fault
+module _ (h : Head) (before : List StepLine) where
+  pub stepOf-bad : {fault : Fault} (line : List ℕ) → rowOf (StepRow h) line ≡ bad fault
+      → stepOf h before line ≡ bad fault
   unfolding stepOf stepFrom
-  stepOf-bad e = ap (stepFrom before) e
+  stepOf-bad line e = ap (stepFrom before) e
 
-  pub stepOf-order : {ns : List ℕ} {t : Bool} → rowOf (StepRow h) line ≡ good ns
-      → aboveLast? before (stepNumbers ns) ≡ t → stepOf h before line ≡ checked Order t (stepNumbers ns)
+  -- by whether the step is above the last one
+  pub stepOf-order : {s : StepLine} {ns : List ℕ} {t : Bool} → stepNumbers ns ≡ s → aboveLast? before s ≡ t
+      → (line : List ℕ) → rowOf (StepRow h) line ≡ good ns → stepOf h before line ≡ checked Order t s
   unfolding stepOf stepFrom
-  stepOf-order {ns} e f = ap (stepFrom before) e ∙ ap (λ (u : Bool). checked Order u (stepNumbers ns)) f
+  stepOf-order n o line e = ap (stepFrom before) e ∙ rw (n, o)
 
 -- the first step stands above those before it
 pub last-nil : {before : List StepLine} {j : ℕ} {last : StepLine} (s : StepLine) → Last before j last → j ≡ 0

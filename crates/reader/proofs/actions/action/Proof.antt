@@ -91,7 +91,7 @@ used-requires : tie.Need-used-requires
 used-requires c κs =
     let k = c .before .before in
     let s = k .before .before .before .before .before .before .before .before .before in
-    let m = s .pre .0 .limits .actions in
+    let m = s .pre .0 .ranges .actions in
     let l = afterActions-length _ _ _ (s .args .i) _ (s .pre .0) (omega arith) in
     (omega arith, omega arith, named k .1)
 
@@ -127,7 +127,7 @@ put-action-requires : tie.Need-put-action-requires
 put-action-requires c κs =
     let k = c .before .before .before .before .before .before in
     let s = k .before .before .before .before .before .before .before .before .before in
-    let m = s .pre .0 .limits .actions in
+    let m = s .pre .0 .ranges .actions in
     let l = afterActions-length _ _ _ (s .args .i) _ (s .pre .0) (omega arith) in
     (omega arith, omega arith, named k .1)
 

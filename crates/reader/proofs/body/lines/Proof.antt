@@ -1,4 +1,4 @@
--- Each phase begins where the one before it ended, or its refusal is the answer.
+-- What follows the actions begins where they ended, or their refusal is the answer.
 use borrow.Author.Needs.{needs}
 use Rattle.reader.specs.Inner.ReadSoFar.{Through}
 use Rattle.reader.specs.Laws.ReadLaws.{further-refused, further-next}
@@ -14,32 +14,10 @@ enum-known-acted c = search needs
 enum-known-acted-2 : tie.Need-enum-known-acted-2
 enum-known-acted-2 c = search needs
 
-starts-requires : tie.Need-starts-requires
-starts-requires c κs =
+after-actions-requires : tie.Need-after-actions-requires
+after-actions-requires c κs =
     let k = c .before .before in
     further-next _ _ _ _ (k .acted2 .given .1) (k .before .before .before .before .actions .ensures)
-
-enum-known-started : tie.Need-enum-known-started
-enum-known-started c = search needs
-
-enum-known-started-2 : tie.Need-enum-known-started-2
-enum-known-started-2 c = search needs
-
-steps-requires : tie.Need-steps-requires
-steps-requires c κs =
-    let k = c .before .before in
-    further-next _ _ _ _ (k .started2 .given .1) (k .before .before .before .before .starts .ensures)
-
-enum-known-stepped : tie.Need-enum-known-stepped
-enum-known-stepped c = search needs
-
-enum-known-stepped-2 : tie.Need-enum-known-stepped-2
-enum-known-stepped-2 c = search needs
-
-last-line-requires : tie.Need-last-line-requires
-last-line-requires c κs =
-    let k = c .before .before in
-    further-next _ _ _ _ (k .stepped2 .given .1) (k .before .before .before .before .steps .ensures)
 
 same-length : tie.Need-same-length
 same-length c = search needs
@@ -54,25 +32,7 @@ same-length-2 : tie.Need-same-length-2
 same-length-2 c = search needs
 
 returns-2 : tie.Need-returns-2
-unfolding Through
-returns-2 c =
-    let k = c .before in
-    further-refused _ _ _ _ _ (k .started .given .1) (k .before .before .before .before .starts .ensures)
-
-same-length-3 : tie.Need-same-length-3
-same-length-3 c = search needs
-
-returns-3 : tie.Need-returns-3
-unfolding Through
-returns-3 c =
-    let k = c .before in
-    further-refused _ _ _ _ _ (k .stepped .given .1) (k .before .before .before .before .steps .ensures)
-
-same-length-4 : tie.Need-same-length-4
-same-length-4 c = search needs
-
-returns-4 : tie.Need-returns-4
-returns-4 c = c .last-line .ensures
+returns-2 c = c .before .before .after-actions .ensures
 
 pub lines-spec : {M : Type 1} → statement M
 lines-spec =
@@ -81,18 +41,8 @@ lines-spec =
     actions-requires
     enum-known-acted
     enum-known-acted-2
-    starts-requires
-    enum-known-started
-    enum-known-started-2
-    steps-requires
-    enum-known-stepped
-    enum-known-stepped-2
-    last-line-requires
+    after-actions-requires
     same-length
     returns
     same-length-2
-    returns-2
-    same-length-3
-    returns-3
-    same-length-4
-    returns-4)
+    returns-2)

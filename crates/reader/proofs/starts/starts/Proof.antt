@@ -2,13 +2,13 @@
 -- past a line. The starts rise below the states, so the store has room for each.
 use borrow.Author.Needs.{needs}
 use native.Mathlib.Omega.{arith}
-use Prim.Native.Nat.{ℕ, _+_, _-_, _<_}
+use Prim.Native.Nat.{_-_, _<_}
 use mathlib.Core.Path.{_≡_, refl, _∙_}
 use lib.ListN.{length, getD}
 use Rattle.text.specs.Bytes.{byteI}
 use Rattle.text.specs.Limits.{extraLimit}
-use Rattle.text.specs.Lines.{good, startOf}
-use Rattle.text.specs.Inner.Row.{LineAt}
+use Rattle.text.specs.Lines.{startOf}
+use Rattle.text.specs.Inner.Row.{LineTaken}
 use Rattle.text.specs.Laws.DecidesLaws.{decides-true, decides-false}
 use Rattle.text.specs.Laws.ScanLaws.{start-at-good, start-at-bad}
 use Rattle.reader.specs.Inner.ReadSoFar.{AfterStart, Further}
@@ -34,9 +34,8 @@ letter c = decides-true _ _ (c .before .is-start-line .ensures) (c .if1 .taken)
 named : (c : tie.After-read2 Inv-loop μ-loop)
     → let l = c .before .before .before .before .before in
     let s = l .before .before .before .before .args in
-    (e : ℕ) × (c .read2 .given .0 .1 .0 ≡ e + 1)
-    × LineAt (startOf (s .head) (l .loop .inv .1 .extraStarts)) (s .text .now) (l .loop .from .at)
-    (good (c .read2 .given .0 .0 .0)) e
+    LineTaken (startOf (s .head) (l .loop .inv .1 .extraStarts)) (s .text .now) (l .loop .from .at)
+    (c .read2 .given .0 .0 .0) (c .read2 .given .0 .1 .0)
 named c =
     let a = c .before .before in
     let b = a .before .before .before .loop .inv .1 in

@@ -38,8 +38,9 @@ unfolding Further
 returns c =
     let a = c .before .before .before in
     let l = a .before .before in
-    step-refused _ _ _ (l .loop .j) _ _ (l .loop .inv .2) (omega arith) _
-    (step-at-bad _ _ _ _ _ _ (a .step-at .ensures) _ (c .before .read .given .1))
+    let b = l .loop .inv .2 in
+    step-refused _ _ _ (l .loop .j) _ _ b (omega arith) _
+    (step-at-bad _ _ _ _ (a .step-at .ensures (b .steps) (b .last-step)) _ (c .before .read .given .1))
 
 enum-known-read-2 : tie.Need-enum-known-read-2 Inv-loop μ-loop
 enum-known-read-2 c = search needs
@@ -52,7 +53,7 @@ put-step-requires c κs =
     let l = c .before .before .before .before .before .before in
     let b = l .loop .inv .2 in
     let n = afterStep-length _ _ _ (l .loop .j) _ _ b (l .loop .inv .0) in
-    let m = b .limits .steps in
+    let m = b .ranges .steps in
     omega arith
 
 add-t23 : tie.Need-add-t23 Inv-loop μ-loop
@@ -72,12 +73,13 @@ loop-again c =
     let p = c .before .before in
     let r = p .before .before .before in
     let a = r .before .before in
-    let l = a .before .before in (
+    let l = a .before .before in
+    let b = l .loop .inv .2 in (
       omega arith,
       p .put-step .kept .0 ∙ l .loop .inv .1,
       rw (p .put-step .ensures)
-          (step-taken _ _ _ (l .loop .j) _ _ (l .loop .inv .2) (omega arith) _ _
-          (step-at-good _ _ _ _ _ _ (a .step-at .ensures) _ _ (r .read2 .given .1))),
+          (step-taken _ _ _ (l .loop .j) _ _ b (omega arith) _ _
+          (step-at-good _ _ _ _ (a .step-at .ensures (b .steps) (b .last-step)) _ _ (r .read2 .given .1))),
     )
 
 same-length-2 : tie.Need-same-length-2 Inv-loop μ-loop

@@ -2,7 +2,8 @@
 use Rattle.text.specs.Lines.{rowCount}
 use Rattle.text.specs.Inner.Scan.{HeadAt}
 use Rattle.text.specs.Laws.RowAtLaws.{row-at-good, row-at-bad}
-use Rattle.text.specs.Laws.ScanLaws.{head-refused, head-stated}
+use Rattle.text.specs.Laws.LinesLaws.{headOf-bad, headOf-good}
+use Rattle.text.specs.Laws.ScanLaws.{lineAt-map, refused-map}
 use borrow.Author.Needs.{needs}
 use Rattle.text.proofs.scan.head_at.Statement.{statement}
 use Rattle.text.proofs.scan.head_at.Tie as tie
@@ -21,7 +22,7 @@ returns : tie.Need-returns
 unfolding HeadAt
 returns c =
     let r = c .before .before .before .before in
-    head-refused _ _ _ (row-at-bad _ _ _ _ _ (r .row-at .ensures) (c .before .fault .given .1))
+    refused-map headOf-bad (row-at-bad _ _ _ _ _ (r .row-at .ensures) (c .before .fault .given .1))
 
 enum-told : tie.Need-enum-told
 enum-told c = search needs
@@ -42,7 +43,7 @@ returns-2 : tie.Need-returns-2
 unfolding HeadAt rowCount
 returns-2 c =
     let r = c .before .before .before in
-    (_, head-stated _ _ _ _ (row-at-good _ _ _ _ _ (r .row-at .ensures) (c .enum-told .given .1)))
+    (_, lineAt-map headOf-good (row-at-good _ _ _ _ _ (r .row-at .ensures) (c .enum-told .given .1)))
 
 pub head-at-spec : {M : Type 1} → statement M
 head-at-spec =

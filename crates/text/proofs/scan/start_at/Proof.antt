@@ -1,5 +1,4 @@
 -- `start_at` has the start from its row, and then tests that it is above the one before it.
-use mathlib.Core.Bool.{true, false}
 use mathlib.Core.Logic.{inr}
 use mathlib.Core.Path.{refl}
 use native.Mathlib.Omega.{arith}
@@ -11,7 +10,8 @@ use Rattle.text.specs.Inner.Row.{LineAt}
 use Rattle.text.specs.Inner.Scan.{StartAtRead}
 use Rattle.text.specs.Laws.ColumnsLaws.{startNumber-column}
 use Rattle.text.specs.Laws.RowAtLaws.{row-at-good, row-at-bad}
-use Rattle.text.specs.Laws.ScanLaws.{start-refused, start-order}
+use Rattle.text.specs.Laws.LinesLaws.{startOf-bad, startOf-order}
+use Rattle.text.specs.Laws.ScanLaws.{lineAt-map, refused-map}
 use borrow.Author.Needs.{needs}
 use Rattle.text.proofs.scan.start_at.Statement.{statement}
 use Rattle.text.proofs.scan.start_at.Tie as tie
@@ -48,21 +48,21 @@ returns c before last =
     let r = c .before .before .before .before in (
       _,
       refl,
-      start-order _ _ _ before last _ _ _ true (row r) (startNumber-column _ _) (lt-ltb _ _ (c .if1 .taken)),
+      lineAt-map (startOf-order _ before last (startNumber-column _ _) (lt-ltb _ _ (c .if1 .taken))) (row r),
     )
 
 returns-2 : tie.Need-returns-2
 unfolding StartAtRead
 returns-2 c before last =
     let r = c .before .before .before .before in
-    start-refused _ _ _ before last _ (row-at-bad _ _ _ _ _ (r .row-at .ensures) (c .before .read .given .1))
+    refused-map (startOf-bad _ before) (row-at-bad _ _ _ _ _ (r .row-at .ensures) (c .before .read .given .1))
 
 returns-3 : tie.Need-returns-3
 unfolding StartAtRead checked
 returns-3 c before last =
     let r = c .before .before .before .before in (
       _,
-      inr (start-order _ _ _ before last _ _ _ false (row r) (startNumber-column _ _) (le-ltb _ _ (c .if1 .left))),
+      inr (lineAt-map (startOf-order _ before last (startNumber-column _ _) (le-ltb _ _ (c .if1 .left))) (row r)),
     )
 
 pub start-at-spec : {M : Type 1} → statement M

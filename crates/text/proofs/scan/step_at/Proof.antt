@@ -4,7 +4,8 @@ use Rattle.text.specs.Lines.{rowCount}
 use Rattle.text.specs.Inner.Scan.{StepAtRead}
 use Rattle.text.specs.Laws.RowAtLaws.{row-at-good, row-at-bad}
 use Rattle.text.specs.Laws.ColumnsLaws.{stepNumbers-columns}
-use Rattle.text.specs.Laws.ScanLaws.{step-refused}
+use Rattle.text.specs.Laws.LinesLaws.{stepOf-bad}
+use Rattle.text.specs.Laws.ScanLaws.{refused-map}
 use borrow.Author.Needs.{needs}
 use Rattle.text.proofs.scan.step_at.Statement.{statement}
 use Rattle.text.proofs.scan.step_at.Tie as tie
@@ -38,15 +39,15 @@ rising-requires c κs =
 
 returns : tie.Need-returns
 unfolding StepAtRead
-returns c =
+returns c before last =
     let r = c .before .before .before .before in
-    step-refused _ _ _ _ _ _ (row-at-bad _ _ _ _ _ (r .row-at .ensures) (c .before .read .given .1))
+    refused-map (stepOf-bad _ before) (row-at-bad _ _ _ _ _ (r .row-at .ensures) (c .before .read .given .1))
 
 returns-2 : tie.Need-returns-2
-returns-2 c =
+returns-2 c before last =
     let r = c .before .before .before .before .before in
     c .rising .ensures _ _ _ _ (row-at-good _ _ _ _ _ (r .row-at .ensures) (c .before .before .read2 .given .1))
-    (stepNumbers-columns (r .before .before .before .args .head) _)
+    (stepNumbers-columns (r .before .before .before .args .head) _) before last
 
 pub step-at-spec : {M : Type 1} → statement M
 step-at-spec =
