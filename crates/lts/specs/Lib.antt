@@ -8,6 +8,9 @@ pub mod GameLaws
 pub mod Classes
 pub mod ClassesLaws
 pub mod RankLaws
+pub mod Book
+pub mod BookLaws
+pub mod OwnBookLaws
 pub mod View
 pub mod Run
 pub mod RunLaws

@@ -1,2 +1,3 @@
 pub mod ListingLaws
+pub mod RisingLaws
 pub mod StatesListedLaws

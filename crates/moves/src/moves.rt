@@ -2,7 +2,9 @@
 use text::Action;
 use text::State;
 use text::Step;
+use text::limits::INDEX_LENGTH;
 use text::limits::LOW;
+use text::limits::ROLES_LENGTH;
 ghost use mathlib.Core.Path.{_≡_};
 ghost use Prim.Native.Nat.{_+_, _≤_, _<_};
 ghost use lib.ListN.{length, getD};
@@ -14,7 +16,7 @@ ghost use Rattle.model.specs.Inner.Stored.{Stored};
 ghost use Rattle.model.specs.Inner.Index.{Index};
 ghost use Rattle.model.specs.Inner.Roles.{Roles};
 ghost use Rattle.text.specs.Limits.{indexLength};
-ghost use Rattle.ranking.specs.MoveList.{Lists};
+ghost use Rattle.ranking.specs.MoveList.{Lists, Rising, Ordered};
 ghost use Rattle.moves.specs.Inner.Listing.{Appended, LowAmong};
 ghost use Rattle.model.specs.System.{view};
 ghost use Rattle.lts.specs.Noninterference.{LowMove};
@@ -80,6 +82,7 @@ fn list_state(
     ensures { λ r. ⌜ Appended (LowMove (view (modelAt (now (store .entry)))) (p .0)) from r
         (now (actions .entry)) (now (targets .entry)) (now (actions .exit)) (now (targets .exit)) ⌝ }
     ensures { λ r. ⌜ r ≤ getD (now (begins .entry)) (p .0 + 1) 0 ⌝ }
+    ensures { λ r. ⌜ Rising from r (now (actions .exit)) (now (targets .exit)) ⌝ }
 {
     let of = p.0 as usize;
     let end = begins[of + 1];
@@ -92,7 +95,7 @@ fn list_state(
     at
 }
 
-// Lists the low steps of all states.
+// Lists the low steps of all states, those of a state by action and then by target.
 pub fn list_moves(
     store: &[u16],
     begins: &[u16],
@@ -110,6 +113,8 @@ pub fn list_moves(
         × (stepLimit ≤ length (now targets)) ⌝ }
     ensures { λ _. ⌜ Lists (LowMove (view (modelAt (now (store .entry))))) (modelAt (now (store .entry)) .head .states)
         (now (first .exit)) (now (actions .exit)) (now (targets .exit)) ⌝ }
+    ensures { λ _. ⌜ Ordered (modelAt (now (store .entry)) .head .states) (now (first .exit)) (now (actions .exit))
+        (now (targets .exit)) ⌝ }
 {
     let n = model::store::states(store);
     let mut at = 0;
@@ -119,4 +124,21 @@ pub fn list_moves(
         let next = p as usize + 1;
         first[next] = at;
     }
+}
+
+// Lists the low steps of a good store.
+pub fn list_low_steps(store: &[u16], first: &mut [u16], actions: &mut [u16], targets: &mut [u16])
+    requires { ⌜ Stored (now store) (modelAt (now store)) ⌝ }
+    requires { ⌜ (indexLength ≤ length (now first)) × (stepLimit ≤ length (now actions))
+        × (stepLimit ≤ length (now targets)) ⌝ }
+    ensures { λ _. ⌜ Lists (LowMove (view (modelAt (now (store .entry))))) (modelAt (now (store .entry)) .head .states)
+        (now (first .exit)) (now (actions .exit)) (now (targets .exit)) ⌝ }
+    ensures { λ _. ⌜ Ordered (modelAt (now (store .entry)) .head .states) (now (first .exit)) (now (actions .exit))
+        (now (targets .exit)) ⌝ }
+{
+    let mut begins = [0u16; INDEX_LENGTH];
+    let mut roles = [0u16; ROLES_LENGTH];
+    model::index::index(store, &mut begins);
+    model::index::roles(store, &mut roles);
+    list_moves(store, &begins, &roles, first, actions, targets);
 }

@@ -30,3 +30,13 @@ pub record Lists (Move : Moves) (n : ℕ) (first actions targets : List ℕ) : T
   pub moves : MoveList n first actions targets
   pub sound : (p a q : ℕ) → Listed n first actions targets p a q → Move p a q
   pub complete : (p a q : ℕ) → Move p a q → Listed n first actions targets p a q
+
+-- The moves from place `from` up to place `to` rise by action, and those of one action by target.
+pub record Rising (from to : ℕ) (actions targets : List ℕ) : Type 0 where
+  pub action-le : (i j : ℕ) → from ≤ i → i < j → j < to → getD actions i 0 ≤ getD actions j 0
+  pub target-lt : (i j : ℕ) → from ≤ i → i < j → j < to → getD actions i 0 ≡ getD actions j 0
+      → getD targets i 0 < getD targets j 0
+
+-- The moves of each of n states do.
+pub record Ordered (n : ℕ) (first actions targets : List ℕ) : Type 0 where
+  pub each : (p : ℕ) → p < n → Rising (getD first p 0) (getD first (p + 1) 0) actions targets

@@ -1,5 +1,6 @@
 // Ranks by classes, over moves given as lists: entry p of a class list is the lowest state of the class of p, and each
 // round compares states by the classes of the round before.
+use crate::table::clear;
 use crate::table::pair_place;
 use text::Action;
 use text::State;
@@ -14,7 +15,6 @@ ghost use lib.ListN.{length, getD};
 ghost use Rattle.lts.specs.Alike.{Answered, Answers};
 ghost use Rattle.text.specs.Decides.{Decides};
 ghost use Rattle.text.specs.Limits.{stateLimit, actionLimit, tableLength};
-ghost use Rattle.text.specs.Inner.Clearing.{Cleared};
 ghost use Rattle.ranking.specs.Table.{Ranked};
 ghost use Rattle.ranking.specs.MoveList.{Listed, MoveList};
 ghost use Rattle.ranking.specs.Inner.ClassList.{Same, Refinable, Lowest, Refined, Joins, Moved};
@@ -379,16 +379,6 @@ fn separate(table: &mut [u8], class: &[u16; ROW], next: &[u16; ROW], round: u8, 
     found
 }
 
-// Makes every entry 0.
-fn clear(table: &mut [u8])
-    requires { ⌜ tableLength ≤ length (now table) ⌝ }
-    ensures { λ _. ⌜ Cleared 0 tableLength (now (table .entry)) (now (table .exit)) ⌝ }
-{
-    for i in 0..TABLE_LENGTH {
-        table[i] = 0;
-    }
-}
-
 // Goes round until a round separates no further pair, and yields the last round that did.
 fn rounds(
     n: u16,
@@ -431,6 +421,6 @@ pub fn rank_moves(
     ensures { λ r. ⌜ Ranked (Listed n (now (first .entry)) (now (actions .entry)) (now (targets .entry))) n
         (now (table .entry)) (now (table .exit)) r ⌝ }
 {
-    clear(table);
+    clear(table, TABLE_LENGTH);
     rounds(n, first, actions, targets, table)
 }

@@ -5,6 +5,7 @@ ghost use mathlib.Core.Path.{_≡_};
 ghost use Prim.Native.Nat.{_≤_, _<_};
 ghost use lib.ListN.{length, getD};
 ghost use Rattle.text.specs.Limits.{stateLimit, tableLength, pairPlace};
+ghost use Rattle.text.specs.Inner.Clearing.{Cleared};
 
 // The place of the entry of p and q.
 pub fn pair_place(p: State, q: State) -> usize
@@ -24,4 +25,14 @@ pub fn rank_at(table: &[u8], p: State, q: State) -> u8
 {
     let at = pair_place(p, q);
     table[at]
+}
+
+// Makes the first n numbers 0.
+pub fn clear(list: &mut [u8], n: usize)
+    requires { ⌜ n ≤ length (now list) ⌝ }
+    ensures { λ _. ⌜ Cleared 0 n (now (list .entry)) (now (list .exit)) ⌝ }
+{
+    for i in 0..n {
+        list[i] = 0;
+    }
 }

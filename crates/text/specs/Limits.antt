@@ -1,5 +1,6 @@
 -- Limits of texts, layout of the model store and least lengths of all lists, each named once.
--- Document 01, "The text", "The model store" and "The operations, in the order of the work"; document 02, (iii).
+-- Document 01, "The text", "The model store" and "The operations, in the order of the work"; document 02, (iii) and
+-- (v).
 use Prim.Native.Nat.{ℕ, _+_, _*_}
 
 -- "States 1 to 128, actions 1 to 64, steps 0 to 1,024"
@@ -154,6 +155,16 @@ pageLength = 5000
 abbrev pub rollLength : ℕ
 rollLength = 35840
 
+-- "Of 65,536 bytes, four belong to each ordered pair of states" (document 02, (v)): "entry number 128p + q"
+abbrev pub entrySize : ℕ
+entrySize = 4
+
+abbrev pub bookLength : ℕ
+bookLength = 65536
+
+abbrev pub entryPlace : ℕ → ℕ → ℕ
+entryPlace p q = entrySize * pairPlace p q
+
 -- "65,535 for unreachable and unused places"
 abbrev pub unreachable : ℕ
 unreachable = 65535
@@ -163,3 +174,10 @@ unreachable = 65535
 -- Where the steps or moves of each state begin, and where the last one's end.
 abbrev pub indexLength : ℕ
 indexLength = stateLimit + 1
+
+-- Where the moves of each state and action begin, and where the last one's end.
+abbrev pub runPlace : ℕ → ℕ → ℕ
+runPlace p a = actionLimit * p + a
+
+abbrev pub runsLength : ℕ
+runsLength = stateLimit * actionLimit + 1

@@ -93,10 +93,18 @@ pub const ROLL_LENGTH: usize = 35840;
 
 pub const OUT_LENGTH: usize = 15182;
 
+// A book of plays: side, action, target and depth for each two states, row by row.
+pub const ENTRY_SIZE: usize = 4;
+
+pub const BOOK_LENGTH: usize = ENTRY_SIZE * TABLE_LENGTH;
+
 // Lists that functions keep for themselves: where the steps or moves of each state begin, and where the last one's end;
-// the role of each action; one place for each move.
+// the role of each action; one place for each move; where the moves of each state and action begin, and where the last
+// one's end.
 pub const INDEX_LENGTH: usize = STATE_LIMIT as usize + 1;
 
 pub const ROLES_LENGTH: usize = ACTION_LIMIT as usize;
 
 pub const MOVES_LENGTH: usize = STEP_LIMIT as usize;
+
+pub const RUNS_LENGTH: usize = STATE_LIMIT as usize * ACTION_LIMIT as usize + 1;

@@ -7,7 +7,7 @@ use lib.ListN.{getD}
 use Rattle.lts.specs.Alike.{Moves}
 use Rattle.text.specs.Model.{Model}
 use Rattle.model.specs.System.{action, target, view}
-use Rattle.ranking.specs.MoveList.{Listed}
+use Rattle.ranking.specs.MoveList.{Listed, Ordered}
 
 -- From place `from` up to place `to` the lists have the actions and targets of Out, each of them; the places before are
 -- as they were.
@@ -36,3 +36,4 @@ pub record StatesListed (Move : Moves) (n to : ℕ) (first actions targets : Lis
   pub each : (i : ℕ) → i < to → (p : ℕ) × Move p (getD actions i 0) (getD targets i 0)
   pub sound : (p a q : ℕ) → Listed n first actions targets p a q → Move p a q
   pub complete : (p a q : ℕ) → p < n → Move p a q → Listed n first actions targets p a q
+  pub ordered : Ordered n first actions targets

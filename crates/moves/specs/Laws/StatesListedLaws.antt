@@ -2,7 +2,7 @@
 -- Document 01, "Alike": "Release and high steps are never played." Assumes nothing.
 use mathlib.Core.List.{List}
 use mathlib.Core.Logic.{⊎-elim}
-use mathlib.Core.Path.{_≡_, sym, ap, _∙_, subst}
+use mathlib.Core.Path.{_≡_, refl, sym, ap, _∙_, subst}
 use Prim.Native.Nat.{ℕ, _+_, _≤_, _<_}
 use native.Mathlib.Omega.{arith}
 use lib.ListN.{length, getD, set}
@@ -13,7 +13,8 @@ use Rattle.lts.specs.TestsLaws.{lt-or-le}
 use Rattle.text.specs.Limits.{stepLimit}
 use Rattle.text.specs.Model.{Model}
 use Rattle.model.specs.Inner.Stored.{Stored}
-use Rattle.ranking.specs.MoveList.{Listed, Lists}
+use Rattle.ranking.specs.MoveList.{Listed, Lists, Rising, Ordered}
+use Rattle.moves.specs.Laws.RisingLaws.{rising-kept}
 use Rattle.moves.specs.Inner.Listing.{Appended, StatesListed}
 use Rattle.model.specs.System.{view}
 use Rattle.lts.specs.Noninterference.{LowMove}
@@ -29,6 +30,7 @@ statesListed-zero first l = record {
   each = λ i k. absurd (omega arith);
   sound = λ p a q x. absurd (omega (arith, x .source-lt));
   complete = λ p a q k. absurd (omega arith);
+  ordered = record { each = λ p k. absurd (omega arith) };
 }
   where
     at : getD (set first 0 0) 0 0 ≡ 0
@@ -36,7 +38,7 @@ statesListed-zero first l = record {
 
 module _ {Move : Moves} {n from to : ℕ} {first actions targets actions′ targets′ : List ℕ}
     (long : n + 1 < length first) (x : StatesListed Move n from first actions targets)
-    (y : Appended (Move n) from to actions targets actions′ targets′) where
+    (y : Appended (Move n) from to actions targets actions′ targets′) (rise : Rising from to actions′ targets′) where
   abbrev next : List ℕ
   next = set first (n + 1) to
 
@@ -92,6 +94,16 @@ module _ {Move : Moves} {n from to : ℕ} {first actions targets actions′ targ
       let m = y .sound (z .place) from-le (omega (arith, last-is, z .place-lt)) in
       subst (λ (b : ℕ). Move n b q) (z .action-is) (subst (Move n _) (z .target-is) m)
 
+  -- the moves of a state below n rise as before, and those of n as they were appended
+  ordered-before : (p : ℕ) → p < n → Rising (getD next p 0) (getD next (p + 1) 0) actions′ targets′
+  ordered-before p l =
+      rising-kept (before-is p (omega arith)) (before-is (p + 1) (omega arith))
+      (λ i k. y .actions-kept i (omega (arith, k, x .first-le (p + 1) (omega arith))))
+      (λ i k. y .targets-kept i (omega (arith, k, x .first-le (p + 1) (omega arith)))) (x .ordered .each p l)
+
+  ordered-last : Rising (getD next n 0) (getD next (n + 1) 0) actions′ targets′
+  ordered-last = rising-kept (before-is n (omega arith) ∙ x .end-is) last-is (λ i k. refl) (λ i k. refl) rise
+
   pub statesListed-suc : StatesListed Move (n + 1) to next actions′ targets′
   statesListed-suc = record {
     end-is = last-is;
@@ -118,30 +130,37 @@ module _ {Move : Moves} {n from to : ℕ} {first actions targets actions′ targ
     complete = λ p a q l.
         below-more (λ r. Move r a q → Listed (n + 1) next actions′ targets′ r a q) n
         (λ r k o. listed-after r a q (x .complete r a q k o)) (listed-new a q) p l;
+    ordered = record {
+      each =
+          below-more (λ p. Rising (getD next p 0) (getD next (p + 1) 0) actions′ targets′) n ordered-before
+          ordered-last;
+    };
   }
 
 -- ---- all states
 
 pub lists-of-statesListed : {s : List ℕ} {m : Model} {n to : ℕ} {first actions targets : List ℕ} → Stored s m
     → n ≡ m .head .states → to ≤ stepLimit → StatesListed (LowMove (view m)) n to first actions targets
-    → Lists (LowMove (view m)) (m .head .states) first actions targets
+    → Lists (LowMove (view m)) (m .head .states) first actions targets × Ordered (m .head .states) first actions targets
 lists-of-statesListed {m = m} {to = to} {first} {actions} {targets} st e l listed =
-    let x = subst (λ (n : ℕ). StatesListed (LowMove (view m)) n to first actions targets) e listed in
-    record {
-      moves = record {
-        some-state = st .states-pos;
-        states-le = st .states-le;
-        rising = x .rising;
-        last-le = λ p k. omega (arith, x .first-le p k);
-        action-lt = λ i k.
-            let s = x .each i (omega (arith, x .end-is)) .1 .1 in
-            omega (arith, s .action-is, st .action-lt (s .number) (s .number-lt), st .actions-le);
-        target-lt = λ i k.
-            let s = x .each i (omega (arith, x .end-is)) .1 .1 in
-            omega (arith, s .target-is, st .target-lt (s .number) (s .number-lt));
-      };
-      sound = x .sound;
-      complete = λ p a q o.
-          let s = o .1 in
-          x .complete p a q (omega (arith, s .source-is, st .source-lt (s .number) (s .number-lt))) o;
-    }
+    let x = subst (λ (n : ℕ). StatesListed (LowMove (view m)) n to first actions targets) e listed in (
+      record {
+        moves = record {
+          some-state = st .states-pos;
+          states-le = st .states-le;
+          rising = x .rising;
+          last-le = λ p k. omega (arith, x .first-le p k);
+          action-lt = λ i k.
+              let s = x .each i (omega (arith, x .end-is)) .1 .1 in
+              omega (arith, s .action-is, st .action-lt (s .number) (s .number-lt), st .actions-le);
+          target-lt = λ i k.
+              let s = x .each i (omega (arith, x .end-is)) .1 .1 in
+              omega (arith, s .target-is, st .target-lt (s .number) (s .number-lt));
+        };
+        sound = x .sound;
+        complete = λ p a q o.
+            let s = o .1 in
+            x .complete p a q (omega (arith, s .source-is, st .source-lt (s .number) (s .number-lt))) o;
+      },
+      x .ordered,
+    )

@@ -97,11 +97,11 @@ loop-again c =
     omega (arith, long, at-start .pre .1 .1 .1 .0, at-start .pre .0 .states-le, inv .0, l) in (
       inv .0,
       omega (arith, l),
-      f .ensures .1,
+      f .ensures .1 .0,
       length-set (at-loop .loop .first) (at-loop .loop .p + 1) (f .result) ∙ inv .3,
       f .kept .1 .1 .1 .1 .1 .0 ∙ inv .4,
       f .kept .1 .1 .1 .1 .1 .1 .0 ∙ inv .5,
-      statesListed-suc k (inv .6) (f .ensures .0),
+      statesListed-suc k (inv .6) (f .ensures .0) (f .ensures .1 .1),
     )
 
 same-length : tie.Need-same-length Inv-loop μ-loop

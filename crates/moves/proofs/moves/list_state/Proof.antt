@@ -6,8 +6,10 @@ use lib.ListN.{length}
 use borrow.Author.Needs.{needs}
 use Rattle.model.specs.StoredModel.{modelAt}
 use Rattle.moves.specs.Inner.Listing.{Appended, LowAmong}
+use Rattle.ranking.specs.MoveList.{Rising}
 use Rattle.model.specs.Laws.System.IndexLaws.{begins-le}
 use Rattle.moves.specs.Laws.ListingLaws.{appended-no-step, appended-steps, appended-state}
+use Rattle.moves.specs.Laws.RisingLaws.{rising-nil, rising-suc}
 use Rattle.moves.proofs.moves.list_state.Statement.{statement}
 use Rattle.moves.proofs.moves.list_state.Tie as tie
 
@@ -16,6 +18,7 @@ Inv-loop store begins roles from actions₀ targets₀ of end j₀ at₀ actions
     (end ≤ length (modelAt store .steps)) × (j₀ ≤ j) × (j ≤ end) × (at ≤ j)
     × (length actions ≡ length actions₀) × (length targets ≡ length targets₀)
     × Appended (LowAmong (modelAt store) j₀ j) from at actions₀ targets₀ actions targets
+    × Rising from at actions targets
 
 abbrev μ-loop : tie.MeasureT-loop
 μ-loop store begins roles from actions₀ targets₀ of end j₀ at₀ actions targets j at = end - j
@@ -45,7 +48,7 @@ loop-holds c =
     let p = pre .1 .1 .1 .0 in
     let b = pre .1 .0 .1 .at (args .p .0) (omega (arith, p .0)) in
     let e = pre .1 .0 .1 .at (args .p .0 + 1) (omega (arith, p .0)) in
-    (e .from-le, omega arith, begins-le b e, p .1, refl, refl, appended-no-step)
+    (e .from-le, omega arith, begins-le b e, p .1, refl, refl, appended-no-step, rising-nil)
 
 list-step-requires : tie.Need-list-step-requires Inv-loop μ-loop
 list-step-requires c κs =
@@ -74,14 +77,21 @@ loop-again : tie.Need-loop-again Inv-loop μ-loop
 loop-again c =
     let after = c .before .before .before .before in
     let at-loop = after .before .before .before .before in
-    let inv = at-loop .loop .inv in (
+    let inv = at-loop .loop .inv in
+    let at-start = at-loop .before .before .before .before .before .before .before .before .before in
+    let index = at-start .pre .1 .0 .1 in
+    let p = at-start .args .p .0 in
+    let l = at-start .pre .1 .1 .1 .0 .0 in
+    let f = after .list-step .ensures in (
       inv .0,
       omega (arith, inv .1),
       omega (arith, after .before .before .before .loop-test .taken),
-      omega (arith, inv .3, after .list-step .ensures .1),
+      omega (arith, inv .3, f .1),
       after .list-step .kept .1 .1 .1 .1 .0 ∙ inv .4,
       after .list-step .kept .1 .1 .1 .1 .1 .0 ∙ inv .5,
-      appended-steps (inv .1) (omega arith) (inv .6) (after .list-step .ensures .0),
+      appended-steps (inv .1) (omega arith) (inv .6) (f .0),
+      rising-suc (at-start .pre .0) (index .at p (omega (arith, l))) (index .at (p + 1) (omega (arith, l))) (inv .1)
+          (after .before .before .before .loop-test .taken) (f .1) (inv .6) (f .0) (inv .7),
     )
 
 same-length : tie.Need-same-length Inv-loop μ-loop
@@ -99,7 +109,7 @@ returns c =
     let inv = c .before .loop .inv in
     let e = index .at (p + 1) (omega arith) in (
       appended-state (index .at p (omega arith)) e (omega (arith, inv .2, c .loop-test .left)) (inv .6),
-      omega (arith, inv .2, inv .3),
+      (omega (arith, inv .2, inv .3), inv .7),
     )
 
 pub list-state-spec : {M : Type 1} → statement M

@@ -29,7 +29,7 @@ rank-moves-requires c κs =
     let known = c .before .before .before .before in
     let after = known .before .before .before .before in
     let pre = after .before .before .before .before .before .before .before .before .pre in
-    (moveList-of-lists (after .list-moves .ensures) (known .states .ensures ∙ stored-states (pre .0)), pre .1 .1 .1)
+    (moveList-of-lists (after .list-moves .ensures .0) (known .states .ensures ∙ stored-states (pre .0)), pre .1 .1 .1)
 
 same-length : tie.Need-same-length
 same-length c = search needs
@@ -39,7 +39,7 @@ returns c =
     let known = c .before .before .before .before .before .before .before in
     let after = known .before .before .before .before in
     let pre = after .before .before .before .before .before .before .before .before .pre in
-    ranked-of-listed (after .list-moves .ensures) (known .states .ensures ∙ stored-states (pre .0))
+    ranked-of-listed (after .list-moves .ensures .0) (known .states .ensures ∙ stored-states (pre .0))
     (c .before .before .rank-moves .ensures)
 
 pub fill-table-spec : {M : Type 1} → statement M

@@ -1,23 +1,22 @@
--- The first i entries are 0.
+-- The first i numbers are 0.
 use Prim.Native.Nat.{_≤_, _-_}
 use native.Mathlib.Omega.{arith}
-use Rattle.text.specs.Limits.{tableLength}
 use Rattle.text.specs.Inner.Clearing.{Cleared}
 use Rattle.text.specs.Laws.ClearingLaws.{cleared-zero, cleared-suc, cleared-at}
-use Rattle.ranking.proofs.classes.clear.Statement.{statement}
-use Rattle.ranking.proofs.classes.clear.Tie as tie
+use Rattle.ranking.proofs.table.clear.Statement.{statement}
+use Rattle.ranking.proofs.table.clear.Tie as tie
 
 abbrev Inv-loop : tie.InvT-loop
-Inv-loop table₀ i₀ table i = (i ≤ tableLength) × Cleared 0 i table₀ table
+Inv-loop list₀ n i₀ list i = (i ≤ n) × Cleared 0 i list₀ list
 
 abbrev μ-loop : tie.MeasureT-loop
-μ-loop table₀ i₀ table i = tableLength - i
+μ-loop list₀ n i₀ list i = n - i
 
 loop-holds : tie.Need-loop-holds Inv-loop μ-loop
 loop-holds c = (omega arith, cleared-zero _)
 
-slice-write-table : tie.Need-slice-write-table Inv-loop μ-loop
-slice-write-table c = omega arith
+slice-write-list : tie.Need-slice-write-list Inv-loop μ-loop
+slice-write-list c = omega arith
 
 add-i : tie.Need-add-i Inv-loop μ-loop
 add-i c = omega arith
@@ -43,7 +42,7 @@ clear-spec =
     Inv-loop
     μ-loop
     loop-holds
-    slice-write-table
+    slice-write-list
     add-i
     loop-less
     loop-again
