@@ -43,7 +43,7 @@ fn class_at(class: &[u16; ROW], p: State) -> State
 }
 
 // Where the moves of p begin in the lists.
-fn moves_from(first: &[u16; INDEX_LENGTH], p: State) -> usize
+pub fn moves_from(first: &[u16; INDEX_LENGTH], p: State) -> usize
     requires { ⌜ p .0 < stateLimit ⌝ }
     ensures { λ r. ⌜ r ≡ getD (now (first .entry)) (p .0) 0 ⌝ }
 {
@@ -52,7 +52,7 @@ fn moves_from(first: &[u16; INDEX_LENGTH], p: State) -> usize
 }
 
 // Where they end.
-fn moves_to(first: &[u16; INDEX_LENGTH], p: State) -> usize
+pub fn moves_to(first: &[u16; INDEX_LENGTH], p: State) -> usize
     requires { ⌜ p .0 < stateLimit ⌝ }
     ensures { λ r. ⌜ r ≡ getD (now (first .entry)) (p .0 + 1) 0 ⌝ }
 {

@@ -1,0 +1,4 @@
+pub mod Runs
+pub mod Openings
+pub mod Filling
+pub mod Sides

@@ -1,0 +1,24 @@
+-- The sides of an entry, and the entries that were tested. Only the contracts of inner functions cite it.
+use mathlib.Core.Bool.{Bool, true, false}
+use mathlib.Core.List.{List}
+use Prim.Native.Nat.{ℕ, _≤_, _<_}
+use Rattle.lts.specs.Alike.{Moves, Relation}
+use Rattle.lts.specs.Book.{SoundAt}
+use Rattle.text.specs.Limits.{stateLimit, tableLength, pairPlace}
+use Rattle.books.specs.Books.{bookOf}
+
+-- R of the opener's state and the other's, whether the opener is the first side or not.
+abbrev pub Leads : Bool → Relation → Relation
+Leads true R x y = R x y
+Leads false R x y = R y x
+
+-- The number of their entry.
+abbrev pub leadPlace : Bool → ℕ → ℕ → ℕ
+leadPlace true x y = pairPlace x y
+leadPlace false x y = pairPlace y x
+
+-- The entries before entry k are sound, and entry k is bad if there is one.
+pub record SoundTo (Move : Moves) (book : List ℕ) (k : ℕ) : Type 0 where
+  pub number-le : k ≤ tableLength
+  pub sound : (p q : ℕ) → p < stateLimit → q < stateLimit → pairPlace p q < k → SoundAt Move (bookOf book) p q
+  pub bad : (p q : ℕ) → p < stateLimit → q < stateLimit → pairPlace p q ≡ k → ¬ (SoundAt Move (bookOf book) p q)

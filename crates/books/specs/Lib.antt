@@ -1,0 +1,4 @@
+pub mod Books
+pub mod Checks
+pub mod Inner
+pub mod Laws

@@ -1,0 +1,4 @@
+// Books of plays, over moves given as lists: the book of the moves' ranks, and the test of any book.
+pub mod book;
+pub mod check;
+pub mod runs;
