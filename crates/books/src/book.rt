@@ -109,18 +109,32 @@ fn first_opening(
     i
 }
 
-// Writes the entry of p and q.
-fn write_entry(book: &mut [u8], p: State, q: State, side: u8, a: Action, t: State, depth: u8)
-    requires { ⌜ bookLength ≤ length (now book) ⌝ }
-    requires { ⌜ (p .0 < stateLimit) × (q .0 < stateLimit) × (a .0 < actionLimit) × (t .0 < stateLimit) ⌝ }
+// Writes the entry of p and q: one side opens with the move at place i.
+fn write_entry(
+    n: u16,
+    first: &[u16; INDEX_LENGTH],
+    actions: &[u16; MOVES_LENGTH],
+    targets: &[u16; MOVES_LENGTH],
+    p: State,
+    q: State,
+    side: u8,
+    i: usize,
+    depth: u8,
+    book: &mut [u8],
+)
+    requires { ⌜ MoveList n (now first) (now actions) (now targets) ⌝ }
+    requires { ⌜ (p .0 < n) × (q .0 < n) × (i < getD (now first) n 0) × (bookLength ≤ length (now book)) ⌝ }
     ensures { λ _. ⌜ EntryWritten (pairPlace (p .0) (q .0))
-        (record { side = side; action = a .0; target = t .0; depth = depth })
+        (record { side = side; action = getD (now (actions .entry)) i 0; target = getD (now (targets .entry)) i 0;
+        depth = depth })
         (now (book .entry)) (now (book .exit)) ⌝ }
 {
     let at = ENTRY_SIZE * pair_place(p, q);
+    let a = actions[i] as u8;
+    let t = targets[i] as u8;
     book[at] = side;
-    book[at + 1] = a.0 as u8;
-    book[at + 2] = t.0 as u8;
+    book[at + 1] = a;
+    book[at + 2] = t;
     book[at + 3] = depth;
 }
 
@@ -152,12 +166,12 @@ fn fill_pair(
     }
     let i = first_opening(n, first, actions, targets, runs, table, p, q, depth);
     if i < moves_to(first, p) {
-        write_entry(book, p, q, 1, Action(actions[i]), State(targets[i]), depth);
+        write_entry(n, first, actions, targets, p, q, 1, i, depth, book);
         return;
     }
     // One of the two sides has such an opening.
     let j = first_opening(n, first, actions, targets, runs, table, q, p, depth);
-    write_entry(book, p, q, 2, Action(actions[j]), State(targets[j]), depth);
+    write_entry(n, first, actions, targets, p, q, 2, j, depth, book);
 }
 
 // Writes the entries of p and each state.

@@ -1,0 +1,173 @@
+-- The first opening of our own book, from the search for it. Document 02, (v). Assumes nothing.
+use mathlib.Core.List.{List}
+use mathlib.Core.Logic.{_⊎_, inl, inr, ⊎-elim}
+use mathlib.Core.Path.{_≡_, refl, sym, ap, subst}
+use Prim.Native.Nat.{ℕ, _+_, _≤_, _<_}
+use native.Mathlib.Omega.{arith}
+use lib.ListN.{getD}
+use borrow.Author.Count.{below-more}
+use Rattle.lts.specs.Alike.{Moves, Rank}
+use Rattle.lts.specs.AlikeLaws.{rank-unique, rank-sym}
+use Rattle.lts.specs.TestsLaws.{lt-or-le}
+use Rattle.lts.specs.Book.{Opens, Plays, first-opens, second-opens, LowerRank, FirstPlay}
+use Rattle.lts.specs.OwnBookLaws.{play-exists}
+use Rattle.text.specs.Limits.{stateLimit, actionLimit, pairPlace}
+use Rattle.ranking.specs.MoveList.{Listed, MoveList, Rising, Ordered}
+use Rattle.ranking.specs.Laws.MoveListLaws.{listed-game, listed-target-lt, place-lt-last}
+use Rattle.ranking.specs.Table.{Ranks}
+use Rattle.books.specs.Inner.Openings.{RankIn, LowerAnswers, FirstOpening}
+
+module _ {n : ℕ} {first actions targets table : List ℕ} (L : MoveList n first actions targets)
+    (O : Ordered n first actions targets)
+    (R : Ranks (Listed n first actions targets) n table) where
+  abbrev Move : Moves
+  Move = Listed n first actions targets
+
+  -- ---- ranks in the table
+
+  lowerRank-of-rankIn : {d x y : ℕ} → x < n → y < n → RankIn table d x y → LowerRank Move d x y
+  lowerRank-of-rankIn {d} {x} {y} lx ly h = record {
+    rank = getD table (pairPlace x y) 0;
+    rank-is = R .ranks x y lx ly;
+    rank-pos = h .rank-pos;
+    rank-lt = h .rank-lt;
+  }
+
+  rankIn-of-lowerRank : {d x y : ℕ} → x < n → y < n → LowerRank Move d x y → RankIn table d x y
+  rankIn-of-lowerRank {d} {x} {y} lx ly h =
+      let e = rank-unique Move x y _ _ (R .ranks x y lx ly) (h .rank-is) in
+      record { rank-pos = omega (arith, e, h .rank-pos); rank-lt = omega (arith, e, h .rank-lt) }
+
+  lowerRank-sym : {d x y : ℕ} → LowerRank Move d x y → LowerRank Move d y x
+  lowerRank-sym {x = x} {y} h = record {
+    rank = h .rank;
+    rank-is = rank-sym Move x y (h .rank) (h .rank-is);
+    rank-pos = h .rank-pos;
+    rank-lt = h .rank-lt;
+  }
+
+  -- ---- openings of one side
+
+  -- A move of p that q cannot answer otherwise opens; and one that opens is such a move.
+  opens-of-lower : {d p q a t : ℕ} → Move p a t → LowerAnswers Move table d q a t → Opens Move (LowerRank Move d) p q a t
+  opens-of-lower {q = q} {a} {t} m h = record {
+    opening = m;
+    answers = λ u w.
+        lowerRank-of-rankIn (listed-target-lt L _ a t m) (listed-target-lt L q a u w) (h u w);
+  }
+
+  lower-of-opens : {d p q a t : ℕ} → Opens Move (LowerRank Move d) p q a t → LowerAnswers Move table d q a t
+  lower-of-opens {q = q} {a} {t} o u w =
+      rankIn-of-lowerRank (listed-target-lt L _ a t (o .opening)) (listed-target-lt L q a u w) (o .answers u w)
+
+  -- The same where the opener is the second side.
+  opens-turned : {d p q a t : ℕ} → Opens Move (λ x y. LowerRank Move d y x) p q a t
+      → Opens Move (LowerRank Move d) p q a t
+  opens-turned o = record { opening = o .opening; answers = λ u w. lowerRank-sym (o .answers u w) }
+
+  opens-turned-back : {d p q a t : ℕ} → Opens Move (LowerRank Move d) p q a t
+      → Opens Move (λ x y. LowerRank Move d y x) p q a t
+  opens-turned-back o = record { opening = o .opening; answers = λ u w. lowerRank-sym (o .answers u w) }
+
+  -- ---- the place that the search finds
+
+  module _ {d p q at : ℕ} (lp : p < n)
+      (F : FirstOpening Move actions targets table d q (getD first p 0) (getD first (p + 1) 0) at) where
+    -- No opening stands before it.
+    place-le : (a t : ℕ) (m : Move p a t) → LowerAnswers Move table d q a t → at ≤ m .place
+    place-le a t m h = ⊎-elim
+        (λ l.
+        absurd (F .none-before (m .place) (m .first-le) l
+        (subst (λ (b : ℕ). LowerAnswers Move table d q b (getD targets (m .place) 0)) (sym (m .action-is))
+        (subst (λ (u : ℕ). LowerAnswers Move table d q a u) (sym (m .target-is)) h))))
+        (λ l. l)
+        (lt-or-le (m .place) at)
+
+    place-cases : (a t : ℕ) (o : Opens Move (LowerRank Move d) p q a t)
+        → (at < o .opening .place) ⊎ (at ≡ o .opening .place)
+    place-cases a t o = ⊎-elim
+        (λ l. inl l)
+        (λ l. inr (omega (arith, l, place-le a t (o .opening) (lower-of-opens o))))
+        (lt-or-le at (o .opening .place))
+
+    -- Where there is an opening, the search finds one.
+    pub found : (a t : ℕ) → Opens Move (LowerRank Move d) p q a t → at < getD first (p + 1) 0
+    found a t o = omega (arith, place-le a t (o .opening) (lower-of-opens o), o .opening .place-lt)
+
+    module _ (l : at < getD first (p + 1) 0) where
+      pub opens-at : Opens Move (LowerRank Move d) p q (getD actions at 0) (getD targets at 0)
+      opens-at = opens-of-lower
+          (record {
+            place = at;
+            source-lt = lp;
+            first-le = F .from-le;
+            place-lt = l;
+            action-is = refl;
+            target-is = refl;
+          })
+          (F .opens l)
+
+      -- Of all openings of p it has the lowest action, and of those of this action the lowest target.
+      pub action-lowest : (a t : ℕ) → Opens Move (LowerRank Move d) p q a t → getD actions at 0 ≤ a
+      action-lowest a t o =
+          let m = o .opening in
+          ⊎-elim
+          (λ k. omega (arith, O .each p lp .action-le at (m .place) (F .from-le) k (m .place-lt), m .action-is))
+          (λ e. omega (arith, ap (λ (i : ℕ). getD actions i 0) e, m .action-is))
+          (place-cases a t o)
+
+      pub target-lowest : (t : ℕ) → Opens Move (LowerRank Move d) p q (getD actions at 0) t → getD targets at 0 ≤ t
+      target-lowest t o =
+          let m = o .opening in
+          ⊎-elim
+          (λ k.
+          omega (
+            arith,
+            O .each p lp .target-lt at (m .place) (F .from-le) k (m .place-lt) (sym (m .action-is)),
+            m .target-is,
+          ))
+          (λ e. omega (arith, ap (λ (i : ℕ). getD targets i 0) e, m .target-is))
+          (place-cases (getD actions at 0) t o)
+
+  -- ---- the entry
+
+  module _ {d p q at : ℕ} (lp : p < n) (lq : q < n) (rank : Rank Move p q d) (pos : 0 < d)
+      (F : FirstOpening Move actions targets table d q (getD first p 0) (getD first (p + 1) 0) at) where
+    -- The first side opens.
+    pub first-play : at < getD first (p + 1) 0
+        → FirstPlay Move (LowerRank Move d) p q 1 (getD actions at 0) (getD targets at 0)
+    first-play l = record {
+      plays = first-opens refl (opens-at lp F l);
+      first-side = λ s b u x. side-pos s b u x;
+      lowest-action = λ b u x. action-lowest lp F l b u (by-first b u x);
+      lowest-target = λ u x. target-lowest lp F l u (by-first _ u x);
+    }
+      where
+        side-pos : (s b u : ℕ) → Plays Move (LowerRank Move d) p q s b u → 1 ≤ s
+        side-pos s b u (first-opens e o) = omega arith
+        side-pos s b u (second-opens e o) = omega arith
+
+        by-first : (b u : ℕ) → Plays Move (LowerRank Move d) p q 1 b u → Opens Move (LowerRank Move d) p q b u
+        by-first b u (first-opens e o) = o
+        by-first b u (second-opens e o) = absurd (omega arith)
+
+    -- The second side opens where the first side cannot.
+    module _ {back : ℕ} (left : ¬ (at < getD first (p + 1) 0))
+        (G : FirstOpening Move actions targets table d p (getD first q 0) (getD first (q + 1) 0) back) where
+      by-second : (s b u : ℕ) → Plays Move (LowerRank Move d) p q s b u
+          → (s ≡ 2) × Opens Move (LowerRank Move d) q p b u
+      by-second s b u (first-opens e o) = absurd (left (found lp F b u o))
+      by-second s b u (second-opens e o) = (e, opens-turned o)
+
+      pub second-found : back < getD first (q + 1) 0
+      second-found =
+          let x = play-exists Move n _ (listed-game L) p q d lp lq rank pos in
+          found lq G (x .1) (x .2) (by-second (x .0) (x .1) (x .2) (x .3) .1)
+
+      pub second-play : FirstPlay Move (LowerRank Move d) p q 2 (getD actions back 0) (getD targets back 0)
+      second-play = record {
+        plays = second-opens refl (opens-turned-back (opens-at lq G second-found));
+        first-side = λ s b u x. omega (arith, by-second s b u x .0);
+        lowest-action = λ b u x. action-lowest lq G second-found b u (by-second 2 b u x .1);
+        lowest-target = λ u x. target-lowest lq G second-found u (by-second 2 _ u x .1);
+      }
