@@ -1,3 +1,4 @@
+pub mod RunsLaws
 pub mod IndexedLaws
 pub mod OpeningsLaws
 pub mod FillingLaws

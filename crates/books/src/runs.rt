@@ -2,6 +2,7 @@
 // state are listed by action.
 use ranking::classes::moves_from;
 use ranking::classes::moves_to;
+use ranking::classes::wide;
 use text::Action;
 use text::State;
 use text::limits::ACTION_LIMIT;
@@ -18,7 +19,7 @@ ghost use Rattle.books.specs.Inner.Runs.{IndexedTo, Given, IndexOf};
 // The number of the run of p and a.
 fn run_place(p: State, a: Action) -> usize
     requires { ⌜ (p .0 < stateLimit) × (a .0 < actionLimit) ⌝ }
-    ensures { λ r. ⌜ r ≡ runPlace (p .0) (a .0) ⌝ }
+    ensures { λ r. ⌜ (r ≡ runPlace (p .0) (a .0)) × (r + 1 < runsLength) ⌝ }
 {
     let state = p.0 as usize;
     let action = a.0 as usize;
@@ -31,7 +32,7 @@ pub fn run_from(runs: &[u16; RUNS_LENGTH], p: State, a: Action) -> usize
     ensures { λ r. ⌜ r ≡ getD (now (runs .entry)) (runPlace (p .0) (a .0)) 0 ⌝ }
 {
     let at = run_place(p, a);
-    runs[at] as usize
+    wide(runs[at])
 }
 
 // Where they end.
@@ -40,7 +41,7 @@ pub fn run_to(runs: &[u16; RUNS_LENGTH], p: State, a: Action) -> usize
     ensures { λ r. ⌜ r ≡ getD (now (runs .entry)) (runPlace (p .0) (a .0) + 1) 0 ⌝ }
 {
     let at = run_place(p, a);
-    runs[at + 1] as usize
+    wide(runs[at + 1])
 }
 
 // Gives the places from `from` up to `to` the value, and yields the next place.
@@ -102,6 +103,6 @@ pub fn index_moves(
     for p in 0..n {
         k = index_state(n, first, actions, targets, State(p), k, runs);
     }
-    let last = moves_from(first, State(n));
+    let last = moves_to(first, State(n - 1));
     give(runs, k, RUNS_LENGTH, last as u16);
 }

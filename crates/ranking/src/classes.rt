@@ -27,7 +27,7 @@ ghost use Rattle.ranking.specs.Inner.TableWrites.{RanksUpTo, Finished};
 const MARKS_LENGTH: usize = ACTION_LIMIT as usize * ROW;
 
 // A number of a list as a place.
-fn wide(x: u16) -> usize
+pub fn wide(x: u16) -> usize
     ensures { λ r. ⌜ r ≡ x ⌝ }
 {
     x as usize

@@ -40,6 +40,7 @@ pub record PlaceOf (n : ℕ) (first : List ℕ) (p i : ℕ) : Type 0 where
 
 -- Place `at` parts the moves whose state and action come before run k from the others.
 pub record RunAt (n : ℕ) (first actions : List ℕ) (k at : ℕ) : Type 0 where
+  pub first-le : getD first 0 0 ≤ at
   pub at-le : at ≤ getD first n 0
   pub below : (p i : ℕ) → PlaceOf n first p i → i < at → runPlace p (getD actions i 0) < k
   pub above : (p i : ℕ) → PlaceOf n first p i → at ≤ i → k ≤ runPlace p (getD actions i 0)

@@ -28,7 +28,8 @@ abbrev pub listed? : ℕ → List ℕ → List ℕ → List ℕ → ℕ → ℕ 
 listed? n first actions targets p a q = any (getD first (p + 1) 0) (listedAt? n first actions targets p a q)
 
 module _ {n : ℕ} {first actions targets : List ℕ} (L : MoveList n first actions targets) where
-  rising-le : (q : ℕ) → q ≤ n → (p : ℕ) → p ≤ q → getD first p 0 ≤ getD first q 0
+  -- The moves of a lower state begin no later.
+  pub rising-le : (q : ℕ) → q ≤ n → (p : ℕ) → p ≤ q → getD first p 0 ≤ getD first q 0
   rising-le q lq p lp = le-ind (λ (m : ℕ). m ≤ n → getD first p 0 ≤ getD first m 0) (λ _. omega arith)
       (λ m _ f l. omega (arith, f (omega arith), L .rising m l, ap (λ (x : ℕ). getD first x 0) (add-one m))) q lp lq
 
