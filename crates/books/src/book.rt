@@ -125,8 +125,12 @@ fn write_entry(
     requires { ⌜ MoveList n (now first) (now actions) (now targets) ⌝ }
     requires { ⌜ (p .0 < n) × (q .0 < n) × (i < getD (now first) n 0) × (bookLength ≤ length (now book)) ⌝ }
     ensures { λ _. ⌜ EntryWritten (pairPlace (p .0) (q .0))
-        (record { side = side; action = getD (now (actions .entry)) i 0; target = getD (now (targets .entry)) i 0;
-        depth = depth })
+        (record {
+          side = side;
+          action = getD (now (actions .entry)) i 0;
+          target = getD (now (targets .entry)) i 0;
+          depth = depth;
+        })
         (now (book .entry)) (now (book .exit)) ⌝ }
 {
     let at = ENTRY_SIZE * pair_place(p, q);

@@ -1,13 +1,10 @@
--- The first side opens if it can, and else the second can.
-use mathlib.Core.Path.{sym, subst}
-use Prim.Native.Nat.{ℕ, _+_, _<_}
+-- The first side opens if it can, and else the second side can.
+use Prim.Native.Nat.{_+_, _<_}
 use native.Mathlib.Omega.{arith}
 use lib.ListN.{getD}
 use borrow.Author.Needs.{needs}
-use Rattle.lts.specs.Alike.{Rank}
 use Rattle.ranking.specs.Laws.MoveListLaws.{place-lt-last}
-use Rattle.books.specs.Laws.FillingLaws.{pairFilled-none, pairFilled-entry}
-use Rattle.books.specs.Laws.OpeningsLaws.{first-play, second-found, second-play}
+use Rattle.books.specs.Laws.PairLaws.{pair-none, pair-first, second-place-lt, pair-second}
 use Rattle.books.proofs.book.fill_pair.Statement.{statement}
 use Rattle.books.proofs.book.fill_pair.Tie as tie
 
@@ -20,8 +17,8 @@ returns c =
     let pre = start .pre .1 .1 .1 in
     let lp = pre .1 .0 .0 in
     let lq = pre .1 .0 .1 in
-    pairFilled-none (pre .0 .0 .ranks (start .args .p .0) (start .args .q .0) lp lq)
-    (omega (arith, c .if1 .taken, c .before .rank-at .ensures)) (pre .1 .1)
+    pair-none (start .pre .0) (start .pre .1 .0) (pre .0 .0) lp lq (c .before .rank-at .ensures) (c .if1 .taken)
+    (pre .1 .1)
 
 first-opening-requires : tie.Need-first-opening-requires
 first-opening-requires c κs = search needs
@@ -30,25 +27,53 @@ moves-to-requires : tie.Need-moves-to-requires
 moves-to-requires c κs = search needs
 
 write-entry-requires : tie.Need-write-entry-requires
-write-entry-requires c κs = search needs
+write-entry-requires c κs =
+    let start = c .before .before .before .before .before .before .before .before in
+    let L = start .pre .0 in
+    let pre = start .pre .1 .1 .1 .1 .0 in
+    let l : c .before .before .before .first-opening .result < getD (start .args .first .now) (start .args .p .0 + 1) 0 =
+    omega (arith, c .before .if2 .taken, c .before .before .moves-to .ensures) in
+    (L, (pre .0, pre .1, place-lt-last L (pre .0) l, pre .2))
 
 same-length : tie.Need-same-length
 same-length c = search needs
 
 returns-2 : tie.Need-returns-2
-returns-2 c = ?
+returns-2 c =
+    let start = c .before .before .before .before .before .before .before .before .before .before .before in
+    let pre = start .pre .1 .1 .1 in
+    let lp = pre .1 .0 .0 in
+    let lq = pre .1 .0 .1 in
+    pair-first (start .pre .0) (start .pre .1 .0) (pre .0 .0) lp lq (c .before .before .before .before .before .before .before .before .rank-at .ensures) (c .before .before .before .before .before .before .before .if1 .left)
+    (c .before .before .before .before .before .before .first-opening .ensures) (omega (arith, c .before .before .before .before .if2 .taken, c .before .before .before .before .before .moves-to .ensures))
+    (c .before .before .write-entry .ensures)
 
 first-opening-requires-2 : tie.Need-first-opening-requires-2
 first-opening-requires-2 c κs = search needs
 
 write-entry-requires-2 : tie.Need-write-entry-requires-2
-write-entry-requires-2 c κs = search needs
+write-entry-requires-2 c κs =
+    let start = c .before .before .before .before .before .before .before .before .before in
+    let pre = start .pre .1 .1 .1 in
+    let lp = pre .1 .0 .0 in
+    let lq = pre .1 .0 .1 in
+    let l = second-place-lt (start .pre .0) (start .pre .1 .0) (pre .0 .0) lp lq (c .before .before .before .before .before .before .rank-at .ensures)
+    (c .before .before .before .before .before .if1 .left) (c .before .before .before .before .first-opening .ensures) (λ k. omega (arith, k, c .before .before .if2 .left, c .before .before .before .moves-to .ensures))
+    (c .before .first-opening2 .ensures) in
+    (start .pre .0, (lp, lq, l, pre .1 .0 .2))
 
 same-length-2 : tie.Need-same-length-2
 same-length-2 c = search needs
 
 returns-3 : tie.Need-returns-3
-returns-3 c = ?
+returns-3 c =
+    let start = c .before .before .before .before .before .before .before .before .before .before .before .before in
+    let pre = start .pre .1 .1 .1 in
+    let lp = pre .1 .0 .0 in
+    let lq = pre .1 .0 .1 in
+    pair-second (start .pre .0) (start .pre .1 .0) (pre .0 .0) lp lq (c .before .before .before .before .before .before .before .before .before .rank-at .ensures) (c .before .before .before .before .before .before .before .before .if1 .left)
+    (c .before .before .before .before .before .before .before .first-opening .ensures) (λ k. omega (arith, k, c .before .before .before .before .before .if2 .left, c .before .before .before .before .before .before .moves-to .ensures))
+    (c .before .before .before .before .first-opening2 .ensures) (c .before .before .write-entry2 .ensures)
 
 pub fill-pair-spec : {M : Type 1} → statement M
 fill-pair-spec =
