@@ -3,3 +3,4 @@ pub mod IndexedLaws
 pub mod OpeningsLaws
 pub mod FillingLaws
 pub mod PairLaws
+pub mod RowsLaws

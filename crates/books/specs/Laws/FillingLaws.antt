@@ -8,7 +8,7 @@ use lib.ListN.{length, getD, set, length-set}
 use lib.Seq.{getD-set-same, getD-set-other}
 use Rattle.lts.specs.Alike.{Moves, Rank}
 use Rattle.lts.specs.AlikeLaws.{rank-unique}
-use Rattle.lts.specs.Book.{Entry, LowerRank, FirstPlay, OwnEntry, noEntry}
+use Rattle.lts.specs.Book.{LowerRank, FirstPlay, OwnEntry, noEntry}
 use Rattle.lts.specs.OwnBookLaws.{entry-ext}
 use Rattle.lts.specs.TestsLaws.{lt-or-le}
 use Rattle.text.specs.Limits.{tableLength, pairPlace, entrySize, bookLength}

@@ -4,9 +4,8 @@ use mathlib.Core.Path.{_≡_, refl, subst}
 use Prim.Native.Nat.{ℕ, _+_, _≤_, _<_}
 use native.Mathlib.Omega.{arith}
 use lib.ListN.{getD}
-use borrow.Author.Count.{below-more}
 use Rattle.text.specs.Limits.{stateLimit, actionLimit, stepLimit, runPlace}
-use Rattle.books.specs.Inner.Runs.{InRun, Indexed, Runs}
+use Rattle.books.specs.Inner.Runs.{Indexed, Runs}
 
 module _ {runs targets : List ℕ} {p a from to : ℕ} (lp : p < stateLimit) (la : a < actionLimit)
     (from-is : from ≡ getD runs (runPlace p a) 0) (to-is : to ≡ getD runs (runPlace p a + 1) 0) where

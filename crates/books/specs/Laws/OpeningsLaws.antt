@@ -5,15 +5,14 @@ use mathlib.Core.Path.{_≡_, refl, sym, ap, subst}
 use Prim.Native.Nat.{ℕ, _+_, _≤_, _<_}
 use native.Mathlib.Omega.{arith}
 use lib.ListN.{getD}
-use borrow.Author.Count.{below-more}
 use Rattle.lts.specs.Alike.{Moves, Rank}
 use Rattle.lts.specs.AlikeLaws.{rank-unique, rank-sym}
 use Rattle.lts.specs.TestsLaws.{lt-or-le}
 use Rattle.lts.specs.Book.{Opens, Plays, first-opens, second-opens, LowerRank, FirstPlay}
 use Rattle.lts.specs.OwnBookLaws.{play-exists}
-use Rattle.text.specs.Limits.{stateLimit, actionLimit, pairPlace}
-use Rattle.ranking.specs.MoveList.{Listed, MoveList, Rising, Ordered}
-use Rattle.ranking.specs.Laws.MoveListLaws.{listed-game, listed-target-lt, place-lt-last}
+use Rattle.text.specs.Limits.{pairPlace}
+use Rattle.ranking.specs.MoveList.{Listed, MoveList, Ordered}
+use Rattle.ranking.specs.Laws.MoveListLaws.{listed-game, listed-target-lt}
 use Rattle.ranking.specs.Table.{Ranks}
 use Rattle.books.specs.Inner.Openings.{RankIn, LowerAnswers, FirstOpening}
 
