@@ -1,0 +1,2 @@
+pub mod InRunLaws
+pub mod SidesLaws

@@ -1,6 +1,7 @@
 -- The sides of an entry, and the entries that were tested. Only the contracts of inner functions cite it.
 use mathlib.Core.Bool.{Bool, true, false}
 use mathlib.Core.List.{List}
+use mathlib.Core.Path.{_≡_}
 use Prim.Native.Nat.{ℕ, _≤_, _<_}
 use Rattle.lts.specs.Alike.{Moves, Relation}
 use Rattle.lts.specs.Book.{SoundAt}
