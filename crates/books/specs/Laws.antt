@@ -1,3 +1,4 @@
+pub mod ChecksLaws
 pub mod EntryLaws
 pub mod InRunLaws
 pub mod SidesLaws

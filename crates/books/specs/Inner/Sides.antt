@@ -18,8 +18,13 @@ abbrev pub leadPlace : Bool → ℕ → ℕ → ℕ
 leadPlace true x y = pairPlace x y
 leadPlace false x y = pairPlace y x
 
+-- The entries before entry k are sound.
+abbrev pub SoundBefore : Moves → List ℕ → ℕ → Type 0
+SoundBefore Move book k =
+    (p q : ℕ) → p < stateLimit → q < stateLimit → pairPlace p q < k → SoundAt Move (bookOf book) p q
+
 -- The entries before entry k are sound, and entry k is bad if there is one.
 pub record SoundTo (Move : Moves) (book : List ℕ) (k : ℕ) : Type 0 where
   pub number-le : k ≤ tableLength
-  pub sound : (p q : ℕ) → p < stateLimit → q < stateLimit → pairPlace p q < k → SoundAt Move (bookOf book) p q
+  pub sound : SoundBefore Move book k
   pub bad : (p q : ℕ) → p < stateLimit → q < stateLimit → pairPlace p q ≡ k → ¬ (SoundAt Move (bookOf book) p q)
