@@ -1,6 +1,6 @@
 -- The entries are tested one by one: the first bad one is told, or all are sound.
 -- Document 02, (v). Assumes nothing.
-use mathlib.Core.List.{List, []}
+use mathlib.Core.List.{List}
 use mathlib.Core.Logic.{_⊎_, inl, inr}
 use mathlib.Core.Path.{_≡_, refl, sym, ap, subst}
 use Prim.Native.Nat.{ℕ, _+_, _/_, _%_, _<_}
@@ -9,10 +9,11 @@ use Rattle.lts.specs.TestsLaws.{eq-or-not}
 use Rattle.lts.specs.Alike.{Moves}
 use Rattle.lts.specs.Book.{SoundAt}
 use Rattle.lts.specs.BookLaws.{soundAt-same}
-use Rattle.text.specs.Faults.{answers, refuses}
+use Rattle.text.specs.Faults.{refuses}
 use Rattle.text.specs.Limits.{stateLimit, tableLength, pairPlace}
 use Rattle.books.specs.Books.{bookOf}
-use Rattle.books.specs.Checks.{CheckDone, accepted, refused}
+use Rattle.books.specs.declared.check.Checked.the-variants as checked
+use Rattle.books.specs.Checks.{checkedOutcome, FirstBad, CheckDone, accepted, refused}
 use Rattle.books.specs.Inner.Sides.{SoundBefore, SoundTo}
 
 -- Entry k is that of k / 128 and k % 128, and of no others.
@@ -55,18 +56,21 @@ module _ (Move : Moves) (book : List ℕ) where
 -- N are the moves that M are, said in another way.
 module _ {M N : Moves} (forth : (p a q : ℕ) → M p a q → N p a q) (back : (p a q : ℕ) → N p a q → M p a q)
     {book : List ℕ} {k : ℕ} (s : SoundTo M book k) where
-  pub checkDone-accepted : ¬ (k < tableLength) → CheckDone N book (answers [])
-  checkDone-accepted l =
+  pub checkDone-sound : ¬ (k < tableLength) → CheckDone N book (checkedOutcome checked.Sound)
+  unfolding checkedOutcome
+  checkDone-sound l =
       accepted (λ p q lp lq. soundAt-same forth back (bookOf book) p q (s .sound p q lp lq (omega arith))) refl
 
-  pub checkDone-refused : k < tableLength → CheckDone N book (refuses 34 k)
-  checkDone-refused l =
+  pub checkDone-bad : k < tableLength → CheckDone N book (checkedOutcome (checked.Bad k))
+  unfolding checkedOutcome
+  checkDone-bad l =
       let p = k / stateLimit in
       let q = k % stateLimit in
       let e : pairPlace p q ≡ k = omega arith in
-      refused p q (record {
+      let first-bad : FirstBad N book p q = record {
         first-lt = omega arith;
         second-lt = omega arith;
         bad = λ h. s .bad p q (omega arith) (omega arith) e (soundAt-same back forth (bookOf book) p q h);
         sound-before = λ x y lx ly b. soundAt-same forth back (bookOf book) x y (s .sound x y lx ly (omega arith));
-      }) (ap (refuses 34) (sym e))
+      } in
+      refused p q first-bad (ap (refuses 34) (sym e))
