@@ -30,11 +30,11 @@ pub enum Checked {
     Bad(usize),
 }
 
-// A byte as a number of 16 bits.
-fn wide(x: u8) -> u16
-    ensures { λ r. ⌜ r ≡ x ⌝ }
+// The value of a byte, in the width of states and actions.
+fn byte_value(b: u8) -> u16
+    ensures { λ r. ⌜ r ≡ b ⌝ }
 {
-    x as u16
+    b as u16
 }
 
 // Whether p has a move with the action a to t.
@@ -156,11 +156,11 @@ fn sound_at(
     if side == 0 {
         return true;
     }
-    let a = wide(book[at + 1]);
+    let a = byte_value(book[at + 1]);
     if a >= ACTION_LIMIT {
         return false;
     }
-    let t = wide(book[at + 2]);
+    let t = byte_value(book[at + 2]);
     let depth = book[at + 3];
     if side == 1 {
         return opens(runs, targets, book, true, p, q, Action(a), State(t), depth);

@@ -4,9 +4,9 @@ use mathlib.Core.List.{List}
 use mathlib.Core.Path.{_≡_}
 use Prim.Native.Nat.{ℕ, _≤_, _<_}
 use Rattle.lts.specs.Alike.{Moves, Relation}
-use Rattle.lts.specs.Book.{SoundAt}
+use Rattle.lts.specs.Book.{Present, SoundAt}
 use Rattle.text.specs.Limits.{stateLimit, tableLength, pairPlace}
-use Rattle.books.specs.Books.{bookOf}
+use Rattle.books.specs.Books.{entryNumber, bookOf}
 
 -- R of the opener's state and the other's, whether the opener is the first side or not.
 abbrev pub Leads : Bool → Relation → Relation
@@ -17,6 +17,11 @@ Leads false R x y = R y x
 abbrev pub leadPlace : Bool → ℕ → ℕ → ℕ
 leadPlace true x y = pairPlace x y
 leadPlace false x y = pairPlace y x
+
+-- Entry k is there, of a depth below the one given.
+pub record LowerNumber (book : List ℕ) (depth k : ℕ) : Type 0 where
+  pub present : Present (entryNumber book k)
+  pub depth-lt : entryNumber book k .depth < depth
 
 -- The entries before entry k are sound.
 abbrev pub SoundBefore : Moves → List ℕ → ℕ → Type 0

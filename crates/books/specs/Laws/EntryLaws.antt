@@ -1,44 +1,44 @@
--- Whether an entry is sound, by its four bytes.
+-- Whether an entry is sound, by what was read of it.
 -- Document 02, (v). Assumes nothing.
 use mathlib.Core.Bool.{Bool, true, false}
 use mathlib.Core.List.{List}
 use mathlib.Core.Path.{_≡_, sym, ap, _∙_, subst}
-use Prim.Native.Nat.{ℕ, _+_, _*_, _<_}
+use Prim.Native.Nat.{ℕ, _<_}
 use native.Mathlib.Omega.{arith}
-use lib.ListN.{getD}
 use Rattle.lts.specs.Alike.{Moves, Relation}
 use Rattle.lts.specs.Book.{Entry, Book, Present, Opens, Plays, first-opens, second-opens, LowerEntry, SoundAt}
 use Rattle.text.specs.Decides.{Decides}
-use Rattle.text.specs.Limits.{actionLimit, pairPlace, entrySize}
+use Rattle.text.specs.Limits.{actionLimit, pairPlace}
 use Rattle.text.specs.Laws.DecidesLaws.{decides-iff}
-use Rattle.books.specs.Books.{bookOf}
+use Rattle.books.specs.Books.{entryNumber, bookOf}
 use Rattle.books.specs.Inner.Sides.{Leads}
 
--- The entry of p and q, read from place `at` on.
-pub bookOf-at : (book : List ℕ) (p q : ℕ) {at a t : ℕ} → at ≡ entrySize * pairPlace p q → a ≡ getD book (at + 1) 0
-    → t ≡ getD book (at + 2) 0
-    → bookOf book p q ≡ record { side = getD book at 0; action = a; target = t; depth = getD book (at + 3) 0 }
-bookOf-at book p q {at} {a} {t} at-is a-is t-is = ap here (sym at-is) ∙ ap with-action (sym a-is)
-    ∙ ap with-target (sym t-is)
-  where
-    here : ℕ → Entry
-    here x = record {
-      side = getD book x 0;
-      action = getD book (x + 1) 0;
-      target = getD book (x + 2) 0;
-      depth = getD book (x + 3) 0;
+-- The entry of p and q, from its number, with its action and target as they were read.
+pub bookOf-number : (book : List ℕ) (p q : ℕ) {k a t : ℕ} → k ≡ pairPlace p q → a ≡ entryNumber book k .action
+    → t ≡ entryNumber book k .target → bookOf book p q ≡ record {
+      side = entryNumber book k .side;
+      action = a;
+      target = t;
+      depth = entryNumber book k .depth;
     }
-
+bookOf-number book p q {k} {a} {t} number-is a-is t-is =
+    ap (entryNumber book) (sym number-is) ∙ ap with-action (sym a-is) ∙ ap with-target (sym t-is)
+  where
     with-action : ℕ → Entry
     with-action x = record {
-      side = getD book at 0;
+      side = entryNumber book k .side;
       action = x;
-      target = getD book (at + 2) 0;
-      depth = getD book (at + 3) 0;
+      target = entryNumber book k .target;
+      depth = entryNumber book k .depth;
     }
 
     with-target : ℕ → Entry
-    with-target x = record { side = getD book at 0; action = a; target = x; depth = getD book (at + 3) 0 }
+    with-target x = record {
+      side = entryNumber book k .side;
+      action = a;
+      target = x;
+      depth = entryNumber book k .depth;
+    }
 
 -- ---- plays of a known side
 

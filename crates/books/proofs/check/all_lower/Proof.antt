@@ -83,8 +83,8 @@ returns-2 c =
     let a = start .args in
     let to = at-loop .before .before .run-to in
     let from = at-loop .before .run-from in
-    indexed-each (a .runs .now) (a .targets .now) (start .pre .1 .0 .0) (start .pre .1 .0 .1) (to .ensures) (from .ensures)
-    (λ (u : ℕ). Leads (a .first) (LowerEntry (bookOf (a .book .now)) (a .depth)) (a .t .0) u)
+    indexed-each (a .runs .now) (a .targets .now) (start .pre .1 .0 .0) (start .pre .1 .0 .1) (to .ensures)
+    (from .ensures) (λ (u : ℕ). Leads (a .first) (LowerEntry (bookOf (a .book .now)) (a .depth)) (a .t .0) u)
     (λ j l. at-loop .loop .inv .2 j (omega arith))
 
 pub all-lower-spec : {M : Type 1} → statement M

@@ -1,9 +1,7 @@
 -- The bytes read are those of that entry.
-use mathlib.Core.Path.{ap}
-use Prim.Native.Nat.{ℕ, _*_}
 use native.Mathlib.Omega.{arith}
-use Rattle.text.specs.Limits.{entrySize}
-use Rattle.books.specs.Laws.SidesLaws.{lower-intro, lower-present, lower-depth-lt}
+use Rattle.books.specs.Inner.Sides.{LowerNumber}
+use Rattle.books.specs.Laws.SidesLaws.{lower-of-number, number-of-lower}
 use borrow.Author.Needs.{needs}
 use Rattle.books.proofs.check.is_lower.Statement.{statement}
 use Rattle.books.proofs.check.is_lower.Tie as tie
@@ -19,9 +17,10 @@ shared-slice-read-if1 c = search needs
 
 returns : tie.Need-returns
 returns c h =
-    let a = c .before .before .before .before .args in
-    let at-is = ap (λ (k : ℕ). entrySize * k) (c .before .before .lead-place .ensures .0) in
-    lower-present (a .book .now) (a .depth) (a .first) (a .t .0) (a .u .0) at-is h (c .if1 .taken)
+    let placed = c .before .before in
+    let a = placed .before .before .args in
+    let number-is = placed .lead-place .ensures .0 in
+    number-of-lower (a .book .now) (a .depth) (a .first) (a .t .0) (a .u .0) number-is h .present (c .if1 .taken)
 
 add-if2 : tie.Need-add-if2
 add-if2 c = search needs
@@ -33,15 +32,18 @@ returns-2 : tie.Need-returns-2
 returns-2 c h =
     let placed = c .before .before .before .before in
     let a = placed .before .before .args in
-    let at-is = ap (λ (k : ℕ). entrySize * k) (placed .lead-place .ensures .0) in
-    omega (arith, c .if2 .taken, lower-depth-lt (a .book .now) (a .depth) (a .first) (a .t .0) (a .u .0) at-is h)
+    let number-is = placed .lead-place .ensures .0 in
+    let lower = number-of-lower (a .book .now) (a .depth) (a .first) (a .t .0) (a .u .0) number-is h in
+    omega (arith, c .if2 .taken, lower .depth-lt)
 
 returns-3 : tie.Need-returns-3
 returns-3 c =
     let placed = c .before .before .before .before in
     let a = placed .before .before .args in
-    let at-is = ap (λ (k : ℕ). entrySize * k) (placed .lead-place .ensures .0) in
-    lower-intro (a .book .now) (a .depth) (a .first) (a .t .0) (a .u .0) at-is (c .before .before .if1 .left) (omega arith)
+    let number-is = placed .lead-place .ensures .0 in
+    let lower : LowerNumber (a .book .now) (a .depth) (placed .lead-place .result) =
+    record { present = c .before .before .if1 .left; depth-lt = omega arith } in
+    lower-of-number (a .book .now) (a .depth) (a .first) (a .t .0) (a .u .0) number-is lower
 
 pub is-lower-spec : {M : Type 1} → statement M
 is-lower-spec =

@@ -1,11 +1,9 @@
--- The four bytes are the entry's; the side says who opens.
-use mathlib.Core.Path.{refl, ap}
-use Prim.Native.Nat.{ℕ, _*_}
+-- The bytes read are the entry's; the side says who opens.
+use mathlib.Core.Path.{refl}
 use native.Mathlib.Omega.{arith}
-use Rattle.text.specs.Limits.{entrySize}
 use Rattle.books.specs.Books.{bookOf}
 use Rattle.books.specs.Inner.Runs.{Indexed}
-use Rattle.books.specs.Laws.EntryLaws.{bookOf-at, sound-absent, bad-side, sound-first, sound-second}
+use Rattle.books.specs.Laws.EntryLaws.{bookOf-number, sound-absent, bad-side, sound-first, sound-second}
 use Rattle.books.specs.Laws.EntryLaws.{sound-action-lt}
 use borrow.Author.Needs.{needs}
 use Rattle.books.proofs.check.sound_at.Statement.{statement}
@@ -24,38 +22,37 @@ returns : tie.Need-returns
 returns c =
     let placed = c .before .before in
     let a = placed .before .before .args in
-    let at-is = ap (λ (k : ℕ). entrySize * k) (placed .pair-place .ensures) in
-    let entry-is = bookOf-at (a .book .now) (a .p .0) (a .q .0) at-is refl refl in
+    let entry-is = bookOf-number (a .book .now) (a .p .0) (a .q .0) (placed .pair-place .ensures) refl refl in
     sound-absent (Indexed (a .runs .now) (a .targets .now)) (bookOf (a .book .now)) (a .p .0) (a .q .0) _ entry-is
     (c .if1 .taken)
 
-add-wide : tie.Need-add-wide
-add-wide c = search needs
+add-byte-value : tie.Need-add-byte-value
+add-byte-value c = search needs
 
-shared-slice-read-wide : tie.Need-shared-slice-read-wide
-shared-slice-read-wide c = search needs
+shared-slice-read-byte-value : tie.Need-shared-slice-read-byte-value
+shared-slice-read-byte-value c = search needs
 
-wide-requires : tie.Need-wide-requires
-wide-requires c κs = search needs
+byte-value-requires : tie.Need-byte-value-requires
+byte-value-requires c κs = search needs
 
 returns-2 : tie.Need-returns-2
 returns-2 c h =
     let placed = c .before .before .before .before .before in
     let a = placed .before .before .args in
-    let at-is = ap (λ (k : ℕ). entrySize * k) (placed .pair-place .ensures) in
-    let entry-is = bookOf-at (a .book .now) (a .p .0) (a .q .0) at-is (c .before .wide .ensures) refl in
-    let action-lt = sound-action-lt (Indexed (a .runs .now) (a .targets .now)) (bookOf (a .book .now)) (a .p .0) (a .q .0)
-    _ entry-is (λ x b y m. m .in-run .action-lt) h (c .before .before .before .if1 .left) in
+    let entry-is = bookOf-number (a .book .now) (a .p .0) (a .q .0) (placed .pair-place .ensures)
+    (c .before .byte-value .ensures) refl in
+    let action-lt = sound-action-lt (Indexed (a .runs .now) (a .targets .now)) (bookOf (a .book .now)) (a .p .0)
+    (a .q .0) _ entry-is (λ x b y m. m .in-run .action-lt) h (c .before .before .before .if1 .left) in
     omega (arith, action-lt, c .if2 .taken)
 
-add-wide-2 : tie.Need-add-wide-2
-add-wide-2 c = search needs
+add-byte-value-2 : tie.Need-add-byte-value-2
+add-byte-value-2 c = search needs
 
-shared-slice-read-wide-2 : tie.Need-shared-slice-read-wide-2
-shared-slice-read-wide-2 c = search needs
+shared-slice-read-byte-value-2 : tie.Need-shared-slice-read-byte-value-2
+shared-slice-read-byte-value-2 c = search needs
 
-wide-requires-2 : tie.Need-wide-requires-2
-wide-requires-2 c κs = search needs
+byte-value-requires-2 : tie.Need-byte-value-requires-2
+byte-value-requires-2 c κs = search needs
 
 add-depth : tie.Need-add-depth
 add-depth c = search needs
@@ -72,8 +69,8 @@ returns-3 c =
     let action = target .before .before .before in
     let placed = action .before .before .before .before in
     let a = placed .before .before .args in
-    let at-is = ap (λ (k : ℕ). entrySize * k) (placed .pair-place .ensures) in
-    let entry-is = bookOf-at (a .book .now) (a .p .0) (a .q .0) at-is (action .wide .ensures) (target .wide2 .ensures) in
+    let entry-is = bookOf-number (a .book .now) (a .p .0) (a .q .0) (placed .pair-place .ensures)
+    (action .byte-value .ensures) (target .byte-value2 .ensures) in
     sound-first (Indexed (a .runs .now) (a .targets .now)) (bookOf (a .book .now)) (a .p .0) (a .q .0) _ entry-is
     (c .before .if3 .taken) (c .opens .result) (c .opens .ensures)
 
@@ -86,8 +83,8 @@ returns-4 c =
     let action = target .before .before .before in
     let placed = action .before .before .before .before in
     let a = placed .before .before .args in
-    let at-is = ap (λ (k : ℕ). entrySize * k) (placed .pair-place .ensures) in
-    let entry-is = bookOf-at (a .book .now) (a .p .0) (a .q .0) at-is (action .wide .ensures) (target .wide2 .ensures) in
+    let entry-is = bookOf-number (a .book .now) (a .p .0) (a .q .0) (placed .pair-place .ensures)
+    (action .byte-value .ensures) (target .byte-value2 .ensures) in
     sound-second (Indexed (a .runs .now) (a .targets .now)) (bookOf (a .book .now)) (a .p .0) (a .q .0) _ entry-is
     (c .before .if4 .taken) (c .opens2 .result) (c .opens2 .ensures)
 
@@ -96,8 +93,7 @@ returns-5 c =
     let present = c .before .before .before .before .before .before .before .before in
     let placed = present .before .before in
     let a = placed .before .before .args in
-    let at-is = ap (λ (k : ℕ). entrySize * k) (placed .pair-place .ensures) in
-    let entry-is = bookOf-at (a .book .now) (a .p .0) (a .q .0) at-is refl refl in
+    let entry-is = bookOf-number (a .book .now) (a .p .0) (a .q .0) (placed .pair-place .ensures) refl refl in
     bad-side (Indexed (a .runs .now) (a .targets .now)) (bookOf (a .book .now)) (a .p .0) (a .q .0) _ entry-is
     (present .if1 .left) (c .before .if3 .left) (c .if4 .left)
 
@@ -109,13 +105,13 @@ sound-at-spec =
     mul-at
     shared-slice-read-side
     returns
-    add-wide
-    shared-slice-read-wide
-    wide-requires
+    add-byte-value
+    shared-slice-read-byte-value
+    byte-value-requires
     returns-2
-    add-wide-2
-    shared-slice-read-wide-2
-    wide-requires-2
+    add-byte-value-2
+    shared-slice-read-byte-value-2
+    byte-value-requires-2
     add-depth
     shared-slice-read-depth
     opens-requires
