@@ -4,3 +4,7 @@ pub mod OpeningsLaws
 pub mod FillingLaws
 pub mod PairLaws
 pub mod RowsLaws
+pub mod InRunLaws
+pub mod SidesLaws
+pub mod EntryLaws
+pub mod ChecksLaws

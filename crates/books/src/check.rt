@@ -30,6 +30,13 @@ pub enum Checked {
     Bad(usize),
 }
 
+// The value of a byte, in the width of states and actions.
+fn byte_value(b: u8) -> u16
+    ensures { λ r. ⌜ r ≡ b ⌝ }
+{
+    b as u16
+}
+
 // Whether p has a move with the action a to t.
 fn has_move(
     runs: &[u16; RUNS_LENGTH],
@@ -149,11 +156,11 @@ fn sound_at(
     if side == 0 {
         return true;
     }
-    let a = book[at + 1] as u16;
+    let a = byte_value(book[at + 1]);
     if a >= ACTION_LIMIT {
         return false;
     }
-    let t = book[at + 2] as u16;
+    let t = byte_value(book[at + 2]);
     let depth = book[at + 3];
     if side == 1 {
         return opens(runs, targets, book, true, p, q, Action(a), State(t), depth);

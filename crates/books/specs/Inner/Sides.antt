@@ -4,9 +4,9 @@ use mathlib.Core.List.{List}
 use mathlib.Core.Path.{_≡_}
 use Prim.Native.Nat.{ℕ, _≤_, _<_}
 use Rattle.lts.specs.Alike.{Moves, Relation}
-use Rattle.lts.specs.Book.{SoundAt}
+use Rattle.lts.specs.Book.{Present, SoundAt}
 use Rattle.text.specs.Limits.{stateLimit, tableLength, pairPlace}
-use Rattle.books.specs.Books.{bookOf}
+use Rattle.books.specs.Books.{entryNumber, bookOf}
 
 -- R of the opener's state and the other's, whether the opener is the first side or not.
 abbrev pub Leads : Bool → Relation → Relation
@@ -18,8 +18,18 @@ abbrev pub leadPlace : Bool → ℕ → ℕ → ℕ
 leadPlace true x y = pairPlace x y
 leadPlace false x y = pairPlace y x
 
+-- Entry k is there, of a depth below the one given.
+pub record LowerNumber (book : List ℕ) (depth k : ℕ) : Type 0 where
+  pub present : Present (entryNumber book k)
+  pub depth-lt : entryNumber book k .depth < depth
+
+-- The entries before entry k are sound.
+abbrev pub SoundBefore : Moves → List ℕ → ℕ → Type 0
+SoundBefore Move book k =
+    (p q : ℕ) → p < stateLimit → q < stateLimit → pairPlace p q < k → SoundAt Move (bookOf book) p q
+
 -- The entries before entry k are sound, and entry k is bad if there is one.
 pub record SoundTo (Move : Moves) (book : List ℕ) (k : ℕ) : Type 0 where
   pub number-le : k ≤ tableLength
-  pub sound : (p q : ℕ) → p < stateLimit → q < stateLimit → pairPlace p q < k → SoundAt Move (bookOf book) p q
+  pub sound : SoundBefore Move book k
   pub bad : (p q : ℕ) → p < stateLimit → q < stateLimit → pairPlace p q ≡ k → ¬ (SoundAt Move (bookOf book) p q)

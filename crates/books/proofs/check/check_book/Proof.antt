@@ -1,0 +1,35 @@
+-- The runs are those of the moves, so what is found of the runs holds of the moves.
+use native.Mathlib.Omega.{arith}
+use Rattle.books.specs.Laws.ChecksLaws.{checkDone-sound, checkDone-bad}
+use borrow.Author.Needs.{needs}
+use Rattle.books.proofs.check.check_book.Statement.{statement}
+use Rattle.books.proofs.check.check_book.Tie as tie
+
+slice-aggregate-index-moves : tie.Need-slice-aggregate-index-moves
+slice-aggregate-index-moves c = search needs
+
+index-moves-requires : tie.Need-index-moves-requires
+index-moves-requires c κs = search needs
+
+first-bad-requires : tie.Need-first-bad-requires
+first-bad-requires c κs = search needs
+
+returns : tie.Need-returns
+returns c =
+    let index = c .before .before .before .before .index-moves .ensures in
+    checkDone-bad (index .back) (index .forth) (c .before .first-bad .ensures) (c .if1 .taken)
+
+returns-2 : tie.Need-returns-2
+returns-2 c =
+    let index = c .before .before .before .before .index-moves .ensures in
+    checkDone-sound (index .back) (index .forth) (c .before .first-bad .ensures) (omega arith)
+
+pub check-book-spec : {M : Type 1} → statement M
+check-book-spec =
+    tie.close
+    (tie.spec
+    slice-aggregate-index-moves
+    index-moves-requires
+    first-bad-requires
+    returns
+    returns-2)

@@ -1,0 +1,76 @@
+-- The entries are tested one by one: the first bad one is told, or all are sound.
+-- Document 02, (v). Assumes nothing.
+use mathlib.Core.List.{List}
+use mathlib.Core.Logic.{_⊎_, inl, inr}
+use mathlib.Core.Path.{_≡_, refl, sym, ap, subst}
+use Prim.Native.Nat.{ℕ, _+_, _/_, _%_, _<_}
+use native.Mathlib.Omega.{arith}
+use Rattle.lts.specs.TestsLaws.{eq-or-not}
+use Rattle.lts.specs.Alike.{Moves}
+use Rattle.lts.specs.Book.{SoundAt}
+use Rattle.lts.specs.BookLaws.{soundAt-same}
+use Rattle.text.specs.Faults.{refuses}
+use Rattle.text.specs.Limits.{stateLimit, tableLength, pairPlace}
+use Rattle.books.specs.Books.{bookOf}
+use Rattle.books.specs.declared.check.Checked.the-variants as checked
+use Rattle.books.specs.Checks.{checkedOutcome, FirstBad, CheckDone, accepted, refused}
+use Rattle.books.specs.Inner.Sides.{SoundBefore, SoundTo}
+
+-- Entry k is that of k / 128 and k % 128, and of no others.
+at-number : (P : ℕ → ℕ → Type 0) {k : ℕ} → P (k / stateLimit) (k % stateLimit) → (p q : ℕ) → q < stateLimit
+    → pairPlace p q ≡ k → P p q
+at-number P {k} h p q lq e =
+    let ep : k / stateLimit ≡ p = omega arith in
+    let eq : k % stateLimit ≡ q = omega arith in
+    subst (P p) eq (subst (λ (x : ℕ). P x (k % stateLimit)) ep h)
+
+module _ (Move : Moves) (book : List ℕ) where
+  pub soundBefore-zero : SoundBefore Move book 0
+  soundBefore-zero p q lp lq l = absurd (omega arith)
+
+  pub soundBefore-add-one : {k : ℕ} → SoundAt Move (bookOf book) (k / stateLimit) (k % stateLimit)
+      → SoundBefore Move book k → SoundBefore Move book (k + 1)
+  soundBefore-add-one {k} h s p q lp lq l = go (eq-or-not (pairPlace p q) k)
+    where
+      go : (pairPlace p q ≡ k) ⊎ ¬ (pairPlace p q ≡ k) → SoundAt Move (bookOf book) p q
+      go (inl e) = at-number (SoundAt Move (bookOf book)) h p q lq e
+      go (inr d) = s p q lp lq (omega (arith, d, l))
+
+  pub soundTo-bad : {k : ℕ} → k < tableLength → ¬ (SoundAt Move (bookOf book) (k / stateLimit) (k % stateLimit))
+      → SoundBefore Move book k → SoundTo Move book k
+  soundTo-bad {k} l h s = record {
+    number-le = omega arith;
+    sound = s;
+    bad = λ p q lp lq e. at-number (λ x y. ¬ (SoundAt Move (bookOf book) x y)) h p q lq e;
+  }
+
+  pub soundTo-all : {k : ℕ} → k ≡ tableLength → SoundBefore Move book k → SoundTo Move book k
+  soundTo-all {k} e s = record {
+    number-le = omega arith;
+    sound = s;
+    bad = λ p q lp lq d. absurd (omega arith);
+  }
+
+-- ---- what is told
+
+-- N are the moves that M are, said in another way.
+module _ {M N : Moves} (forth : (p a q : ℕ) → M p a q → N p a q) (back : (p a q : ℕ) → N p a q → M p a q)
+    {book : List ℕ} {k : ℕ} (s : SoundTo M book k) where
+  pub checkDone-sound : ¬ (k < tableLength) → CheckDone N book (checkedOutcome checked.Sound)
+  unfolding checkedOutcome
+  checkDone-sound l =
+      accepted (λ p q lp lq. soundAt-same forth back (bookOf book) p q (s .sound p q lp lq (omega arith))) refl
+
+  pub checkDone-bad : k < tableLength → CheckDone N book (checkedOutcome (checked.Bad k))
+  unfolding checkedOutcome
+  checkDone-bad l =
+      let p = k / stateLimit in
+      let q = k % stateLimit in
+      let e : pairPlace p q ≡ k = omega arith in
+      let first-bad : FirstBad N book p q = record {
+        first-lt = omega arith;
+        second-lt = omega arith;
+        bad = λ h. s .bad p q (omega arith) (omega arith) e (soundAt-same back forth (bookOf book) p q h);
+        sound-before = λ x y lx ly b. soundAt-same forth back (bookOf book) x y (s .sound x y lx ly (omega arith));
+      } in
+      refused p q first-bad (ap (refuses 34) (sym e))
