@@ -1,5 +1,4 @@
 pub mod RunsLaws
-pub mod IndexedLaws
 pub mod OpeningsLaws
 pub mod FillingLaws
 pub mod PairLaws

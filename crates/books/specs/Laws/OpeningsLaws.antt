@@ -14,6 +14,7 @@ use Rattle.text.specs.Limits.{pairPlace}
 use Rattle.ranking.specs.MoveList.{Listed, MoveList, Ordered}
 use Rattle.ranking.specs.Laws.MoveListLaws.{listed-game, listed-target-lt}
 use Rattle.ranking.specs.Table.{Ranks}
+use Rattle.books.specs.Laws.EntryLaws.{opens-of-first}
 use Rattle.books.specs.Inner.Openings.{RankIn, LowerAnswers, FirstOpening}
 
 module _ {n : ℕ} {first actions targets table : List ℕ} (L : MoveList n first actions targets)
@@ -138,17 +139,13 @@ module _ {n : ℕ} {first actions targets table : List ℕ} (L : MoveList n firs
     first-play l = record {
       plays = first-opens refl (opens-at lp F l);
       first-side = λ s b u x. side-pos s b u x;
-      lowest-action = λ b u x. action-lowest lp F l b u (by-first b u x);
-      lowest-target = λ u x. target-lowest lp F l u (by-first _ u x);
+      lowest-action = λ b u x. action-lowest lp F l b u (opens-of-first refl x);
+      lowest-target = λ u x. target-lowest lp F l u (opens-of-first refl x);
     }
       where
         side-pos : (s b u : ℕ) → Plays Move (LowerRank Move d) p q s b u → 1 ≤ s
         side-pos s b u (first-opens e o) = omega arith
         side-pos s b u (second-opens e o) = omega arith
-
-        by-first : (b u : ℕ) → Plays Move (LowerRank Move d) p q 1 b u → Opens Move (LowerRank Move d) p q b u
-        by-first b u (first-opens e o) = o
-        by-first b u (second-opens e o) = absurd (omega arith)
 
     -- The second side opens where the first side cannot.
     module _ {back : ℕ} (left : ¬ (at < getD first (p + 1) 0))
