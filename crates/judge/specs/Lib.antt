@@ -5,3 +5,5 @@ pub mod JudgePromise
 pub mod RunPromise
 pub mod WordPromise
 pub mod JudgeWordPromise
+pub mod BookPromise
+pub mod CheckPromise

@@ -5,3 +5,5 @@ pub mod rank;
 pub mod reach;
 pub mod run;
 pub mod word;
+pub mod book;
+pub mod check;

@@ -1,0 +1,56 @@
+// The operation Book.
+use text::limits::BOOK_LENGTH;
+use text::limits::INDEX_LENGTH;
+use text::limits::MOVES_LENGTH;
+use text::limits::STORE_LENGTH;
+use text::limits::TABLE_LENGTH;
+ghost use Prim.Native.Nat.{_≤_};
+ghost use lib.ListN.{length};
+ghost use Rattle.model.specs.StoredModel.{modelAt};
+ghost use Rattle.model.specs.Inner.Stored.{Stored};
+ghost use Rattle.text.specs.Limits.{tableLength, bookLength};
+ghost use Rattle.judge.specs.BookPromise.{bookOutcome, BookPromise, BookDone};
+
+// What Book answers.
+pub enum BookAnswer {
+    Done,
+    ShortList(usize),
+    NotGood,
+}
+
+// Book on a good store: the moves are listed once, for the ranks and for the book.
+fn book_good(store: &[u16], table: &mut [u8], book: &mut [u8])
+    requires { ⌜ Stored (now store) (modelAt (now store)) ⌝ }
+    requires { ⌜ (tableLength ≤ length (now table)) × (bookLength ≤ length (now book)) ⌝ }
+    ensures { λ _. ⌜ BookDone (modelAt (now (store .entry))) (now (table .entry)) (now (book .entry))
+        (now (table .exit)) (now (book .exit)) ⌝ }
+{
+    let mut first = [0u16; INDEX_LENGTH];
+    let mut actions = [0u16; MOVES_LENGTH];
+    let mut targets = [0u16; MOVES_LENGTH];
+    moves::moves::list_low_steps(store, &mut first, &mut actions, &mut targets);
+    let n = model::store::states(store);
+    ranking::classes::rank_moves(n, &first, &actions, &targets, table);
+    books::book::fill_book(n, &first, &actions, &targets, table, book);
+}
+
+// Fills the table with the ranks, and the book with an opening for each two states of a rank above 0.
+pub fn book(store: &[u16], table: &mut [u8], book: &mut [u8]) -> BookAnswer
+    ensures { λ r. ⌜ BookPromise (now (store .entry)) (now (table .entry)) (now (book .entry)) (bookOutcome r)
+        (now (table .exit)) (now (book .exit)) ⌝ }
+{
+    if store.len() < STORE_LENGTH {
+        return BookAnswer::ShortList(1);
+    }
+    if table.len() < TABLE_LENGTH {
+        return BookAnswer::ShortList(2);
+    }
+    if book.len() < BOOK_LENGTH {
+        return BookAnswer::ShortList(3);
+    }
+    if !model::good::good(store) {
+        return BookAnswer::NotGood;
+    }
+    book_good(store, table, book);
+    BookAnswer::Done
+}
