@@ -7,3 +7,4 @@ pub mod InRunLaws
 pub mod SidesLaws
 pub mod EntryLaws
 pub mod ChecksLaws
+pub mod ListedLaws

@@ -1,9 +1,9 @@
 // Judging: Reach, Rank, Judge, Run and Word.
+pub mod book;
+pub mod check;
 pub mod judge;
 pub mod judge_word;
 pub mod rank;
 pub mod reach;
 pub mod run;
 pub mod word;
-pub mod book;
-pub mod check;
