@@ -5,3 +5,5 @@ pub mod JudgePromiseLaws
 pub mod JudgeOutcomeLaws
 pub mod RunPromiseLaws
 pub mod WordPromiseLaws
+pub mod CheckPromiseLaws
+pub mod BookClaimsLaws
