@@ -8,3 +8,4 @@ pub mod SidesLaws
 pub mod EntryLaws
 pub mod ChecksLaws
 pub mod ListedLaws
+pub mod BytesLaws

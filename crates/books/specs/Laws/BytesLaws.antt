@@ -1,0 +1,60 @@
+-- Our own book is pinned: each of its bytes, and so the list of them. Document 02, (v). Assumes nothing.
+use mathlib.Core.Bool.{Bool}
+use mathlib.Core.List.{List}
+use mathlib.Core.Path.{_≡_, sym, ap, subst}
+use Prim.Native.Nat.{ℕ, zero, suc, _+_, _*_, _/_, _%_, _≤_, _<_}
+use native.Mathlib.Omega.{arith}
+use lib.ListN.{length, getD}
+use lib.Seq.{ext-getD}
+use Rattle.lts.specs.Alike.{Moves}
+use Rattle.lts.specs.Game.{Game}
+use Rattle.lts.specs.Book.{Entry, OwnBook}
+use Rattle.lts.specs.OwnBookLaws.{own-unique}
+use Rattle.text.specs.Limits.{stateLimit, pairPlace, entrySize, bookLength}
+use Rattle.books.specs.Books.{entryNumber, bookOf}
+
+-- The byte of an entry: its number, and its place in the entry.
+data ByteOf (i k : ℕ) : Type 0 where
+  side-byte : i ≡ entrySize * k → ByteOf i k
+  action-byte : i ≡ entrySize * k + 1 → ByteOf i k
+  target-byte : i ≡ entrySize * k + 2 → ByteOf i k
+  depth-byte : i ≡ entrySize * k + 3 → ByteOf i k
+
+byteOf-exists : (i : ℕ) → ByteOf i (i / entrySize)
+byteOf-exists i = go (i % entrySize) (omega arith) (omega arith)
+  where
+    go : (r : ℕ) → r < entrySize → i ≡ entrySize * (i / entrySize) + r → ByteOf i (i / entrySize)
+    go zero l e = side-byte (omega arith)
+    go (suc zero) l e = action-byte e
+    go (suc (suc zero)) l e = target-byte e
+    go (suc (suc (suc zero))) l e = depth-byte e
+    go (suc (suc (suc (suc r)))) l e = absurd (omega arith)
+
+-- Equal entries have equal bytes.
+byte-of-entry : (b b′ : List ℕ) (i k : ℕ) → ByteOf i k → entryNumber b k ≡ entryNumber b′ k → getD b i 0 ≡ getD b′ i 0
+byte-of-entry b b′ i k x e = go x
+  where
+    at : {j : ℕ} → i ≡ j → getD b j 0 ≡ getD b′ j 0 → getD b i 0 ≡ getD b′ i 0
+    at f = subst (λ (j : ℕ). getD b j 0 ≡ getD b′ j 0) (sym f)
+
+    go : ByteOf i k → getD b i 0 ≡ getD b′ i 0
+    go (side-byte f) = at f (ap (λ (x : Entry). x .side) e)
+    go (action-byte f) = at f (ap (λ (x : Entry). x .action) e)
+    go (target-byte f) = at f (ap (λ (x : Entry). x .target) e)
+    go (depth-byte f) = at f (ap (λ (x : Entry). x .depth) e)
+
+module _ (Move : Moves) (n : ℕ) (round : (ℕ → ℕ → Bool) → ℕ → ℕ → Bool) (G : Game Move n round) (b b′ : List ℕ)
+    (x : OwnBook Move n stateLimit (bookOf b)) (y : OwnBook Move n stateLimit (bookOf b′)) where
+  -- Each byte of the book.
+  pub ownBook-bytes : (i : ℕ) → i < bookLength → getD b i 0 ≡ getD b′ i 0
+  ownBook-bytes i l =
+      let k = i / entrySize in
+      let p = k / stateLimit in
+      let q = k % stateLimit in
+      let e : pairPlace p q ≡ k = omega arith in
+      let same = own-unique Move n round G x y p q (omega arith) (omega arith) in
+      byte-of-entry b b′ i k (byteOf-exists i) (subst (λ (j : ℕ). entryNumber b j ≡ entryNumber b′ j) e same)
+
+  -- A list of no further bytes.
+  pub ownBook-unique : length b ≡ length b′ → length b ≤ bookLength → b ≡ b′
+  ownBook-unique e le = ext-getD 0 b b′ e (λ i l. ownBook-bytes i (omega (arith, l, le)))
