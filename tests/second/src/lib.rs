@@ -6,6 +6,8 @@
 
 #![forbid(unsafe_code)]
 
+pub mod book;
+pub mod check;
 pub mod gen;
 pub mod judge;
 pub mod meaning;
@@ -18,6 +20,8 @@ pub mod store;
 pub mod text;
 pub mod word;
 
+pub use book::book;
+pub use check::check;
 pub use judge::{judge, Verdict};
 pub use page::{page, program};
 pub use rank::rank;

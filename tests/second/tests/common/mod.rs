@@ -1,7 +1,7 @@
 //! Lists to lend, and what the operations must leave in them.
 #![allow(dead_code)]
 
-use second::store::{DISTANCES, PAGE, ROLL, RUN, STORE, TABLE, WORD, WRITTEN};
+use second::store::{BOOK, DISTANCES, PAGE, ROLL, RUN, STORE, TABLE, WORD, WRITTEN};
 use second::{gen, page, program, read, roll, roll_program, Model};
 
 /// How many elements more than need be each list has.
@@ -19,6 +19,8 @@ pub struct Lists {
     /// Roll's out.
     pub paper: Vec<u8>,
     pub written: Vec<u8>,
+    /// Its old entries all count as absent.
+    pub book: Vec<u8>,
 }
 
 impl Lists {
@@ -31,6 +33,7 @@ impl Lists {
             out: vec![b'~'; PAGE + LONGER],
             paper: vec![b'^'; ROLL + LONGER],
             written: vec![b'!'; WRITTEN + LONGER],
+            book: [0, 201, 202, 203].repeat(BOOK / 4 + 1)[..BOOK + LONGER].to_vec(),
         }
     }
 
