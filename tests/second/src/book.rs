@@ -2,7 +2,7 @@
 
 use crate::rank::fill_table;
 use crate::store::{good, Model, BOOK, MOST_STATES, STORE, TABLE};
-use crate::{lent, Refusal};
+use crate::{lent, read, Refusal};
 
 /// Fills table and book.
 pub fn book(store: &[u16], table: &mut [u8], book: &mut [u8]) -> Result<(), Refusal> {
@@ -35,15 +35,26 @@ pub struct Entry {
 }
 
 impl Entry {
+    /// An entry with this action and target, both of which fit a byte.
+    pub fn new(side: u8, (action, target): (u16, u16), depth: u8) -> Entry {
+        Entry {
+            side,
+            action: u8::try_from(action).expect("a byte"),
+            target: u8::try_from(target).expect("a byte"),
+            depth,
+        }
+    }
+
     /// The entry of this number in a book.
     pub fn of(book: &[u8], number: usize) -> Entry {
         let bytes = &book[ENTRY * number..][..ENTRY];
-        Entry {
-            side: bytes[0],
-            action: bytes[1],
-            target: bytes[2],
-            depth: bytes[3],
-        }
+        let step = (u16::from(bytes[1]), u16::from(bytes[2]));
+        Entry::new(bytes[0], step, bytes[3])
+    }
+
+    /// Action and target.
+    pub fn opening(self) -> (u16, u16) {
+        (u16::from(self.action), u16::from(self.target))
     }
 
     pub fn bytes(self) -> [u8; ENTRY] {
@@ -145,15 +156,9 @@ fn fill_book(model: &Model, table: &[u8], book: &mut [u8]) {
         for q in 0..usize::from(model.states) {
             let depth = table[entry_number(p, q)];
             if depth > 0 {
-                let (side, (action, target)) = first_opening(&moves, table, (p, q))
-                    .expect("some step of two states that are told apart has no other answers");
-                let entry = Entry {
-                    side: side.byte(),
-                    action: action as u8,
-                    target: target as u8,
-                    depth,
-                };
-                entry.put(book, entry_number(p, q));
+                let (side, step) = first_opening(&moves, table, (p, q))
+                    .expect("some step is answered by no two states that are alike for so long");
+                Entry::new(side.byte(), step, depth).put(book, entry_number(p, q));
             }
         }
     }
@@ -168,4 +173,15 @@ fn first_opening(moves: &Moves, table: &[u8], pair: (usize, usize)) -> Option<(S
         answers.all(|next| 0 < rank(next) && rank(next) < rank(pair))
     };
     openings(moves, pair).into_iter().find(allows)
+}
+
+/// What the program writes for a text: its book, or the `F` line.
+pub fn book_program(text: &[u8]) -> Vec<u8> {
+    let mut store = vec![0; STORE];
+    let mut filled = vec![0; BOOK];
+    let answer = read(text, &mut store);
+    match answer.and_then(|()| book(&store, &mut vec![0; TABLE], &mut filled)) {
+        Ok(()) => filled,
+        Err(refusal) => refusal.line(),
+    }
 }

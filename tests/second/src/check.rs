@@ -2,7 +2,7 @@
 
 use crate::book::{answers, entry_number, moves_of, Entry, Moves, Side};
 use crate::store::{good, BOOK, MOST_STATES, STORE};
-use crate::{lent, Refusal};
+use crate::{lent, read, Refusal};
 
 /// Accepts exactly the sound books. Any other is refused with the number of
 /// its first bad entry.
@@ -38,11 +38,23 @@ fn holds(moves: &Moves, book: &[u8], pair: (usize, usize), entry: Entry) -> bool
         return false;
     };
     let (opener, _) = side.turned(pair);
-    let opening = (u16::from(entry.action), u16::from(entry.target));
     let told_apart = |&(p, q): &(usize, usize)| {
         let next = Entry::of(book, entry_number(p, q));
         !next.is_absent() && next.depth < entry.depth
     };
-    moves_of(moves, opener).contains(&opening)
-        && answers(moves, pair, side, opening).iter().all(told_apart)
+    moves_of(moves, opener).contains(&entry.opening())
+        && answers(moves, pair, side, entry.opening())
+            .iter()
+            .all(told_apart)
+}
+
+/// What the program prints for a text and a book: nothing if the book is
+/// accepted, otherwise the `F` line.
+pub fn check_program(text: &[u8], book: &[u8]) -> Vec<u8> {
+    let mut store = vec![0; STORE];
+    let answer = read(text, &mut store);
+    match answer.and_then(|()| check(&store, book)) {
+        Ok(()) => Vec::new(),
+        Err(refusal) => refusal.line(),
+    }
 }
