@@ -7,10 +7,13 @@ use std::io::{self, Read, Write};
 
 use second::store::BOOK;
 
+/// What is printed for a text.
+type Program = Box<dyn Fn(&[u8]) -> Vec<u8>>;
+
 fn main() -> io::Result<()> {
     let arguments: Vec<String> = std::env::args().skip(1).collect();
     let arguments: Vec<&str> = arguments.iter().map(String::as_str).collect();
-    let printed: Box<dyn Fn(&[u8]) -> Vec<u8>> = match arguments[..] {
+    let printed: Program = match arguments[..] {
         [] => Box::new(second::program),
         ["--roll"] => Box::new(second::roll_program),
         ["--book"] => Box::new(second::book_program),

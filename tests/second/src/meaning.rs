@@ -14,7 +14,7 @@ mod runs;
 mod sequences;
 
 pub use bisimulations::{greatest_bisimulation, is_bisimulation};
-pub use books::{book_holds, plays_hold, Plays};
+pub use books::{book_holds, first_bad_entry, plays_hold, Plays};
 pub use interference::{Deterministic, Interference};
 pub use pages::page_holds;
 pub use ranks::{ranks_hold, verdict_of, Alike};

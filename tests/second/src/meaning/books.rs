@@ -79,6 +79,27 @@ fn first_opening(
     ))
 }
 
+/// The number of the first entry that keeps a book from being sound, by asking
+/// each entry for a fault: a side above 2, an opening that no low step of that
+/// side is, or an answer to a pair whose entry is absent or as deep.
+pub fn first_bad_entry(model: &Model, book: &[u8]) -> Option<usize> {
+    let faulty = |number: &usize| {
+        let (p, q) = (number / MOST_STATES, number % MOST_STATES);
+        let (p, q) = (p as u16, q as u16);
+        let [side, action, target, depth] = entry_of(book, p, q);
+        let opener = if side == 1 { p } else { q };
+        let step = Step::new(opener, action.into(), target.into());
+        let no_opening = || !is_low(model, step.action) || !model.steps.contains(&step);
+        let not_lower = |(p, q): (u16, u16)| {
+            let [side, _, _, next] = entry_of(book, p, q);
+            side == 0 || next >= depth
+        };
+        let unanswered = || led_to(model, p, q, side, step).into_iter().any(not_lower);
+        side > 0 && (side > 2 || no_opening() || unanswered())
+    };
+    (0..MOST_STATES * MOST_STATES).find(faulty)
+}
+
 /// The plays of a book: from a pair the side of its entry opens, the other
 /// answers as it likes, and so on from the pair that they come to. A play ends
 /// where there is no answer.
