@@ -1,8 +1,11 @@
 //! Lists to lend, and what the operations must leave in them.
 #![allow(dead_code)]
 
+use std::collections::BTreeSet;
+
+use second::book::{entry_number, Entry};
 use second::store::{BOOK, DISTANCES, PAGE, ROLL, RUN, STORE, TABLE, WORD, WRITTEN};
-use second::{check, check_program, gen, page, program, read, roll, roll_program};
+use second::{check, check_program, gen, meaning, page, program, read, roll, roll_program};
 use second::{Model, Refusal};
 
 /// How many elements more than need be each list has.
@@ -162,4 +165,24 @@ pub fn bad(text: &[u8], entries: Entries) -> Option<(u64, u64)> {
 pub fn three() -> Vec<u8> {
     let steps = [(0, SCAN, 1), (0, PRINT, 2), (1, SCAN, 2), (1, CLOSE, 0)];
     till(3, &steps)
+}
+
+/// The pairs of states for which a book has an entry.
+pub fn pairs(model: &Model, book: &[u8]) -> BTreeSet<(u16, u16)> {
+    let states = 0..model.states;
+    let pairs = states
+        .clone()
+        .flat_map(|p| states.clone().map(move |q| (p, q)));
+    let number = |(p, q): (u16, u16)| entry_number(usize::from(p), usize::from(q));
+    pairs
+        .filter(|&pair| !Entry::of(book, number(pair)).is_absent())
+        .collect()
+}
+
+/// No low-view bisimulation pairs two states that an accepted book has an entry
+/// for; those are told apart by every play.
+pub fn accepted_book_holds(model: &Model, book: &[u8]) {
+    assert_eq!(meaning::plays_hold(model, book), Ok(()));
+    let alike = meaning::greatest_bisimulation(model);
+    assert!(pairs(model, book).is_disjoint(&alike));
 }
