@@ -9,17 +9,19 @@ use std::rc::Rc;
 /// A book to lend, and the model that it was made for.
 #[derive(Clone, Default, PartialEq)]
 pub struct Book {
-    pub bytes: Vec<u8>,
+    bytes: Vec<u8>,
     model: Option<Rc<Model>>,
 }
 
 impl Book {
-    /// Every model has this one.
+    /// A book of these bytes, whoever made it.
+    pub fn bytes(bytes: Vec<u8>) -> Book {
+        Book { bytes, model: None }
+    }
+
+    /// It is sound for every model.
     pub fn without_entries() -> Book {
-        Book {
-            bytes: vec![0; BOOK],
-            model: None,
-        }
+        Book::bytes(vec![0; BOOK])
     }
 
     pub fn of(model: &Model, bytes: Vec<u8>) -> Book {
@@ -29,7 +31,7 @@ impl Book {
         }
     }
 
-    /// The book that both checkers make.
+    /// The model's own book.
     pub fn own(model: &Model) -> Book {
         Book::of(model, second::book_of(model))
     }
