@@ -6,6 +6,7 @@ pub mod command;
 pub mod input;
 pub mod lists;
 pub mod operations;
+pub mod program;
 pub mod script;
 pub mod stores;
 pub mod texts;
