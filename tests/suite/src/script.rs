@@ -1,8 +1,10 @@
 //! The script `till` as the tests call it, and checkouts in which another kit makes its programs.
 use std::fs::{self, File};
 use std::os::unix::fs::PermissionsExt;
-use std::path::PathBuf;
+use std::path::{Path, PathBuf};
 use std::process::{Command, Output};
+
+use second::book_program;
 
 use crate::bench::{root, Folder};
 use crate::command::run;
@@ -30,11 +32,33 @@ pub fn shell(line: &str) -> Output {
     run(shell.arg(example("released.txt")), b"")
 }
 
+/// What a line of bash makes of the script, a book and a model.
+pub fn bash(line: &str, book: &Path, model: &str) -> Output {
+    let mut bash = Command::new("bash");
+    bash.args(["-o", "pipefail", "-c", line]);
+    let words = [root().join("till"), book.to_path_buf(), example(model)];
+    run(bash.args(words), b"")
+}
+
+// ---- books
+
+/// A folder with a book in the file `book`.
+pub fn with_book(name: &str, book: &[u8]) -> (Folder, PathBuf) {
+    let folder = Folder::new(name);
+    let file = folder.0.join("book");
+    fs::write(&file, book).expect("a file");
+    (folder, file)
+}
+
+pub fn own_book(name: &str) -> Vec<u8> {
+    book_program(&fs::read(example(name)).expect("a text"))
+}
+
 // ---- with another kit
 
-/// Stands in for the kit: each program that it makes passes each text, and tells the source's number as the rank; its
-/// book has this number as every byte, and it accepts every book. It notes the name of each program, and as the kit does
-/// it links none whose stamp is that of the source.
+/// Stands in for the kit: each program that it makes passes each text, and tells the source's number as the rank; each
+/// byte of its book is this number, and it accepts every book. It notes the name of each program, and as the kit does it
+/// links none whose stamp is that of the source.
 pub const KIT: &str = r#"#!/bin/sh
 kit=$(dirname "$0")
 case $1 in

@@ -1,42 +1,18 @@
-//! The script `till` with `--book` and `--check`: what it prints, its statuses, and when it fails.
-use std::fs::{self, File};
-use std::os::fd::OwnedFd;
-use std::os::unix::net::{UnixListener, UnixStream};
-use std::os::unix::process::ExitStatusExt;
-use std::path::{Path, PathBuf};
+//! The script `till` with `--book` and `--check`: what it prints, and its statuses.
+use std::fs;
 use std::process::{Command, Output};
 
 use second::store::BOOK;
 use second::{book_program, check_program};
 use suite::bench::{examples, root, Folder};
 use suite::command::{prints, run};
-use suite::script::{example, fails, script, shell};
-
-/// A folder with a book in the file `book`.
-fn with_book(name: &str, book: &[u8]) -> (Folder, PathBuf) {
-    let folder = Folder::new(name);
-    let file = folder.0.join("book");
-    fs::write(&file, book).expect("a file");
-    (folder, file)
-}
-
-fn own_book(name: &str) -> Vec<u8> {
-    book_program(&fs::read(example(name)).expect("a text"))
-}
+use suite::script::{bash, example, fails, own_book, script, with_book};
 
 /// What the script writes, and its status; nothing is said.
 fn writes(output: Output, status: i32, bytes: &[u8]) {
     assert_eq!(output.status.code(), Some(status), "{:?}", output.stderr);
     assert!(output.stdout == bytes, "{} bytes", output.stdout.len());
     assert!(output.stderr.is_empty(), "{:?}", output.stderr);
-}
-
-/// What a line of bash makes of the script, a book and a model.
-fn bash(line: &str, book: &Path, model: &str) -> Output {
-    let mut bash = Command::new("bash");
-    bash.args(["-o", "pipefail", "-c", line]);
-    let words = [root().join("till"), book.to_path_buf(), example(model)];
-    run(bash.args(words), b"")
 }
 
 /// Passed or refused, a model that is read has a book.
@@ -204,54 +180,23 @@ fn words_and_options() {
     fails(given(&["--book", "--halp"]), "no option --halp:");
 }
 
-/// What cannot be read is no empty text: there is no book of it, and no verdict on one.
+/// The README's lines that show entries print what stands below them, but for its remarks.
 #[test]
-fn no_text() {
-    let (folder, book) = with_book("no_text", &[0; BOOK]);
-    let socket = folder.0.join("socket");
-    let _listener = UnixListener::bind(&socket).expect("a socket");
-    let book = book.to_str().expect("a path");
-    for words in [&["--book"][..], &["--check", book]] {
-        let run_on = |file: &Path| run(script().args(words).arg(file), b"");
-        fails(run_on(&socket), "cannot be read");
-        fails(run_on(&folder.0), "a folder");
-        fails(run_on(&folder.0.join("none")), "no such file");
-        let mut of_a_folder = script();
-        of_a_folder
-            .args(words)
-            .stdin(File::open(&folder.0).expect("a folder"));
-        let output = of_a_folder.output().expect("the script starts");
-        fails(output, "standard input cannot be read");
-    }
-    let model = example("worked.txt");
-    let on_a_socket = run(script().arg("--check").arg(&socket).arg(&model), b"");
-    fails(on_a_socket, "socket' cannot be read");
-    for words in ["--book", "--check - \"$1\""] {
-        let output = shell(&format!("exec \"$0\" {words} <&-"));
-        fails(output, "standard input cannot be read");
-    }
-}
-
-/// A sound book needs no place to print to.
-#[test]
-fn no_place_to_print() {
-    let (_folder, book) = with_book("no_place", &own_book("worked.txt"));
-    for to in ["/dev/full", "&-"] {
-        for words in ["--book \"$2\"", "--check \"$1\" \"$2\""] {
-            let output = bash(&format!("\"$0\" {words} >{to}"), &book, "branching.txt");
-            fails(output, "nothing can be printed");
+fn the_readme() {
+    let readme = fs::read_to_string(root().join("README.md")).expect("the README");
+    let mut lines = readme.lines().map(str::trim);
+    let mut shown = 0;
+    while let Some(line) =
+        lines.find(|line| line.starts_with("./till --book") && line.contains(" | od "))
+    {
+        let mut command = Command::new("bash");
+        let output = run(command.args(["-c", line]).current_dir(root()), b"");
+        let printed = String::from_utf8(output.stdout).expect("numbers");
+        for is in printed.lines() {
+            let said = lines.next().expect("a line below");
+            assert!(said.starts_with(is), "{line}\n{is}\n{said}");
+            shown += 1;
         }
-        let line = format!("\"$0\" --check \"$1\" \"$2\" >{to}");
-        prints(bash(&line, &book, "worked.txt"), 0, "");
     }
-    let (reader, writer) = UnixStream::pair().expect("two ends");
-    drop(reader);
-    let mut unread = script();
-    unread
-        .arg("--book")
-        .arg(example("worked.txt"))
-        .stdout(OwnedFd::from(writer));
-    let output = unread.output().expect("the script starts");
-    assert_eq!(output.status.signal(), Some(13), "{output:?}");
-    assert!(output.stderr.is_empty(), "{output:?}");
+    assert_eq!(shown, 4);
 }

@@ -1,12 +1,71 @@
-//! The script `till` with `--book` and `--check`, where another kit makes its programs.
-use std::fs;
+//! The script `till` where it writes or checks no book, and says why; and where another kit makes its programs.
+use std::fs::{self, File};
+use std::os::fd::OwnedFd;
 use std::os::unix::fs::symlink;
+use std::os::unix::net::{UnixListener, UnixStream};
+use std::os::unix::process::ExitStatusExt;
 use std::path::Path;
 use std::process::Command;
 
 use second::store::BOOK;
 use suite::command::{prints, run};
-use suite::script::{fails, page, Checkout, KIT};
+use suite::script::{
+    bash, example, fails, own_book, page, script, shell, with_book, Checkout, KIT,
+};
+
+/// What cannot be read is no empty text: there is no book of it, and no verdict on one.
+#[test]
+fn no_text() {
+    let (folder, book) = with_book("no_text", &[0; BOOK]);
+    let socket = folder.0.join("socket");
+    let _listener = UnixListener::bind(&socket).expect("a socket");
+    let book = book.to_str().expect("a path");
+    for words in [&["--book"][..], &["--check", book]] {
+        let run_on = |file: &Path| run(script().args(words).arg(file), b"");
+        fails(run_on(&socket), "cannot be read");
+        fails(run_on(&folder.0), "a folder");
+        fails(run_on(&folder.0.join("none")), "no such file");
+        let mut of_a_folder = script();
+        of_a_folder
+            .args(words)
+            .stdin(File::open(&folder.0).expect("a folder"));
+        let output = of_a_folder.output().expect("the script starts");
+        fails(output, "standard input cannot be read");
+    }
+    let model = example("worked.txt");
+    let on_a_socket = run(script().arg("--check").arg(&socket).arg(&model), b"");
+    fails(on_a_socket, "socket' cannot be read");
+    for words in ["--book", "--check - \"$1\""] {
+        let output = shell(&format!("exec \"$0\" {words} <&-"));
+        fails(output, "standard input cannot be read");
+    }
+}
+
+/// A sound book needs no place to print to.
+#[test]
+fn no_place_to_print() {
+    let (_folder, book) = with_book("no_place", &own_book("worked.txt"));
+    for to in ["/dev/full", "&-"] {
+        for words in ["--book \"$2\"", "--check \"$1\" \"$2\""] {
+            let output = bash(&format!("\"$0\" {words} >{to}"), &book, "branching.txt");
+            fails(output, "nothing can be printed");
+        }
+        let line = format!("\"$0\" --check \"$1\" \"$2\" >{to}");
+        prints(bash(&line, &book, "worked.txt"), 0, "");
+    }
+    let (reader, writer) = UnixStream::pair().expect("two ends");
+    drop(reader);
+    let mut unread = script();
+    unread
+        .arg("--book")
+        .arg(example("worked.txt"))
+        .stdout(OwnedFd::from(writer));
+    let output = unread.output().expect("the script starts");
+    assert_eq!(output.status.signal(), Some(13), "{output:?}");
+    assert!(output.stderr.is_empty(), "{output:?}");
+}
+
+// ---- with another kit
 
 /// What can be told at once is told before a program is made, and each program is made when it is used first.
 #[test]
