@@ -38,15 +38,15 @@ impl Index {
 fn opening(
     moves: &Moves,
     index: &Index,
-    table: &[u8],
+    rows: &[[u8; ROW]],
     (p, q): (usize, usize),
     depth: u8,
 ) -> Option<usize> {
     (moves.first[p]..moves.first[p + 1]).find(|&i| {
-        let row = &table[ROW * usize::from(moves.target[i])..][..ROW];
+        let row = &rows[usize::from(moves.target[i])];
         let mut answers = index.targets(moves, q, moves.action[i]).iter();
-        // 0 wraps to 255.
-        answers.all(|&u| row[usize::from(u)].wrapping_sub(1) < depth - 1)
+        // 0 wraps to 255; the mask spares a test of the bound.
+        answers.all(|&u| row[usize::from(u) % ROW].wrapping_sub(1) < depth - 1)
     })
 }
 
@@ -55,27 +55,22 @@ pub fn book(store: &[u16], table: &mut [u8], book: &mut [u8]) {
     let moves = Moves::of(store);
     rank_moves(&moves, table);
     let index = Index::of(&moves);
-    book[..BOOK].fill(0);
-    let mut put = |(p, q): (usize, usize), side: u8, i: usize, depth: u8| {
-        let entry = [side, moves.action[i], moves.target[i], depth];
-        book[ENTRY * (ROW * p + q)..][..ENTRY].copy_from_slice(&entry);
-    };
+    let (rows, _) = table[..TABLE].as_chunks::<ROW>();
+    let (entries, _) = book[..BOOK].as_chunks_mut::<ENTRY>();
+    entries.fill([0; ENTRY]);
     for p in 0..moves.states {
         for q in p + 1..moves.states {
-            let depth = table[ROW * p + q];
+            let depth = rows[p][q];
             if depth > 0 {
-                let of_p = opening(&moves, &index, table, (p, q), depth);
-                let of_q = opening(&moves, &index, table, (q, p), depth);
-                let (side, i) = of_p
-                    .map(|i| (1, i))
-                    .or(of_q.map(|i| (2, i)))
-                    .expect("told apart");
-                put((p, q), side, i, depth);
-                let (side, i) = of_q
-                    .map(|i| (1, i))
-                    .or(of_p.map(|i| (2, i)))
-                    .expect("told apart");
-                put((q, p), side, i, depth);
+                let of_p = opening(&moves, &index, rows, (p, q), depth);
+                let of_q = opening(&moves, &index, rows, (q, p), depth);
+                let entry = |first: Option<usize>, second: Option<usize>| {
+                    let side = if first.is_some() { 1 } else { 2 };
+                    let i = first.or(second).expect("the two are told apart");
+                    [side, moves.action[i], moves.target[i], depth]
+                };
+                entries[ROW * p + q] = entry(of_p, of_q);
+                entries[ROW * q + p] = entry(of_q, of_p);
             }
         }
     }
@@ -85,22 +80,25 @@ pub fn book(store: &[u16], table: &mut [u8], book: &mut [u8]) {
 pub fn check(store: &[u16], book: &[u8]) -> Option<usize> {
     let moves = Moves::of(store);
     let index = Index::of(&moves);
-    let is_sound = |number: usize| {
-        let at = ENTRY * number;
-        let [side, action, target, depth] = [book[at], book[at + 1], book[at + 2], book[at + 3]];
+    let (entries, _) = book[..BOOK].as_chunks::<ENTRY>();
+    let is_bad = |(number, &[side, action, target, depth]): (usize, &[u8; ENTRY])| {
         let (p, q) = (number / ROW, number % ROW);
         let (opener, other, by_opener, by_other) = match side {
-            0 => return true,
+            0 => return false,
             1 => (p, q, ROW, 1),
             2 => (q, p, 1, ROW),
-            _ => return false,
+            _ => return true,
         };
-        usize::from(action) < ACTIONS
-            && index.targets(&moves, opener, action).contains(&target)
-            && index.targets(&moves, other, action).iter().all(|&u| {
-                let next = ENTRY * (by_opener * usize::from(target) + by_other * usize::from(u));
-                book[next] != 0 && book[next + 3] < depth
-            })
+        let lower = |&u: &u8| {
+            let next = entries[by_opener * usize::from(target) + by_other * usize::from(u)];
+            next[0] != 0 && next[3] < depth
+        };
+        usize::from(action) >= ACTIONS
+            || index
+                .targets(&moves, opener, action)
+                .iter()
+                .all(|&t| t != target)
+            || !index.targets(&moves, other, action).iter().all(lower)
     };
-    (0..TABLE).find(|&number| !is_sound(number))
+    entries.iter().enumerate().position(is_bad)
 }
