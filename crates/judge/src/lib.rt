@@ -1,4 +1,4 @@
-// Judging: Reach, Rank, Judge, Run and Word.
+// Judging: Reach, Rank, Judge, Run, Word, Book and Check.
 pub mod book;
 pub mod check;
 pub mod judge;
