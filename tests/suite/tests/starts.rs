@@ -9,6 +9,7 @@ use second::store::{DISTANCES, STORE, TABLE};
 use second::{End, Model, Refusal, Verdict};
 use suite::archive::{Answer, Told};
 use suite::bench::{root, store_of, waking_text, WordTold, ACTIONS, TWO_STARTS, TWO_STARTS_PAGE};
+use suite::books::Book;
 use suite::input::Input;
 use suite::lists::Lists;
 use suite::operations::{Operation, ALL, JUDGE, PAGE, PRINT, RANK, REACH, READ, ROLL, RUN};
@@ -409,6 +410,7 @@ impl Seen {
 fn by_every_operation(model: &Model, before: &Lists) {
     let input = Input {
         store: Store::of(model),
+        book: Book::own(model),
         ..Input::from(&model.to_text())
     };
     for operation in ALL {
