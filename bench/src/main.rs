@@ -1,11 +1,12 @@
-//! Times of the proved operations and of the program, beside those of the second checker and of a plain ranking, all in
-//! one run. Prints the tables; with `--write` it also writes them to TABLE.md, the plot beside it, and a short table
+//! Times of the proved operations and of the program, beside those of the second checker and of plain Rust, all in one
+//! run. Prints the tables; with `--write` it also writes them to TABLE.md, the plot beside it, and a short table
 //! into the README. With `--beside PROGRAM FUNCTION..` it measures the operations beside those of another archive that
 //! lacks these functions: PROGRAM is this program, linked with that archive. Both are then called with
 //! `--turn MODEL FUNCTION..`, which prints the times of one turn.
 mod beside;
 mod growth;
 mod plain;
+mod plain_books;
 mod plot;
 mod process;
 mod shapes;

@@ -2,18 +2,18 @@
 //! to it, a state's moves are compared through marks, and only the rows of states that left their class are written.
 use second::store::{action_place, step_place, TABLE};
 
-const ROW: usize = 128;
+pub const ROW: usize = 128;
 
 /// The low steps of each state p: those from `first[p]` up to `first[p + 1]`.
-struct Moves {
-    states: usize,
-    first: [usize; ROW + 1],
-    action: [u8; 1_024],
-    target: [u8; 1_024],
+pub struct Moves {
+    pub states: usize,
+    pub first: [usize; ROW + 1],
+    pub action: [u8; 1_024],
+    pub target: [u8; 1_024],
 }
 
 impl Moves {
-    fn of(store: &[u16]) -> Moves {
+    pub fn of(store: &[u16]) -> Moves {
         let mut moves = Moves {
             states: usize::from(store[0]),
             first: [0; ROW + 1],
@@ -72,7 +72,10 @@ impl Moves {
 
 /// Fills the table of a good store, and yields the last round that separated two states.
 pub fn rank(store: &[u16], table: &mut [u8]) -> u8 {
-    let moves = Moves::of(store);
+    rank_moves(&Moves::of(store), table)
+}
+
+pub fn rank_moves(moves: &Moves, table: &mut [u8]) -> u8 {
     table[..TABLE].fill(0);
     let mut marks = [false; 64 * ROW];
     let mut class = [0; ROW];

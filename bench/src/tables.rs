@@ -2,7 +2,7 @@
 use crate::growth::{Line, Panel};
 use crate::process;
 use crate::shapes::{self, LEGEND};
-use crate::times::{best_of_turns, column, names, Timed, Times};
+use crate::times::{best_of_turns, column, names, Timed, Times, PLAIN};
 
 /// A model with its times.
 struct Measured {
@@ -91,14 +91,17 @@ impl Measured {
         row
     }
 
-    /// Our time by the second checker's, none where Word refuses; after the last, Rank's by the plain ranking's.
+    /// Our time by the second checker's, none where Word refuses.
     fn ratio(&self, index: usize) -> Option<f64> {
-        let times = &self.times;
-        match times.ours.get(index) {
-            Some(_) if self.is_refused(index) => None,
-            Some(ours) => Some(ours / times.second[index]),
-            None => Some(self.rank() / times.plain),
-        }
+        let Times { ours, second, .. } = &self.times;
+        (!self.is_refused(index)).then(|| ours[index] / second[index])
+    }
+
+    /// Our time of what plain Rust does too, that of plain Rust, and the one by the other.
+    fn beside_plain(&self, index: usize) -> [f64; 3] {
+        let ours = self.times.ours[column(PLAIN[index])];
+        let plain = self.times.plain[index];
+        [ours, plain, ours / plain]
     }
 
     fn second_row(&self) -> Vec<String> {
@@ -113,10 +116,6 @@ impl Measured {
         let mut row = vec![self.name.to_string()];
         row.extend((0..self.times.ours.len()).map(cell));
         row
-    }
-
-    fn rank(&self) -> f64 {
-        self.times.ours[column("Rank")]
     }
 
     /// What Roll takes more than Page.
@@ -136,13 +135,9 @@ impl Measured {
     }
 
     fn plain_row(&self) -> Vec<String> {
-        let (rank, plain) = (self.rank(), self.times.plain);
-        vec![
-            self.name.to_string(),
-            digits(rank),
-            digits(plain),
-            digits(rank / plain),
-        ]
+        let times = (0..PLAIN.len()).flat_map(|index| self.beside_plain(index));
+        let cells = times.map(digits);
+        [self.name.to_string()].into_iter().chain(cells).collect()
     }
 }
 
@@ -161,13 +156,14 @@ and Word in one; program is `till`: print with its process, from its start to it
 ";
 
 const RATIOS: &str = "\
-Our times by those of the second checker (Word's without refusals), and Rank's by that of a plain ranking by classes:
+Our times by those of the second checker (Word's without refusals), and those of Rank, Book and Check by plain Rust's:
 ";
 
 const SECOND: &str = "\
 The second checker is written to be clear and not fast; its program is timed with its process too. Every operation that
-takes a store tests within its time that the store is good, and so does the second checker's. The plain ranking is
-written for speed in Rust, is not proved, and takes a good store for granted.
+takes a store tests within its time that the store is good, and so does the second checker's. Plain Rust is written for
+speed and not proved, and takes a good store for granted. It ranks by classes; its book is one call that ranks, too, and
+like its check it finds a state's steps with an action by an index. Check is timed on the model's own book.
 ";
 
 /// The models that the README shows, and what it calls them.
@@ -179,7 +175,7 @@ const SHORT: [(&str, &str); 4] = [
 ];
 
 /// What the README shows of them.
-const SHORT_COLUMNS: [&str; 5] = ["Read", "Judge", "Page", "Roll", "program"];
+const SHORT_COLUMNS: [&str; 7] = ["Read", "Judge", "Book", "Check", "Page", "Roll", "program"];
 
 impl Report {
     /// The times of the proved operations and of the program.
@@ -195,11 +191,21 @@ impl Report {
             ratios.reduce(choose).expect("some model has a word")
         };
         let row = |name: &str, choose: fn(f64, f64) -> f64| {
-            let cells = (0..=names().len()).map(|index| digits(over(index, choose)));
+            let second = (0..names().len()).map(|index| digits(over(index, choose)));
+            let plain = (0..PLAIN.len()).map(|index| digits(self.to_plain(index, choose)));
+            let cells = second.chain(plain);
             [name.to_string()].into_iter().chain(cells).collect()
         };
-        let head = [&["ratio"], &names()[..], &["Rank to plain"]].concat();
+        let to_plain = PLAIN.map(|name| format!("{name} to plain"));
+        let mut head = [&["ratio"], &names()[..]].concat();
+        head.extend(to_plain.iter().map(String::as_str));
         table(&head, [row("least", f64::min), row("greatest", f64::max)])
+    }
+
+    /// The least or the greatest of our times by plain Rust's.
+    fn to_plain(&self, index: usize, choose: fn(f64, f64) -> f64) -> f64 {
+        let ratios = self.models.iter().map(|model| model.beside_plain(index)[2]);
+        ratios.reduce(choose).expect("some model")
     }
 
     fn named(&self, name: &str) -> &Measured {
@@ -232,13 +238,16 @@ impl Report {
         let times = table(&head, SHORT.map(row));
         let slowest = digits(self.most(Measured::program));
         let more = digits(self.most(Measured::more));
+        let [rank, book, check] = [0, 1, 2].map(|index| digits(self.to_plain(index, f64::max)));
         let [process, _] = self.empty.map(digits);
         format!(
             "Microseconds, the best of many calls, on {}:\n\n{times}\n\
              The program `till` answers on every model of the benchmark within {slowest}; {process} of that go to its \
-             process, as\nan empty text shows. Roll takes at most {more} more than Page.\n\
+             process, as\nan empty text shows. Roll takes at most {more} more than Page. \
+             Rank takes at most {rank} times as long as plain Rust,\n\
+             which is not proved, Book at most {book} times and Check at most {check} times.\n\
              `bench/TABLE.md` has every model and operation, and beside them the times of the second checker \
-             and of a plain ranking.\n",
+             and of plain Rust.\n",
             machine()
         )
     }
@@ -247,7 +256,8 @@ impl Report {
     pub fn whole(&self) -> String {
         let head = [&["model"], &names()[..]].concat();
         let second = table(&head, self.models.iter().map(Measured::second_row));
-        let head = ["model", "Rank", "plain", "Rank / plain"];
+        let plain_head = PLAIN.map(|name| [name, "plain", "ratio"]).concat();
+        let head = [&["model"], &plain_head[..]].concat();
         let plain = table(&head, self.models.iter().map(Measured::plain_row));
         let head = ["model", "lines of the roll", "Page", "Roll", "Roll - Page"];
         let rolls = table(&head, self.models.iter().map(Measured::roll_row));
@@ -266,7 +276,7 @@ impl Report {
              ## The second checker (in brackets: our time by its time)\n\n{second}\n\
              ## Roll beside Page\n\n\
              What Roll takes more than Page is to stay below 100. On these models it is at most {more}.\n\n{rolls}\n\
-             ## Rank beside the plain ranking\n\n{plain}\n"
+             ## Rank, Book and Check beside plain Rust\n\n{plain}\n"
         )
     }
 }

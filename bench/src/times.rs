@@ -2,15 +2,17 @@
 use std::hint::black_box;
 use std::time::{Duration, Instant};
 
-use second::gen::Rng;
-use second::store::TABLE;
+use second::gen::{self, Rng};
+use second::store::{BOOK, TABLE};
 use second::Model;
+use suite::books::Book;
 use suite::input::Input;
 use suite::lists::{Lists, LEAST};
 use suite::operations::{AnyOperation, ALL, JUDGE, PRINT, READ, WORD, WRITE};
 use suite::stores::Store;
 
 use crate::plain;
+use crate::plain_books;
 use crate::process;
 
 /// How long each call is repeated at a time, and how often at least.
@@ -33,6 +35,9 @@ pub fn names() -> Vec<&'static str> {
     let names = ALL.iter().map(|operation| operation.name());
     names.chain(["program"]).collect()
 }
+
+/// What is timed in plain Rust too.
+pub const PLAIN: [&str; 3] = ["Rank", "Book", "Check"];
 
 /// The place of a name among them.
 pub fn column(name: &str) -> usize {
@@ -79,7 +84,8 @@ pub fn is_read(model: &Model) -> bool {
 pub struct Times {
     pub ours: Each,
     pub second: Each,
-    pub plain: f64,
+    /// In the order of `PLAIN`.
+    pub plain: Each,
 }
 
 /// A model and its lists, which are filled over and over.
@@ -104,6 +110,7 @@ impl Timed {
             operations: operations(lacking),
             input: Input {
                 store: Store::of(model),
+                book: Book::own(model),
                 ..Input::from(&model.to_text())
             },
             lists: Lists::anything(&mut Rng::new(0), LEAST),
@@ -113,6 +120,7 @@ impl Timed {
         timed.lists.store.copy_from_slice(&timed.input.store);
         timed.fill();
         timed.compare();
+        timed.compare_books(model);
         timed
     }
 
@@ -149,6 +157,22 @@ impl Timed {
         }
     }
 
+    /// The plain book is the second checker's, and the plain check finds the same bad entries.
+    fn compare_books(&self, model: &Model) {
+        let Input { store, book, .. } = &self.input;
+        let (mut table, mut plain) = (vec![2; TABLE], vec![2; BOOK]);
+        plain_books::book(store, &mut table, &mut plain);
+        assert!(
+            plain == book[..] && table == self.lists.table[..],
+            "one book"
+        );
+        assert_eq!(plain_books::check(store, book), None, "a sound book");
+        for bad in gen::bad_books(&mut Rng::new(0), model, book) {
+            let first = plain_books::check(store, &bad.book);
+            assert_eq!(first, Some(bad.refusal.place as usize), "{}", bad.what);
+        }
+    }
+
     /// One turn of Judge alone.
     pub fn judge(&mut self) -> f64 {
         best(|| JUDGE.call_proved(&self.input, &mut self.lists))
@@ -158,16 +182,24 @@ impl Timed {
         let mut times = Times {
             ours: vec![f64::MAX; names().len()],
             second: vec![f64::MAX; names().len()],
-            plain: f64::MAX,
+            plain: vec![f64::MAX; PLAIN.len()],
         };
         for _ in 0..TURNS {
             least(&mut times.ours, &self.ours());
             least(&mut times.second, &self.second());
-            let Timed { input, lists, .. } = self;
-            let plain = best(|| plain::rank(black_box(&input.store), &mut lists.table));
-            times.plain = times.plain.min(plain);
+            least(&mut times.plain, &self.plain());
         }
         times
+    }
+
+    /// One turn of plain Rust.
+    fn plain(&mut self) -> Each {
+        let Timed { input, lists, .. } = self;
+        let rank = best(|| plain::rank(black_box(&input.store), &mut lists.table));
+        let book =
+            best(|| plain_books::book(black_box(&input.store), &mut lists.table, &mut lists.book));
+        let check = best(|| plain_books::check(black_box(&input.store), black_box(&input.book)));
+        vec![rank, book, check]
     }
 
     /// One turn of the proved operations.

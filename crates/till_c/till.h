@@ -3,12 +3,12 @@
 
    For firmware: the archive has no globals, allocates nothing, calls nothing back, and needs only memcpy and memset
    from outside; its code and constants take less than 23 kB of read-only memory, and a call takes less than 16 kB of
-   stack (till_read less than 9 kB; till_reach, till_run and till_write less than 1 kB). It is for x86-64 and uses the
-   SSE registers.
+   stack (till_book and till_check less than 24 kB; till_read less than 9 kB; till_reach, till_run and till_write less
+   than 1 kB). It is for x86-64 and uses the SSE registers.
 
    A program that was compiled before there were I lines lends stores of 3,972 numbers, and till_write an out of 14,420
-   bytes: each such call gets TILL_SHORT_LIST until the program is compiled anew. Of a store that was kept, read the text
-   again, or put 128 zeros behind it. */
+   bytes: each such call gets TILL_SHORT_LIST until the program is compiled anew. Of a store that was kept, read the
+   text again, or put 128 zeros behind it. */
 #ifndef TILL_H
 #define TILL_H
 
@@ -68,6 +68,7 @@ extern "C" {
 #define TILL_WORD (TILL_STATE_LIMIT - 1)
 #define TILL_PAGE 5000
 #define TILL_ROLL 35840
+#define TILL_BOOK (TILL_TABLE * TILL_ENTRY_SIZE)
 #define TILL_WRITTEN 15182
 
 /* The distance of a state that no start leads to, and of places past the states. */
@@ -75,6 +76,20 @@ extern "C" {
 
 /* The place in the table of the rank of states p and q. */
 #define TILL_PAIR(p, q) ((p) * TILL_STATE_LIMIT + (q))
+
+/* A book has an entry for each ordered pair of states p and q; TILL_PAIR(p, q) is its number. Its place, and those of
+   its bytes: the side that opens, the action and the target of its step, and the depth. */
+#define TILL_ENTRY_SIZE 4
+#define TILL_ENTRY(p, q) (TILL_PAIR(p, q) * TILL_ENTRY_SIZE)
+#define TILL_ENTRY_SIDE(p, q) TILL_ENTRY(p, q)
+#define TILL_ENTRY_ACTION(p, q) (TILL_ENTRY(p, q) + 1)
+#define TILL_ENTRY_TARGET(p, q) (TILL_ENTRY(p, q) + 2)
+#define TILL_ENTRY_DEPTH(p, q) (TILL_ENTRY(p, q) + 3)
+
+/* Sides of an entry. Without one the entry is absent, whatever its other bytes are. */
+#define TILL_NO_SIDE 0
+#define TILL_FIRST 1
+#define TILL_SECOND 2
 
 /* Refusals: of a text, by till_read. */
 #define TILL_TOO_LONG 1     /* more than TILL_TEXT_LIMIT bytes */
@@ -93,6 +108,7 @@ extern "C" {
 #define TILL_NO_LEAK 24           /* till_word: deterministic and passed */
 #define TILL_NO_STATE 25          /* till_run: the state is not below states */
 #define TILL_UNREACHABLE 26       /* till_run: no start leads to the state */
+#define TILL_NOT_SOUND 34         /* till_check: the book is not sound; the place is its first bad entry's number */
 
 /* Ends of a step, as till_word names them. */
 #define TILL_SOURCE 0
@@ -147,6 +163,17 @@ TillAnswer till_run(const uint16_t *store, size_t store_len, uint16_t *distances
    step allows. Two values: its length, and the end that allows it, TILL_SOURCE or TILL_TARGET. */
 TillAnswer till_word(const uint16_t *store, size_t store_len, uint16_t *distances, size_t distances_len,
                      uint8_t *table, size_t table_len, uint16_t *word, size_t word_len);
+
+/* Fills ranks, and the book of plays: an entry for each two states of a rank above 0, which is its depth; all else is
+   0. It tells how the scanner tells the two apart: one side opens with a low step, and whatever step with the same
+   action the other side answers, the two targets, the opening's on the opener's side, have an entry of lower depth. Of
+   the openings that allow this it has the first: by side, then action, then target. No value. */
+TillAnswer till_book(const uint16_t *store, size_t store_len, uint8_t *table, size_t table_len, uint8_t *book,
+                     size_t book_len);
+
+/* Whether a book is sound, whoever made it: each entry that is not absent has a side, its opening is a low step of that
+   side, and every answer leads to an entry of lower depth. No value, or TILL_NOT_SOUND. The book is only read. */
+TillAnswer till_check(const uint16_t *store, size_t store_len, const uint8_t *book, size_t book_len);
 
 /* Fills distances and ranks, the run to the source of Judge's step if the model is refused, the word if the page has a
    `B` line, and the page. One value: the bytes of the page. */

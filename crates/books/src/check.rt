@@ -104,12 +104,12 @@ fn all_lower(
         → Leads first (LowerEntry (bookOf (now (book .entry))) depth) (t .0) u) ⌝ }
 {
     let to = run_to(runs, q, a);
-    let mut i = run_from(runs, q, a);
-    while i < to {
-        if !is_lower(book, first, t, State(targets[i]), depth) {
+    let mut j = run_from(runs, q, a);
+    while j < to {
+        if !is_lower(book, first, t, State(targets[j]), depth) {
             return false;
         }
-        i += 1;
+        j += 1;
     }
     true
 }

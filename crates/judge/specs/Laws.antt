@@ -5,3 +5,6 @@ pub mod JudgePromiseLaws
 pub mod JudgeOutcomeLaws
 pub mod RunPromiseLaws
 pub mod WordPromiseLaws
+pub mod BookPromiseLaws
+pub mod CheckPromiseLaws
+pub mod BookClaimsLaws

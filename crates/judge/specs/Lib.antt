@@ -7,3 +7,4 @@ pub mod WordPromise
 pub mod JudgeWordPromise
 pub mod BookPromise
 pub mod CheckPromise
+pub mod BookClaims

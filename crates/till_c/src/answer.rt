@@ -1,4 +1,7 @@
 // Each operation's answer as numbers, for callers in C and Rust.
+use books::check::Checked;
+use judge::book::BookAnswer;
+use judge::check::CheckAnswer;
 use judge::judge::JudgeAnswer;
 use judge::rank::RankAnswer;
 use judge::reach::ReachAnswer;
@@ -25,6 +28,9 @@ ghost use Rattle.judge.specs.JudgePromise.{verdictOutcome, judgeOutcome};
 ghost use Rattle.letters.specs.Words.{endNumber};
 ghost use Rattle.letters.specs.WordDone.{shownOutcome};
 ghost use Rattle.judge.specs.WordPromise.{wordOutcome};
+ghost use Rattle.judge.specs.BookPromise.{bookOutcome};
+ghost use Rattle.books.specs.Checks.{checkedOutcome};
+ghost use Rattle.judge.specs.CheckPromise.{checkOutcome};
 ghost use Rattle.page.specs.PagePromise.{pageOutcome};
 ghost use Rattle.page.specs.PrintPromise.{printOutcome};
 ghost use Rattle.till_c.specs.Inner.Tells.{Tells, TellsThree, TellsText};
@@ -214,6 +220,36 @@ pub fn word_answer(answer: WordAnswer) -> TillAnswer
         WordAnswer::Shown(shown) => shown_answer(shown),
         WordAnswer::ShortList(place) => refusal(21, place),
         WordAnswer::NotGood => refusal(22, 0),
+    }
+}
+
+pub fn book_answer(answer: BookAnswer) -> TillAnswer
+    ensures { λ r. ⌜ Tells r (bookOutcome answer) ⌝ }
+{
+    match answer {
+        BookAnswer::Done => done(),
+        BookAnswer::ShortList(place) => refusal(21, place),
+        BookAnswer::NotGood => refusal(22, 0),
+    }
+}
+
+// The place of a bad entry is its number.
+fn checked_answer(found: Checked) -> TillAnswer
+    ensures { λ r. ⌜ Tells r (checkedOutcome found) ⌝ }
+{
+    match found {
+        Checked::Sound => done(),
+        Checked::Bad(entry) => refusal(34, entry),
+    }
+}
+
+pub fn check_answer(answer: CheckAnswer) -> TillAnswer
+    ensures { λ r. ⌜ Tells r (checkOutcome answer) ⌝ }
+{
+    match answer {
+        CheckAnswer::Checked(found) => checked_answer(found),
+        CheckAnswer::ShortList(place) => refusal(21, place),
+        CheckAnswer::NotGood => refusal(22, 0),
     }
 }
 

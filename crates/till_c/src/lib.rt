@@ -12,6 +12,8 @@ ghost use Rattle.judge.specs.RunPromise.{RunPromise};
 ghost use Rattle.judge.specs.RankPromise.{RankPromise};
 ghost use Rattle.judge.specs.JudgePromise.{JudgePromise};
 ghost use Rattle.judge.specs.WordPromise.{WordPromise};
+ghost use Rattle.judge.specs.BookPromise.{BookPromise};
+ghost use Rattle.judge.specs.CheckPromise.{CheckPromise};
 ghost use Rattle.lines.specs.declared.lines.Form.the-variants.{Page};
 ghost use Rattle.page.specs.PagePromise.{PagePromise, RollPromise};
 ghost use Rattle.page.specs.PrintPromise.{PrintPromise};
@@ -87,6 +89,23 @@ pub extern "C" fn till_word(
     ensures { λ r. ⌜ Plain r ⌝ }
 {
     answer::word_answer(judge::word::word(store, distances, table, word))
+}
+
+#[no_mangle]
+pub extern "C" fn till_book(store: &[u16], table: &mut [u8], book: &mut [u8]) -> TillAnswer
+    ensures { λ r. ⌜ BookPromise (now (store .entry)) (now (table .entry)) (now (book .entry)) (answerOutcome r)
+        (now (table .exit)) (now (book .exit)) ⌝ }
+    ensures { λ r. ⌜ Plain r ⌝ }
+{
+    answer::book_answer(judge::book::book(store, table, book))
+}
+
+#[no_mangle]
+pub extern "C" fn till_check(store: &[u16], book: &[u8]) -> TillAnswer
+    ensures { λ r. ⌜ CheckPromise (now (store .entry)) (now (book .entry)) (answerOutcome r) ⌝ }
+    ensures { λ r. ⌜ Plain r ⌝ }
+{
+    answer::check_answer(judge::check::check(store, book))
 }
 
 #[no_mangle]

@@ -1,9 +1,10 @@
-//! Models, damaged texts and damaged stores for the tests.
+//! Models, damaged texts, damaged stores and books of plays for the tests.
 //!
 //! Everything is drawn from a small generator with a seed, so each run of the
 //! tests sees the same inputs. Each module below makes one kind of them; the
 //! last tells what a test shows of its cases.
 
+mod books;
 mod deep;
 mod limits;
 mod models;
@@ -17,7 +18,12 @@ mod wide;
 
 mod cases;
 
-pub use cases::{case, model_case, seeded, shown, shown_numbers, shown_store, text_case, Case};
+pub use books::{bad_books, bad_store_books, BadBook, BadStoreBook};
+pub use books::{cut_book, mutated_book, scrap_book, sound_book, sound_books};
+pub use cases::{
+    book_case, case, model_case, seeded, shown, shown_book, shown_numbers, shown_store, text_case,
+    Case,
+};
 pub use deep::{branching_deep_model, chain, deep_model};
 pub use limits::limit_models;
 pub use models::{

@@ -6,6 +6,8 @@
 
 #![forbid(unsafe_code)]
 
+pub mod book;
+pub mod check;
 pub mod gen;
 pub mod judge;
 pub mod meaning;
@@ -18,6 +20,8 @@ pub mod store;
 pub mod text;
 pub mod word;
 
+pub use book::{book, book_of, book_program};
+pub use check::{check, check_program};
 pub use judge::{judge, Verdict};
 pub use page::{page, program};
 pub use rank::rank;
@@ -38,6 +42,11 @@ pub struct Refusal {
 impl Refusal {
     pub fn new(number: u16, place: u64) -> Refusal {
         Refusal { number, place }
+    }
+
+    /// The `F` line, ended.
+    fn line(self) -> Vec<u8> {
+        format!("F,{},{}\n", self.number, self.place).into_bytes()
     }
 }
 

@@ -4,6 +4,8 @@
 //! behind Run. Each check answers with what is wrong, if anything is.
 
 mod answers;
+mod bisimulations;
+mod books;
 mod interference;
 mod pages;
 mod ranks;
@@ -11,6 +13,8 @@ mod rolls;
 mod runs;
 mod sequences;
 
+pub use bisimulations::{greatest_bisimulation, is_bisimulation};
+pub use books::{book_holds, first_bad_entry, plays_hold, Plays};
 pub use interference::{Deterministic, Interference};
 pub use pages::page_holds;
 pub use ranks::{ranks_hold, verdict_of, Alike};

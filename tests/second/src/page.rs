@@ -170,6 +170,6 @@ pub(crate) fn print_text(text: &[u8], length: usize, printer: Printer) -> Vec<u8
     });
     match answer {
         Ok(length) => out[..length].to_vec(),
-        Err(Refusal { number, place }) => format!("F,{number},{place}\n").into_bytes(),
+        Err(refusal) => refusal.line(),
     }
 }

@@ -19,6 +19,8 @@ pub const WORD: usize = 127;
 pub const PAGE: usize = 5_000;
 /// Least length of the list that takes a receipt roll.
 pub const ROLL: usize = 35_840;
+/// Least length of a book of plays.
+pub const BOOK: usize = 65_536;
 /// Least length of the list that takes a written text.
 pub const WRITTEN: usize = 15_182;
 

@@ -2,7 +2,9 @@
 
 mod common;
 
+use std::fs;
 use std::io::Write;
+use std::path::Path;
 use std::process::{Command, Stdio};
 
 use common::{till, EXAMPLE, EXAMPLE_PAGE};
@@ -47,9 +49,40 @@ fn rolls_and_refusals() {
     assert_eq!(output(&["--roll"], &till(129, &[])), b"F,3,1\n");
 }
 
+/// The path of a file that holds a book.
+fn file_of(name: &str, book: &[u8]) -> String {
+    let path = Path::new(env!("CARGO_TARGET_TMPDIR")).join(name);
+    fs::write(&path, book).expect("the book is written");
+    path.to_str().expect("a path in UTF-8").to_string()
+}
+
+#[test]
+fn books_and_refusals() {
+    let book = output(&["--book"], EXAMPLE);
+    assert_eq!(book, second::book_program(EXAMPLE));
+    assert_eq!(book.len(), 65_536);
+    assert_eq!(output(&["--book"], b""), b"F,32,1\n");
+    let own = file_of("own.book", &book);
+    assert_eq!(output(&["--check", &own], EXAMPLE), b"");
+    assert_eq!(output(&["--check", &own], &till(129, &[])), b"F,3,1\n");
+    // The first entry is that of 0 and 2.
+    assert_eq!(output(&["--check", &own], &till(4, &[])), b"F,34,2\n");
+}
+
 #[test]
 fn other_arguments() {
-    for arguments in [&["--rol"][..], &[""], &["--roll", "--roll"]] {
+    let short = file_of("short.book", &[0; 65_535]);
+    let long = file_of("long.book", &[0; 65_537]);
+    for arguments in [
+        &["--rol"][..],
+        &[""],
+        &["--roll", "--roll"],
+        &["--book", "--roll"],
+        &["--check"],
+        &["--check", &short],
+        &["--check", &long],
+        &["--check", "no such book"],
+    ] {
         let mut command = Command::new(env!("CARGO_BIN_EXE_second"));
         let output = command.args(arguments).output();
         let output = output.expect("the program ends");

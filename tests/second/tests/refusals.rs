@@ -9,7 +9,8 @@ use common::{Lists, CLOSE, EXAMPLE, LONGER, PRINT, SCAN};
 use second::gen;
 use second::store::{DISTANCES, STORE};
 use second::text::{parse_or_cause, Cause};
-use second::{judge, page, program, rank, reach, read, roll, run, word, write, Refusal, Verdict};
+use second::{book, check, judge, page, program, rank, reach, read, roll, run, word, write};
+use second::{Refusal, Verdict};
 
 #[test]
 fn lines_that_are_absent_or_not_ended() {
@@ -201,6 +202,8 @@ on_stores! {
     page(distances, table, run, word, out);
     roll(distances, table, run, word, paper);
     write(written);
+    book(table, book);
+    check(book);
 }
 
 /// Lists of which some are one element short, or empty. 21 comes before 22, and 22 before 25.

@@ -3,6 +3,7 @@ use second::gen;
 use std::fmt;
 use std::ops::Deref;
 
+use crate::books::Book;
 use crate::stores::Store;
 
 /// Everything that operations read; each takes what its entry in the table names.
@@ -10,6 +11,8 @@ use crate::stores::Store;
 pub struct Input {
     pub text: Text,
     pub store: Store,
+    /// The book that Check tests.
+    pub book: Book,
     /// The state that Run goes to.
     pub state: u16,
 }
@@ -63,8 +66,17 @@ impl From<&Store> for Input {
 impl From<(&Store, u16)> for Input {
     fn from((store, state): (&Store, u16)) -> Input {
         Input {
-            store: store.clone(),
             state,
+            ..Input::from((store, &Book::without_entries()))
+        }
+    }
+}
+
+impl From<(&Store, &Book)> for Input {
+    fn from((store, book): (&Store, &Book)) -> Input {
+        Input {
+            store: store.clone(),
+            book: book.clone(),
             ..Input::default()
         }
     }

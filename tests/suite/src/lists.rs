@@ -1,6 +1,6 @@
 //! Lists as a caller may lend them: of any length, and with anything in them before the call.
 use second::gen::Rng;
-use second::store::{DISTANCES, PAGE, ROLL, RUN, STORE, TABLE, WORD, WRITTEN};
+use second::store::{BOOK, DISTANCES, PAGE, ROLL, RUN, STORE, TABLE, WORD, WRITTEN};
 use std::fmt;
 use std::mem::size_of;
 use std::ops::{Deref, DerefMut};
@@ -188,6 +188,7 @@ lists! {
     table: u8, TABLE;
     run: u16, RUN;
     word: u16, WORD;
+    book: u8, BOOK;
     page: u8, PAGE;
     roll: u8, ROLL;
     written: u8, WRITTEN;

@@ -23,7 +23,8 @@ macro_rules! operations {
             ) -> <$answer as Answer>::Raw;)*
         }
 
-        $(pub const $constant: Operation<$answer> = Operation {
+        $(#[allow(unused_variables)] // an operation may be lent no list
+        pub const $constant: Operation<$answer> = Operation {
             name: $name,
             function: stringify!($function),
             arguments: &[
@@ -67,6 +68,8 @@ operations! {
     JUDGE: "Judge" till_judge(store; distances, table) -> Verdict, second::judge;
     RUN: "Run" till_run(store; distances, run; state) -> usize, second::run;
     WORD: "Word" till_word(store; distances, table, word) -> (usize, End), second::word;
+    BOOK: "Book" till_book(store; table, book) -> (), second::book;
+    CHECK: "Check" till_check(store, book;) -> (), second::check;
     PAGE: "Page" till_page(store; distances, table, run, word, page) -> usize, second::page;
     ROLL: "Roll" till_roll(store; distances, table, run, word, roll) -> usize, second::roll;
     WRITE: "Write" till_write(store; written) -> usize, second::write;

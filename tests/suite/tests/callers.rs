@@ -241,6 +241,7 @@ fn the_needs() {
         let most = match name {
             "till_reach" | "till_run" | "till_write" => KB,
             "till_read" => 9 * KB,
+            "till_book" | "till_check" => 24 * KB,
             _ => 16 * KB,
         };
         let bytes: usize = bytes.parse().expect("a number");

@@ -1,69 +1,14 @@
-//! The programs against the second checker.
-use std::process::Command;
+//! The programs that print pages and rolls, against the second checker.
 use std::time::Duration;
 
-use second::gen::{self, shown, Fault, Rng};
-use suite::bench::{examples, rolls, root, worked_roll, WORKED, WORKED_PAGE};
-use suite::command::run_in_pieces;
+use second::gen::{self, Fault};
+use suite::bench::{examples, rolls, worked_roll, WORKED, WORKED_PAGE};
+use suite::program::{cut, Program, LONGEST, TILL, TILL_ROLL};
 use suite::texts::{models_to_damage, one_of_each};
 
 const SEED: u64 = 7_500;
 
-/// The most bytes that a text may have.
-const LONGEST: usize = 16_384;
-
-/// A program, and what the second checker prints in its place.
-struct Program {
-    name: &'static str,
-    second: fn(&[u8]) -> Vec<u8>,
-}
-
-const TILL: Program = Program {
-    name: "till",
-    second: second::program,
-};
-const TILL_ROLL: Program = Program {
-    name: "till_roll",
-    second: second::roll_program,
-};
 const BOTH: [Program; 2] = [TILL, TILL_ROLL];
-
-impl Program {
-    fn in_pieces(&self, pieces: &[&[u8]], pause: Duration) -> Vec<u8> {
-        let mut program = Command::new(root().join("target/bin").join(self.name));
-        let output = run_in_pieces(&mut program, pieces, pause);
-        assert!(output.status.success(), "{output:?}");
-        assert!(output.stderr.is_empty(), "{output:?}");
-        output.stdout
-    }
-
-    fn printed(&self, text: &[u8]) -> Vec<u8> {
-        self.in_pieces(&[text], Duration::ZERO)
-    }
-
-    /// The program prints what the second checker prints.
-    fn same(&self, text: &[u8]) -> Vec<u8> {
-        self.same_in_pieces(&[text], Duration::ZERO)
-    }
-
-    fn same_in_pieces(&self, pieces: &[&[u8]], pause: Duration) -> Vec<u8> {
-        let (name, text) = (self.name, pieces.concat());
-        let lengths = || pieces.iter().map(|piece| piece.len()).collect::<Vec<_>>();
-        let _case = gen::case(|| {
-            let (text, lengths) = (shown(&text), lengths());
-            format!("{name}, text: {text}\nin pieces of {lengths:?}")
-        });
-        let printed = self.in_pieces(pieces, pause);
-        let expected = (self.second)(&text);
-        assert!(
-            printed == expected,
-            "printed:\n{}\nexpected:\n{}",
-            shown(&printed),
-            shown(&expected)
-        );
-        printed
-    }
-}
 
 #[test]
 fn the_examples() {
@@ -114,17 +59,6 @@ fn sizes_of(program: &Program) {
         }
     }
     assert_eq!(longest, 15_072, "the most bytes of a model's text");
-}
-
-/// A text in pieces of up to so many bytes.
-fn cut<'a>(rng: &mut Rng, text: &'a [u8], most: usize) -> Vec<&'a [u8]> {
-    let (mut pieces, mut rest): (Vec<&[u8]>, &[u8]) = (Vec::new(), text);
-    while !rest.is_empty() {
-        let (piece, after) = rest.split_at(rng.between(1, most).min(rest.len()));
-        pieces.push(piece);
-        rest = after;
-    }
-    pieces
 }
 
 #[test]

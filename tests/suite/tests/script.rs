@@ -12,20 +12,9 @@ use std::time::{Duration, Instant};
 
 use suite::bench::{examples, rolls, root, Folder};
 use suite::command::{prints, run};
-
-/// Status 3: the script says why and prints nothing.
-fn fails(output: Output, why: &str) {
-    assert_eq!(output.status.code(), Some(3), "{output:?}");
-    assert!(output.stdout.is_empty(), "{output:?}");
-    let said = String::from_utf8_lossy(&output.stderr);
-    assert!(said.starts_with("till: ") && said.contains(why), "{said}");
-}
+use suite::script::{example, fails, page, roll, script, shell, Checkout, KIT};
 
 // ---- with the programs
-
-fn script() -> Command {
-    Command::new(root().join("till"))
-}
 
 /// An example with what is printed of it and the status that this stands for.
 type Example = (PathBuf, Vec<u8>, String, i32);
@@ -42,10 +31,6 @@ fn with_status((file, text, printed): (PathBuf, Vec<u8>, Vec<u8>)) -> Example {
 
 fn pages() -> Vec<Example> {
     examples().into_iter().map(with_status).collect()
-}
-
-fn example(name: &str) -> PathBuf {
-    root().join("examples").join(name)
 }
 
 #[test]
@@ -149,13 +134,6 @@ fn no_text() {
     }
 }
 
-/// What a line of a shell makes of the script and a model that passes.
-fn shell(line: &str) -> Output {
-    let mut shell = Command::new("sh");
-    shell.args(["-c", line]).arg(root().join("till"));
-    run(shell.arg(example("released.txt")), b"")
-}
-
 #[test]
 fn no_place_to_print() {
     for to in ["/dev/full", "&-"] {
@@ -221,124 +199,6 @@ fn ways_to_start() {
 
 // ---- with another kit
 
-/// Stands in for the kit: each program that it makes passes each text, and tells the source's number as the rank. It
-/// notes the name of each, and as the kit does it links none whose stamp is that of the source.
-const KIT: &str = r#"#!/bin/sh
-kit=$(dirname "$0")
-case $1 in
-version) cat "$kit/version" ;;
-check)
-    echo "$2" >>"$kit/makings"
-    rank=$(cat crates/a/src/lib.rt)
-    while [ -f "$kit/hold" ]; do sleep 0.01; done
-    [ ! -f "$kit/broken" ] || { echo "rt: FAILED: a" && exit 1; }
-    [ "$rank" != "$(cat "target/stamp/$2" 2>/dev/null)" ] || exit 0
-    columns=1
-    [ "$2" = till ] || columns=42
-    printf '#!/bin/sh\ncat >/dev/null\nprintf "%%-%ss\\n" V,pass,%s E\n' $columns "$rank" >"target/bin/$2"
-    chmod +x "target/bin/$2"
-    mkdir -p target/stamp && echo "$rank" >"target/stamp/$2"
-    [ ! -f "$kit/edit" ] || mv "$kit/edit" crates/a/src/lib.rt
-    ;;
-esac
-"#;
-
-/// A checkout with the script, one source and that kit.
-struct Checkout(Folder);
-
-impl Checkout {
-    fn new(name: &str) -> Checkout {
-        let checkout = Checkout(Folder::new(name));
-        for folder in ["crates/a/src", "kit"] {
-            fs::create_dir_all(checkout.file(folder)).expect("a folder");
-        }
-        fs::copy(root().join("till"), checkout.file("till")).expect("a copy");
-        let files = [
-            ("crates.txt", "a:\n"),
-            ("crates/a/src/lib.rt", "1\n"),
-            ("kit/version", "first\n"),
-        ];
-        for (name, contents) in files {
-            checkout.write(name, contents);
-        }
-        checkout.write_executable("kit/rt", KIT);
-        checkout
-    }
-
-    fn file(&self, name: &str) -> PathBuf {
-        self.0 .0.join(name)
-    }
-
-    fn write(&self, name: &str, contents: &str) {
-        fs::write(self.file(name), contents).expect("a file");
-    }
-
-    fn write_executable(&self, name: &str, contents: &str) {
-        self.write(name, contents);
-        let executable = fs::Permissions::from_mode(0o755);
-        fs::set_permissions(self.file(name), executable).expect("a file");
-    }
-
-    /// As if the file had been written long ago.
-    fn write_old(&self, name: &str, contents: &str) {
-        self.write(name, contents);
-        let file = File::options()
-            .write(true)
-            .open(self.file(name))
-            .expect("a file");
-        file.set_modified(std::time::UNIX_EPOCH).expect("a time");
-    }
-
-    /// A script of the checkout, which finds that kit.
-    fn script(&self, name: &str) -> Command {
-        let path = std::env::var("PATH").expect("a PATH");
-        let path = format!("{}:{path}", self.file("kit").display());
-        let mut script = Command::new("bash");
-        script.arg(self.file(name)).env("PATH", path);
-        script
-    }
-
-    /// The script's output on a text that the program does not look at.
-    fn run(&self) -> Output {
-        self.run_with(&[])
-    }
-
-    fn run_with(&self, options: &[&str]) -> Output {
-        run(self.script("till").args(options), b"")
-    }
-
-    fn makings(&self) -> usize {
-        let makings = fs::read_to_string(self.file("kit/makings"));
-        makings.map_or(0, |makings| makings.lines().count())
-    }
-
-    /// The script passes a text with this rank; by now programs have been made so many times.
-    fn passes(&self, rank: u16, makings: usize) {
-        self.passes_with(&[], page(rank), makings);
-    }
-
-    /// The same with a roll.
-    fn rolls(&self, rank: u16, makings: usize) {
-        self.passes_with(&["--roll"], roll(rank), makings);
-    }
-
-    fn passes_with(&self, options: &[&str], printed: String, makings: usize) {
-        let output = self.run_with(options);
-        assert_eq!(output.status.code(), Some(0), "{output:?}");
-        assert_eq!(String::from_utf8_lossy(&output.stdout), printed);
-        assert_eq!(self.makings(), makings, "{output:?}");
-    }
-}
-
-/// What that kit's programs print.
-fn page(rank: u16) -> String {
-    format!("V,pass,{rank}\nE\n")
-}
-
-fn roll(rank: u16) -> String {
-    format!("{:<42}\n{:<42}\n", format!("V,pass,{rank}"), "E")
-}
-
 /// What counts are the contents of the sources, the kit and the program, and not the times of files.
 #[test]
 fn made_by_contents() {
@@ -360,10 +220,10 @@ fn made_by_contents() {
     checkout.passes(2, 6);
 }
 
-/// Each program is made when it is used first, and noted by itself; `--make` makes both.
+/// Each program is made when it is used first, and noted by itself; `--make` makes all.
 #[test]
-fn two_programs() {
-    let checkout = Checkout::new("two_programs");
+fn four_programs() {
+    let checkout = Checkout::new("four_programs");
     let files = ["crates.txt", "crates.txt"].map(|name| checkout.file(name));
     let mut several = checkout.script("till");
     let output = run(several.arg("--roll").args(files), b"");
@@ -384,17 +244,19 @@ fn two_programs() {
         assert!(output.stdout.is_empty(), "{output:?}");
         assert_eq!(checkout.makings(), makings, "{output:?}");
     };
-    made(5);
+    made(7);
     fs::remove_file(checkout.file("target/bin/till.made")).expect("a note");
-    made(6);
-    checkout.write("crates/a/src/lib.rt", "3\n");
     made(8);
-    checkout.passes(3, 8);
-    checkout.rolls(3, 8);
+    checkout.write("crates/a/src/lib.rt", "3\n");
+    made(12);
+    checkout.passes(3, 12);
+    checkout.rolls(3, 12);
     let makings = fs::read_to_string(checkout.file("kit/makings")).expect("names");
     let names: Vec<&str> = makings.lines().collect();
     let (till, roll) = ("till", "till_roll");
-    assert_eq!(names, [roll, till, roll, till, roll, till, till, roll]);
+    let (book, check) = ("till_book", "till_check");
+    assert_eq!(names[..5], [roll, till, roll, till, roll]);
+    assert_eq!(names[5..], [book, check, till, till, roll, book, check]);
 }
 
 /// An edit made while the program is proved is not lost: nor is it when it is taken back.

@@ -19,6 +19,10 @@ _Static_assert(TILL_RUN == 127, "run");
 _Static_assert(TILL_WORD == 127, "word");
 _Static_assert(TILL_PAGE == 5000, "page");
 _Static_assert(TILL_ROLL == 35840, "roll");
+_Static_assert(TILL_BOOK == 65536, "book");
+_Static_assert(TILL_ENTRY(0, 0) == 0 && TILL_ENTRY(1, 2) == 520 && TILL_ENTRY(127, 127) == 65532, "entries");
+_Static_assert(TILL_ENTRY_SIDE(1, 2) == 520 && TILL_ENTRY_ACTION(1, 2) == 521, "bytes of an entry");
+_Static_assert(TILL_ENTRY_TARGET(1, 2) == 522 && TILL_ENTRY_DEPTH(1, 2) == 523, "bytes of an entry");
 _Static_assert(TILL_WRITTEN == 15182, "written");
 _Static_assert(TILL_TOO_LONG == 1 && TILL_FORM == 2 && TILL_RANGE == 3, "refusals of a text");
 _Static_assert(TILL_REPEATED == 4 && TILL_ORDER == 5, "refusals of a text");
@@ -38,7 +42,7 @@ static const char *const rolled[] = {"V,refuse,1,2", "  0   0   0 scan", "  1   
 
 /* One element more than need be, which must stay as it is. */
 static uint16_t store[TILL_STORE + 1], distances[TILL_DISTANCES + 1], run[TILL_RUN + 1], word[TILL_WORD + 1];
-static uint8_t table[TILL_TABLE + 1], out[TILL_ROLL + 1];
+static uint8_t table[TILL_TABLE + 1], book[TILL_BOOK + 1], out[TILL_ROLL + 1];
 
 static void expect(const char *what, uint64_t is, uint64_t expected) {
     if (is != expected) {
@@ -66,6 +70,7 @@ static void forget(void) {
     memset(run, 7, sizeof run);
     memset(word, 7, sizeof word);
     memset(table, 7, sizeof table);
+    memset(book, 7, sizeof book);
     memset(out, 7, sizeof out);
 }
 
@@ -82,6 +87,26 @@ static void expect_table(void) {
         for (size_t q = 0; q < TILL_STATE_LIMIT; q++)
             expect("a rank", table[TILL_PAIR(p, q)], p < 4 && q < 4 ? ranks[p][q] : 0);
     expect("the byte after the table", table[TILL_TABLE], 7);
+}
+
+/* Side, action, target and depth. States 0 and 1 scan to 1, and state 2 scans to 3, which does not scan. */
+static void expect_book(void) {
+    static const uint8_t entries[4][4][4] = {
+        {{0}, {0}, {TILL_FIRST, 0, 1, 2}, {TILL_FIRST, 0, 1, 1}},
+        {{0}, {0}, {TILL_FIRST, 0, 1, 2}, {TILL_FIRST, 0, 1, 1}},
+        {{TILL_FIRST, 0, 3, 2}, {TILL_FIRST, 0, 3, 2}, {0}, {TILL_FIRST, 0, 3, 1}},
+        {{TILL_SECOND, 0, 1, 1}, {TILL_SECOND, 0, 1, 1}, {TILL_SECOND, 0, 3, 1}, {0}},
+    };
+    static const uint8_t absent[4] = {TILL_NO_SIDE};
+    for (size_t p = 0; p < TILL_STATE_LIMIT; p++)
+        for (size_t q = 0; q < TILL_STATE_LIMIT; q++) {
+            const uint8_t *entry = p < 4 && q < 4 ? entries[p][q] : absent;
+            expect("a side", book[TILL_ENTRY_SIDE(p, q)], entry[0]);
+            expect("an action", book[TILL_ENTRY_ACTION(p, q)], entry[1]);
+            expect("a target", book[TILL_ENTRY_TARGET(p, q)], entry[2]);
+            expect("a depth", book[TILL_ENTRY_DEPTH(p, q)], entry[3]);
+        }
+    expect("the byte after the book", book[TILL_BOOK], 7);
 }
 
 static void expect_word(void) {
@@ -160,6 +185,20 @@ static void judges(void) {
     expect("the second step", run[1], 3);
     expect("the number after the run", run[2], 0x0707);
     refuses("Run", till_run(store, TILL_STORE, distances, TILL_DISTANCES, run, TILL_RUN, 4), TILL_NO_STATE, 4);
+}
+
+static void plays(void) {
+    forget();
+    answers("Book", till_book(store, TILL_STORE, table, TILL_TABLE, book, TILL_BOOK), 0, 0, 0);
+    expect_table();
+    expect_book();
+    refuses("Book", till_book(store, TILL_STORE, table, TILL_TABLE, book, TILL_BOOK - 1), TILL_SHORT_LIST, 3);
+    answers("Check", till_check(store, TILL_STORE, book, TILL_BOOK), 0, 0, 0);
+    expect_book();
+    refuses("Check", till_check(store, TILL_STORE, book, TILL_BOOK - 1), TILL_SHORT_LIST, 2);
+    /* 0 scan 1 is answered by 2 scan 3, and the entry of 1 and 3 is now not lower. */
+    book[TILL_ENTRY_DEPTH(1, 3)] = 2;
+    refuses("Check", till_check(store, TILL_STORE, book, TILL_BOOK), TILL_NOT_SOUND, TILL_PAIR(0, 2));
 }
 
 static void shows(void) {
@@ -260,6 +299,7 @@ int main(void) {
     refuses_texts();
     reads();
     judges();
+    plays();
     shows();
     wakes();
     tells();

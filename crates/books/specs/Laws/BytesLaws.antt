@@ -2,16 +2,20 @@
 -- Document 02, (v). Assumes nothing.
 use mathlib.Core.Bool.{Bool}
 use mathlib.Core.List.{List}
+use mathlib.Core.Logic.{⊎-elim}
 use mathlib.Core.Path.{_≡_, sym, ap, _∙_, subst}
 use Prim.Native.Nat.{ℕ, zero, suc, _+_, _*_, _/_, _%_, _≤_, _<_}
 use native.Mathlib.Omega.{arith}
 use lib.ListN.{length, getD, take}
 use lib.Seq.{ext-getD, getD-take}
 use Rattle.lts.specs.Alike.{Moves}
+use Rattle.lts.specs.TestsLaws.{lt-or-le}
 use Rattle.lts.specs.Game.{Game}
 use Rattle.lts.specs.Book.{Entry, OwnEntry, OwnBook}
 use Rattle.lts.specs.OwnBookLaws.{entry-ext, own-unique}
 use Rattle.text.specs.Limits.{stateLimit, tableLength, pairPlace, entrySize, bookLength}
+use Rattle.text.specs.Lists.{Past}
+use Rattle.text.specs.Laws.ListsLaws.{past-getD}
 use Rattle.books.specs.Books.{entryNumber, bookOf}
 
 -- The byte of an entry: its number, and its place in the entry.
@@ -59,6 +63,12 @@ module _ (Move : Moves) (n : ℕ) (round : (ℕ → ℕ → Bool) → ℕ → �
   -- A list of no further bytes.
   pub ownBook-unique : length b ≡ length b′ → length b ≤ bookLength → b ≡ b′
   ownBook-unique e le = ext-getD 0 b b′ e (λ i l. ownBook-bytes i (omega (arith, l, le)))
+
+  -- The whole list after Book.
+  pub bookFilled-unique : (entry : List ℕ) → Past bookLength entry b → Past bookLength entry b′ → b ≡ b′
+  bookFilled-unique entry u v =
+      ext-getD 0 b b′ (u .same-length ∙ sym (v .same-length)) (λ i l.
+      ⊎-elim (λ k. ownBook-bytes i k) (λ k. past-getD u i k ∙ sym (past-getD v i k)) (lt-or-le i bookLength))
 
 -- ---- a book in a longer list
 

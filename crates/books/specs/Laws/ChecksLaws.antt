@@ -2,14 +2,14 @@
 -- Document 02, (v). Assumes nothing.
 use mathlib.Core.List.{List}
 use mathlib.Core.Logic.{_⊎_, inl, inr}
-use mathlib.Core.Path.{_≡_, refl, sym, ap, subst}
+use mathlib.Core.Path.{_≡_, refl, sym, ap, _∙_, subst}
 use Prim.Native.Nat.{ℕ, _+_, _/_, _%_, _<_}
 use native.Mathlib.Omega.{arith}
-use Rattle.lts.specs.TestsLaws.{eq-or-not}
+use Rattle.lts.specs.TestsLaws.{eq-or-not, eq-of-not-lt}
 use Rattle.lts.specs.Alike.{Moves}
 use Rattle.lts.specs.Book.{SoundAt}
 use Rattle.lts.specs.BookLaws.{soundAt-same}
-use Rattle.text.specs.Faults.{refuses}
+use Rattle.text.specs.Faults.{Outcome, refuses}
 use Rattle.text.specs.Limits.{stateLimit, tableLength, pairPlace}
 use Rattle.books.specs.Books.{bookOf}
 use Rattle.books.specs.declared.check.Checked.the-variants as checked
@@ -74,3 +74,18 @@ module _ {M N : Moves} (forth : (p a q : ℕ) → M p a q → N p a q) (back : (
         sound-before = λ x y lx ly b. soundAt-same forth back (bookOf book) x y (s .sound x y lx ly (omega arith));
       } in
       refused p q first-bad (ap (refuses 34) (sym e))
+
+-- ---- one answer
+
+firstBad-le : {Move : Moves} {book : List ℕ} {p q x y : ℕ} → FirstBad Move book p q → FirstBad Move book x y
+    → ¬ (pairPlace p q < pairPlace x y)
+firstBad-le {p = p} {q} f g l = f .bad (g .sound-before p q (f .first-lt) (f .second-lt) l)
+
+pub checkDone-unique : {Move : Moves} {book : List ℕ} {outcome outcome′ : Outcome} → CheckDone Move book outcome
+    → CheckDone Move book outcome′ → outcome ≡ outcome′
+checkDone-unique (accepted s e) (accepted t f) = e ∙ sym f
+checkDone-unique (accepted s e) (refused p q b f) = absurd (b .bad (s p q (b .first-lt) (b .second-lt)))
+checkDone-unique (refused p q b e) (accepted t f) = absurd (b .bad (t p q (b .first-lt) (b .second-lt)))
+checkDone-unique (refused p q b e) (refused x y c f) =
+    let same = eq-of-not-lt (pairPlace p q) (pairPlace x y) (firstBad-le b c) (firstBad-le c b) in
+    e ∙ ap (refuses 34) same ∙ sym f

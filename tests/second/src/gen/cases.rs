@@ -5,7 +5,8 @@ use std::io::{self, Write};
 use std::{iter, thread};
 
 use super::Rng;
-use crate::store::Model;
+use crate::book::{book_of, Entry, ENTRY};
+use crate::store::{Model, TABLE};
 
 /// A generator for a test. Its seed is shown, also where the test passes: it
 /// is written past the harness, which keeps what a passing test prints.
@@ -51,6 +52,19 @@ pub fn shown_numbers(store: &[u16]) -> String {
     format!("store of {length} numbers, all 0 but (place, number): {numbers:?}")
 }
 
+/// A book as a failing test shows it: the text of the model, and the entries
+/// that are not as in our own book of it.
+pub fn shown_book(model: &Model, book: &[u8]) -> String {
+    let own = book_of(model);
+    let differing: Vec<(usize, [u8; ENTRY])> = (0..TABLE)
+        .map(|number| (number, Entry::of(book, number)))
+        .filter(|&(number, entry)| entry != Entry::of(&own, number))
+        .map(|(number, entry)| (number, entry.bytes()))
+        .collect();
+    let (made, length) = (shown(&model.to_text()), book.len());
+    format!("book of {length} bytes for {made}\nwith (entry, bytes): {differing:?}")
+}
+
 /// Places and numbers where a store differs from another, which is 0 past its
 /// end.
 fn differing(store: &[u16], other: &[u16]) -> Vec<(usize, u16)> {
@@ -78,6 +92,11 @@ pub fn model_case(model: &Model) -> Case<impl Fn() -> String + '_> {
 /// The case of a text.
 pub fn text_case(text: &[u8]) -> Case<impl Fn() -> String + '_> {
     case(|| format!("text: {}", shown(text)))
+}
+
+/// The case of a book, which has the bytes of all entries.
+pub fn book_case<'a>(model: &'a Model, book: &'a [u8]) -> Case<impl Fn() -> String + 'a> {
+    case(|| shown_book(model, book))
 }
 
 impl<F: Fn() -> String> Drop for Case<F> {

@@ -1,8 +1,12 @@
 //! Lists to lend, and what the operations must leave in them.
 #![allow(dead_code)]
 
-use second::store::{DISTANCES, PAGE, ROLL, RUN, STORE, TABLE, WORD, WRITTEN};
-use second::{gen, page, program, read, roll, roll_program, Model};
+use std::collections::BTreeSet;
+
+use second::book::{entry_number, Entry};
+use second::store::{BOOK, DISTANCES, PAGE, ROLL, RUN, STORE, TABLE, WORD, WRITTEN};
+use second::{check, check_program, gen, meaning, page, program, read, roll, roll_program};
+use second::{Model, Refusal};
 
 /// How many elements more than need be each list has.
 pub const LONGER: usize = 3;
@@ -19,6 +23,8 @@ pub struct Lists {
     /// Roll's out.
     pub paper: Vec<u8>,
     pub written: Vec<u8>,
+    /// Its old entries all count as absent.
+    pub book: Vec<u8>,
 }
 
 impl Lists {
@@ -31,10 +37,11 @@ impl Lists {
             out: vec![b'~'; PAGE + LONGER],
             paper: vec![b'^'; ROLL + LONGER],
             written: vec![b'!'; WRITTEN + LONGER],
+            book: [0, 201, 202, 203].repeat(BOOK / 4 + 1)[..BOOK + LONGER].to_vec(),
         }
     }
 
-    pub fn page(&mut self, store: &[u16]) -> Result<usize, second::Refusal> {
+    pub fn page(&mut self, store: &[u16]) -> Result<usize, Refusal> {
         page(
             store,
             &mut self.distances,
@@ -45,7 +52,7 @@ impl Lists {
         )
     }
 
-    pub fn roll(&mut self, store: &[u16]) -> Result<usize, second::Refusal> {
+    pub fn roll(&mut self, store: &[u16]) -> Result<usize, Refusal> {
         roll(
             store,
             &mut self.distances,
@@ -111,4 +118,71 @@ pub const EXAMPLE_PAGE: &str =
 /// The model of a good text.
 pub fn model_of(text: &[u8]) -> Model {
     second::text::parse(text).expect("the text is good")
+}
+
+/// Entries of a book: both states, and the bytes.
+pub type Entries<'a> = &'a [(usize, usize, [u8; 4])];
+
+/// The book with just these entries.
+pub fn with_entries(entries: Entries) -> Vec<u8> {
+    let mut book = vec![0; BOOK];
+    for &(p, q, bytes) in entries {
+        let place = 4 * (128 * p + q);
+        book[place..place + 4].copy_from_slice(&bytes);
+    }
+    book
+}
+
+/// A text with the actions scan and show (low), print (high).
+pub fn two_scanners(states: u16, steps: &[(u16, u16, u16)]) -> Vec<u8> {
+    let mut text = format!(
+        "M,{states},3,{},0\nA,L,scan\nA,L,show\nA,H,print\n",
+        steps.len()
+    );
+    for (source, action, target) in steps {
+        text += &format!("S,{source},{action},{target}\n");
+    }
+    (text + "E\n").into_bytes()
+}
+
+pub const SHOW: u16 = 1;
+
+/// The first bad entry of the book with just these entries, as its pair.
+pub fn bad(text: &[u8], entries: Entries) -> Option<(u64, u64)> {
+    let (store, book) = (store_of(text), with_entries(entries));
+    let answer = check(&store, &book);
+    let line = match answer {
+        Ok(()) => String::new(),
+        Err(Refusal { number, place }) => format!("F,{number},{place}\n"),
+    };
+    assert_eq!(check_program(text, &book), line.as_bytes());
+    let refusal = answer.err()?;
+    assert_eq!(refusal.number, 34);
+    Some((refusal.place / 128, refusal.place % 128))
+}
+
+/// 0 scan 1, 1 scan 2, and 2 has no step.
+pub fn three() -> Vec<u8> {
+    let steps = [(0, SCAN, 1), (0, PRINT, 2), (1, SCAN, 2), (1, CLOSE, 0)];
+    till(3, &steps)
+}
+
+/// The pairs of states for which a book has an entry.
+pub fn pairs(model: &Model, book: &[u8]) -> BTreeSet<(u16, u16)> {
+    let states = 0..model.states;
+    let pairs = states
+        .clone()
+        .flat_map(|p| states.clone().map(move |q| (p, q)));
+    let number = |(p, q): (u16, u16)| entry_number(usize::from(p), usize::from(q));
+    pairs
+        .filter(|&pair| !Entry::of(book, number(pair)).is_absent())
+        .collect()
+}
+
+/// No low-view bisimulation pairs two states that an accepted book has an entry
+/// for; those are told apart by every play.
+pub fn accepted_book_holds(model: &Model, book: &[u8]) {
+    assert_eq!(meaning::plays_hold(model, book), Ok(()));
+    let alike = meaning::greatest_bisimulation(model);
+    assert!(pairs(model, book).is_disjoint(&alike));
 }

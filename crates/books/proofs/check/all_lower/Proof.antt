@@ -1,4 +1,4 @@
--- Each place of the run up to place i leads to an entry of lower depth.
+-- Each place of the run up to place j leads to an entry of lower depth.
 use mathlib.Core.Path.{refl}
 use Prim.Native.Nat.{ℕ, _≤_, _<_, _-_}
 use native.Mathlib.Omega.{arith}
@@ -15,12 +15,12 @@ use Rattle.books.proofs.check.all_lower.Statement.{statement}
 use Rattle.books.proofs.check.all_lower.Tie as tie
 
 abbrev Inv-loop : tie.InvT-loop
-Inv-loop runs targets book first t depth to i₀ i =
-    (to ≤ stepLimit) × (i₀ ≤ i)
-    × ((j : ℕ) → j < i → i₀ ≤ j → Leads first (LowerEntry (bookOf book) depth) (t .0) (getD targets j 0))
+Inv-loop runs targets book first t depth to j₀ j =
+    (to ≤ stepLimit) × (j₀ ≤ j)
+    × ((k : ℕ) → k < j → j₀ ≤ k → Leads first (LowerEntry (bookOf book) depth) (t .0) (getD targets k 0))
 
 abbrev μ-loop : tie.MeasureT-loop
-μ-loop runs targets book first t depth to i₀ i = to - i
+μ-loop runs targets book first t depth to j₀ j = to - j
 
 run-to-requires : tie.Need-run-to-requires Inv-loop μ-loop
 run-to-requires c κs = search needs
@@ -64,8 +64,8 @@ returns c all =
     (from .ensures) (at-loop .loop .inv .1) (in-loop .loop-test .taken) refl in
     decides-refused (tested .is-lower .result) _ (tested .is-lower .ensures) (c .if1 .taken) (all _ move)
 
-add-i : tie.Need-add-i Inv-loop μ-loop
-add-i c = search needs
+add-j : tie.Need-add-j Inv-loop μ-loop
+add-j c = search needs
 
 loop-less : tie.Need-loop-less Inv-loop μ-loop
 loop-less c = search needs
@@ -100,7 +100,7 @@ all-lower-spec =
     element-copy-out-t15
     is-lower-requires
     returns
-    add-i
+    add-j
     loop-less
     loop-again
     returns-2)
