@@ -31,7 +31,7 @@ use Rattle.page.specs.Laws.PrintClaimLaws.{same-number}
 use Rattle.page.proofs.ReadRefusals.{fault-printed}
 
 -- So many bytes stand in the list, as a part of it is asked for.
-pub counts-of-le : {n : ℕ} (list : List ℕ) → n ≤ length list → (n ≤ length list) × (n ≡ length (take n list))
+counts-of-le : {n : ℕ} (list : List ℕ) → n ≤ length list → (n ≤ length list) × (n ≡ length (take n list))
 counts-of-le {n} list le =
     let taken : length (take n list) ≡ min n (length list) = length-take n list in
     (le, omega (arith, le, taken))
