@@ -19,7 +19,7 @@ pub enum BookAnswer {
 }
 
 // Book on a good store: the moves are listed once, for the ranks and for the book.
-fn book_good(store: &[u16], table: &mut [u8], book: &mut [u8])
+pub fn book_good(store: &[u16], table: &mut [u8], book: &mut [u8])
     requires { ⌜ Stored (now store) (modelAt (now store)) ⌝ }
     requires { ⌜ (tableLength ≤ length (now table)) × (bookLength ≤ length (now book)) ⌝ }
     ensures { λ _. ⌜ BookDone (modelAt (now (store .entry))) (now (table .entry)) (now (book .entry))

@@ -22,7 +22,7 @@ pub enum CheckAnswer {
 }
 
 // Check on a good store.
-fn check_good(store: &[u16], book: &[u8]) -> Checked
+pub fn check_good(store: &[u16], book: &[u8]) -> Checked
     requires { ⌜ Stored (now store) (modelAt (now store)) ⌝ }
     requires { ⌜ bookLength ≤ length (now book) ⌝ }
     ensures { λ r. ⌜ CheckDone (LowMove (view (modelAt (now (store .entry))))) (now (book .entry))

@@ -1,3 +1,4 @@
 pub mod PageAnswers
 pub mod ReadRefusals
 pub mod PrintAnswers
+pub mod PrintsTextAnswers

@@ -14,6 +14,7 @@ pub mod PageCallsLaws
 pub mod PrintPromiseLaws
 pub mod PrintsLaws
 pub mod PrintsUniqueLaws
+pub mod PrintsTextLaws
 pub mod RollPrintsLaws
 pub mod StateLinesTestLaws
 pub mod ExamplesLaws

@@ -7,4 +7,5 @@ pub mod RollClaim
 pub mod Claim
 pub mod PageCalls
 pub mod Prints
+pub mod PrintsText
 pub mod Examples

@@ -12,6 +12,8 @@ ghost use lib.ListN.{length};
 ghost use Rattle.text.specs.Faults.{answers, refuses};
 ghost use Rattle.text.specs.Limits.{pageLength};
 ghost use Rattle.read_write.specs.ReadPromise.{readOutcome};
+ghost use Rattle.writer.specs.Wrote.{Wrote};
+ghost use Rattle.lines.specs.PageLines.{faultBytes};
 ghost use Rattle.lines.specs.declared.lines.Form.the-variants.{Page};
 ghost use Rattle.page.specs.Inner.PageLists.{LongLists};
 ghost use Rattle.page.specs.Claim.{PrintClaim};
@@ -57,16 +59,24 @@ fn refusal_of(read: ReadAnswer) -> Refusal
     }
 }
 
-// The line `F,number,place` of a text that Read refuses: no line of the page, and not padded on the roll.
-fn fault_line(read: ReadAnswer, out: &mut [u8]) -> PagePosition
+// The line `F,number,place`: no line of the page, and not padded on the roll.
+pub fn refusal_line(number: u16, place: u16, out: &mut [u8]) -> PagePosition
+    requires { ⌜ pageLength ≤ length (now out) ⌝ }
+    ensures { λ r. ⌜ Wrote (now (out .entry)) 0 (faultBytes number place) (now (out .exit)) (r .at .at) ⌝ }
+{
+    let start = PagePosition::start();
+    start
+        .fault_text(out, number, place)
+        .line_end(out, 0, Form::Page)
+}
+
+// The line of a text that Read refuses.
+pub fn fault_line(read: ReadAnswer, out: &mut [u8]) -> PagePosition
     requires { ⌜ Refuses read × (pageLength ≤ length (now out)) ⌝ }
     ensures { λ r. ⌜ FaultWritten (readOutcome read) (now (out .entry)) (now (out .exit)) (r .at .at) ⌝ }
 {
     let refusal = refusal_of(read);
-    let start = PagePosition::start();
-    start
-        .fault_text(out, refusal.number, refusal.place)
-        .line_end(out, 0, Form::Page)
+    refusal_line(refusal.number, refusal.place, out)
 }
 
 // Prints the page of a text in a form, or why Read refuses it, where all lists are long enough.

@@ -1,18 +1,19 @@
--- Our own book is pinned: each of its bytes, and so the list of them. Document 02, (v). Assumes nothing.
+-- Our own book is pinned: each of its bytes, and so the list of them; and it stands in its own bytes alone.
+-- Document 02, (v). Assumes nothing.
 use mathlib.Core.Bool.{Bool}
 use mathlib.Core.List.{List}
 use mathlib.Core.Logic.{⊎-elim}
 use mathlib.Core.Path.{_≡_, sym, ap, _∙_, subst}
 use Prim.Native.Nat.{ℕ, zero, suc, _+_, _*_, _/_, _%_, _≤_, _<_}
 use native.Mathlib.Omega.{arith}
-use lib.ListN.{length, getD}
-use lib.Seq.{ext-getD}
+use lib.ListN.{length, getD, take}
+use lib.Seq.{ext-getD, getD-take}
 use Rattle.lts.specs.Alike.{Moves}
 use Rattle.lts.specs.TestsLaws.{lt-or-le}
 use Rattle.lts.specs.Game.{Game}
-use Rattle.lts.specs.Book.{Entry, OwnBook}
-use Rattle.lts.specs.OwnBookLaws.{own-unique}
-use Rattle.text.specs.Limits.{stateLimit, pairPlace, entrySize, bookLength}
+use Rattle.lts.specs.Book.{Entry, OwnEntry, OwnBook}
+use Rattle.lts.specs.OwnBookLaws.{entry-ext, own-unique}
+use Rattle.text.specs.Limits.{stateLimit, tableLength, pairPlace, entrySize, bookLength}
 use Rattle.text.specs.Lists.{Past}
 use Rattle.text.specs.Laws.ListsLaws.{past-getD}
 use Rattle.books.specs.Books.{entryNumber, bookOf}
@@ -68,3 +69,27 @@ module _ (Move : Moves) (n : ℕ) (round : (ℕ → ℕ → Bool) → ℕ → �
   bookFilled-unique entry u v =
       ext-getD 0 b b′ (u .same-length ∙ sym (v .same-length)) (λ i l.
       ⊎-elim (λ k. ownBook-bytes i k) (λ k. past-getD u i k ∙ sym (past-getD v i k)) (lt-or-le i bookLength))
+
+-- ---- a book in a longer list
+
+entry-take : (b : List ℕ) (k : ℕ) → k < tableLength → entryNumber (take bookLength b) k ≡ entryNumber b k
+entry-take b k l =
+    entry-ext (entryNumber (take bookLength b) k) (entryNumber b k)
+    (getD-take bookLength b (entrySize * k) 0 (omega arith))
+    (getD-take bookLength b (entrySize * k + 1) 0 (omega arith))
+    (getD-take bookLength b (entrySize * k + 2) 0 (omega arith))
+    (getD-take bookLength b (entrySize * k + 3) 0 (omega arith))
+
+-- What stands past the book's bytes does not count.
+pub ownBook-take : {Move : Moves} {n : ℕ} (b : List ℕ) → n ≤ stateLimit → OwnBook Move n stateLimit (bookOf b)
+    → OwnBook Move n stateLimit (bookOf (take bookLength b))
+ownBook-take {Move} {n} b le o = record {
+  apart = λ p q r lp lq x l.
+      subst (OwnEntry Move p q r) (sym (same p q (omega arith) (omega arith))) (o .apart p q r lp lq x l);
+  together = λ p q lp lq x. same p q (omega arith) (omega arith) ∙ o .together p q lp lq x;
+  outside = λ p q lp lq h. same p q lp lq ∙ o .outside p q lp lq h;
+}
+  where
+    same : (p q : ℕ) → p < stateLimit → q < stateLimit
+        → entryNumber (take bookLength b) (pairPlace p q) ≡ entryNumber b (pairPlace p q)
+    same p q lp lq = entry-take b (pairPlace p q) (omega arith)
