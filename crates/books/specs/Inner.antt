@@ -1,4 +1,4 @@
-pub mod Runs
+pub mod Groups
 pub mod Openings
 pub mod Filling
 pub mod Sides

@@ -1,9 +1,9 @@
-pub mod RunsLaws
+pub mod GroupsLaws
 pub mod OpeningsLaws
 pub mod FillingLaws
 pub mod PairLaws
 pub mod RowsLaws
-pub mod InRunLaws
+pub mod InGroupLaws
 pub mod SidesLaws
 pub mod EntryLaws
 pub mod ChecksLaws

@@ -1,113 +1,27 @@
 // The book of the moves' ranks: for each two states of a rank above 0 the first opening whose answers all lead to a
 // lower rank.
-use crate::runs::index_moves;
-use crate::runs::run_from;
-use crate::runs::run_to;
-use ranking::classes::moves_from;
+use crate::groups::index_moves;
+use crate::openings::first_opening;
 use ranking::classes::moves_to;
 use ranking::table::clear;
 use ranking::table::pair_place;
 use ranking::table::rank_at;
-use text::Action;
 use text::State;
 use text::limits::BOOK_LENGTH;
 use text::limits::ENTRY_SIZE;
+use text::limits::GROUPS_LENGTH;
 use text::limits::INDEX_LENGTH;
 use text::limits::MOVES_LENGTH;
-use text::limits::RUNS_LENGTH;
 ghost use mathlib.Core.Path.{_≡_};
-ghost use Prim.Native.Nat.{_+_, _≤_, _<_};
+ghost use Prim.Native.Nat.{_≤_, _<_};
 ghost use lib.ListN.{length, getD};
-ghost use Rattle.text.specs.Decides.{Decides};
-ghost use Rattle.text.specs.Limits.{stateLimit, actionLimit, tableLength, pairPlace, bookLength};
+ghost use Rattle.text.specs.Limits.{tableLength, pairPlace, bookLength};
 ghost use Rattle.ranking.specs.MoveList.{Listed, MoveList, Ordered};
 ghost use Rattle.ranking.specs.Table.{Ranks};
 ghost use Rattle.lts.specs.Book.{noEntry};
 ghost use Rattle.books.specs.Books.{entryNumber, BookFilled};
-ghost use Rattle.books.specs.Inner.Runs.{Indexed, Runs, IndexOf};
-ghost use Rattle.books.specs.Inner.Openings.{RankIn, LowerAnswers, FirstOpening};
+ghost use Rattle.books.specs.Inner.Groups.{IndexOf};
 ghost use Rattle.books.specs.Inner.Filling.{EntryWritten, PairFilled, RowFilled, RowsFilled, RowEmpty, BookEmpty};
-
-// Whether the rank of p and q is above 0 and below the depth.
-fn is_lower(table: &[u8], p: State, q: State, depth: u8) -> bool
-    requires { ⌜ (p .0 < stateLimit) × (q .0 < stateLimit) × (tableLength ≤ length (now table)) ⌝ }
-    ensures { λ r. ⌜ Decides r (RankIn (now (table .entry)) depth (p .0) (q .0)) ⌝ }
-{
-    let rank = rank_at(table, p, q);
-    if rank == 0 {
-        return false;
-    }
-    if rank >= depth {
-        return false;
-    }
-    true
-}
-
-// Whether each answer of q with the action a leads, beside t, to a rank above 0 and below the depth.
-fn all_lower(
-    runs: &[u16; RUNS_LENGTH],
-    targets: &[u16; MOVES_LENGTH],
-    table: &[u8],
-    q: State,
-    a: Action,
-    t: State,
-    depth: u8,
-) -> bool
-    requires { ⌜ Runs (now runs) (now targets) ⌝ }
-    requires { ⌜ (q .0 < stateLimit) × (a .0 < actionLimit) × (t .0 < stateLimit) ⌝ }
-    requires { ⌜ tableLength ≤ length (now table) ⌝ }
-    ensures { λ r. ⌜ Decides r
-        (LowerAnswers (Indexed (now (runs .entry)) (now (targets .entry))) (now (table .entry)) depth (q .0) (a .0)
-        (t .0)) ⌝ }
-{
-    let to = run_to(runs, q, a);
-    let mut i = run_from(runs, q, a);
-    while i < to {
-        if !is_lower(table, t, State(targets[i]), depth) {
-            return false;
-        }
-        i += 1;
-    }
-    true
-}
-
-// The place of the first move of p that q cannot answer otherwise, or where the moves of p end.
-fn first_opening(
-    n: u16,
-    first: &[u16; INDEX_LENGTH],
-    actions: &[u16; MOVES_LENGTH],
-    targets: &[u16; MOVES_LENGTH],
-    runs: &[u16; RUNS_LENGTH],
-    table: &[u8],
-    p: State,
-    q: State,
-    depth: u8,
-) -> usize
-    requires { ⌜ MoveList n (now first) (now actions) (now targets) ⌝ }
-    requires { ⌜ IndexOf n (now first) (now actions) (now targets) (now runs) ⌝ }
-    requires { ⌜ (p .0 < n) × (q .0 < n) × (tableLength ≤ length (now table)) ⌝ }
-    ensures { λ r. ⌜ FirstOpening (Listed n (now (first .entry)) (now (actions .entry)) (now (targets .entry)))
-        (now (actions .entry)) (now (targets .entry)) (now (table .entry)) depth (q .0)
-        (getD (now (first .entry)) (p .0) 0) (getD (now (first .entry)) (p .0 + 1) 0) r ⌝ }
-{
-    let to = moves_to(first, p);
-    let mut i = moves_from(first, p);
-    while i < to {
-        if all_lower(
-            runs,
-            targets,
-            table,
-            q,
-            Action(actions[i]),
-            State(targets[i]),
-            depth,
-        ) {
-            return i;
-        }
-        i += 1;
-    }
-    i
-}
 
 // Writes the entry of p and q: one side opens with the move at place i.
 fn write_entry(
@@ -148,7 +62,7 @@ fn fill_pair(
     first: &[u16; INDEX_LENGTH],
     actions: &[u16; MOVES_LENGTH],
     targets: &[u16; MOVES_LENGTH],
-    runs: &[u16; RUNS_LENGTH],
+    groups: &[u16; GROUPS_LENGTH],
     table: &[u8],
     p: State,
     q: State,
@@ -156,7 +70,7 @@ fn fill_pair(
 )
     requires { ⌜ MoveList n (now first) (now actions) (now targets) ⌝ }
     requires { ⌜ Ordered n (now first) (now actions) (now targets) ⌝ }
-    requires { ⌜ IndexOf n (now first) (now actions) (now targets) (now runs) ⌝ }
+    requires { ⌜ IndexOf n (now first) (now actions) (now targets) (now groups) ⌝ }
     requires { ⌜ Ranks (Listed n (now first) (now actions) (now targets)) n (now table)
         × (tableLength ≤ length (now table)) ⌝ }
     requires { ⌜ (p .0 < n) × (q .0 < n) × (bookLength ≤ length (now book)) ⌝ }
@@ -168,13 +82,13 @@ fn fill_pair(
     if depth == 0 {
         return;
     }
-    let i = first_opening(n, first, actions, targets, runs, table, p, q, depth);
+    let i = first_opening(n, first, actions, targets, groups, table, p, q, depth);
     if i < moves_to(first, p) {
         write_entry(n, first, actions, targets, p, q, 1, i, depth, book);
         return;
     }
     // One of the two sides has such an opening.
-    let j = first_opening(n, first, actions, targets, runs, table, q, p, depth);
+    let j = first_opening(n, first, actions, targets, groups, table, q, p, depth);
     write_entry(n, first, actions, targets, p, q, 2, j, depth, book);
 }
 
@@ -184,14 +98,14 @@ fn fill_row(
     first: &[u16; INDEX_LENGTH],
     actions: &[u16; MOVES_LENGTH],
     targets: &[u16; MOVES_LENGTH],
-    runs: &[u16; RUNS_LENGTH],
+    groups: &[u16; GROUPS_LENGTH],
     table: &[u8],
     p: State,
     book: &mut [u8],
 )
     requires { ⌜ MoveList n (now first) (now actions) (now targets) ⌝ }
     requires { ⌜ Ordered n (now first) (now actions) (now targets) ⌝ }
-    requires { ⌜ IndexOf n (now first) (now actions) (now targets) (now runs) ⌝ }
+    requires { ⌜ IndexOf n (now first) (now actions) (now targets) (now groups) ⌝ }
     requires { ⌜ Ranks (Listed n (now first) (now actions) (now targets)) n (now table)
         × (tableLength ≤ length (now table)) ⌝ }
     requires { ⌜ (p .0 < n) × (bookLength ≤ length (now book)) ⌝ }
@@ -200,7 +114,7 @@ fn fill_row(
         (now (book .entry)) (now (book .exit)) ⌝ }
 {
     for q in 0..n {
-        fill_pair(n, first, actions, targets, runs, table, p, State(q), book);
+        fill_pair(n, first, actions, targets, groups, table, p, State(q), book);
     }
 }
 
@@ -210,13 +124,13 @@ fn fill_rows(
     first: &[u16; INDEX_LENGTH],
     actions: &[u16; MOVES_LENGTH],
     targets: &[u16; MOVES_LENGTH],
-    runs: &[u16; RUNS_LENGTH],
+    groups: &[u16; GROUPS_LENGTH],
     table: &[u8],
     book: &mut [u8],
 )
     requires { ⌜ MoveList n (now first) (now actions) (now targets) ⌝ }
     requires { ⌜ Ordered n (now first) (now actions) (now targets) ⌝ }
-    requires { ⌜ IndexOf n (now first) (now actions) (now targets) (now runs) ⌝ }
+    requires { ⌜ IndexOf n (now first) (now actions) (now targets) (now groups) ⌝ }
     requires { ⌜ Ranks (Listed n (now first) (now actions) (now targets)) n (now table)
         × (tableLength ≤ length (now table)) ⌝ }
     requires { ⌜ bookLength ≤ length (now book) ⌝ }
@@ -225,7 +139,7 @@ fn fill_rows(
         (now (book .entry)) (now (book .exit)) ⌝ }
 {
     for p in 0..n {
-        fill_row(n, first, actions, targets, runs, table, State(p), book);
+        fill_row(n, first, actions, targets, groups, table, State(p), book);
     }
 }
 
@@ -246,8 +160,8 @@ pub fn fill_book(
     ensures { λ _. ⌜ BookFilled (Listed n (now (first .entry)) (now (actions .entry)) (now (targets .entry))) n
         (now (book .entry)) (now (book .exit)) ⌝ }
 {
-    let mut runs = [0u16; RUNS_LENGTH];
-    index_moves(n, first, actions, targets, &mut runs);
+    let mut groups = [0u16; GROUPS_LENGTH];
+    index_moves(n, first, actions, targets, &mut groups);
     clear(book, BOOK_LENGTH);
-    fill_rows(n, first, actions, targets, &runs, table, book);
+    fill_rows(n, first, actions, targets, &groups, table, book);
 }

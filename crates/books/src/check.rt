@@ -1,16 +1,16 @@
 // The test of a book: whether each of its entries is sound, and which is the first that is not.
-use crate::runs::index_moves;
-use crate::runs::run_from;
-use crate::runs::run_to;
+use crate::groups::group_from;
+use crate::groups::group_to;
+use crate::groups::index_moves;
 use ranking::table::pair_place;
 use text::Action;
 use text::State;
 use text::limits::ACTION_LIMIT;
 use text::limits::ENTRY_SIZE;
+use text::limits::GROUPS_LENGTH;
 use text::limits::INDEX_LENGTH;
 use text::limits::MOVES_LENGTH;
 use text::limits::ROW;
-use text::limits::RUNS_LENGTH;
 use text::limits::TABLE_LENGTH;
 ghost use mathlib.Core.Path.{_≡_};
 ghost use Prim.Native.Nat.{ℕ, _≤_, _<_};
@@ -21,8 +21,8 @@ ghost use Rattle.ranking.specs.MoveList.{Listed, MoveList, Ordered};
 ghost use Rattle.lts.specs.Book.{LowerEntry, Opens, SoundAt};
 ghost use Rattle.books.specs.Books.{bookOf};
 ghost use Rattle.books.specs.Checks.{checkedOutcome, CheckDone};
-ghost use Rattle.books.specs.Inner.Runs.{Indexed, Runs};
-ghost use Rattle.books.specs.Inner.Sides.{Leads, leadPlace, SoundTo};
+ghost use Rattle.books.specs.Inner.Groups.{Indexed, Groups};
+ghost use Rattle.books.specs.Inner.Sides.{BySide, leadPlace, SoundTo};
 
 // What is found of a book: that it is sound, or the number of the first bad entry.
 pub enum Checked {
@@ -39,18 +39,18 @@ fn byte_value(b: u8) -> u16
 
 // Whether p has a move with the action a to t.
 fn has_move(
-    runs: &[u16; RUNS_LENGTH],
+    groups: &[u16; GROUPS_LENGTH],
     targets: &[u16; MOVES_LENGTH],
     p: State,
     a: Action,
     t: State,
 ) -> bool
-    requires { ⌜ Runs (now runs) (now targets) ⌝ }
+    requires { ⌜ Groups (now groups) (now targets) ⌝ }
     requires { ⌜ (p .0 < stateLimit) × (a .0 < actionLimit) ⌝ }
-    ensures { λ r. ⌜ Decides r (Indexed (now (runs .entry)) (now (targets .entry)) (p .0) (a .0) (t .0)) ⌝ }
+    ensures { λ r. ⌜ Decides r (Indexed (now (groups .entry)) (now (targets .entry)) (p .0) (a .0) (t .0)) ⌝ }
 {
-    let to = run_to(runs, p, a);
-    let mut i = run_from(runs, p, a);
+    let to = group_to(groups, p, a);
+    let mut i = group_from(groups, p, a);
     while i < to {
         if targets[i] == t.0 {
             return true;
@@ -60,23 +60,24 @@ fn has_move(
     false
 }
 
-// The number of the entry of the opener's t and the other's u: the first side's state comes first.
-fn lead_place(first: bool, t: State, u: State) -> usize
+// The number of the entry of the opener's t and the other's u: the first side's state comes first. It is t where the
+// first side opens, that is, where the play goes forward.
+fn lead_place(forward: bool, t: State, u: State) -> usize
     requires { ⌜ (t .0 < stateLimit) × (u .0 < stateLimit) ⌝ }
-    ensures { λ r. ⌜ (r ≡ leadPlace first (t .0) (u .0)) × (r < tableLength) ⌝ }
+    ensures { λ r. ⌜ (r ≡ leadPlace forward (t .0) (u .0)) × (r < tableLength) ⌝ }
 {
-    if first {
+    if forward {
         return pair_place(t, u);
     }
     pair_place(u, t)
 }
 
 // Whether that entry is there, of a depth below the one given.
-fn is_lower(book: &[u8], first: bool, t: State, u: State, depth: u8) -> bool
+fn is_lower(book: &[u8], forward: bool, t: State, u: State, depth: u8) -> bool
     requires { ⌜ (t .0 < stateLimit) × (u .0 < stateLimit) × (bookLength ≤ length (now book)) ⌝ }
-    ensures { λ r. ⌜ Decides r (Leads first (LowerEntry (bookOf (now (book .entry))) depth) (t .0) (u .0)) ⌝ }
+    ensures { λ r. ⌜ Decides r (BySide forward (LowerEntry (bookOf (now (book .entry))) depth) (t .0) (u .0)) ⌝ }
 {
-    let at = ENTRY_SIZE * lead_place(first, t, u);
+    let at = ENTRY_SIZE * lead_place(forward, t, u);
     if book[at] == 0 {
         return false;
     }
@@ -88,25 +89,25 @@ fn is_lower(book: &[u8], first: bool, t: State, u: State, depth: u8) -> bool
 
 // Whether each answer of q with the action a leads, beside t, to such an entry.
 fn all_lower(
-    runs: &[u16; RUNS_LENGTH],
+    groups: &[u16; GROUPS_LENGTH],
     targets: &[u16; MOVES_LENGTH],
     book: &[u8],
-    first: bool,
+    forward: bool,
     q: State,
     a: Action,
     t: State,
     depth: u8,
 ) -> bool
-    requires { ⌜ Runs (now runs) (now targets) ⌝ }
+    requires { ⌜ Groups (now groups) (now targets) ⌝ }
     requires { ⌜ (q .0 < stateLimit) × (a .0 < actionLimit) × (t .0 < stateLimit) ⌝ }
     requires { ⌜ bookLength ≤ length (now book) ⌝ }
-    ensures { λ r. ⌜ Decides r ((u : ℕ) → Indexed (now (runs .entry)) (now (targets .entry)) (q .0) (a .0) u
-        → Leads first (LowerEntry (bookOf (now (book .entry))) depth) (t .0) u) ⌝ }
+    ensures { λ r. ⌜ Decides r ((u : ℕ) → Indexed (now (groups .entry)) (now (targets .entry)) (q .0) (a .0) u
+        → BySide forward (LowerEntry (bookOf (now (book .entry))) depth) (t .0) u) ⌝ }
 {
-    let to = run_to(runs, q, a);
-    let mut j = run_from(runs, q, a);
+    let to = group_to(groups, q, a);
+    let mut j = group_from(groups, q, a);
     while j < to {
-        if !is_lower(book, first, t, State(targets[j]), depth) {
+        if !is_lower(book, forward, t, State(targets[j]), depth) {
             return false;
         }
         j += 1;
@@ -116,39 +117,39 @@ fn all_lower(
 
 // Whether p opens so against q: its move is there, and each answer leads to an entry of lower depth.
 fn opens(
-    runs: &[u16; RUNS_LENGTH],
+    groups: &[u16; GROUPS_LENGTH],
     targets: &[u16; MOVES_LENGTH],
     book: &[u8],
-    first: bool,
+    forward: bool,
     p: State,
     q: State,
     a: Action,
     t: State,
     depth: u8,
 ) -> bool
-    requires { ⌜ Runs (now runs) (now targets) ⌝ }
+    requires { ⌜ Groups (now groups) (now targets) ⌝ }
     requires { ⌜ (p .0 < stateLimit) × (q .0 < stateLimit) × (a .0 < actionLimit) ⌝ }
     requires { ⌜ bookLength ≤ length (now book) ⌝ }
-    ensures { λ r. ⌜ Decides r (Opens (Indexed (now (runs .entry)) (now (targets .entry)))
-        (Leads first (LowerEntry (bookOf (now (book .entry))) depth)) (p .0) (q .0) (a .0) (t .0)) ⌝ }
+    ensures { λ r. ⌜ Decides r (Opens (Indexed (now (groups .entry)) (now (targets .entry)))
+        (BySide forward (LowerEntry (bookOf (now (book .entry))) depth)) (p .0) (q .0) (a .0) (t .0)) ⌝ }
 {
-    if !has_move(runs, targets, p, a, t) {
+    if !has_move(groups, targets, p, a, t) {
         return false;
     }
-    all_lower(runs, targets, book, first, q, a, t, depth)
+    all_lower(groups, targets, book, forward, q, a, t, depth)
 }
 
 // Whether the entry of p and q is sound.
 fn sound_at(
-    runs: &[u16; RUNS_LENGTH],
+    groups: &[u16; GROUPS_LENGTH],
     targets: &[u16; MOVES_LENGTH],
     book: &[u8],
     p: State,
     q: State,
 ) -> bool
-    requires { ⌜ Runs (now runs) (now targets) ⌝ }
+    requires { ⌜ Groups (now groups) (now targets) ⌝ }
     requires { ⌜ (p .0 < stateLimit) × (q .0 < stateLimit) × (bookLength ≤ length (now book)) ⌝ }
-    ensures { λ r. ⌜ Decides r (SoundAt (Indexed (now (runs .entry)) (now (targets .entry)))
+    ensures { λ r. ⌜ Decides r (SoundAt (Indexed (now (groups .entry)) (now (targets .entry)))
         (bookOf (now (book .entry))) (p .0) (q .0)) ⌝ }
 {
     let at = ENTRY_SIZE * pair_place(p, q);
@@ -163,25 +164,45 @@ fn sound_at(
     let t = byte_value(book[at + 2]);
     let depth = book[at + 3];
     if side == 1 {
-        return opens(runs, targets, book, true, p, q, Action(a), State(t), depth);
+        return opens(
+            groups,
+            targets,
+            book,
+            true,
+            p,
+            q,
+            Action(a),
+            State(t),
+            depth,
+        );
     }
     if side == 2 {
-        return opens(runs, targets, book, false, q, p, Action(a), State(t), depth);
+        return opens(
+            groups,
+            targets,
+            book,
+            false,
+            q,
+            p,
+            Action(a),
+            State(t),
+            depth,
+        );
     }
     false
 }
 
 // The number of the first bad entry, or of all entries if none is bad.
-fn first_bad(runs: &[u16; RUNS_LENGTH], targets: &[u16; MOVES_LENGTH], book: &[u8]) -> usize
-    requires { ⌜ Runs (now runs) (now targets) ⌝ }
+fn first_bad(groups: &[u16; GROUPS_LENGTH], targets: &[u16; MOVES_LENGTH], book: &[u8]) -> usize
+    requires { ⌜ Groups (now groups) (now targets) ⌝ }
     requires { ⌜ bookLength ≤ length (now book) ⌝ }
-    ensures { λ r. ⌜ SoundTo (Indexed (now (runs .entry)) (now (targets .entry))) (now (book .entry)) r ⌝ }
+    ensures { λ r. ⌜ SoundTo (Indexed (now (groups .entry)) (now (targets .entry))) (now (book .entry)) r ⌝ }
 {
     let mut k = 0;
     while k < TABLE_LENGTH {
         let p = State((k / ROW) as u16);
         let q = State((k % ROW) as u16);
-        if !sound_at(runs, targets, book, p, q) {
+        if !sound_at(groups, targets, book, p, q) {
             return k;
         }
         k += 1;
@@ -203,9 +224,9 @@ pub fn check_book(
     ensures { λ r. ⌜ CheckDone (Listed n (now (first .entry)) (now (actions .entry)) (now (targets .entry)))
         (now (book .entry)) (checkedOutcome r) ⌝ }
 {
-    let mut runs = [0u16; RUNS_LENGTH];
-    index_moves(n, first, actions, targets, &mut runs);
-    let k = first_bad(&runs, targets, book);
+    let mut groups = [0u16; GROUPS_LENGTH];
+    index_moves(n, first, actions, targets, &mut groups);
+    let k = first_bad(&groups, targets, book);
     if k < TABLE_LENGTH {
         return Checked::Bad(k);
     }

@@ -1,4 +1,5 @@
 // Books of plays, over moves given as lists: the book of the moves' ranks, and the test of any book.
 pub mod book;
 pub mod check;
-pub mod runs;
+pub mod groups;
+pub mod openings;

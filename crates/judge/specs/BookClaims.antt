@@ -1,6 +1,7 @@
 -- What is claimed of books, over Book and Check.
 -- Document 02, (v). `BookClaimsLaws` shows each.
 use mathlib.Core.List.{List, []}
+use mathlib.Core.Logic.{_↔_}
 use mathlib.Core.Option.{none}
 use mathlib.Core.Path.{_≡_}
 use Prim.Native.Nat.{ℕ, _<_}
@@ -15,7 +16,7 @@ use Rattle.books.specs.Books.{bookOf}
 use Rattle.judge.specs.BookPromise.{BookPromise}
 use Rattle.judge.specs.CheckPromise.{checkLists, CheckPromise}
 
--- Check accepts the book.
+-- Check accepts the book: its promise pins one answer (`checkPromise-unique`), and it is this one.
 abbrev pub Accepts : List ℕ → List ℕ → Type 0
 Accepts store book = CheckPromise store book (answers [])
 
@@ -32,13 +33,22 @@ pub record AcceptsExactly : Type 0 where
 abbrev pub AcceptedNotPaired : Type 1
 AcceptedNotPaired =
     (store book : List ℕ) → Accepts store book → (g : Good store) (R : Relation)
-    → Bisimulation (LowMove (view (g .model))) R → (p q : ℕ) → IsState (g .model) p → IsState (g .model) q → Present (bookOf book p q) → ¬ (R p q)
+    → Bisimulation (LowMove (view (g .model))) R → (p q : ℕ) → IsState (g .model) p → IsState (g .model) q
+    → Present (bookOf book p q) → ¬ (R p q)
 
 -- Two states of rank 0 have no entry in any accepted book.
 abbrev pub RankZeroAbsent : Type 0
 RankZeroAbsent =
     (store book : List ℕ) → Accepts store book → (g : Good store) (p q : ℕ) → IsState (g .model) p
     → IsState (g .model) q → Rank (LowMove (view (g .model))) p q 0 → bookOf book p q .side ≡ 0
+
+-- "has entries for just the pairs of nonzero rank, and its depths are the ranks"
+abbrev pub OwnEntries : Type 0
+OwnEntries =
+    (store table book table′ book′ : List ℕ) → BookPromise store table book (answers []) table′ book′
+    → (g : Good store) (p q r : ℕ) → IsState (g .model) p → IsState (g .model) q
+    → Rank (LowMove (view (g .model))) p q r
+    → (Present (bookOf book′ p q) ↔ (0 < r)) × (bookOf book′ p q .depth ≡ r)
 
 -- "Our own book is accepted".
 abbrev pub OwnAccepted : Type 0

@@ -31,7 +31,7 @@ pub fn check_good(store: &[u16], book: &[u8]) -> Checked
     let mut first = [0u16; INDEX_LENGTH];
     let mut actions = [0u16; MOVES_LENGTH];
     let mut targets = [0u16; MOVES_LENGTH];
-    moves::moves::list_low_steps(store, &mut first, &mut actions, &mut targets);
+    moves::moves::list_store_moves(store, &mut first, &mut actions, &mut targets);
     let n = model::store::states(store);
     books::check::check_book(n, &first, &actions, &targets, book)
 }

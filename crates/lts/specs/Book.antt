@@ -44,8 +44,8 @@ SoundAt Move book p q =
     Present (book p q) → Plays Move (LowerEntry book (book p q .depth)) p q (book p q .side) (book p q .action)
     (book p q .target)
 
--- "A book is sound if in each other entry the side is 1 or 2, the opening (a low step of that side) is in the model, and
--- every answer of the other side leads to a pair, opening's target on the opener's side, that has an entry of lower
+-- "A book is sound if in each other entry the side is 1 or 2, the opening (a low step of that side) is in the model,
+-- and every answer of the other side leads to a pair, opening's target on the opener's side, that has an entry of lower
 -- depth." Its entries are those of the numbers below the limit, states or not.
 abbrev pub Sound : Moves → ℕ → Book → Type 0
 Sound Move limit book = (p q : ℕ) → p < limit → q < limit → SoundAt Move book p q

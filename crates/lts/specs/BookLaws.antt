@@ -6,14 +6,14 @@ use Prim.Native.Nat.{ℕ, zero, suc, _<_}
 use native.Mathlib.Omega.{arith}
 use lib.Dec.{T}
 use Rattle.lts.specs.TestsLaws.{eq-or-not}
-use Rattle.lts.specs.Alike.{Moves, Relation, Bisimulation, Bisimilar, BisimilarBy, Rank}
+use Rattle.lts.specs.Alike.{Moves, Relation, Bisimulation, Bisimilar, Rank}
 use Rattle.lts.specs.AlikeLaws.{bisimilar-of-rank}
 use Rattle.lts.specs.Book.{Book, Present, Opens, Plays, first-opens, second-opens, LowerEntry, SoundAt}
 use Rattle.lts.specs.Book.{Sound}
 
 -- ---- plays
 
-opens-map : {M N : Moves} {R S : Relation} {p q a t : ℕ} → (M p a t → N p a t) → ((u : ℕ) → N q a u → M q a u)
+pub opens-map : {M N : Moves} {R S : Relation} {p q a t : ℕ} → (M p a t → N p a t) → ((u : ℕ) → N q a u → M q a u)
     → ((x y : ℕ) → R x y → S x y) → Opens M R p q a t → Opens N S p q a t
 opens-map f g h o = record { opening = f (o .opening); answers = λ u m. h _ u (o .answers u (g u m)) }
 
@@ -24,9 +24,27 @@ pub plays-map : {M N : Moves} {R S : Relation} {p q side a t : ℕ} → ((x b y 
 plays-map f g h (first-opens e o) = first-opens e (opens-map (f _ _ _) (λ u. g _ _ u) h o)
 plays-map f g h (second-opens e o) = second-opens e (opens-map (f _ _ _) (λ u. g _ _ u) (λ x y. h y x) o)
 
+module _ {Move : Moves} {R : Relation} {p q side a t : ℕ} where
+  pub plays-side-pos : Plays Move R p q side a t → 0 < side
+  plays-side-pos (first-opens e _) = omega arith
+  plays-side-pos (second-opens e _) = omega arith
+
+  -- The opener of a known side.
+  pub opens-of-first : side ≡ 1 → Plays Move R p q side a t → Opens Move R p q a t
+  opens-of-first e (first-opens _ o) = o
+  opens-of-first e (second-opens d _) = absurd (omega (arith, e, d))
+
+  pub opens-of-second : side ≡ 2 → Plays Move R p q side a t → Opens Move (λ x y. R y x) q p a t
+  opens-of-second e (first-opens d _) = absurd (omega (arith, e, d))
+  opens-of-second e (second-opens _ o) = o
+
+  pub no-other-side : ¬ (side ≡ 1) → ¬ (side ≡ 2) → ¬ (Plays Move R p q side a t)
+  no-other-side f s (first-opens d _) = f d
+  no-other-side f s (second-opens d _) = s d
+
 -- ---- sound books
 
-module _ (Move : Moves) (limit : ℕ) (stays : (p a q : ℕ) → Move p a q → q < limit) (book : Book)
+module _ (Move : Moves) (limit : ℕ) (stays : (p a q : ℕ) → p < limit → Move p a q → q < limit) (book : Book)
     (sound : Sound Move limit book) where
   -- An opening is never answered inside a bisimulation: the answers would lead to ever lower depths.
   not-paired-below : (R : Relation) → Bisimulation Move R → (k p q : ℕ) → p < limit → q < limit → Present (book p q)
@@ -41,20 +59,17 @@ module _ (Move : Moves) (limit : ℕ) (stays : (p a q : ℕ) → Move p a q → 
           → ⊥
       go lower (first-opens _ o) =
           let c = b p q r .there _ _ (o .opening) in
-          lower _ (c .0) (stays _ _ _ (o .opening)) (stays _ _ _ (c .1)) (o .answers (c .0) (c .1)) (c .2)
+          lower _ (c .0) (stays _ _ _ lp (o .opening)) (stays _ _ _ lq (c .1)) (o .answers (c .0) (c .1)) (c .2)
       go lower (second-opens _ o) =
           let c = b p q r .back _ _ (o .opening) in
-          lower (c .0) _ (stays _ _ _ (c .1)) (stays _ _ _ (o .opening)) (o .answers (c .0) (c .1)) (c .2)
+          lower (c .0) _ (stays _ _ _ lp (c .1)) (stays _ _ _ lq (o .opening)) (o .answers (c .0) (c .1)) (c .2)
 
   -- "No low-view bisimulation pairs two states that an accepted book has an entry for."
   pub sound-not-paired : (R : Relation) → Bisimulation Move R → (p q : ℕ) → p < limit → q < limit → Present (book p q)
       → ¬ (R p q)
   sound-not-paired R b p q lp lq e = not-paired-below R b (suc (book p q .depth)) p q lp lq e (omega arith)
 
-  pub sound-not-bisimilarBy : (p q : ℕ) → p < limit → q < limit → Present (book p q) → ¬ (BisimilarBy Move p q)
-  sound-not-bisimilarBy p q lp lq e b = sound-not-paired (b .rel) (b .bisimulation) p q lp lq e (b .pairs)
-
-  pub sound-not-bisimilar : (p q : ℕ) → p < limit → q < limit → Present (book p q) → ¬ (Bisimilar Move p q)
+  sound-not-bisimilar : (p q : ℕ) → p < limit → q < limit → Present (book p q) → ¬ (Bisimilar Move p q)
   sound-not-bisimilar p q lp lq e b = sound-not-paired (λ x y. T (b .rel x y)) (b .bisimulation) p q lp lq e (b .pairs)
 
   -- Two states of rank 0 have no entry in any sound book.

@@ -8,12 +8,12 @@ use native.Mathlib.Omega.{arith}
 use lib.Dec.{T}
 use Rattle.lts.specs.TestsLaws.{lt-or-le, le-of-not-lt}
 use Rattle.lts.specs.Alike.{Moves, Relation, Alike, Rank}
-use Rattle.lts.specs.AlikeLaws.{bisimilar→Alike, separated-of-rank, bisimilar-of-rank}
+use Rattle.lts.specs.AlikeLaws.{bisimilar→Alike, separated-of-rank, bisimilar-of-rank, rank-sym}
 use Rattle.lts.specs.AgreeLaws.{rank-same}
 use Rattle.lts.specs.Game.{Opening, by-first, by-second, Game, alike?}
 use Rattle.lts.specs.GameLaws.{not-alike?→¬Alike, ¬Alike→not-alike?}
 use Rattle.lts.specs.RankLaws.{rank-exists}
-use Rattle.lts.specs.BookLaws.{plays-map}
+use Rattle.lts.specs.BookLaws.{plays-map, plays-side-pos}
 use Rattle.lts.specs.Book.{Entry, Book, Present, Plays, first-opens, second-opens, LowerEntry}
 use Rattle.lts.specs.Book.{Sound, LowerRank, FirstPlay, OwnEntry, noEntry, OwnBook}
 
@@ -50,6 +50,16 @@ firstPlay-unique {Move} {Leads} {p} {q} {s} {a} {t} {s′} {a′} {t′} x y = (
       x .lowest-target t′ (subst (λ (b : ℕ). Plays Move Leads p q s b t′) (sym action) theirs),
       y .lowest-target t (subst (λ (b : ℕ). Plays Move Leads p q s′ b t) action ours),
     )
+
+-- ---- ranks
+
+pub lowerRank-sym : {Move : Moves} {d x y : ℕ} → LowerRank Move d x y → LowerRank Move d y x
+lowerRank-sym {Move} {d} {x} {y} h = record {
+  rank = h .rank;
+  rank-is = rank-sym Move x y (h .rank) (h .rank-is);
+  rank-pos = h .rank-pos;
+  rank-lt = h .rank-lt;
+}
 
 -- ---- our own book is sound
 
@@ -103,13 +113,10 @@ module _ (Move : Moves) (n : ℕ) (round : (ℕ → ℕ → Bool) → ℕ → �
       )
 
   module _ {limit : ℕ} {book : Book} (own : OwnBook Move n limit book) where
-    not-side-zero : (p q s a t : ℕ) {Leads : Relation} → Plays Move Leads p q s a t → ¬ (s ≡ 0)
-    not-side-zero p q s a t (first-opens e o) z = omega arith
-    not-side-zero p q s a t (second-opens e o) z = omega arith
-
     -- "has entries for just the pairs of nonzero rank, and its depths are the ranks"
     pub own-present : (p q r : ℕ) → p < n → q < n → Rank Move p q r → 0 < r → Present (book p q)
-    own-present p q r lp lq x l = not-side-zero p q _ _ _ (own .apart p q r lp lq x l .opening .plays)
+    own-present p q r lp lq x l e =
+        omega (arith, e, plays-side-pos (own .apart p q r lp lq x l .opening .plays))
 
     lowerEntry-of-lowerRank : (d x y : ℕ) → x < n → y < n → LowerRank Move d x y → LowerEntry book d x y
     lowerEntry-of-lowerRank d x y lx ly h = record {

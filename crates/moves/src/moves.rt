@@ -126,8 +126,8 @@ pub fn list_moves(
     }
 }
 
-// Lists the low steps of a good store.
-pub fn list_low_steps(store: &[u16], first: &mut [u16], actions: &mut [u16], targets: &mut [u16])
+// Lists the moves of a good store: index and roles are made here.
+pub fn list_store_moves(store: &[u16], first: &mut [u16], actions: &mut [u16], targets: &mut [u16])
     requires { ⌜ Stored (now store) (modelAt (now store)) ⌝ }
     requires { ⌜ (indexLength ≤ length (now first)) × (stepLimit ≤ length (now actions))
         × (stepLimit ≤ length (now targets)) ⌝ }

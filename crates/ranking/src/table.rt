@@ -27,7 +27,7 @@ pub fn rank_at(table: &[u8], p: State, q: State) -> u8
     table[at]
 }
 
-// Makes the first n numbers 0.
+// Makes the first n bytes of a table or a book 0.
 pub fn clear(list: &mut [u8], n: usize)
     requires { ⌜ n ≤ length (now list) ⌝ }
     ensures { λ _. ⌜ Cleared 0 n (now (list .entry)) (now (list .exit)) ⌝ }

@@ -162,9 +162,6 @@ entrySize = 4
 abbrev pub bookLength : ℕ
 bookLength = 65536
 
-abbrev pub entryPlace : ℕ → ℕ → ℕ
-entryPlace p q = entrySize * pairPlace p q
-
 -- "65,535 for unreachable and unused places"
 abbrev pub unreachable : ℕ
 unreachable = 65535
@@ -176,8 +173,8 @@ abbrev pub indexLength : ℕ
 indexLength = stateLimit + 1
 
 -- Where the moves of each state and action begin, and where the last one's end.
-abbrev pub runPlace : ℕ → ℕ → ℕ
-runPlace p a = actionLimit * p + a
+abbrev pub groupPlace : ℕ → ℕ → ℕ
+groupPlace p a = actionLimit * p + a
 
-abbrev pub runsLength : ℕ
-runsLength = stateLimit * actionLimit + 1
+abbrev pub groupsLength : ℕ
+groupsLength = stateLimit * actionLimit + 1

@@ -107,4 +107,4 @@ pub const ROLES_LENGTH: usize = ACTION_LIMIT as usize;
 
 pub const MOVES_LENGTH: usize = STEP_LIMIT as usize;
 
-pub const RUNS_LENGTH: usize = STATE_LIMIT as usize * ACTION_LIMIT as usize + 1;
+pub const GROUPS_LENGTH: usize = STATE_LIMIT as usize * ACTION_LIMIT as usize + 1;

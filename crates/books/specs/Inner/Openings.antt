@@ -14,8 +14,8 @@ pub record RankIn (table : List ℕ) (depth p q : ℕ) : Type 0 where
 abbrev pub LowerAnswers : Moves → List ℕ → ℕ → ℕ → ℕ → ℕ → Type 0
 LowerAnswers Move table depth q a t = (u : ℕ) → Move q a u → RankIn table depth t u
 
--- The first of the moves from place `from` up to place `to` that q cannot answer otherwise stands at place `at`, or none
--- does and that is the end.
+-- The first of the moves from place `from` up to place `to` whose answers by q all lead to such a rank stands at place
+-- `at`; where there is none, `at` is the end.
 pub record FirstOpening (Move : Moves) (actions targets table : List ℕ) (depth q from to at : ℕ) : Type 0 where
   pub from-le : from ≤ at
   pub to-le : at ≤ to

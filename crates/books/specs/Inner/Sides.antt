@@ -9,9 +9,9 @@ use Rattle.text.specs.Limits.{stateLimit, tableLength, pairPlace}
 use Rattle.books.specs.Books.{entryNumber, bookOf}
 
 -- R of the opener's state and the other's, whether the opener is the first side or not.
-abbrev pub Leads : Bool → Relation → Relation
-Leads true R x y = R x y
-Leads false R x y = R y x
+abbrev pub BySide : Bool → Relation → Relation
+BySide true R x y = R x y
+BySide false R x y = R y x
 
 -- The number of their entry.
 abbrev pub leadPlace : Bool → ℕ → ℕ → ℕ

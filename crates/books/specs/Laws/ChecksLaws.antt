@@ -53,27 +53,38 @@ module _ (Move : Moves) (book : List ℕ) where
 
 -- ---- what is told
 
--- N are the moves that M are, said in another way.
-module _ {M N : Moves} (forth : (p a q : ℕ) → M p a q → N p a q) (back : (p a q : ℕ) → N p a q → M p a q)
-    {book : List ℕ} {k : ℕ} (s : SoundTo M book k) where
-  pub checkDone-sound : ¬ (k < tableLength) → CheckDone N book (checkedOutcome checked.Sound)
+module _ {Move : Moves} {book : List ℕ} {k : ℕ} (s : SoundTo Move book k) where
+  pub checkDone-sound : ¬ (k < tableLength) → CheckDone Move book (checkedOutcome checked.Sound)
   unfolding checkedOutcome
-  checkDone-sound l =
-      accepted (λ p q lp lq. soundAt-same forth back (bookOf book) p q (s .sound p q lp lq (omega arith))) refl
+  checkDone-sound l = accepted (λ p q lp lq. s .sound p q lp lq (omega arith)) refl
 
-  pub checkDone-bad : k < tableLength → CheckDone N book (checkedOutcome (checked.Bad k))
+  pub checkDone-bad : k < tableLength → CheckDone Move book (checkedOutcome (checked.Bad k))
   unfolding checkedOutcome
   checkDone-bad l =
       let p = k / stateLimit in
       let q = k % stateLimit in
       let e : pairPlace p q ≡ k = omega arith in
-      let first-bad : FirstBad N book p q = record {
+      let first-bad : FirstBad Move book p q = record {
         first-lt = omega arith;
         second-lt = omega arith;
-        bad = λ h. s .bad p q (omega arith) (omega arith) e (soundAt-same back forth (bookOf book) p q h);
-        sound-before = λ x y lx ly b. soundAt-same forth back (bookOf book) x y (s .sound x y lx ly (omega arith));
+        bad = s .bad p q (omega arith) (omega arith) e;
+        sound-before = λ x y lx ly b. s .sound x y lx ly (omega arith);
       } in
       refused p q first-bad (ap (refuses 34) (sym e))
+
+-- N are the moves that M are, said in another way.
+pub checkDone-same : {M N : Moves} → ((p a q : ℕ) → M p a q → N p a q) → ((p a q : ℕ) → N p a q → M p a q)
+    → {book : List ℕ} {outcome : Outcome} → CheckDone M book outcome → CheckDone N book outcome
+checkDone-same forth back {book} (accepted s o) =
+    accepted (λ p q lp lq. soundAt-same forth back (bookOf book) p q (s p q lp lq)) o
+checkDone-same forth back {book} (refused p q b o) = refused p q
+    (record {
+      first-lt = b .first-lt;
+      second-lt = b .second-lt;
+      bad = λ s. b .bad (soundAt-same back forth (bookOf book) p q s);
+      sound-before = λ y z ly lz k. soundAt-same forth back (bookOf book) y z (b .sound-before y z ly lz k);
+    })
+    o
 
 -- ---- one answer
 

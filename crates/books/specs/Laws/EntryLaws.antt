@@ -6,12 +6,13 @@ use mathlib.Core.Path.{_≡_, sym, ap, _∙_, subst}
 use Prim.Native.Nat.{ℕ, _<_}
 use native.Mathlib.Omega.{arith}
 use Rattle.lts.specs.Alike.{Moves, Relation}
+use Rattle.lts.specs.BookLaws.{opens-of-first, opens-of-second, no-other-side}
 use Rattle.lts.specs.Book.{Entry, Book, Present, Opens, Plays, first-opens, second-opens, LowerEntry, SoundAt}
 use Rattle.text.specs.Decides.{Decides}
 use Rattle.text.specs.Limits.{actionLimit, pairPlace}
 use Rattle.text.specs.Laws.DecidesLaws.{decides-iff}
 use Rattle.books.specs.Books.{entryNumber, bookOf}
-use Rattle.books.specs.Inner.Sides.{Leads}
+use Rattle.books.specs.Inner.Sides.{BySide}
 
 -- The entry of p and q, from its number, with its action and target as they were read.
 pub bookOf-number : (book : List ℕ) (p q : ℕ) {k a t : ℕ} → k ≡ pairPlace p q → a ≡ entryNumber book k .action
@@ -40,21 +41,6 @@ bookOf-number book p q {k} {a} {t} number-is a-is t-is =
       depth = entryNumber book k .depth;
     }
 
--- ---- plays of a known side
-
-module _ {Move : Moves} {R : Relation} {p q side a t : ℕ} where
-  pub opens-of-first : side ≡ 1 → Plays Move R p q side a t → Opens Move R p q a t
-  opens-of-first e (first-opens _ o) = o
-  opens-of-first e (second-opens d _) = absurd (omega (arith, e, d))
-
-  pub opens-of-second : side ≡ 2 → Plays Move R p q side a t → Opens Move (λ x y. R y x) q p a t
-  opens-of-second e (first-opens d _) = absurd (omega (arith, e, d))
-  opens-of-second e (second-opens _ o) = o
-
-  pub no-other-side : ¬ (side ≡ 1) → ¬ (side ≡ 2) → ¬ (Plays Move R p q side a t)
-  no-other-side f s (first-opens d _) = f d
-  no-other-side f s (second-opens d _) = s d
-
 -- ---- an entry that was read
 
 module _ (Move : Moves) (book : Book) (p q : ℕ) (e : Entry) (entry-is : book p q ≡ e) where
@@ -69,13 +55,13 @@ module _ (Move : Moves) (book : Book) (p q : ℕ) (e : Entry) (entry-is : book p
   bad-side z f s h = no-other-side f s (subst SoundEntry entry-is h z)
 
   pub sound-first : e .side ≡ 1 → (r : Bool)
-      → Decides r (Opens Move (Leads true (LowerEntry book (e .depth))) p q (e .action) (e .target))
+      → Decides r (Opens Move (BySide true (LowerEntry book (e .depth))) p q (e .action) (e .target))
       → Decides r (SoundAt Move book p q)
   sound-first s r d = subst (λ (x : Entry). Decides r (SoundEntry x)) (sym entry-is)
       (decides-iff r (λ o _. first-opens s o) (λ h. opens-of-first s (h (λ z. absurd (omega (arith, s, z))))) d)
 
   pub sound-second : e .side ≡ 2 → (r : Bool)
-      → Decides r (Opens Move (Leads false (LowerEntry book (e .depth))) q p (e .action) (e .target))
+      → Decides r (Opens Move (BySide false (LowerEntry book (e .depth))) q p (e .action) (e .target))
       → Decides r (SoundAt Move book p q)
   sound-second s r d = subst (λ (x : Entry). Decides r (SoundEntry x)) (sym entry-is)
       (decides-iff r (λ o _. second-opens s o) (λ h. opens-of-second s (h (λ z. absurd (omega (arith, s, z))))) d)

@@ -66,13 +66,17 @@ module _ (book : List ℕ) {k : ℕ} (at s a t d : ℕ) (long : bookLength ≤ l
 
   four-past : Past bookLength book four
   four-past =
-      past-trans (past-set book at s (omega (arith, at-is))) (past-trans (past-set one (at + 1) a (omega (arith, at-is)))
-      (past-trans (past-set two (at + 2) t (omega (arith, at-is))) (past-set three (at + 3) d (omega (arith, at-is)))))
+      past-trans (past-set book at s (omega (arith, at-is)))
+      (past-trans (past-set one (at + 1) a (omega (arith, at-is)))
+      (past-trans (past-set two (at + 2) t (omega (arith, at-is)))
+      (past-set three (at + 3) d (omega (arith, at-is)))))
 
   entry-kept : (j : ℕ) → ¬ (j ≡ k) → entryNumber four j ≡ entryNumber book j
   entry-kept j h =
-      entry-ext (entryNumber four j) (entryNumber book j) (kept-place (entrySize * j) (apart (entrySize * j) (omega arith) (omega arith)))
-      (kept-place (entrySize * j + 1) (apart (entrySize * j + 1) (omega arith) (omega arith))) (kept-place (entrySize * j + 2) (apart (entrySize * j + 2) (omega arith) (omega arith)))
+      entry-ext (entryNumber four j) (entryNumber book j)
+      (kept-place (entrySize * j) (apart (entrySize * j) (omega arith) (omega arith)))
+      (kept-place (entrySize * j + 1) (apart (entrySize * j + 1) (omega arith) (omega arith)))
+      (kept-place (entrySize * j + 2) (apart (entrySize * j + 2) (omega arith) (omega arith)))
       (kept-place (entrySize * j + 3) (apart (entrySize * j + 3) (omega arith) (omega arith)))
     where
       apart : (i : ℕ) → entrySize * j ≤ i → i < entrySize * j + 4 → (i < at) ⊎ (at + 3 < i)

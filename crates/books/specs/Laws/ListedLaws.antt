@@ -4,13 +4,13 @@ use mathlib.Core.List.{List}
 use mathlib.Core.Path.{_≡_, sym, subst}
 use Prim.Native.Nat.{ℕ}
 use Rattle.lts.specs.Alike.{Moves}
-use Rattle.lts.specs.BookLaws.{soundAt-same}
 use Rattle.lts.specs.OwnBookLaws.{ownBook-same}
 use Rattle.text.specs.Faults.{Outcome}
 use Rattle.text.specs.Limits.{stateLimit}
 use Rattle.ranking.specs.MoveList.{Listed, Lists, Ordered}
 use Rattle.books.specs.Books.{bookOf, BookFilled}
-use Rattle.books.specs.Checks.{CheckDone, accepted, refused}
+use Rattle.books.specs.Checks.{CheckDone}
+use Rattle.books.specs.Laws.ChecksLaws.{checkDone-same}
 
 module _ {Move : Moves} {n : ℕ} {first actions targets : List ℕ} (l : Lists Move n first actions targets) {x : ℕ}
     (e : x ≡ n) where
@@ -23,20 +23,8 @@ module _ {Move : Moves} {n : ℕ} {first actions targets : List ℕ} (l : Lists 
       let f = subst (λ (y : ℕ). BookFilled (Listed y first actions targets) y entry exit) e h in
       record { own = ownBook-same (l .sound) (l .complete) n stateLimit (bookOf exit) (f .own); past = f .past }
 
-  pub checkDone-of-listed : {book : List ℕ} {outcome : Outcome} → CheckDone (Listed x first actions targets) book outcome
-      → CheckDone Move book outcome
+  pub checkDone-of-listed : {book : List ℕ} {outcome : Outcome}
+      → CheckDone (Listed x first actions targets) book outcome → CheckDone Move book outcome
   checkDone-of-listed {book} {outcome} h =
-      go (subst (λ (y : ℕ). CheckDone (Listed y first actions targets) book outcome) e h)
-    where
-      go : CheckDone (Listed n first actions targets) book outcome → CheckDone Move book outcome
-      go (accepted s o) =
-          accepted (λ p q lp lq. soundAt-same (l .sound) (l .complete) (bookOf book) p q (s p q lp lq)) o
-      go (refused p q b o) = refused p q
-          (record {
-            first-lt = b .first-lt;
-            second-lt = b .second-lt;
-            bad = λ s. b .bad (soundAt-same (l .complete) (l .sound) (bookOf book) p q s);
-            sound-before = λ y z ly lz k.
-                soundAt-same (l .sound) (l .complete) (bookOf book) y z (b .sound-before y z ly lz k);
-          })
-          o
+      checkDone-same (l .sound) (l .complete)
+      (subst (λ (y : ℕ). CheckDone (Listed y first actions targets) book outcome) e h)

@@ -6,15 +6,15 @@ use Prim.Native.Nat.{ℕ, _+_, _≤_, _<_}
 use native.Mathlib.Omega.{arith}
 use lib.ListN.{getD}
 use Rattle.lts.specs.Alike.{Moves, Rank}
-use Rattle.lts.specs.AlikeLaws.{rank-unique, rank-sym}
+use Rattle.lts.specs.AlikeLaws.{rank-unique}
 use Rattle.lts.specs.TestsLaws.{lt-or-le}
 use Rattle.lts.specs.Book.{Opens, Plays, first-opens, second-opens, LowerRank, FirstPlay}
-use Rattle.lts.specs.OwnBookLaws.{play-exists}
+use Rattle.lts.specs.BookLaws.{opens-map, plays-side-pos, opens-of-first}
+use Rattle.lts.specs.OwnBookLaws.{lowerRank-sym, play-exists}
 use Rattle.text.specs.Limits.{pairPlace}
 use Rattle.ranking.specs.MoveList.{Listed, MoveList, Ordered}
 use Rattle.ranking.specs.Laws.MoveListLaws.{listed-game, listed-target-lt}
 use Rattle.ranking.specs.Table.{Ranks}
-use Rattle.books.specs.Laws.EntryLaws.{opens-of-first}
 use Rattle.books.specs.Inner.Openings.{RankIn, LowerAnswers, FirstOpening}
 
 module _ {n : ℕ} {first actions targets table : List ℕ} (L : MoveList n first actions targets)
@@ -38,18 +38,11 @@ module _ {n : ℕ} {first actions targets table : List ℕ} (L : MoveList n firs
       let e = rank-unique Move x y _ _ (R .ranks x y lx ly) (h .rank-is) in
       record { rank-pos = omega (arith, e, h .rank-pos); rank-lt = omega (arith, e, h .rank-lt) }
 
-  lowerRank-sym : {d x y : ℕ} → LowerRank Move d x y → LowerRank Move d y x
-  lowerRank-sym {x = x} {y} h = record {
-    rank = h .rank;
-    rank-is = rank-sym Move x y (h .rank) (h .rank-is);
-    rank-pos = h .rank-pos;
-    rank-lt = h .rank-lt;
-  }
-
   -- ---- openings of one side
 
-  -- A move of p that q cannot answer otherwise opens; and one that opens is such a move.
-  opens-of-lower : {d p q a t : ℕ} → Move p a t → LowerAnswers Move table d q a t → Opens Move (LowerRank Move d) p q a t
+  -- A move of p whose answers all lead to lower ranks opens; and one that opens is such a move.
+  opens-of-lower : {d p q a t : ℕ} → Move p a t → LowerAnswers Move table d q a t
+      → Opens Move (LowerRank Move d) p q a t
   opens-of-lower {q = q} {a} {t} m h = record {
     opening = m;
     answers = λ u w.
@@ -63,11 +56,11 @@ module _ {n : ℕ} {first actions targets table : List ℕ} (L : MoveList n firs
   -- The same where the opener is the second side.
   opens-turned : {d p q a t : ℕ} → Opens Move (λ x y. LowerRank Move d y x) p q a t
       → Opens Move (LowerRank Move d) p q a t
-  opens-turned o = record { opening = o .opening; answers = λ u w. lowerRank-sym (o .answers u w) }
+  opens-turned = opens-map (λ m. m) (λ u m. m) (λ x y. lowerRank-sym)
 
   opens-turned-back : {d p q a t : ℕ} → Opens Move (LowerRank Move d) p q a t
       → Opens Move (λ x y. LowerRank Move d y x) p q a t
-  opens-turned-back o = record { opening = o .opening; answers = λ u w. lowerRank-sym (o .answers u w) }
+  opens-turned-back = opens-map (λ m. m) (λ u m. m) (λ x y. lowerRank-sym)
 
   -- ---- the place that the search finds
 
@@ -138,14 +131,10 @@ module _ {n : ℕ} {first actions targets table : List ℕ} (L : MoveList n firs
         → FirstPlay Move (LowerRank Move d) p q 1 (getD actions at 0) (getD targets at 0)
     first-play l = record {
       plays = first-opens refl (opens-at lp F l);
-      first-side = λ s b u x. side-pos s b u x;
+      first-side = λ s b u x. omega (arith, plays-side-pos x);
       lowest-action = λ b u x. action-lowest lp F l b u (opens-of-first refl x);
       lowest-target = λ u x. target-lowest lp F l u (opens-of-first refl x);
     }
-      where
-        side-pos : (s b u : ℕ) → Plays Move (LowerRank Move d) p q s b u → 1 ≤ s
-        side-pos s b u (first-opens e o) = omega arith
-        side-pos s b u (second-opens e o) = omega arith
 
     -- The second side opens where the first side cannot.
     module _ {back : ℕ} (left : ¬ (at < getD first (p + 1) 0))

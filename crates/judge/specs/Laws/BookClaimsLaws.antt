@@ -3,53 +3,43 @@
 use mathlib.Core.List.{List, []}
 use mathlib.Core.Logic.{_⊎_, inl, inr, ⊎-elim}
 use mathlib.Core.Option.{Option, none, some}
-use mathlib.Core.Path.{_≡_}
-use Prim.Native.Nat.{ℕ, _≤_, _<_}
+use mathlib.Core.Path.{_≡_, ap}
+use Prim.Native.Nat.{ℕ, zero, suc, _<_}
 use native.Mathlib.Omega.{arith}
 use lib.ListN.{length}
 use Rattle.lts.specs.Noninterference.{LowMove}
-use Rattle.lts.specs.Book.{Sound}
+use Rattle.lts.specs.Book.{Entry, Sound}
 use Rattle.lts.specs.TestsLaws.{lt-or-le}
 use Rattle.lts.specs.BookLaws.{sound-not-paired, sound-rank-zero}
-use Rattle.lts.specs.OwnBookLaws.{own-sound}
+use Rattle.lts.specs.OwnBookLaws.{own-present, own-sound}
 use Rattle.text.specs.Faults.{Outcome, answers}
 use Rattle.text.specs.Limits.{stateLimit, storeLength, tableLength, bookLength}
 use Rattle.text.specs.Model.{Model}
-use Rattle.text.specs.Laws.FirstShortLaws.{first-short, second-short, third-short, none-short-two}
+use Rattle.text.specs.Laws.FirstShortLaws.{long-of-none, none-short-two}
 use Rattle.text.specs.Laws.OutcomeLaws.{answers-not-refuses}
 use Rattle.model.specs.OnStore.{OnStore}
 use Rattle.model.specs.Store.{Good}
 use Rattle.model.specs.System.{view, IsState}
-use Rattle.model.specs.Laws.OnStoreLaws.{option-cases}
-use Rattle.model.specs.Laws.Store.GoodTestLaws.{good-cases}
+use Rattle.model.specs.Laws.OnStoreLaws.{onStore-answered}
 use Rattle.model.specs.Laws.System.GoodStoredLaws.{good-stored}
+use Rattle.model.specs.Laws.System.StepTestLaws.{decided-view}
 use Rattle.model.specs.Laws.System.RankBoundLaws.{low-step-game}
 use Rattle.books.specs.Books.{bookOf}
 use Rattle.books.specs.Checks.{CheckDone, accepted, refused}
 use Rattle.judge.specs.BookPromise.{bookLists}
 use Rattle.judge.specs.CheckPromise.{checkLists}
-use Rattle.judge.specs.BookClaims.{Accepts, AcceptsExactly, AcceptedNotPaired, RankZeroAbsent, OwnAccepted}
-
--- An operation on a store that answers had long lists and a good store.
-onStore-answered : {lists : Option ℕ} {store values : List ℕ} {Unchanged : Type 0} {Done : Good store → Type 0}
-    → OnStore lists store (answers values) Unchanged Done → (lists ≡ none) × ((g : Good store) × Done g)
-onStore-answered {lists} {store} {values} {Unchanged} {Done} x = go (option-cases lists) (good-cases store)
-  where
-    go : ((k : ℕ) × (lists ≡ some k)) ⊎ (lists ≡ none) → Good store ⊎ (¬ (Good store))
-        → (lists ≡ none) × ((g : Good store) × Done g)
-    go (inl s) d = absurd (answers-not-refuses (x .short (s .0) (s .1) .0))
-    go (inr e) (inl g) = (e, (g, x .good e g))
-    go (inr e) (inr n) = absurd (answers-not-refuses (x .not-good e n .0))
+use Rattle.judge.specs.BookClaims.{Accepts, AcceptsExactly, AcceptedNotPaired, RankZeroAbsent, OwnEntries}
+use Rattle.judge.specs.BookClaims.{OwnAccepted}
 
 module _ {store : List ℕ} (g : Good store) where
   abbrev m : Model
   m = g .model
 
   -- A low step leads to a state, and there are at most as many as numbers of a pair.
-  stays : (p a q : ℕ) → LowMove (view m) p a q → q < stateLimit
-  stays p a q x =
+  stays : (p a q : ℕ) → p < stateLimit → LowMove (view m) p a q → q < stateLimit
+  stays p a q l x =
       let st = good-stored store g in
-      omega (arith, st .target-lt (x .1 .number) (x .1 .number-lt), x .1 .target-is, st .states-le)
+      omega (arith, decided-view st .steps .target-lt p a q (x .1), st .states-le)
 
   state-lt : {p : ℕ} → IsState m p → p < stateLimit
   state-lt l = omega (arith, l, good-stored store g .states-le)
@@ -61,7 +51,8 @@ sound-of-accepted : {store book : List ℕ} → Accepts store book → (g : Good
     → Sound (LowMove (view (g .model))) stateLimit (bookOf book)
 sound-of-accepted {store} {book} x g = go (x .good (onStore-answered x .0) g)
   where
-    go : CheckDone (LowMove (view (g .model))) book (answers []) → Sound (LowMove (view (g .model))) stateLimit (bookOf book)
+    go : CheckDone (LowMove (view (g .model))) book (answers [])
+        → Sound (LowMove (view (g .model))) stateLimit (bookOf book)
     go (accepted s e) = s
     go (refused p q b e) = absurd (answers-not-refuses e)
 
@@ -93,28 +84,33 @@ rank-zero-absent store book x g p q lp lq =
 check-lists : (store table book book′ : List ℕ) → bookLists store table book ≡ none → length book′ ≡ length book
     → checkLists store book′ ≡ none
 check-lists store table book book′ e same =
-    none-short-two long-store (omega (arith, same, long-book))
-  where
-    clash : {k : ℕ} → bookLists store table book ≡ some k → ⊥
-    clash s = let z : _≡_ {A = ℕ} 0 1 = cc in omega arith
+    let store-long = long-of-none 1 _ _ e in
+    let table-long = long-of-none 2 _ _ (store-long .1) in
+    let book-long = long-of-none 3 _ _ (table-long .1) in
+    none-short-two (store-long .0) (omega (arith, same, book-long .0))
 
-    long-store : storeLength ≤ length store
-    long-store = ⊎-elim (λ l. absurd (clash (first-short _ _ l))) (λ l. l) (lt-or-le (length store) storeLength)
-
-    long-table : tableLength ≤ length table
-    long-table =
-        ⊎-elim (λ l. absurd (clash (second-short _ _ long-store l))) (λ l. l) (lt-or-le (length table) tableLength)
-
-    long-book : bookLength ≤ length book
-    long-book =
-        ⊎-elim (λ l. absurd (clash (third-short _ _ long-store long-table l))) (λ l. l)
-        (lt-or-le (length book) bookLength)
+pub own-entries : OwnEntries
+own-entries store table book table′ book′ x g p q zero lp lq y =
+    let filled = x .good (onStore-answered x .0) g .1 .book-filled in
+    let e = filled .own .together p q lp lq y in (
+      (λ h. absurd (h (ap (λ (z : Entry). z .side) e)), λ l. absurd (omega arith)),
+      ap (λ (z : Entry). z .depth) e,
+    )
+own-entries store table book table′ book′ x g p q (suc r) lp lq y =
+    let filled = x .good (onStore-answered x .0) g .1 .book-filled in
+    let move = LowMove (view (g .model)) in
+    let l : 0 < suc r = omega arith in
+    let game = low-step-game (good-stored store g) in (
+      (λ h. l, λ k. own-present move (g .model .head .states) _ game (filled .own) p q (suc r) lp lq y l),
+      filled .own .apart p q (suc r) lp lq y l .depth-is,
+    )
 
 pub own-accepted : OwnAccepted
 own-accepted store table book table′ book′ outcome x y =
     let answered = onStore-answered x in
     let g = answered .1 .0 in
     let filled = answered .1 .1 .1 .book-filled in
-    accepts-exactly .each-sound store book′ outcome (check-lists store table book book′ (answered .0) (filled .past .same-length)) g
-    (own-sound (LowMove (view (g .model))) (g .model .head .states) _ (low-step-game (good-stored store g)) (filled .own))
-    y
+    let long = check-lists store table book book′ (answered .0) (filled .past .same-length) in
+    let game = low-step-game (good-stored store g) in
+    accepts-exactly .each-sound store book′ outcome long g
+    (own-sound (LowMove (view (g .model))) (g .model .head .states) _ game (filled .own)) y

@@ -7,7 +7,8 @@ use mathlib.Core.Option.{Option, none, some}
 use mathlib.Core.Path.{_≡_, refl, sym, ap, _∙_, subst}
 use Prim.Native.Nat.{ℕ}
 use native.Mathlib.Omega.{arith}
-use Rattle.text.specs.Faults.{Outcome, refuses}
+use Rattle.text.specs.Faults.{Outcome, answers, refuses}
+use Rattle.text.specs.Laws.OutcomeLaws.{answers-not-refuses}
 use Rattle.model.specs.OnStore.{OnStore}
 use Rattle.text.specs.Model.{Model}
 use Rattle.model.specs.Store.{Good}
@@ -69,3 +70,14 @@ onStore-unique {lists} {store} {outcome} {outcome′} {Same = Same} kept pins p 
         let a = p .not-good e n in
         let b = q .not-good e n in
         (a .0 ∙ sym (b .0), kept (a .1) (b .1))
+
+-- An operation that answers had long lists and a good store.
+pub onStore-answered : {lists : Option ℕ} {store values : List ℕ} {Unchanged : Type 0} {Done : Good store → Type 0}
+    → OnStore lists store (answers values) Unchanged Done → (lists ≡ none) × ((g : Good store) × Done g)
+onStore-answered {lists} {store} {values} {Unchanged} {Done} x = go (option-cases lists) (good-cases store)
+  where
+    go : ((k : ℕ) × (lists ≡ some k)) ⊎ (lists ≡ none) → Good store ⊎ (¬ (Good store))
+        → (lists ≡ none) × ((g : Good store) × Done g)
+    go (inl s) d = absurd (answers-not-refuses (x .short (s .0) (s .1) .0))
+    go (inr e) (inl g) = (e, (g, x .good e g))
+    go (inr e) (inr n) = absurd (answers-not-refuses (x .not-good e n .0))

@@ -29,6 +29,17 @@ module _ (k : ℕ) where
     unfolding firstShort
     firstShort-le h = rw (le-ltb n least h)
 
+    -- where no list is too short, list k is not, nor one behind it
+    pub long-of-none : firstShort k (n ∷ ns) (least ∷ leasts) ≡ none
+        → (least ≤ n) × (firstShort (suc k) ns leasts ≡ none)
+    long-of-none e = ⊎-elim
+        (λ l.
+        let z : some k ≡ none = sym (firstShort-lt l) ∙ e in
+        let y : _≡_ {A = ℕ} 0 1 = cc in
+        absurd (omega arith))
+        (λ l. (l, sym (firstShort-le l) ∙ e))
+        (lt-or-le n least)
+
 -- counted from one more
 pub firstShort-suc : (k : ℕ) (ns leasts : List ℕ) {r : ℕ} → firstShort k ns leasts ≡ some r
     → firstShort (suc k) ns leasts ≡ some (suc r)

@@ -63,8 +63,8 @@ returns c =
     let stored = good→Stored _ (good .0) (good .1) in
     let filled = book .book-good .ensures .book-filled in (
       book-counts stored (start .pre .1) filled,
-      printsText-read BookBytesOf (read .read .result) (read .read .ensures .0) (omega arith) (told .enum-told .given .1)
-          (bookBytesOf-filled stored (start .pre .1) filled),
+      printsText-read BookBytesOf (read .read .result) (read .read .ensures .0) (omega arith)
+          (told .enum-told .given .1) (bookBytesOf-filled stored (start .pre .1) filled),
     )
 
 same-length-2 : tie.Need-same-length-2

@@ -63,8 +63,8 @@ returns c =
     let start = read .before .before .before .before .before .before in
     let found = line .found-line .ensures in (
       found .counts,
-      printsText-read (CheckBytesOf (now (start .args .book))) (read .read .result) (read .read .ensures .0) (omega arith)
-          (told .enum-told .given .1) (record {
+      printsText-read (CheckBytesOf (now (start .args .book))) (read .read .result) (read .read .ensures .0)
+          (omega arith) (told .enum-told .given .1) (record {
             outcome = checkedOutcome (check .check-good .result);
             checked = check .check-good .ensures;
             bytes-are = found .bytes-are;

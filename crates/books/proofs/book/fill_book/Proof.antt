@@ -33,7 +33,9 @@ same-length c = search needs
 
 returns : tie.Need-returns
 returns c =
-    bookFilled (c .before .before .before .before .before .before .before .before .before .before .before .before .before .before .pre .0 .states-le) (c .before .before .before .before .before .before .before .clear .ensures) (c .before .before .fill-rows .ensures)
+    let cleared = c .before .before .before .before .before .before .before in
+    let start = cleared .before .before .before .before .before .before .before in
+    bookFilled (start .pre .0 .states-le) (cleared .clear .ensures) (c .before .before .fill-rows .ensures)
 
 pub fill-book-spec : {M : Type 1} → statement M
 fill-book-spec =

@@ -28,10 +28,11 @@ moves-to-requires c κs = search needs
 
 write-entry-requires : tie.Need-write-entry-requires
 write-entry-requires c κs =
-    let start = c .before .before .before .before .before .before .before .before in
+    let opened = c .before .before .before in
+    let start = opened .before .before .before .before .before in
     let L = start .pre .0 in
     let pre = start .pre .1 .1 .1 .1 .0 in
-    let l : c .before .before .before .first-opening .result < getD (start .args .first .now) (start .args .p .0 + 1) 0 =
+    let l : opened .first-opening .result < getD (start .args .first .now) (start .args .p .0 + 1) 0 =
     omega (arith, c .before .if2 .taken, c .before .before .moves-to .ensures) in
     (L, (pre .0, pre .1, place-lt-last L (pre .0) l, pre .2))
 
@@ -40,25 +41,32 @@ same-length c = search needs
 
 returns-2 : tie.Need-returns-2
 returns-2 c =
-    let start = c .before .before .before .before .before .before .before .before .before .before .before in
+    let tested = c .before .before .before .before in
+    let opened = tested .before .before in
+    let apart = opened .before in
+    let known = apart .before in
+    let start = known .before .before .before in
     let pre = start .pre .1 .1 .1 in
-    let lp = pre .1 .0 .0 in
-    let lq = pre .1 .0 .1 in
-    pair-first (start .pre .0) (start .pre .1 .0) (pre .0 .0) lp lq (c .before .before .before .before .before .before .before .before .rank-at .ensures) (c .before .before .before .before .before .before .before .if1 .left)
-    (c .before .before .before .before .before .before .first-opening .ensures) (omega (arith, c .before .before .before .before .if2 .taken, c .before .before .before .before .before .moves-to .ensures))
-    (c .before .before .write-entry .ensures)
+    pair-first (start .pre .0) (start .pre .1 .0) (pre .0 .0) (pre .1 .0 .0) (pre .1 .0 .1) (known .rank-at .ensures)
+    (apart .if1 .left) (opened .first-opening .ensures)
+    (omega (arith, tested .if2 .taken, tested .before .moves-to .ensures)) (c .before .before .write-entry .ensures)
 
 first-opening-requires-2 : tie.Need-first-opening-requires-2
 first-opening-requires-2 c κs = search needs
 
 write-entry-requires-2 : tie.Need-write-entry-requires-2
 write-entry-requires-2 c κs =
-    let start = c .before .before .before .before .before .before .before .before .before in
+    let tested = c .before .before in
+    let opened = tested .before .before in
+    let apart = opened .before in
+    let known = apart .before in
+    let start = known .before .before .before in
     let pre = start .pre .1 .1 .1 in
     let lp = pre .1 .0 .0 in
     let lq = pre .1 .0 .1 in
-    let l = second-place-lt (start .pre .0) (start .pre .1 .0) (pre .0 .0) lp lq (c .before .before .before .before .before .before .rank-at .ensures)
-    (c .before .before .before .before .before .if1 .left) (c .before .before .before .before .first-opening .ensures) (λ k. omega (arith, k, c .before .before .if2 .left, c .before .before .before .moves-to .ensures))
+    let l = second-place-lt (start .pre .0) (start .pre .1 .0) (pre .0 .0) lp lq (known .rank-at .ensures)
+    (apart .if1 .left) (opened .first-opening .ensures)
+    (λ k. omega (arith, k, tested .if2 .left, tested .before .moves-to .ensures))
     (c .before .first-opening2 .ensures) in
     (start .pre .0, (lp, lq, l, pre .1 .0 .2))
 
@@ -67,12 +75,15 @@ same-length-2 c = search needs
 
 returns-3 : tie.Need-returns-3
 returns-3 c =
-    let start = c .before .before .before .before .before .before .before .before .before .before .before .before in
+    let tested = c .before .before .before .before .before in
+    let opened = tested .before .before in
+    let apart = opened .before in
+    let known = apart .before in
+    let start = known .before .before .before in
     let pre = start .pre .1 .1 .1 in
-    let lp = pre .1 .0 .0 in
-    let lq = pre .1 .0 .1 in
-    pair-second (start .pre .0) (start .pre .1 .0) (pre .0 .0) lp lq (c .before .before .before .before .before .before .before .before .before .rank-at .ensures) (c .before .before .before .before .before .before .before .before .if1 .left)
-    (c .before .before .before .before .before .before .before .first-opening .ensures) (λ k. omega (arith, k, c .before .before .before .before .before .if2 .left, c .before .before .before .before .before .before .moves-to .ensures))
+    pair-second (start .pre .0) (start .pre .1 .0) (pre .0 .0) (pre .1 .0 .0) (pre .1 .0 .1) (known .rank-at .ensures)
+    (apart .if1 .left) (opened .first-opening .ensures)
+    (λ k. omega (arith, k, tested .if2 .left, tested .before .moves-to .ensures))
     (c .before .before .before .before .first-opening2 .ensures) (c .before .before .write-entry2 .ensures)
 
 pub fill-pair-spec : {M : Type 1} → statement M

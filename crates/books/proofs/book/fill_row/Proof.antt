@@ -9,11 +9,11 @@ use Rattle.books.proofs.book.fill_row.Statement.{statement}
 use Rattle.books.proofs.book.fill_row.Tie as tie
 
 abbrev Inv-loop : tie.InvT-loop
-Inv-loop n first actions targets runs table p book₀ q₀ book q =
+Inv-loop n first actions targets groups table p book₀ q₀ book q =
     (q ≤ n) × RowFilled (Listed n first actions targets) (p .0) q book₀ book
 
 abbrev μ-loop : tie.MeasureT-loop
-μ-loop n first actions targets runs table p book₀ q₀ book q = n - q
+μ-loop n first actions targets groups table p book₀ q₀ book q = n - q
 
 loop-holds : tie.Need-loop-holds Inv-loop μ-loop
 loop-holds c = (omega arith, rowFilled-zero _)
@@ -49,8 +49,10 @@ loop-less c = search needs
 
 loop-again : tie.Need-loop-again Inv-loop μ-loop
 loop-again c =
-    let inv = c .before .before .before .before .before .loop .inv in
-    (omega (arith, c .before .before .before .before .loop-test .taken), rowFilled-suc (inv .1) (c .before .before .fill-pair .ensures))
+    let filled = c .before .before in
+    let in-loop = filled .before .before in
+    let inv = in-loop .before .loop .inv in
+    (omega (arith, in-loop .loop-test .taken), rowFilled-suc (inv .1) (filled .fill-pair .ensures))
 
 same-length : tie.Need-same-length Inv-loop μ-loop
 same-length c = c .before .loop .inv .1 .past .same-length

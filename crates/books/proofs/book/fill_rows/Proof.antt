@@ -9,11 +9,11 @@ use Rattle.books.proofs.book.fill_rows.Statement.{statement}
 use Rattle.books.proofs.book.fill_rows.Tie as tie
 
 abbrev Inv-loop : tie.InvT-loop
-Inv-loop n first actions targets runs table book₀ p₀ book p =
+Inv-loop n first actions targets groups table book₀ p₀ book p =
     (p ≤ n) × RowsFilled (Listed n first actions targets) n p book₀ book
 
 abbrev μ-loop : tie.MeasureT-loop
-μ-loop n first actions targets runs table book₀ p₀ book p = n - p
+μ-loop n first actions targets groups table book₀ p₀ book p = n - p
 
 loop-holds : tie.Need-loop-holds Inv-loop μ-loop
 loop-holds c = (omega arith, rowsFilled-zero _)
@@ -49,9 +49,11 @@ loop-less c = search needs
 
 loop-again : tie.Need-loop-again Inv-loop μ-loop
 loop-again c =
-    let inv = c .before .before .before .before .before .loop .inv in
-    let states-le = c .before .before .before .before .before .before .before .before .pre .0 .states-le in
-    (omega (arith, c .before .before .before .before .loop-test .taken), rowsFilled-suc states-le (inv .1) (c .before .before .fill-row .ensures))
+    let filled = c .before .before in
+    let in-loop = filled .before .before in
+    let inv = in-loop .before .loop .inv in
+    let states-le = in-loop .before .before .before .before .pre .0 .states-le in
+    (omega (arith, in-loop .loop-test .taken), rowsFilled-suc states-le (inv .1) (filled .fill-row .ensures))
 
 same-length : tie.Need-same-length Inv-loop μ-loop
 same-length c = c .before .loop .inv .1 .past .same-length

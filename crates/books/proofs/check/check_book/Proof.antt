@@ -1,6 +1,6 @@
--- The runs are those of the moves, so what is found of the runs holds of the moves.
+-- The groups are those of the moves, so what is found of the groups holds of the moves.
 use native.Mathlib.Omega.{arith}
-use Rattle.books.specs.Laws.ChecksLaws.{checkDone-sound, checkDone-bad}
+use Rattle.books.specs.Laws.ChecksLaws.{checkDone-sound, checkDone-bad, checkDone-same}
 use borrow.Author.Needs.{needs}
 use Rattle.books.proofs.check.check_book.Statement.{statement}
 use Rattle.books.proofs.check.check_book.Tie as tie
@@ -17,12 +17,12 @@ first-bad-requires c κs = search needs
 returns : tie.Need-returns
 returns c =
     let index = c .before .before .before .before .index-moves .ensures in
-    checkDone-bad (index .back) (index .forth) (c .before .first-bad .ensures) (c .if1 .taken)
+    checkDone-same (index .back) (index .forth) (checkDone-bad (c .before .first-bad .ensures) (c .if1 .taken))
 
 returns-2 : tie.Need-returns-2
 returns-2 c =
     let index = c .before .before .before .before .index-moves .ensures in
-    checkDone-sound (index .back) (index .forth) (c .before .first-bad .ensures) (omega arith)
+    checkDone-same (index .back) (index .forth) (checkDone-sound (c .before .first-bad .ensures) (omega arith))
 
 pub check-book-spec : {M : Type 1} → statement M
 check-book-spec =

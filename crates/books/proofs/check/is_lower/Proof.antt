@@ -20,7 +20,7 @@ returns c h =
     let placed = c .before .before in
     let a = placed .before .before .args in
     let number-is = placed .lead-place .ensures .0 in
-    number-of-lower (a .book .now) (a .depth) (a .first) (a .t .0) (a .u .0) number-is h .present (c .if1 .taken)
+    number-of-lower (a .book .now) (a .depth) (a .forward) (a .t .0) (a .u .0) number-is h .present (c .if1 .taken)
 
 add-if2 : tie.Need-add-if2
 add-if2 c = search needs
@@ -33,7 +33,7 @@ returns-2 c h =
     let placed = c .before .before .before .before in
     let a = placed .before .before .args in
     let number-is = placed .lead-place .ensures .0 in
-    let lower = number-of-lower (a .book .now) (a .depth) (a .first) (a .t .0) (a .u .0) number-is h in
+    let lower = number-of-lower (a .book .now) (a .depth) (a .forward) (a .t .0) (a .u .0) number-is h in
     omega (arith, c .if2 .taken, lower .depth-lt)
 
 returns-3 : tie.Need-returns-3
@@ -43,7 +43,7 @@ returns-3 c =
     let number-is = placed .lead-place .ensures .0 in
     let lower : LowerNumber (a .book .now) (a .depth) (placed .lead-place .result) =
     record { present = c .before .before .if1 .left; depth-lt = omega arith } in
-    lower-of-number (a .book .now) (a .depth) (a .first) (a .t .0) (a .u .0) number-is lower
+    lower-of-number (a .book .now) (a .depth) (a .forward) (a .t .0) (a .u .0) number-is lower
 
 pub is-lower-spec : {M : Type 1} → statement M
 is-lower-spec =

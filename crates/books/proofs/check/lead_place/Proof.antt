@@ -13,7 +13,7 @@ pair-place-requires c κs = search needs
 returns : tie.Need-returns
 returns c =
     let a = c .before .before .args in
-    let e : a .first ≡ true = c .before .if1 .taken in
+    let e : a .forward ≡ true = c .before .if1 .taken in
     (c .pair-place .ensures ∙ sym (leadPlace-first (a .t .0) (a .u .0) e), omega arith)
 
 pair-place-requires-2 : tie.Need-pair-place-requires-2
@@ -22,7 +22,7 @@ pair-place-requires-2 c κs = search needs
 returns-2 : tie.Need-returns-2
 returns-2 c =
     let a = c .before .before .args in
-    let e : a .first ≡ false = c .before .if1 .left in
+    let e : a .forward ≡ false = c .before .if1 .left in
     (c .pair-place2 .ensures ∙ sym (leadPlace-second (a .t .0) (a .u .0) e), omega arith)
 
 pub lead-place-spec : {M : Type 1} → statement M

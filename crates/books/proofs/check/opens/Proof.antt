@@ -1,6 +1,6 @@
 -- The opening is there, and its target is a state; each answer was looked up.
 use Rattle.text.specs.Laws.DecidesLaws.{decides-passed, decides-refused, decides-iff}
-use Rattle.books.specs.Laws.InRunLaws.{indexed-target-lt}
+use Rattle.books.specs.Laws.InGroupLaws.{indexed-target-lt}
 use borrow.Author.Needs.{needs}
 use Rattle.books.proofs.check.opens.Statement.{statement}
 use Rattle.books.proofs.check.opens.Tie as tie

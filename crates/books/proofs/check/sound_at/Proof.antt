@@ -2,7 +2,7 @@
 use mathlib.Core.Path.{refl}
 use native.Mathlib.Omega.{arith}
 use Rattle.books.specs.Books.{bookOf}
-use Rattle.books.specs.Inner.Runs.{Indexed}
+use Rattle.books.specs.Inner.Groups.{Indexed}
 use Rattle.books.specs.Laws.EntryLaws.{bookOf-number, sound-absent, bad-side, sound-first, sound-second}
 use Rattle.books.specs.Laws.EntryLaws.{sound-action-lt}
 use borrow.Author.Needs.{needs}
@@ -23,7 +23,7 @@ returns c =
     let placed = c .before .before in
     let a = placed .before .before .args in
     let entry-is = bookOf-number (a .book .now) (a .p .0) (a .q .0) (placed .pair-place .ensures) refl refl in
-    sound-absent (Indexed (a .runs .now) (a .targets .now)) (bookOf (a .book .now)) (a .p .0) (a .q .0) _ entry-is
+    sound-absent (Indexed (a .groups .now) (a .targets .now)) (bookOf (a .book .now)) (a .p .0) (a .q .0) _ entry-is
     (c .if1 .taken)
 
 add-byte-value : tie.Need-add-byte-value
@@ -41,8 +41,8 @@ returns-2 c h =
     let a = placed .before .before .args in
     let entry-is = bookOf-number (a .book .now) (a .p .0) (a .q .0) (placed .pair-place .ensures)
     (c .before .byte-value .ensures) refl in
-    let action-lt = sound-action-lt (Indexed (a .runs .now) (a .targets .now)) (bookOf (a .book .now)) (a .p .0)
-    (a .q .0) _ entry-is (λ x b y m. m .in-run .action-lt) h (c .before .before .before .if1 .left) in
+    let action-lt = sound-action-lt (Indexed (a .groups .now) (a .targets .now)) (bookOf (a .book .now)) (a .p .0)
+    (a .q .0) _ entry-is (λ x b y m. m .in-group .action-lt) h (c .before .before .before .if1 .left) in
     omega (arith, action-lt, c .if2 .taken)
 
 add-byte-value-2 : tie.Need-add-byte-value-2
@@ -71,7 +71,7 @@ returns-3 c =
     let a = placed .before .before .args in
     let entry-is = bookOf-number (a .book .now) (a .p .0) (a .q .0) (placed .pair-place .ensures)
     (action .byte-value .ensures) (target .byte-value2 .ensures) in
-    sound-first (Indexed (a .runs .now) (a .targets .now)) (bookOf (a .book .now)) (a .p .0) (a .q .0) _ entry-is
+    sound-first (Indexed (a .groups .now) (a .targets .now)) (bookOf (a .book .now)) (a .p .0) (a .q .0) _ entry-is
     (c .before .if3 .taken) (c .opens .result) (c .opens .ensures)
 
 opens-requires-2 : tie.Need-opens-requires-2
@@ -85,7 +85,7 @@ returns-4 c =
     let a = placed .before .before .args in
     let entry-is = bookOf-number (a .book .now) (a .p .0) (a .q .0) (placed .pair-place .ensures)
     (action .byte-value .ensures) (target .byte-value2 .ensures) in
-    sound-second (Indexed (a .runs .now) (a .targets .now)) (bookOf (a .book .now)) (a .p .0) (a .q .0) _ entry-is
+    sound-second (Indexed (a .groups .now) (a .targets .now)) (bookOf (a .book .now)) (a .p .0) (a .q .0) _ entry-is
     (c .before .if4 .taken) (c .opens2 .result) (c .opens2 .ensures)
 
 returns-5 : tie.Need-returns-5
@@ -94,7 +94,7 @@ returns-5 c =
     let placed = present .before .before in
     let a = placed .before .before .args in
     let entry-is = bookOf-number (a .book .now) (a .p .0) (a .q .0) (placed .pair-place .ensures) refl refl in
-    bad-side (Indexed (a .runs .now) (a .targets .now)) (bookOf (a .book .now)) (a .p .0) (a .q .0) _ entry-is
+    bad-side (Indexed (a .groups .now) (a .targets .now)) (bookOf (a .book .now)) (a .p .0) (a .q .0) _ entry-is
     (present .if1 .left) (c .before .if3 .left) (c .if4 .left)
 
 pub sound-at-spec : {M : Type 1} → statement M

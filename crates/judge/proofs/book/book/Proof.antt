@@ -59,7 +59,8 @@ returns-5 c =
     let long = passed .before .before in
     onStore-model (λ m. (_≡_ {A = Outcome} (answers []) (answers [])) × BookDone m _ _ _ _)
     (none-short-three (long .before .before .if1 .left) (long .before .if2 .left) (long .if3 .left))
-    (decides-passed (tested .result) _ (tested .ensures) (passed .if4 .left)) (refl, c .before .before .before .before .book-good .ensures)
+    (decides-passed (tested .result) _ (tested .ensures) (passed .if4 .left))
+    (refl, c .before .before .before .before .book-good .ensures)
 
 pub book-spec : {M : Type 1} → statement M
 book-spec =

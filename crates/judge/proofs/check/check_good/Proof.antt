@@ -7,42 +7,46 @@ use Rattle.books.specs.Laws.ListedLaws.{ordered-of-lists, checkDone-of-listed}
 use Rattle.judge.proofs.check.check_good.Statement.{statement}
 use Rattle.judge.proofs.check.check_good.Tie as tie
 
-slice-aggregate-list-low-steps : tie.Need-slice-aggregate-list-low-steps
-slice-aggregate-list-low-steps c = search needs
+slice-aggregate-list-store-moves : tie.Need-slice-aggregate-list-store-moves
+slice-aggregate-list-store-moves c = search needs
 
-slice-aggregate-list-low-steps-2 : tie.Need-slice-aggregate-list-low-steps-2
-slice-aggregate-list-low-steps-2 c = search needs
+slice-aggregate-list-store-moves-2 : tie.Need-slice-aggregate-list-store-moves-2
+slice-aggregate-list-store-moves-2 c = search needs
 
-slice-aggregate-list-low-steps-3 : tie.Need-slice-aggregate-list-low-steps-3
-slice-aggregate-list-low-steps-3 c = search needs
+slice-aggregate-list-store-moves-3 : tie.Need-slice-aggregate-list-store-moves-3
+slice-aggregate-list-store-moves-3 c = search needs
 
-list-low-steps-requires : tie.Need-list-low-steps-requires
-list-low-steps-requires c κs = search needs
+list-store-moves-requires : tie.Need-list-store-moves-requires
+list-store-moves-requires c κs = search needs
 
 states-requires : tie.Need-states-requires
 states-requires c κs = search needs
 
 check-book-requires : tie.Need-check-book-requires
 check-book-requires c κs =
-    let pre = c .before .before .before .before .before .before .before .before .before .before .before .before .before .pre in
-    let e = c .before .before .before .states .ensures ∙ stored-states (pre .0) in
-    let listed = c .before .before .before .before .before .before .before .list-low-steps .ensures in
-    (moveList-of-lists (listed .0) e, (ordered-of-lists (listed .0) e (listed .1), pre .1))
+    let counted = c .before .before .before in
+    let listed = counted .before .before .before .before in
+    let pre = listed .before .before .before .before .before .before .pre in
+    let e = counted .states .ensures ∙ stored-states (pre .0) in
+    let moves = listed .list-store-moves .ensures in
+    (moveList-of-lists (moves .0) e, (ordered-of-lists (moves .0) e (moves .1), pre .1))
 
 returns : tie.Need-returns
 returns c =
-    let pre = c .before .before .before .before .before .before .before .before .before .before .before .before .before .before .pre in
-    let e = c .before .before .before .before .states .ensures ∙ stored-states (pre .0) in
-    checkDone-of-listed (c .before .before .before .before .before .before .before .before .list-low-steps .ensures .0) e (c .check-book .ensures)
+    let counted = c .before .before .before .before in
+    let listed = counted .before .before .before .before in
+    let pre = listed .before .before .before .before .before .before .pre in
+    let e = counted .states .ensures ∙ stored-states (pre .0) in
+    checkDone-of-listed (listed .list-store-moves .ensures .0) e (c .check-book .ensures)
 
 pub check-good-spec : {M : Type 1} → statement M
 check-good-spec =
     tie.close
     (tie.spec
-    slice-aggregate-list-low-steps
-    slice-aggregate-list-low-steps-2
-    slice-aggregate-list-low-steps-3
-    list-low-steps-requires
+    slice-aggregate-list-store-moves
+    slice-aggregate-list-store-moves-2
+    slice-aggregate-list-store-moves-3
+    list-store-moves-requires
     states-requires
     check-book-requires
     returns)

@@ -1,21 +1,21 @@
--- The runs up to those of the moves before place i are there; those places are the moves of p.
+-- The groups up to those of the moves before place i are there; those places are the moves of p.
 use mathlib.Core.Path.{_≡_, refl, sym, _∙_, subst}
 use Prim.Native.Nat.{_+_, _≤_, _-_}
 use native.Mathlib.Omega.{arith}
 use lib.ListN.{length}
 use Rattle.text.specs.Limits.{stepLimit}
-use Rattle.books.specs.Inner.Runs.{IndexedTo}
-use Rattle.books.specs.Laws.RunsLaws.{placeOf-between, placeOf-action-lt, indexedTo-add-one}
+use Rattle.books.specs.Inner.Groups.{IndexedTo}
+use Rattle.books.specs.Laws.GroupsLaws.{placeOf-between, placeOf-action-lt, indexedTo-add-one}
 use borrow.Author.Needs.{needs}
-use Rattle.books.proofs.runs.index_state.Statement.{statement}
-use Rattle.books.proofs.runs.index_state.Tie as tie
+use Rattle.books.proofs.groups.index_state.Statement.{statement}
+use Rattle.books.proofs.groups.index_state.Tie as tie
 
 abbrev Inv-loop : tie.InvT-loop
-Inv-loop n first actions targets p from runs₀ to i₀ k₀ runs i k =
-    (i₀ ≤ i) × (i ≤ to) × (to ≤ stepLimit) × IndexedTo n first actions runs k i × (length runs ≡ length runs₀)
+Inv-loop n first actions targets p from groups₀ to i₀ k₀ groups i k =
+    (i₀ ≤ i) × (i ≤ to) × (to ≤ stepLimit) × IndexedTo n first actions groups k i × (length groups ≡ length groups₀)
 
 abbrev μ-loop : tie.MeasureT-loop
-μ-loop n first actions targets p from runs₀ to i₀ k₀ runs i k = to - i
+μ-loop n first actions targets p from groups₀ to i₀ k₀ groups i k = to - i
 
 moves-to-requires : tie.Need-moves-to-requires Inv-loop μ-loop
 moves-to-requires c κs = search needs
@@ -43,8 +43,8 @@ mul-give c = search needs
 element-copy-out-give : tie.Need-element-copy-out-give Inv-loop μ-loop
 element-copy-out-give c = search needs
 
-run-place-requires : tie.Need-run-place-requires Inv-loop μ-loop
-run-place-requires c κs =
+group-place-requires : tie.Need-group-place-requires Inv-loop μ-loop
+group-place-requires c κs =
     let at-loop = c .before .before in
     let P = at-loop .before .before .before .before .pre in
     let from = at-loop .before .moves-from .ensures in
@@ -64,7 +64,7 @@ give-requires : tie.Need-give-requires Inv-loop μ-loop
 give-requires c κs =
     let at-loop = c .before .before .before .before in
     let long = at-loop .before .before .before .before .pre .1 .1 .0 .1 in
-    omega (arith, c .before .run-place .ensures .1, long, at-loop .loop .inv .4)
+    omega (arith, c .before .group-place .ensures .1, long, at-loop .loop .inv .4)
 
 add-i : tie.Need-add-i Inv-loop μ-loop
 add-i c = search needs
@@ -81,11 +81,11 @@ loop-again c =
     let from = at-loop .before .moves-from .ensures in
     let to = at-loop .before .before .moves-to .ensures in
     let l = c .before .before .before .before .before .before .loop-test .taken in
-    let run = c .before .before .before .before .run-place .ensures .0 in (
+    let group = c .before .before .before .before .group-place .ensures .0 in (
       omega arith,
       omega arith,
       inv .2,
-      indexedTo-add-one (P .0) (P .1 .0) (placeOf-between (P .1 .1 .0 .0) from to (inv .0) l) run (inv .3)
+      indexedTo-add-one (P .0) (P .1 .0) (placeOf-between (P .1 .1 .0 .0) from to (inv .0) l) group (inv .3)
           (given .ensures),
       given .kept .0 ∙ inv .4,
     )
@@ -111,7 +111,7 @@ index-state-spec =
     loop-holds
     mul-give
     element-copy-out-give
-    run-place-requires
+    group-place-requires
     add-give
     cast-give
     give-requires

@@ -1,4 +1,4 @@
-// Moves by state and action: where the moves of each state with each action begin. They are a run, since the moves of a
+// Moves by state and action. Those of a state with one action are a group: they stand side by side, for the moves of a
 // state are listed by action.
 use ranking::classes::moves_from;
 use ranking::classes::moves_to;
@@ -6,20 +6,20 @@ use ranking::classes::wide;
 use text::Action;
 use text::State;
 use text::limits::ACTION_LIMIT;
+use text::limits::GROUPS_LENGTH;
 use text::limits::INDEX_LENGTH;
 use text::limits::MOVES_LENGTH;
-use text::limits::RUNS_LENGTH;
 ghost use mathlib.Core.Path.{_≡_};
 ghost use Prim.Native.Nat.{_+_, _≤_, _<_};
 ghost use lib.ListN.{length, getD};
-ghost use Rattle.text.specs.Limits.{stateLimit, actionLimit, runPlace, runsLength};
+ghost use Rattle.text.specs.Limits.{stateLimit, actionLimit, groupPlace, groupsLength};
 ghost use Rattle.ranking.specs.MoveList.{MoveList, Ordered};
-ghost use Rattle.books.specs.Inner.Runs.{IndexedTo, Given, IndexOf};
+ghost use Rattle.books.specs.Inner.Groups.{IndexedTo, Given, IndexOf};
 
-// The number of the run of p and a.
-fn run_place(p: State, a: Action) -> usize
+// The number of the group of p and a.
+fn group_place(p: State, a: Action) -> usize
     requires { ⌜ (p .0 < stateLimit) × (a .0 < actionLimit) ⌝ }
-    ensures { λ r. ⌜ (r ≡ runPlace (p .0) (a .0)) × (r + 1 < runsLength) ⌝ }
+    ensures { λ r. ⌜ (r ≡ groupPlace (p .0) (a .0)) × (r + 1 < groupsLength) ⌝ }
 {
     let state = p.0 as usize;
     let action = a.0 as usize;
@@ -27,37 +27,38 @@ fn run_place(p: State, a: Action) -> usize
 }
 
 // Where the moves of p with the action a begin in the lists.
-pub fn run_from(runs: &[u16; RUNS_LENGTH], p: State, a: Action) -> usize
+pub fn group_from(groups: &[u16; GROUPS_LENGTH], p: State, a: Action) -> usize
     requires { ⌜ (p .0 < stateLimit) × (a .0 < actionLimit) ⌝ }
-    ensures { λ r. ⌜ r ≡ getD (now (runs .entry)) (runPlace (p .0) (a .0)) 0 ⌝ }
+    ensures { λ r. ⌜ r ≡ getD (now (groups .entry)) (groupPlace (p .0) (a .0)) 0 ⌝ }
 {
-    let at = run_place(p, a);
-    wide(runs[at])
+    let at = group_place(p, a);
+    wide(groups[at])
 }
 
 // Where they end.
-pub fn run_to(runs: &[u16; RUNS_LENGTH], p: State, a: Action) -> usize
+pub fn group_to(groups: &[u16; GROUPS_LENGTH], p: State, a: Action) -> usize
     requires { ⌜ (p .0 < stateLimit) × (a .0 < actionLimit) ⌝ }
-    ensures { λ r. ⌜ r ≡ getD (now (runs .entry)) (runPlace (p .0) (a .0) + 1) 0 ⌝ }
+    ensures { λ r. ⌜ r ≡ getD (now (groups .entry)) (groupPlace (p .0) (a .0) + 1) 0 ⌝ }
 {
-    let at = run_place(p, a);
-    wide(runs[at + 1])
+    let at = group_place(p, a);
+    wide(groups[at + 1])
 }
 
 // Gives the places from `from` up to `to` the value, and yields the next place.
-fn give(runs: &mut [u16], from: usize, to: usize, value: u16) -> usize
-    requires { ⌜ to ≤ length (now runs) ⌝ }
-    ensures { λ r. ⌜ Given from to value r (now (runs .entry)) (now (runs .exit)) ⌝ }
+fn give(groups: &mut [u16], from: usize, to: usize, value: u16) -> usize
+    requires { ⌜ to ≤ length (now groups) ⌝ }
+    ensures { λ r. ⌜ Given from to value r (now (groups .entry)) (now (groups .exit)) ⌝ }
 {
     let mut k = from;
     while k < to {
-        runs[k] = value;
+        groups[k] = value;
         k += 1;
     }
     k
 }
 
-// Writes where the runs begin up to those of p, the first of which is run k; yields the next run.
+// Writes where the groups from group `from` on begin, up to the last one of p that has a move; yields the group after
+// it.
 fn index_state(
     n: u16,
     first: &[u16; INDEX_LENGTH],
@@ -65,21 +66,21 @@ fn index_state(
     targets: &[u16; MOVES_LENGTH],
     p: State,
     from: usize,
-    runs: &mut [u16],
+    groups: &mut [u16],
 ) -> usize
     requires { ⌜ MoveList n (now first) (now actions) (now targets) ⌝ }
     requires { ⌜ Ordered n (now first) (now actions) (now targets) ⌝ }
-    requires { ⌜ (p .0 < n) × (runsLength ≤ length (now runs)) ⌝ }
-    requires { ⌜ IndexedTo n (now first) (now actions) (now runs) from (getD (now first) (p .0) 0) ⌝ }
-    ensures { λ r. ⌜ IndexedTo n (now (first .entry)) (now (actions .entry)) (now (runs .exit)) r
+    requires { ⌜ (p .0 < n) × (groupsLength ≤ length (now groups)) ⌝ }
+    requires { ⌜ IndexedTo n (now first) (now actions) (now groups) from (getD (now first) (p .0) 0) ⌝ }
+    ensures { λ r. ⌜ IndexedTo n (now (first .entry)) (now (actions .entry)) (now (groups .exit)) r
         (getD (now (first .entry)) (p .0 + 1) 0) ⌝ }
 {
     let to = moves_to(first, p);
     let mut i = moves_from(first, p);
     let mut k = from;
     while i < to {
-        let run = run_place(p, Action(actions[i]));
-        k = give(runs, k, run + 1, i as u16);
+        let group = group_place(p, Action(actions[i]));
+        k = give(groups, k, group + 1, i as u16);
         i += 1;
     }
     k
@@ -91,18 +92,18 @@ pub fn index_moves(
     first: &[u16; INDEX_LENGTH],
     actions: &[u16; MOVES_LENGTH],
     targets: &[u16; MOVES_LENGTH],
-    runs: &mut [u16],
+    groups: &mut [u16],
 )
     requires { ⌜ MoveList n (now first) (now actions) (now targets) ⌝ }
     requires { ⌜ Ordered n (now first) (now actions) (now targets) ⌝ }
-    requires { ⌜ runsLength ≤ length (now runs) ⌝ }
+    requires { ⌜ groupsLength ≤ length (now groups) ⌝ }
     ensures { λ _. ⌜ IndexOf n (now (first .entry)) (now (actions .entry)) (now (targets .entry))
-        (now (runs .exit)) ⌝ }
+        (now (groups .exit)) ⌝ }
 {
     let mut k = 0;
     for p in 0..n {
-        k = index_state(n, first, actions, targets, State(p), k, runs);
+        k = index_state(n, first, actions, targets, State(p), k, groups);
     }
     let last = moves_to(first, State(n - 1));
-    give(runs, k, RUNS_LENGTH, last as u16);
+    give(groups, k, GROUPS_LENGTH, last as u16);
 }

@@ -1,8 +1,8 @@
 -- What is listed rests on the index and the roles, which are made here.
 use native.Mathlib.Omega.{arith}
 use borrow.Author.Needs.{needs}
-use Rattle.moves.proofs.moves.list_low_steps.Statement.{statement}
-use Rattle.moves.proofs.moves.list_low_steps.Tie as tie
+use Rattle.moves.proofs.moves.list_store_moves.Statement.{statement}
+use Rattle.moves.proofs.moves.list_store_moves.Tie as tie
 
 slice-aggregate-index : tie.Need-slice-aggregate-index
 slice-aggregate-index c = search needs
@@ -41,8 +41,8 @@ same-length-3 c = search needs
 returns : tie.Need-returns
 returns c = search needs
 
-pub list-low-steps-spec : {M : Type 1} → statement M
-list-low-steps-spec =
+pub list-store-moves-spec : {M : Type 1} → statement M
+list-store-moves-spec =
     tie.close
     (tie.spec
     slice-aggregate-index

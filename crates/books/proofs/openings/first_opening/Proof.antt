@@ -8,17 +8,17 @@ use Rattle.text.specs.Laws.DecidesLaws.{decides-true, decides-false}
 use Rattle.ranking.specs.MoveList.{Listed}
 use Rattle.ranking.specs.Laws.MoveListLaws.{place-lt-last}
 use Rattle.books.specs.Inner.Openings.{LowerAnswers}
-use Rattle.books.proofs.book.first_opening.Statement.{statement}
-use Rattle.books.proofs.book.first_opening.Tie as tie
+use Rattle.books.proofs.openings.first_opening.Statement.{statement}
+use Rattle.books.proofs.openings.first_opening.Tie as tie
 
 abbrev Inv-loop : tie.InvT-loop
-Inv-loop n first actions targets runs table q depth to i₀ i =
+Inv-loop n first actions targets groups table q depth to i₀ i =
     (i₀ ≤ i) × (i ≤ to)
     × ((j : ℕ) → j < i → i₀ ≤ j
     → ¬ (LowerAnswers (Listed n first actions targets) table depth (q .0) (getD actions j 0) (getD targets j 0)))
 
 abbrev μ-loop : tie.MeasureT-loop
-μ-loop n first actions targets runs table q depth to i₀ i = to - i
+μ-loop n first actions targets groups table q depth to i₀ i = to - i
 
 moves-to-requires : tie.Need-moves-to-requires Inv-loop μ-loop
 moves-to-requires c κs = let pre = c .before .pre in omega (arith, pre .1 .1 .0, pre .0 .states-le)
@@ -30,7 +30,8 @@ loop-holds : tie.Need-loop-holds Inv-loop μ-loop
 loop-holds c =
     let start = c .before .before .before in
     let rise = start .pre .0 .rising (start .args .p .0) (start .pre .1 .1 .0) in
-    (omega arith, omega (arith, rise, c .moves-from .ensures, c .before .moves-to .ensures), λ j l k. absurd (omega arith))
+    let from-le = c .moves-from .ensures in
+    (omega arith, omega (arith, rise, from-le, c .before .moves-to .ensures), λ j l k. absurd (omega arith))
 
 mul-t14 : tie.Need-mul-t14 Inv-loop μ-loop
 mul-t14 c =
@@ -69,9 +70,13 @@ all-lower-requires c κs =
     let k : i < getD (start .args .first .now) (start .args .p .0 + 1) 0 =
     omega (arith, c .before .before .loop-test .taken, c .before .before .before .before .before .moves-to .ensures) in
     let l = place-lt-last L lp k in (
-      start .pre .1 .0 .runs-are,
+      start .pre .1 .0 .groups-are,
       (
-        (omega (arith, start .pre .1 .1 .1, L .states-le), L .action-lt i l, omega (arith, L .target-lt i l, L .states-le)),
+        (
+          omega (arith, start .pre .1 .1 .1, L .states-le),
+          L .action-lt i l,
+          omega (arith, L .target-lt i l, L .states-le),
+        ),
         start .pre .1 .1 .2,
       ),
     )

@@ -3,27 +3,27 @@ use mathlib.Core.Path.{_≡_, refl}
 use Prim.Native.Nat.{ℕ, _≤_, _<_, _-_}
 use native.Mathlib.Omega.{arith}
 use lib.ListN.{length, length-set}
-use Rattle.books.specs.Inner.Runs.{Given}
-use Rattle.books.specs.Laws.RunsLaws.{given-nil, given-add-one, given-to}
+use Rattle.books.specs.Inner.Groups.{Given}
+use Rattle.books.specs.Laws.GroupsLaws.{given-nil, given-add-one, given-to}
 use borrow.Author.Needs.{needs}
-use Rattle.books.proofs.runs.give.Statement.{statement}
-use Rattle.books.proofs.runs.give.Tie as tie
+use Rattle.books.proofs.groups.give.Statement.{statement}
+use Rattle.books.proofs.groups.give.Tie as tie
 
 abbrev Inv-loop : tie.InvT-loop
-Inv-loop runs₀ from to value k₀ runs k =
-    Given from k value k runs₀ runs × ((i : ℕ) → from ≤ i → i < k → i < to) × (length runs ≡ length runs₀)
+Inv-loop groups₀ from to value k₀ groups k =
+    Given from k value k groups₀ groups × ((i : ℕ) → from ≤ i → i < k → i < to) × (length groups ≡ length groups₀)
 
 abbrev μ-loop : tie.MeasureT-loop
-μ-loop runs₀ from to value k₀ runs k = to - k
+μ-loop groups₀ from to value k₀ groups k = to - k
 
 loop-holds : tie.Need-loop-holds Inv-loop μ-loop
 loop-holds c = (given-nil _, λ i l k. absurd (omega arith), refl)
 
-mul-runs : tie.Need-mul-runs Inv-loop μ-loop
-mul-runs c = search needs
+mul-groups : tie.Need-mul-groups Inv-loop μ-loop
+mul-groups c = search needs
 
-slice-write-runs : tie.Need-slice-write-runs Inv-loop μ-loop
-slice-write-runs c = search needs
+slice-write-groups : tie.Need-slice-write-groups Inv-loop μ-loop
+slice-write-groups c = search needs
 
 add-k : tie.Need-add-k Inv-loop μ-loop
 add-k c = search needs
@@ -51,8 +51,8 @@ give-spec =
     Inv-loop
     μ-loop
     loop-holds
-    mul-runs
-    slice-write-runs
+    mul-groups
+    slice-write-groups
     add-k
     loop-less
     loop-again

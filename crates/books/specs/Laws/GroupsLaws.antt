@@ -1,5 +1,5 @@
--- The number of a move's run does not fall from place to place, so place by place the runs are parted, and at the end
--- they are those of the listed moves. Assumes nothing.
+-- The number of a move's group does not fall from place to place, so place by place the groups are parted, and at the
+-- end they are those of the listed moves. Assumes nothing.
 use mathlib.Core.List.{List}
 use mathlib.Core.Logic.{_⊎_, inl, inr, ⊎-elim}
 use mathlib.Core.Path.{_≡_, refl, sym, ap, _∙_, subst}
@@ -9,10 +9,10 @@ use native.Mathlib.Omega.{arith}
 use lib.ListN.{length, getD, set}
 use lib.Seq.{getD-set-same, getD-set-other}
 use Rattle.lts.specs.TestsLaws.{lt-or-le, eq-or-not, le-of-not-lt}
-use Rattle.text.specs.Limits.{stateLimit, actionLimit, runPlace, runsLength}
+use Rattle.text.specs.Limits.{stateLimit, actionLimit, groupPlace, groupsLength}
 use Rattle.ranking.specs.MoveList.{Listed, MoveList, Ordered}
 use Rattle.ranking.specs.Laws.MoveListLaws.{rising-le, place-lt-last, listed-decided}
-use Rattle.books.specs.Inner.Runs.{Indexed, Runs, IndexOf, PlaceOf, RunAt, IndexedTo, Given}
+use Rattle.books.specs.Inner.Groups.{Indexed, Groups, IndexOf, PlaceOf, GroupAt, IndexedTo, Given}
 
 -- ---- giving places a value
 
@@ -89,10 +89,10 @@ module _ {n : ℕ} {first actions targets : List ℕ} (L : MoveList n first acti
   -- ---- move by move
 
   module _ (O : Ordered n first actions targets) where
-    -- The number of a move's run does not fall.
-    runPlace-le : {p q i j : ℕ} → PlaceOf n first p i → PlaceOf n first q j → i ≤ j
-        → runPlace p (getD actions i 0) ≤ runPlace q (getD actions j 0)
-    runPlace-le {p} {q} {i} {j} x y l = ⊎-elim
+    -- The number of a move's group does not fall.
+    groupPlace-le : {p q i j : ℕ} → PlaceOf n first p i → PlaceOf n first q j → i ≤ j
+        → groupPlace p (getD actions i 0) ≤ groupPlace q (getD actions j 0)
+    groupPlace-le {p} {q} {i} {j} x y l = ⊎-elim
         (λ h. omega (arith, placeOf-action-lt x))
         (λ h. ⊎-elim same (λ d. absurd (omega (arith, later (omega arith)))) (eq-or-not p q))
         (lt-or-le p q)
@@ -109,75 +109,75 @@ module _ {n : ℕ} {first actions targets : List ℕ} (L : MoveList n first acti
         same-place : j ≤ i → i ≡ j
         same-place k = omega arith
 
-        same : p ≡ q → runPlace p (getD actions i 0) ≤ runPlace q (getD actions j 0)
+        same : p ≡ q → groupPlace p (getD actions i 0) ≤ groupPlace q (getD actions j 0)
         same e = ⊎-elim
             (λ k. omega (arith, rising e k))
             (λ k. omega (arith, ap (λ (z : ℕ). getD actions z 0) (same-place k)))
             (lt-or-le i j)
 
-    -- Run j begins at a move's place, if the moves before it come before run j and it does not itself.
-    runAt-place : {p i j k : ℕ} → PlaceOf n first p i
-        → ((q h : ℕ) → PlaceOf n first q h → h < i → runPlace q (getD actions h 0) < k) → k ≤ j
-        → j ≤ runPlace p (getD actions i 0) → RunAt n first actions j i
-    runAt-place x f l m = record {
+    -- Run j begins at a move's place, if the moves before it come before group j and it does not itself.
+    groupAt-place : {p i j k : ℕ} → PlaceOf n first p i
+        → ((q h : ℕ) → PlaceOf n first q h → h < i → groupPlace q (getD actions h 0) < k) → k ≤ j
+        → j ≤ groupPlace p (getD actions i 0) → GroupAt n first actions j i
+    groupAt-place x f l m = record {
       first-le = placeOf-first-le x;
       at-le = omega (arith, placeOf-lt-last x);
       below = λ q h y k. omega (arith, f q h y k);
-      above = λ q h y k. omega (arith, runPlace-le x y k);
+      above = λ q h y k. omega (arith, groupPlace-le x y k);
     }
 
-    -- The runs up to that of the next move are given its place.
-    pub indexedTo-add-one : {p i run k next : ℕ} {runs runs′ : List ℕ} → PlaceOf n first p i
-        → run ≡ runPlace p (getD actions i 0) → IndexedTo n first actions runs k i
-        → Given k (run + 1) i next runs runs′ → IndexedTo n first actions runs′ next (i + 1)
-    indexedTo-add-one {p} {i} {run} {k} {next} {runs} {runs′} x e t g = record {
-      run-at = λ j l. ⊎-elim
-          (λ h. subst (RunAt n first actions j) (sym (g .kept j h)) (t .run-at j h))
-          (λ h. subst (RunAt n first actions j) (sym (g .value-is j h l))
-          (runAt-place x (t .before) h (omega (arith, g .no-further j h l))))
+    -- The groups up to that of the next move are given its place.
+    pub indexedTo-add-one : {p i group k next : ℕ} {groups groups′ : List ℕ} → PlaceOf n first p i
+        → group ≡ groupPlace p (getD actions i 0) → IndexedTo n first actions groups k i
+        → Given k (group + 1) i next groups groups′ → IndexedTo n first actions groups′ next (i + 1)
+    indexedTo-add-one {p} {i} {group} {k} {next} {groups} {groups′} x e t g = record {
+      group-at = λ j l. ⊎-elim
+          (λ h. subst (GroupAt n first actions j) (sym (g .kept j h)) (t .group-at j h))
+          (λ h. subst (GroupAt n first actions j) (sym (g .value-is j h l))
+          (groupAt-place x (t .before) h (omega (arith, g .no-further j h l))))
           (lt-or-le j k);
       before = λ q j y l. ⊎-elim
           (λ h. omega (arith, t .before q j y h, g .from-le))
-          (λ h. omega (arith, runPlace-le y x (omega arith), g .to-le))
+          (λ h. omega (arith, groupPlace-le y x (omega arith), g .to-le))
           (lt-or-le j i);
     }
 
-  pub indexedTo-zero : {runs : List ℕ} → IndexedTo n first actions runs 0 (getD first 0 0)
+  pub indexedTo-zero : {groups : List ℕ} → IndexedTo n first actions groups 0 (getD first 0 0)
   indexedTo-zero = record {
-    run-at = λ j l. absurd (omega arith);
+    group-at = λ j l. absurd (omega arith);
     before = λ p j x l. absurd (omega (arith, placeOf-first-le x));
   }
 
-  -- All runs behind the last move begin where the moves end.
-  runAt-last : {j k last : ℕ} {runs : List ℕ} → last ≡ getD first n 0
-      → IndexedTo n first actions runs k (getD first n 0) → k ≤ j → RunAt n first actions j last
-  runAt-last e t l = record {
+  -- All groups behind the last move begin where the moves end.
+  groupAt-last : {j k last : ℕ} {groups : List ℕ} → last ≡ getD first n 0
+      → IndexedTo n first actions groups k (getD first n 0) → k ≤ j → GroupAt n first actions j last
+  groupAt-last e t l = record {
     first-le = omega (arith, rising-le L n (omega arith) 0 (omega arith));
     at-le = omega arith;
     below = λ p i x h. omega (arith, t .before p i x (omega arith));
     above = λ p i x h. absurd (omega (arith, placeOf-lt-last x));
   }
 
-  -- ---- all runs
+  -- ---- all groups
 
-  module _ {runs : List ℕ} (at : (j : ℕ) → j < runsLength → RunAt n first actions j (getD runs j 0)) where
-    runs-are : Runs runs targets
-    runs-are = record {
+  module _ {groups : List ℕ} (at : (j : ℕ) → j < groupsLength → GroupAt n first actions j (getD groups j 0)) where
+    groups-are : Groups groups targets
+    groups-are = record {
       place-le = λ k l. omega (arith, at k l .at-le, L .last-le n (omega arith));
       target-lt = λ k i l h. omega (arith, L .target-lt i (omega (arith, at k l .at-le)), L .states-le);
     }
 
-    indexed-of-listed : (p a q : ℕ) → Listed n first actions targets p a q → Indexed runs targets p a q
+    indexed-of-listed : (p a q : ℕ) → Listed n first actions targets p a q → Indexed groups targets p a q
     indexed-of-listed p a q m = record {
       place = m .place;
-      in-run = record {
+      in-group = record {
         state-lt = lp;
         action-lt = la;
         from-le = le-of-not-lt _ _ (λ h. omega (arith, from .below p (m .place) place h, m .action-is));
         to-lt = ⊎-elim
             (λ h. h)
             (λ h. absurd (omega (arith, to .above p (m .place) place h, m .action-is)))
-            (lt-or-le (m .place) (getD runs (runPlace p a + 1) 0));
+            (lt-or-le (m .place) (getD groups (groupPlace p a + 1) 0));
       };
       target-is = m .target-is;
     }
@@ -188,23 +188,23 @@ module _ {n : ℕ} {first actions targets : List ℕ} (L : MoveList n first acti
         la : a < actionLimit
         la = listed-decided L .label-lt p a q m
 
-        from : RunAt n first actions (runPlace p a) (getD runs (runPlace p a) 0)
-        from = at (runPlace p a) (omega (arith, lp, la))
+        from : GroupAt n first actions (groupPlace p a) (getD groups (groupPlace p a) 0)
+        from = at (groupPlace p a) (omega (arith, lp, la))
 
-        to : RunAt n first actions (runPlace p a + 1) (getD runs (runPlace p a + 1) 0)
-        to = at (runPlace p a + 1) (omega (arith, lp, la))
+        to : GroupAt n first actions (groupPlace p a + 1) (getD groups (groupPlace p a + 1) 0)
+        to = at (groupPlace p a + 1) (omega (arith, lp, la))
 
         place : PlaceOf n first p (m .place)
         place = record { source-lt = m .source-lt; first-le = m .first-le; place-lt = m .place-lt }
 
-    listed-of-indexed : (p a q : ℕ) → Indexed runs targets p a q → Listed n first actions targets p a q
+    listed-of-indexed : (p a q : ℕ) → Indexed groups targets p a q → Listed n first actions targets p a q
     listed-of-indexed p a q x =
         let i = x .place in
-        let r = x .in-run in
+        let r = x .in-group in
         let lp = r .state-lt in
         let la = r .action-lt in
-        let from = at (runPlace p a) (omega arith) in
-        let to = at (runPlace p a + 1) (omega arith) in
+        let from = at (groupPlace p a) (omega arith) in
+        let to = at (groupPlace p a + 1) (omega arith) in
         let l : i < getD first n 0 = omega (arith, to .at-le, r .to-lt) in
         let s = placeOf-exists {i = i} (omega (arith, from .first-le, r .from-le)) l in
         let lo = from .above (s .0) i (s .1) (r .from-le) in
@@ -221,14 +221,14 @@ module _ {n : ℕ} {first actions targets : List ℕ} (L : MoveList n first acti
           target-is = x .target-is;
         }
 
-    indexOf-of-runAt : IndexOf n first actions targets runs
-    indexOf-of-runAt = record { runs-are = runs-are; forth = indexed-of-listed; back = listed-of-indexed }
+    indexOf-of-groupAt : IndexOf n first actions targets groups
+    indexOf-of-groupAt = record { groups-are = groups-are; forth = indexed-of-listed; back = listed-of-indexed }
 
-  -- With those the runs are all there.
-  pub indexOf-of-indexedTo : {k last next : ℕ} {runs runs′ : List ℕ} → last ≡ getD first n 0
-      → IndexedTo n first actions runs k (getD first n 0) → Given k runsLength last next runs runs′
-      → IndexOf n first actions targets runs′
-  indexOf-of-indexedTo {k} e t g = indexOf-of-runAt (λ j l. ⊎-elim
-      (λ h. subst (RunAt n first actions j) (sym (g .kept j h)) (t .run-at j h))
-      (λ h. subst (RunAt n first actions j) (sym (g .value-is j h (omega (arith, g .to-le)))) (runAt-last e t h))
+  -- With those the groups are all there.
+  pub indexOf-of-indexedTo : {k last next : ℕ} {groups groups′ : List ℕ} → last ≡ getD first n 0
+      → IndexedTo n first actions groups k (getD first n 0) → Given k groupsLength last next groups groups′
+      → IndexOf n first actions targets groups′
+  indexOf-of-indexedTo {k} e t g = indexOf-of-groupAt (λ j l. ⊎-elim
+      (λ h. subst (GroupAt n first actions j) (sym (g .kept j h)) (t .group-at j h))
+      (λ h. subst (GroupAt n first actions j) (sym (g .value-is j h (omega (arith, g .to-le)))) (groupAt-last e t h))
       (lt-or-le j k))

@@ -1,20 +1,20 @@
--- The runs up to those of the states below p are there; all that are left begin where the moves end.
+-- The groups up to those of the states below p are there; all that are left begin where the moves end.
 use mathlib.Core.Path.{_≡_, refl, ap, _∙_, subst}
 use Prim.Native.Nat.{ℕ, _≤_, _-_, _+_}
 use native.Mathlib.Omega.{arith}
 use lib.ListN.{length, getD}
-use Rattle.books.specs.Inner.Runs.{IndexedTo}
-use Rattle.books.specs.Laws.RunsLaws.{indexedTo-zero, indexOf-of-indexedTo}
+use Rattle.books.specs.Inner.Groups.{IndexedTo}
+use Rattle.books.specs.Laws.GroupsLaws.{indexedTo-zero, indexOf-of-indexedTo}
 use borrow.Author.Needs.{needs}
-use Rattle.books.proofs.runs.index_moves.Statement.{statement}
-use Rattle.books.proofs.runs.index_moves.Tie as tie
+use Rattle.books.proofs.groups.index_moves.Statement.{statement}
+use Rattle.books.proofs.groups.index_moves.Tie as tie
 
 abbrev Inv-loop : tie.InvT-loop
-Inv-loop n first actions targets runs₀ k₀ p₀ runs k p =
-    (p ≤ n) × IndexedTo n first actions runs k (getD first p 0) × (length runs ≡ length runs₀)
+Inv-loop n first actions targets groups₀ k₀ p₀ groups k p =
+    (p ≤ n) × IndexedTo n first actions groups k (getD first p 0) × (length groups ≡ length groups₀)
 
 abbrev μ-loop : tie.MeasureT-loop
-μ-loop n first actions targets runs₀ k₀ p₀ runs k p = n - p
+μ-loop n first actions targets groups₀ k₀ p₀ groups k p = n - p
 
 loop-holds : tie.Need-loop-holds Inv-loop μ-loop
 loop-holds c = (omega arith, indexedTo-zero (c .before .pre .0), refl)

@@ -7,31 +7,31 @@ use borrow.Author.Count.{below-more}
 use Rattle.text.specs.Limits.{stepLimit}
 use Rattle.text.specs.Laws.DecidesLaws.{decides-passed, decides-refused}
 use Rattle.books.specs.Inner.Openings.{RankIn}
-use Rattle.books.specs.Laws.InRunLaws.{inRun-to-le, inRun-target-lt, indexed-at, indexed-each}
+use Rattle.books.specs.Laws.InGroupLaws.{inGroup-to-le, inGroup-target-lt, indexed-at, indexed-each}
 use borrow.Author.Needs.{needs}
-use Rattle.books.proofs.book.all_lower.Statement.{statement}
-use Rattle.books.proofs.book.all_lower.Tie as tie
+use Rattle.books.proofs.openings.all_lower.Statement.{statement}
+use Rattle.books.proofs.openings.all_lower.Tie as tie
 
 abbrev Inv-loop : tie.InvT-loop
-Inv-loop runs targets table t depth to i₀ i =
+Inv-loop groups targets table t depth to i₀ i =
     (to ≤ stepLimit) × (i₀ ≤ i)
     × ((j : ℕ) → j < i → i₀ ≤ j → RankIn table depth (t .0) (getD targets j 0))
 
 abbrev μ-loop : tie.MeasureT-loop
-μ-loop runs targets table t depth to i₀ i = to - i
+μ-loop groups targets table t depth to i₀ i = to - i
 
-run-to-requires : tie.Need-run-to-requires Inv-loop μ-loop
-run-to-requires c κs = search needs
+group-to-requires : tie.Need-group-to-requires Inv-loop μ-loop
+group-to-requires c κs = search needs
 
-run-from-requires : tie.Need-run-from-requires Inv-loop μ-loop
-run-from-requires c κs = search needs
+group-from-requires : tie.Need-group-from-requires Inv-loop μ-loop
+group-from-requires c κs = search needs
 
 loop-holds : tie.Need-loop-holds Inv-loop μ-loop
 loop-holds c =
     let start = c .before .before .before in
     let a = start .args in
-    let bound = inRun-to-le (a .runs .now) (a .targets .now) (start .pre .1 .0 .0) (start .pre .1 .0 .1)
-    (c .before .run-to .ensures) (start .pre .0) in
+    let bound = inGroup-to-le (a .groups .now) (a .targets .now) (start .pre .1 .0 .0) (start .pre .1 .0 .1)
+    (c .before .group-to .ensures) (start .pre .0) in
     (bound, omega arith, λ j l k. absurd (omega arith))
 
 mul-t11 : tie.Need-mul-t11 Inv-loop μ-loop
@@ -45,8 +45,8 @@ is-lower-requires c κs =
     let in-loop = c .before in
     let start = in-loop .before .before .before .before .before in
     let a = start .args in
-    let target-lt = inRun-target-lt (a .runs .now) (a .targets .now) (start .pre .1 .0 .0) (start .pre .1 .0 .1)
-    (in-loop .before .before .before .run-to .ensures) (start .pre .0) _ (in-loop .loop-test .taken) in
+    let target-lt = inGroup-target-lt (a .groups .now) (a .targets .now) (start .pre .1 .0 .0) (start .pre .1 .0 .1)
+    (in-loop .before .before .before .group-to .ensures) (start .pre .0) _ (in-loop .loop-test .taken) in
     (start .pre .1 .0 .2, target-lt, start .pre .1 .1)
 
 returns : tie.Need-returns Inv-loop μ-loop
@@ -56,9 +56,9 @@ returns c all =
     let at-loop = in-loop .before in
     let start = at-loop .before .before .before .before in
     let a = start .args in
-    let to = at-loop .before .before .run-to in
-    let from = at-loop .before .run-from in
-    let move = indexed-at (a .runs .now) (a .targets .now) (start .pre .1 .0 .0) (start .pre .1 .0 .1) (to .ensures)
+    let to = at-loop .before .before .group-to in
+    let from = at-loop .before .group-from in
+    let move = indexed-at (a .groups .now) (a .targets .now) (start .pre .1 .0 .0) (start .pre .1 .0 .1) (to .ensures)
     (from .ensures) (at-loop .loop .inv .1) (in-loop .loop-test .taken) refl in
     decides-refused (tested .is-lower .result) _ (tested .is-lower .ensures) (c .if1 .taken) (all _ move)
 
@@ -79,9 +79,9 @@ returns-2 c =
     let at-loop = c .before in
     let start = at-loop .before .before .before .before in
     let a = start .args in
-    let to = at-loop .before .before .run-to in
-    let from = at-loop .before .run-from in
-    indexed-each (a .runs .now) (a .targets .now) (start .pre .1 .0 .0) (start .pre .1 .0 .1) (to .ensures)
+    let to = at-loop .before .before .group-to in
+    let from = at-loop .before .group-from in
+    indexed-each (a .groups .now) (a .targets .now) (start .pre .1 .0 .0) (start .pre .1 .0 .1) (to .ensures)
     (from .ensures) (RankIn (a .table .now) (a .depth) (a .t .0))
     (λ j l. at-loop .loop .inv .2 j (omega arith))
 
@@ -91,8 +91,8 @@ all-lower-spec =
     (tie.spec
     Inv-loop
     μ-loop
-    run-to-requires
-    run-from-requires
+    group-to-requires
+    group-from-requires
     loop-holds
     mul-t11
     element-copy-out-t14
