@@ -74,8 +74,10 @@ extern "C" {
 /* The distance of a state that no start leads to, and of places past the states. */
 #define TILL_NO_DISTANCE 65535
 
-/* The place in the table of the rank of states p and q. */
+/* The place in the table of the rank of states p and q; and the two, by such a place or the number of an entry. */
 #define TILL_PAIR(p, q) ((p) * TILL_STATE_LIMIT + (q))
+#define TILL_PAIR_FIRST(place) ((place) / TILL_STATE_LIMIT)
+#define TILL_PAIR_SECOND(place) ((place) % TILL_STATE_LIMIT)
 
 /* A book has an entry for each ordered pair of states p and q; TILL_PAIR(p, q) is its number. Its place, and those of
    its bytes: the side that opens, the action and the target of its step, and the depth. */
@@ -171,8 +173,11 @@ TillAnswer till_word(const uint16_t *store, size_t store_len, uint16_t *distance
 TillAnswer till_book(const uint16_t *store, size_t store_len, uint8_t *table, size_t table_len, uint8_t *book,
                      size_t book_len);
 
-/* Whether a book is sound, whoever made it: each entry that is not absent has a side, its opening is a low step of that
-   side, and every answer leads to an entry of lower depth. No value, or TILL_NOT_SOUND. The book is only read. */
+/* Whether a book is sound, whoever made it: each entry that is not absent has side TILL_FIRST or TILL_SECOND, its
+   opening is a low step of that side in the model, and every answer of the other side, a step with the same action,
+   leads to a pair, the opening's target on the opener's side, that has an entry of lower depth. No low-view
+   bisimulation pairs two states that a sound book has an entry for. No value, or TILL_NOT_SOUND. The book is only
+   read. */
 TillAnswer till_check(const uint16_t *store, size_t store_len, const uint8_t *book, size_t book_len);
 
 /* Fills distances and ranks, the run to the source of Judge's step if the model is refused, the word if the page has a

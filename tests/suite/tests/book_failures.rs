@@ -48,11 +48,13 @@ fn no_place_to_print() {
     for to in ["/dev/full", "&-"] {
         for words in ["--book \"$2\"", "--check \"$1\" \"$2\""] {
             let output = bash(&format!("\"$0\" {words} >{to}"), &book, "branching.txt");
-            fails(output, "nothing can be printed");
+            fails(output, "not all could be printed");
         }
         let line = format!("\"$0\" --check \"$1\" \"$2\" >{to}");
         prints(bash(&line, &book, "worked.txt"), 0, "");
     }
+    let terminal = bash("\"$0\" --book \"$2\" >/dev/ptmx", &book, "worked.txt");
+    fails(terminal, "a book is no text: send it to a file");
     let (reader, writer) = UnixStream::pair().expect("two ends");
     drop(reader);
     let mut unread = script();
@@ -63,6 +65,17 @@ fn no_place_to_print() {
     let output = unread.output().expect("the script starts");
     assert_eq!(output.status.signal(), Some(13), "{output:?}");
     assert!(output.stderr.is_empty(), "{output:?}");
+}
+
+/// A part of the book is in the file by then, and `cat` is killed before it can say why.
+#[test]
+fn no_room_for_all() {
+    let (_folder, file) = with_book("no_room", b"");
+    let line = "ulimit -f 10; \"$0\" --book \"$2\" >\"$1\"";
+    let output = bash(line, &file, "worked.txt");
+    fails(output, "not all could be printed: no reason was given");
+    let part = fs::metadata(&file).expect("a file").len();
+    assert!(part > 0 && part < BOOK as u64, "{part}");
 }
 
 // ---- with another kit

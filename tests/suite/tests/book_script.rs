@@ -29,6 +29,8 @@ fn books_of_one_file_or_standard_input() {
             &printed,
         );
         writes(run(script().arg("--book"), &text), status, &printed);
+        let mut dash = script();
+        writes(run(dash.args(["--book", "-"]), &text), status, &printed);
         not_read += status;
     }
     assert!(not_read > 2);
@@ -85,6 +87,7 @@ fn ways_to_give_a_book() {
         "\"$0\" --check <(cat \"$1\") <(cat \"$2\")",
         "\"$0\" --check <(\"$0\" --book \"$2\") \"$2\"",
         "\"$0\" --book \"$2\" | \"$0\" --check - \"$2\"",
+        "\"$0\" --book - <\"$2\" | \"$0\" --check - \"$2\"",
         // A regular file of any size would be too large.
         "ulimit -f 0; \"$0\" --book \"$2\" | \"$0\" --check - \"$2\"",
         "sh \"$0\" --check \"$1\" \"$2\"",
@@ -95,6 +98,10 @@ fn ways_to_give_a_book() {
     let entry = "F,34,2\n";
     let from_pipes = "\"$0\" --check <(cat \"$1\") <(cat \"$2\")";
     prints(bash(from_pipes, &file, "branching.txt"), 1, entry);
+    // The line of a text that is not read is no book.
+    let from_book = "\"$0\" --book \"$2\" | \"$0\" --check - \"$2\"";
+    let output = bash(from_book, &file, "chain_129.txt");
+    fails(output, "has fewer bytes than a book: 6,");
     let (folder, dash) = (Folder::new("dash"), own_book("worked.txt"));
     fs::write(folder.0.join("-"), dash).expect("a file");
     let mut named = script();
@@ -114,8 +121,10 @@ fn no_book() {
         from_file.arg("--check").arg(&file).arg(&model);
         [run(&mut from_file, b""), run(&mut piped, book)]
     };
-    for size in [0, 1, 2, 3, 4, 65_534, 65_535] {
+    let sizes = ["0", "1", "2", "3", "4", "999", "1,000", "65,534", "65,535"];
+    for size in sizes {
         let why = format!("has fewer bytes than a book: {size}, and not 65,536");
+        let size = size.replace(',', "").parse().expect("a number");
         for output in check(&vec![0; size]) {
             fails(output, &why);
         }
@@ -165,7 +174,7 @@ fn words_and_options() {
     );
     fails(
         given(&["--check", worked, worked, worked]),
-        "a book is checked alone",
+        "a book is checked alone: --check takes a book and one model, and here are 3 files",
     );
     for words in [
         ["--book", "--check", worked],
@@ -176,7 +185,7 @@ fn words_and_options() {
     ] {
         fails(given(&words), "only one of --roll, --book and --check");
     }
-    fails(given(&["--book", "-"]), "no option -:");
+    fails(given(&["--roll", "-"]), "no option -:");
     fails(given(&["--book", "--halp"]), "no option --halp:");
 }
 

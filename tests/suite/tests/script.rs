@@ -139,7 +139,7 @@ fn no_place_to_print() {
     for to in ["/dev/full", "&-"] {
         for words in ["\"$1\"", "--roll \"$1\"", "\"$1\" \"$1\"", "--help"] {
             let output = shell(&format!("exec \"$0\" {words} >{to}"));
-            fails(output, "nothing can be printed");
+            fails(output, "not all could be printed");
         }
     }
 }

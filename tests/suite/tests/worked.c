@@ -10,7 +10,7 @@ _Static_assert(TILL_ACTION_LEVEL(0) == 4 && TILL_ACTION_NAME(1) == 20, "actions"
 _Static_assert(TILL_STEP_SOURCE(0) == 900 && TILL_STEP_TARGET(1) == 905, "steps");
 _Static_assert(TILL_EXTRA_STARTS == 3972 && TILL_EXTRA_START(0) == 3973, "extra starts");
 _Static_assert(TILL_EXTRA_START_LIMIT == 127 && TILL_EXTRA_START(126) == 4099, "extra starts");
-_Static_assert(TILL_PAIR(1, 2) == 130, "pairs");
+_Static_assert(TILL_PAIR(1, 2) == 130 && TILL_PAIR_FIRST(130) == 1 && TILL_PAIR_SECOND(130) == 2, "pairs");
 _Static_assert(TILL_TEXT_LIMIT == 16384, "text");
 _Static_assert(TILL_STORE == 4100, "store");
 _Static_assert(TILL_DISTANCES == 128, "distances");
