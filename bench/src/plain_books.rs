@@ -1,6 +1,6 @@
 //! Books in plain Rust, written for speed and not proved: an index finds the moves of a state with an action, and the
-//! first opening of each side is sought once for both orders of a pair. Lists are arrays, and a place is taken modulo the
-//! length where it is below it anyway, which spares a test of the bound.
+//! first opening of each side is sought once for both orders of a pair. Lists are arrays, and places are taken modulo
+//! their lengths, which changes no place and spares a test of the bound.
 use second::store::{BOOK, STORE, TABLE};
 
 use crate::plain::{rank_moves, Moves, ROW};
