@@ -74,6 +74,15 @@ pub fn least(times: &mut Each, others: &Each) {
     }
 }
 
+/// A list of least length as an array.
+fn array<T, const N: usize>(list: &[T]) -> &[T; N] {
+    list.first_chunk().expect("a list of its least length")
+}
+
+fn array_mut<T, const N: usize>(list: &mut [T]) -> &mut [T; N] {
+    list.first_chunk_mut().expect("a list of its least length")
+}
+
 /// Whether the archive reads a model's text.
 pub fn is_read(model: &Model) -> bool {
     let mut lists = Lists::anything(&mut Rng::new(0), LEAST);
@@ -160,15 +169,16 @@ impl Timed {
     /// The plain book is the second checker's, and the plain check finds the same bad entries.
     fn compare_books(&self, model: &Model) {
         let Input { store, book, .. } = &self.input;
-        let (mut table, mut plain) = (vec![2; TABLE], vec![2; BOOK]);
+        let store = array(store);
+        let (mut table, mut plain) = ([2; TABLE], [2; BOOK]);
         plain_books::book(store, &mut table, &mut plain);
         assert!(
             plain == book[..] && table == self.lists.table[..],
             "one book"
         );
-        assert_eq!(plain_books::check(store, book), None, "a sound book");
+        assert_eq!(plain_books::check(store, &plain), None, "a sound book");
         for bad in gen::bad_books(&mut Rng::new(0), model, book) {
-            let first = plain_books::check(store, &bad.book);
+            let first = plain_books::check(store, array(&bad.book));
             assert_eq!(first, Some(bad.refusal.place as usize), "{}", bad.what);
         }
     }
@@ -195,10 +205,11 @@ impl Timed {
     /// One turn of plain Rust.
     fn plain(&mut self) -> Each {
         let Timed { input, lists, .. } = self;
-        let rank = best(|| plain::rank(black_box(&input.store), &mut lists.table));
-        let book =
-            best(|| plain_books::book(black_box(&input.store), &mut lists.table, &mut lists.book));
-        let check = best(|| plain_books::check(black_box(&input.store), black_box(&input.book)));
+        let (store, own) = (array(&input.store), array(&input.book));
+        let rank = best(|| plain::rank(black_box(store), &mut lists.table));
+        let (table, book) = (array_mut(&mut lists.table), array_mut(&mut lists.book));
+        let book = best(|| plain_books::book(black_box(store), table, book));
+        let check = best(|| plain_books::check(black_box(store), black_box(own)));
         vec![rank, book, check]
     }
 
