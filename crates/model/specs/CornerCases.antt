@@ -4,20 +4,22 @@ use mathlib.Core.List.{List, [], _∷_, _++_}
 use mathlib.Core.Path.{_≡_, refl}
 use Prim.Native.Nat.{ℕ, _+_}
 use lib.ListN.{replicate}
+use Rattle.lts.specs.Tests.{any}
 use Rattle.text.specs.declared.Fault.the-variants.{Absent, Shape, Digits, Range, Repeated, Order}
 use Rattle.text.specs.Bytes.{kindOf}
 use Rattle.text.specs.Numbers.{digitsValue, numberShape?, numberOf, inBounds?, bounded, numberIn}
 use Rattle.text.specs.Split.{consFirst, split, same?}
-use Rattle.text.specs.Model.{above?, aboveLast?}
+use Rattle.text.specs.Model.{someHigh?, above?, aboveLast?}
 use Rattle.text.specs.Lines.{checked, fieldsFrom, fieldsOf, consNumber, numbersOf, headBounds, stepBounds}
 use Rattle.text.specs.Lines.{rowLetter, rowCount, rowBounds, valueOr0, statesOf, rowFrom, rowOf, headFrom, headOf}
 use Rattle.text.specs.Lines.{levelOf, allOf, nameByte?, name?, nameFrom, actionFields, used?, actionFrom, actionOf}
 use Rattle.text.specs.Lines.{stepFrom, stepOf}
 use Rattle.model.specs.Reading.{tooLong, faulty, onLine, orFault, readNothing, readEnd, readSteps}
-use Rattle.model.specs.Reading.{startLine?, startLines, readStarts, readActions, readModel, readText}
+use Rattle.model.specs.Reading.{startLine?, startLines, readStarts, behindActions, readActions, readModel}
+use Rattle.model.specs.Reading.{readText}
 
 -- the text whose damage is shown: M,2,2,2,0 / A,L,a / A,H,b / S,0,0,0 / S,0,0,1 / E, line by line
-abbrev head : List ℕ
+abbrev pub head : List ℕ
 head = 77 ∷ 44 ∷ 50 ∷ 44 ∷ 50 ∷ 44 ∷ 50 ∷ 44 ∷ 48 ∷ 10 ∷ []
 
 -- A,L,a
@@ -105,7 +107,7 @@ record Refused : Type 0 where
   too-many-bytes : readText (replicate 16385 10) ≡ tooLong
 
 refused : Refused
-unfolding readText readModel readActions startLines startLine? readStarts readSteps readEnd readNothing orFault onLine
+unfolding readText readModel readActions behindActions someHigh? any startLines startLine? readStarts readSteps readEnd readNothing orFault onLine
     stepOf stepFrom actionOf actionFrom used? actionFields nameFrom name?
     nameByte? allOf levelOf headOf headFrom rowOf rowFrom statesOf valueOr0 rowBounds rowCount rowLetter stepBounds
     headBounds numbersOf consNumber fieldsOf fieldsFrom checked above? aboveLast? same? split consFirst

@@ -3,18 +3,19 @@
 use mathlib.Core.List.{List, [], _∷_}
 use mathlib.Core.Path.{_≡_, refl}
 use Prim.Native.Nat.{ℕ}
+use Rattle.lts.specs.Tests.{any}
 use Rattle.text.specs.declared.Fault.the-variants.{Absent}
 use Rattle.text.specs.declared.StepLine.{StepLine}
 use Rattle.text.specs.Bytes.{kindOf}
 use Rattle.text.specs.Numbers.{digitsValue, numberShape?, numberOf, inBounds?, bounded, numberIn, digitsUpTo, digits}
 use Rattle.text.specs.Split.{consFirst, split, same?}
-use Rattle.text.specs.Model.{low, release, high, Model, lastStart, above?, aboveLast?}
+use Rattle.text.specs.Model.{low, release, high, Model, someHigh?, lastStart, above?, aboveLast?}
 use Rattle.text.specs.Lines.{checked, fieldsFrom, fieldsOf, consNumber, numbersOf, headBounds, startBounds, stepBounds}
 use Rattle.text.specs.Lines.{rowLetter, rowCount, rowBounds, valueOr0, statesOf, rowFrom, rowOf, headFrom, headOf}
 use Rattle.text.specs.Lines.{levelOf, allOf, nameByte?, name?, nameFrom, actionFields, used?, actionFrom, actionOf}
 use Rattle.text.specs.Lines.{aboveStarts?, startFrom, startOf, stepFrom, stepOf}
 use Rattle.model.specs.Reading.{done, faulty, onLine, orFault, readNothing, readEnd, readSteps, readStarts}
-use Rattle.model.specs.Reading.{startLine?, startLines, readActions}
+use Rattle.model.specs.Reading.{startLine?, startLines, behindActions, readActions}
 use Rattle.model.specs.Reading.{readModel, readText}
 use Rattle.model.specs.Text.{headText, levelByte, actionText, startText, stepText, actionsText, startsText}
 use Rattle.model.specs.Text.{stepsText, modelText}
@@ -49,11 +50,12 @@ workedText =
     ∷ 69 ∷ 10
     ∷ []
 
--- M,4,1,0,1 / A,L,a / I,2 / I,3 / E: a model that wakes in three of its states
+-- M,4,1,0,1 / A,H,a / I,2 / I,3 / E: a model that wakes in three of its states, and whose high
+-- action has no step
 abbrev woken : Model
 woken = record {
   head = record { states = 4; actions = 1; steps = 0; start = record { 0 = 1 } };
-  actions = record { level = low; name = 97 ∷ [] } ∷ [];
+  actions = record { level = high; name = 97 ∷ [] } ∷ [];
   extraStarts = 2 ∷ 3 ∷ [];
   steps = [];
 }
@@ -61,14 +63,14 @@ woken = record {
 abbrev wokenText : List ℕ
 wokenText =
     77 ∷ 44 ∷ 52 ∷ 44 ∷ 49 ∷ 44 ∷ 48 ∷ 44 ∷ 49 ∷ 10
-    ∷ 65 ∷ 44 ∷ 76 ∷ 44 ∷ 97 ∷ 10
+    ∷ 65 ∷ 44 ∷ 72 ∷ 44 ∷ 97 ∷ 10
     ∷ 73 ∷ 44 ∷ 50 ∷ 10
     ∷ 73 ∷ 44 ∷ 51 ∷ 10
     ∷ 69 ∷ 10
     ∷ []
 
 reads : (readText workedText ≡ done worked) × (readText wokenText ≡ done woken)
-unfolding readText readModel readActions startLines startLine? readStarts readSteps readEnd readNothing orFault onLine
+unfolding readText readModel readActions behindActions someHigh? any startLines startLine? readStarts readSteps readEnd readNothing orFault onLine
     stepOf stepFrom startOf startFrom aboveStarts? lastStart actionOf actionFrom used? actionFields nameFrom name?
     nameByte? allOf levelOf headOf headFrom rowOf rowFrom statesOf valueOr0 rowBounds rowCount rowLetter stepBounds
     startBounds headBounds numbersOf consNumber fieldsOf fieldsFrom checked above? aboveLast? same? split consFirst

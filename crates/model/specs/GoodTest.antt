@@ -1,5 +1,5 @@
 -- Tests that compute: whether a model is well-formed, and whether a store is good.
--- Document 01, "The text" and "The model store"; document 02, (iii).
+-- Document 01, "The text" and "The model store"; document 02, (iii) and (vi).
 use mathlib.Core.Bool.{Bool, true, not, _&&_}
 use mathlib.Core.List.{List, [], _∷_, _++_}
 use Prim.Native.Nat.{ℕ}
@@ -9,7 +9,7 @@ use Rattle.text.specs.declared.Head.{Head}
 use Rattle.text.specs.declared.StepLine.{StepLine}
 use Rattle.text.specs.Limits.{extraLimit, storeLength}
 use Rattle.text.specs.Split.{same?}
-use Rattle.text.specs.Model.{high, ActionLine, Model, aboveLast?}
+use Rattle.text.specs.Model.{high, ActionLine, Model, someHigh?, aboveLast?}
 use Rattle.text.specs.Lines.{headFits?, name?, used?, startFits?, aboveStarts?, stepFits?}
 use Rattle.model.specs.Store.{storeOf}
 use Rattle.model.specs.StoredModel.{headAt, extraCountAt, modelAt}
@@ -34,6 +34,7 @@ wellFormed? m =
     && eqb (length (m .actions)) (m .head .actions)
     && eqb (length (m .steps)) (m .head .steps)
     && eachAfter? actionFits? [] (m .actions)
+    && someHigh? (m .actions)
     && eachAfter? (startRises? (m .head)) [] (m .extraStarts)
     && eachAfter? (stepRises? (m .head)) [] (m .steps)
 

@@ -1,15 +1,16 @@
 -- The store of a model of document 01, "Bench models", and of one with an extra start (document 02, (iii)) are good by
--- evaluation, and with one number changed they are not.
+-- evaluation, and with one number changed they are not; document 02, (vi).
 use mathlib.Core.Bool.{true, false}
 use mathlib.Core.List.{[], _∷_}
 use mathlib.Core.Path.{_≡_, refl}
 use Prim.Native.Nat.{_-_}
 use lib.ListN.{set}
-use Rattle.text.specs.Limits.{stepsEnd, storeLength, targetPlace, extraCountPlace, extraPlace}
+use Rattle.lts.specs.Tests.{any}
+use Rattle.text.specs.Limits.{stepsEnd, storeLength, actionPlace, targetPlace, extraCountPlace, extraPlace}
 use Rattle.text.specs.Bytes.{kindOf}
 use Rattle.text.specs.Numbers.{inBounds?}
 use Rattle.text.specs.Split.{same?}
-use Rattle.text.specs.Model.{low, release, high, Model, lastStart, above?, aboveLast?}
+use Rattle.text.specs.Model.{low, release, high, Model, someHigh?, lastStart, above?, aboveLast?}
 use Rattle.text.specs.Lines.{fits?, headBounds, startBounds, stepBounds, headFits?, allOf, nameByte?, name?, used?}
 use Rattle.text.specs.Lines.{startFits?, aboveStarts?, stepFits?}
 use Rattle.model.specs.Store.{padded, actionNumbers, actionsNumbers, stepsNumbers, headRow, extraNumbers, storeOf}
@@ -29,11 +30,11 @@ one-state = record {
   steps = record { source = record { 0 = 0 }; action = record { 0 = 1 }; target = record { 0 = 0 } } ∷ [];
 }
 
--- three states, of which it starts in 1 and 2
+-- three states, of which it starts in 1 and 2; its high action has no step
 abbrev two-starts : Model
 two-starts = record {
   head = record { states = 3; actions = 1; steps = 0; start = record { 0 = 1 } };
-  actions = record { level = low; name = 97 ∷ [] } ∷ [];
+  actions = record { level = high; name = 97 ∷ [] } ∷ [];
   extraStarts = 2 ∷ [];
   steps = [];
 }
@@ -53,12 +54,17 @@ record Tested : Type 0 where
   -- a count of one more, and of one less, than there are extra starts
   start-missing : good? (set (storeOf two-starts) extraCountPlace 2) ≡ false
   start-uncounted : good? (set (storeOf two-starts) extraCountPlace 0) ≡ false
+  -- "stores made from such texts are no longer good": the only high action made low, or release
+  high-made-low : good? (set (storeOf one-state) (actionPlace 1) low) ≡ false
+  high-made-release : good? (set (storeOf two-starts) (actionPlace 0) release) ≡ false
+  -- one high action more
+  low-made-high : good? (set (storeOf one-state) (actionPlace 0) high) ≡ true
   -- counts as large as 16 bits allow are refused before a model of that size is read off
   counts-too-large : good? (65535 ∷ 65535 ∷ 65535 ∷ 0 ∷ []) ≡ false
   extra-count-too-large : good? (set (storeOf two-starts) extraCountPlace 65535) ≡ false
 
 tested : Tested
-unfolding good? holds? wellFormed? eachAfter? actionFits? startRises? stepRises? modelAt listed storeOf padded
+unfolding good? holds? wellFormed? someHigh? any eachAfter? actionFits? startRises? stepRises? modelAt listed storeOf padded
     actionNumbers actionsNumbers stepsNumbers headRow extraNumbers startFits? aboveStarts? lastStart stepFits? used?
     name? nameByte? allOf headFits? fits? headBounds startBounds stepBounds inBounds? above? aboveLast? same? kindOf
 tested = record {
@@ -71,6 +77,9 @@ tested = record {
   start-of-head = refl;
   start-missing = refl;
   start-uncounted = refl;
+  high-made-low = refl;
+  high-made-release = refl;
+  low-made-high = refl;
   counts-too-large = refl;
   extra-count-too-large = refl;
 }

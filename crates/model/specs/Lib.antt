@@ -13,4 +13,5 @@ pub mod Examples
 pub mod GoodTestExamples
 pub mod CornerCases
 pub mod StartCases
+pub mod HighCases
 pub mod OnStore

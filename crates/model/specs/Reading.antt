@@ -1,17 +1,17 @@
 -- The reading of a text, line by line: "The first bad line decides [..]. The place is the line, counted from 1."
--- Document 01, "The text" and "Refused because of the input"; document 02, (iii).
+-- Document 01, "The text" and "Refused because of the input"; document 02, (iii) and (vi).
 use mathlib.Core.Bool.{Bool, false, cond}
 use mathlib.Core.List.{List, [], _∷_}
-use Prim.Native.Nat.{ℕ, zero, suc}
+use Prim.Native.Nat.{ℕ, zero, suc, _-_}
 use lib.Dec.{ltb, eqb}
 use lib.ListN.{length}
 use Rattle.text.specs.declared.Fault.{Fault}
-use Rattle.text.specs.declared.Fault.the-variants.{Absent, Shape}
+use Rattle.text.specs.declared.Fault.the-variants.{Absent, Shape, NoHigh}
 use Rattle.text.specs.declared.Head.{Head}
 use Rattle.text.specs.Bytes.{lineEnd, byteE, byteI}
 use Rattle.text.specs.Split.{split, same?}
 use Rattle.text.specs.Limits.{textLimit}
-use Rattle.text.specs.Model.{Model, withAction, withExtraStart, withStep}
+use Rattle.text.specs.Model.{Model, withAction, withExtraStart, withStep, someHigh?}
 use Rattle.text.specs.Lines.{Line, good, bad, headOf, actionOf, startOf, stepOf}
 
 -- the model that a text states, or why it is refused: too long, or the first bad line with its fault
@@ -69,9 +69,15 @@ unfoldable pub startLines : List (List ℕ) → ℕ
 startLines [] = 0
 startLines (line ∷ rest) = cond (startLine? line) (suc (startLines rest)) 0
 
+-- Behind the `A` lines, of which the last is the one before line k. "A text without an H action is refused [..], its
+-- place the last `A` line, tested when that line is otherwise good": before anything of line k.
+unfoldable pub behindActions : ℕ → Model → List (List ℕ) → Reading
+behindActions k m parts =
+    cond (someHigh? (m .actions)) (readStarts (startLines parts) k m parts) (faulty NoHigh (k - 1))
+
 -- "Then one `A,level,name` per action": n more, of which the first is line k
 unfoldable pub readActions : ℕ → ℕ → Model → List (List ℕ) → Reading
-readActions zero k m parts = readStarts (startLines parts) k m parts
+readActions zero k m parts = behindActions k m parts
 readActions (suc n) k m parts =
     onLine k parts (λ line rest.
     orFault k (actionOf (m .actions) line) (λ a. readActions n (suc k) (withAction m a) rest))

@@ -3,17 +3,19 @@
 use mathlib.Core.List.{List, [], _∷_, _++_}
 use mathlib.Core.Path.{_≡_, refl}
 use Prim.Native.Nat.{ℕ, _+_}
+use Rattle.lts.specs.Tests.{any}
 use Rattle.text.specs.declared.Fault.the-variants.{Absent, Shape, Digits, Range, StartOrder}
 use Rattle.text.specs.Bytes.{kindOf}
 use Rattle.text.specs.Numbers.{digitsValue, numberShape?, numberOf, inBounds?, bounded, numberIn}
 use Rattle.text.specs.Split.{consFirst, split, same?}
-use Rattle.text.specs.Model.{lastStart, aboveLast?}
+use Rattle.text.specs.Model.{someHigh?, lastStart, aboveLast?}
 use Rattle.text.specs.Lines.{checked, fieldsFrom, fieldsOf, consNumber, numbersOf, headBounds, startBounds, stepBounds}
 use Rattle.text.specs.Lines.{rowLetter, rowCount, rowBounds, valueOr0, statesOf, rowFrom, rowOf, headFrom, headOf}
 use Rattle.text.specs.Lines.{levelOf, allOf, nameByte?, name?, nameFrom, actionFields, used?, actionFrom, actionOf}
 use Rattle.text.specs.Lines.{aboveStarts?, startFrom, startOf, stepFrom, stepOf}
 use Rattle.model.specs.Reading.{faulty, onLine, orFault, readSteps}
-use Rattle.model.specs.Reading.{startLine?, startLines, readStarts, readActions, readModel, readText}
+use Rattle.model.specs.Reading.{startLine?, startLines, readStarts, behindActions, readActions, readModel}
+use Rattle.model.specs.Reading.{readText}
 use Rattle.model.specs.CornerCases.{low, high, first, second, end}
 
 -- M,4,2,2,1: the first line of a model of four states that starts in 1
@@ -49,7 +51,7 @@ record RefusedStarts : Type 0 where
   start-behind-step : readText (beforeStarts ++ first ++ startLine 2 ++ second ++ end) ≡ faulty Shape 5
 
 refusedStarts : RefusedStarts
-unfolding readText readModel readActions startLines startLine? readStarts readSteps orFault onLine
+unfolding readText readModel readActions behindActions someHigh? any startLines startLine? readStarts readSteps orFault onLine
     stepOf stepFrom startOf startFrom aboveStarts? lastStart actionOf actionFrom used? actionFields nameFrom name?
     nameByte? allOf levelOf headOf headFrom rowOf rowFrom statesOf valueOr0 rowBounds rowCount rowLetter stepBounds
     startBounds headBounds numbersOf consNumber fieldsOf fieldsFrom checked aboveLast? same? split consFirst

@@ -1,5 +1,5 @@
 -- The models that a text can state.
--- Document 01, "The text"; document 02, (iii).
+-- Document 01, "The text"; document 02, (iii) and (vi).
 use mathlib.Core.Bool.{not}
 use mathlib.Core.List.{List, [], _∷_, _++_}
 use mathlib.Core.Path.{_≡_}
@@ -8,7 +8,7 @@ use lib.Dec.{T}
 use lib.ListN.{length}
 use Rattle.text.specs.declared.Head.{Head}
 use Rattle.text.specs.declared.StepLine.{StepLine}
-use Rattle.text.specs.Model.{high, ActionLine, Model, aboveLast?}
+use Rattle.text.specs.Model.{high, ActionLine, Model, someHigh?, aboveLast?}
 use Rattle.text.specs.Lines.{headFits?, name?, used?, startFits?, aboveStarts?, stepFits?}
 
 -- P holds of each element and the list of those before it, which begins with `before`
@@ -37,5 +37,6 @@ pub record WellFormed (m : Model) : Type 0 where
   pub action-count : length (m .actions) ≡ m .head .actions
   pub step-count : length (m .steps) ≡ m .head .steps
   pub actions : EachAfter ActionFits [] (m .actions)
+  pub some-high : T (someHigh? (m .actions))
   pub extra-starts : EachAfter (StartFits (m .head)) [] (m .extraStarts)
   pub steps : EachAfter (StepFits (m .head)) [] (m .steps)

@@ -1,4 +1,5 @@
 // Whether a store is good: each place is tested, so that no damaged store gets through.
+use crate::levels::some_high;
 use crate::store::action_place;
 use crate::store::extra_count;
 use crate::store::extra_place;
@@ -284,7 +285,10 @@ fn places_good(store: &[u16]) -> bool
     if !zeros(store, step_place(Step(h.steps)), STEPS_END) {
         return false;
     }
-    extra_good(store, h)
+    if !extra_good(store, h) {
+        return false;
+    }
+    some_high(store, h.actions)
 }
 
 // Whether a store is good: some text reads to it.

@@ -2,6 +2,7 @@
 // need it.
 pub mod good;
 pub mod index;
+pub mod levels;
 pub mod names;
 pub mod put;
 pub mod store;

@@ -1,7 +1,7 @@
 -- What one line of a text states, or its fault.
 -- Document 01, "The text". The tests of a line stand in the order of document 02, (i): "in a line 32 is tested first,
 -- then 2, then 31, then 3", each over the whole line, and then 4, 5 or 33. 32, a line that is absent or has no line
--- end, is told before a line is looked at (model/Reading).
+-- end, is told before a line is looked at, and 35 after all of the last `A` line's tests (model/Reading).
 use mathlib.Core.Bool.{Bool, true, false, cond, _&&_, _||_}
 use mathlib.Core.List.{List, [], _∷_}
 use Prim.Native.Nat.{ℕ}

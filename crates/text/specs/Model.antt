@@ -1,9 +1,11 @@
 -- A model as its text states it: the numbers of line 1, then what each `A`, `I` and `S` line states.
--- Document 01, "The text"; document 02, (iii).
+-- Document 01, "The text"; document 02, (iii) and (vi).
 use mathlib.Core.Bool.{Bool, true, _&&_, _||_}
 use mathlib.Core.List.{List, [], _∷_, _++_}
 use Prim.Native.Nat.{ℕ}
 use lib.Dec.{ltb, eqb}
+use lib.ListN.{length, getD}
+use Rattle.lts.specs.Tests.{any}
 use Rattle.text.specs.declared.Head.{Head}
 use Rattle.text.specs.declared.StepLine.{StepLine}
 
@@ -35,6 +37,10 @@ noLevel = 65535
 
 abbrev pub noAction : ActionLine
 noAction = record { level = noLevel; name = [] }
+
+-- some action is high: a text "without an H action is refused"
+unfoldable pub someHigh? : List ActionLine → Bool
+someHigh? actions = any (length actions) (λ a. eqb (getD actions a noAction .level) high)
 
 abbrev pub noStep : StepLine
 noStep = record { source = record { 0 = 0 }; action = record { 0 = 0 }; target = record { 0 = 0 } }

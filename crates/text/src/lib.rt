@@ -35,7 +35,7 @@ pub struct StepLine {
 // Why a line is refused: it is absent or has no line end, or bytes follow the last line; its letter, field count, level
 // or name is wrong; a number field is not 1 to 5 digits without a leading zero; a number is outside its range; a name
 // was used before; a step is not above the one before it; an extra start is not above the one before it, the first not
-// above the start in line 1.
+// above the start in line 1; of the last action's line, no action is high.
 pub enum Fault {
     Absent,
     Shape,
@@ -44,6 +44,7 @@ pub enum Fault {
     Repeated,
     Order,
     StartOrder,
+    NoHigh,
 }
 
 // The document's number of a fault.
@@ -58,5 +59,6 @@ pub fn fault_number(fault: Fault) -> u16
         Fault::Repeated => 4,
         Fault::Order => 5,
         Fault::StartOrder => 33,
+        Fault::NoHigh => 35,
     }
 }

@@ -1,10 +1,12 @@
 -- A good store, place by place: what the code tests. `GoodLaws` shows that a store is good exactly if its places are.
--- Document 01, "The text" and "The model store"; document 02, (iii).
+-- Document 01, "The text" and "The model store"; document 02, (iii) and (vi).
+use mathlib.Core.Bool.{Bool}
 use mathlib.Core.List.{List}
 use mathlib.Core.Path.{_≡_}
 use Prim.Native.Nat.{ℕ, zero, suc, _+_, _-_, _≤_, _<_}
-use lib.Dec.{T}
+use lib.Dec.{T, eqb}
 use lib.ListN.{getD}
+use Rattle.lts.specs.Tests.{Some}
 use Rattle.text.specs.declared.Head.{Head}
 use Rattle.text.specs.Limits.{nameLimit, extraLimit, actionsEnd, stepsEnd, extraEnd}
 use Rattle.text.specs.Limits.{actionPlace, nameLengthPlace, namePlace, stepPlace, extraPlace}
@@ -50,6 +52,10 @@ pub record GoodAction (s : List ℕ) (i : ℕ) : Type 0 where
   -- "Unused places are 0."
   pub unused : EachFrom (ZeroAt s) (namePlace i + nameLengthAt s i) (namePlace i + nameLimit)
 
+-- action i is high
+abbrev pub highAt? : List ℕ → ℕ → Bool
+highAt? s i = eqb (getD s (actionPlace i) 0) high
+
 -- ---- steps
 
 pub record GoodStep (h : Head) (s : List ℕ) (j : ℕ) : Type 0 where
@@ -89,3 +95,5 @@ pub record GoodPlaces (s : List ℕ) : Type 0 where
   pub unused-steps : EachFrom (ZeroAt s) (stepPlace (headAt s .steps)) stepsEnd
   -- "a count, then the extra starts, unused ones 0"
   pub extra-starts : GoodStarts (headAt s) s
+  -- "A text without an H action is refused"
+  pub some-high : Some (headAt s .actions) (highAt? s)

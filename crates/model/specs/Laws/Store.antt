@@ -6,6 +6,7 @@ pub mod StoreLaws
 pub mod StoredModelLaws
 pub mod PutLaws
 pub mod NamesLaws
+pub mod LevelsLaws
 pub mod GoodTestLaws
 pub mod AboveLaws
 pub mod WellFormedLaws

@@ -20,13 +20,13 @@ use Rattle.text.specs.Limits.{storeLength}
 use Rattle.text.specs.Bytes.{kindOf}
 use Rattle.text.specs.Numbers.{digitsValue, numberShape?, numberOf, inBounds?, bounded, numberIn}
 use Rattle.text.specs.Split.{consFirst, split, same?}
-use Rattle.text.specs.Model.{Model, lastStart, above?, aboveLast?}
+use Rattle.text.specs.Model.{Model, someHigh?, lastStart, above?, aboveLast?}
 use Rattle.text.specs.Lines.{checked, fieldsFrom, fieldsOf, consNumber, numbersOf, headBounds, startBounds, stepBounds}
 use Rattle.text.specs.Lines.{rowLetter, rowCount, rowBounds, valueOr0, statesOf, rowFrom, rowOf, headFrom, headOf}
 use Rattle.text.specs.Lines.{levelOf, allOf, nameByte?, name?, nameFrom, actionFields, used?, actionFrom, actionOf}
 use Rattle.text.specs.Lines.{aboveStarts?, startFrom, startOf, stepFrom, stepOf}
 use Rattle.model.specs.Reading.{done, onLine, orFault, readNothing, readEnd, readSteps, startLine?, startLines}
-use Rattle.model.specs.Reading.{readStarts, readActions, readModel, readText}
+use Rattle.model.specs.Reading.{readStarts, behindActions, readActions, readModel, readText}
 use Rattle.model.specs.Laws.Text.ReadingLaws.{readText-well-formed}
 use Rattle.model.specs.Store.{storeOf}
 use Rattle.model.specs.Laws.Store.StoreLaws.{storeOf-length}
@@ -69,7 +69,7 @@ record Read : Type 0 where
   woken-print : readText wokenPrintText ≡ done wokenPrint
 
 read : Read
-unfolding readText readModel readActions startLines startLine? readStarts readSteps readEnd readNothing orFault onLine
+unfolding readText readModel readActions behindActions someHigh? any startLines startLine? readStarts readSteps readEnd readNothing orFault onLine
     stepOf stepFrom startOf startFrom aboveStarts? lastStart actionOf actionFrom used? actionFields nameFrom name?
     nameByte? allOf levelOf headOf headFrom rowOf rowFrom statesOf valueOr0 rowBounds rowCount rowLetter stepBounds
     startBounds headBounds numbersOf consNumber fieldsOf fieldsFrom checked above? aboveLast? same? split consFirst

@@ -92,7 +92,28 @@ extra-good-requires c κs = search needs
 
 returns-6 : tie.Need-returns-6
 returns-6 c =
-    let rest-passed = c .before in
+    let f = c .before .extra-good in
+    let rest-passed = c .before .before in
+    let unused-passed = rest-passed .before .before .before in
+    let steps-passed = unused-passed .before .before .before in
+    let head-passed = steps-passed .before .before .before .before in
+    let e = head-passed .before .before .head .ensures in
+    λ p. decides-refused (f .result) _ (f .ensures) (c .if6 .taken) (rw e (p .extra-starts))
+
+some-high-requires : tie.Need-some-high-requires
+some-high-requires c κs =
+    let rest-passed = c .before .before in
+    let unused-passed = rest-passed .before .before .before in
+    let steps-passed = unused-passed .before .before .before in
+    let head-passed = steps-passed .before .before .before .before in
+    let f = head-passed .before .head-fits in
+    let r = head-ranges (f .result) (f .ensures) (head-passed .if1 .left) in
+    (omega arith, r .actions)
+
+returns-7 : tie.Need-returns-7
+returns-7 c =
+    let extra-passed = c .before in
+    let rest-passed = extra-passed .before .before in
     let unused-passed = rest-passed .before .before .before in
     let steps-passed = unused-passed .before .before .before in
     let actions-passed = steps-passed .before .before in
@@ -107,21 +128,24 @@ returns-6 c =
     let st = steps-passed .before .steps-good in
     let ua = unused-passed .before .zeros in
     let us = rest-passed .before .zeros2 in
+    let ex = extra-passed .before .extra-good in
     let head = decides-passed (hd .result) _ (decides-test (hd .result) _ (hd .ensures)) (head-passed .if1 .left) in
     let actions = decides-passed (ac .result) _ (ac .ensures) (actions-passed .if2 .left) in
     let steps = decides-passed (st .result) _ (st .ensures) (steps-passed .if3 .left) in
     let unused-actions = decides-passed (ua .result) _ (ua .ensures) (unused-passed .if4 .left) in
     let unused-steps = decides-passed (us .result) _ (us .ensures) (rest-passed .if5 .left) in
-    decides-iff (c .extra-good .result)
+    let extra = decides-passed (ex .result) _ (ex .ensures) (extra-passed .if6 .left) in
+    decides-iff (c .some-high .result)
     (λ x. record {
       head = rw e at head;
       actions = rw n at actions;
       steps = rw e at steps;
       unused-actions = record { at = λ k h l. unused-actions .at k (omega arith) (omega arith) };
       unused-steps = record { at = λ k h l. unused-steps .at k (omega arith) (omega arith) };
-      extra-starts = rw e at x;
+      extra-starts = rw e at extra;
+      some-high = rw n at x;
     })
-    (λ p. rw e (p .extra-starts)) (c .extra-good .ensures)
+    (λ p. rw n (p .some-high)) (c .some-high .ensures)
 
 pub places-good-spec : {M : Type 1} → statement M
 places-good-spec =
@@ -141,4 +165,6 @@ places-good-spec =
     zeros-requires-2
     returns-5
     extra-good-requires
-    returns-6)
+    returns-6
+    some-high-requires
+    returns-7)

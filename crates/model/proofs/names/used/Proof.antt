@@ -36,7 +36,7 @@ returns c before s n =
     let h : l .loop .i < length before = omega arith in
     sym
     (l .loop .inv .1 before s n
-    ∙ used?-drop _ _ before s (l .loop .i) h true (λ a t. rw (← (c .if1 .taken)) (f .named .ensures a t)))
+    ∙ used?-drop _ before s (l .loop .i) h _ true (λ a t. rw (← (c .if1 .taken)) (f .named .ensures a t)))
 
 add-i : tie.Need-add-i Inv-loop μ-loop
 add-i c = search needs
@@ -52,7 +52,7 @@ loop-again c =
       λ before s n.
           let h : l .loop .i < length before = omega (arith, n) in
           l .loop .inv .1 before s n
-          ∙ used?-drop _ _ before s (l .loop .i) h false (λ a t. rw (← (c .if1 .left)) (f .named .ensures a t)),
+          ∙ used?-drop _ before s (l .loop .i) h _ false (λ a t. rw (← (c .if1 .left)) (f .named .ensures a t)),
     )
 
 returns-2 : tie.Need-returns-2 Inv-loop μ-loop

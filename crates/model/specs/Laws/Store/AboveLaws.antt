@@ -166,6 +166,7 @@ withoutStep-wellFormed m j w l =
       action-count = w .action-count;
       step-count = simp (length-append, length-take, length-drop) (omega arith);
       actions = w .actions;
+      some-high = w .some-high;
       extra-starts =
           each-of-each (StartFits (m .head)) (StartFits h)
           (λ b p f. record { in-range = f .in-range; rising = f .rising }) [] (m .extraStarts) (w .extra-starts);

@@ -1,5 +1,5 @@
 -- The tests of well-formed models and of good stores decide them.
--- Document 01, "The text" and "The model store"; document 02, (iii). Assumes nothing.
+-- Document 01, "The text" and "The model store"; document 02, (iii) and (vi). Assumes nothing.
 use mathlib.Core.Bool.{Bool, not, _&&_}
 use mathlib.Core.List.{List, [], _∷_, _++_}
 use mathlib.Core.Logic.{_⊎_, inl, inr}
@@ -14,7 +14,7 @@ use Rattle.text.specs.declared.StepLine.{StepLine}
 use Rattle.text.specs.Limits.{extraLimit, storeLength}
 use Rattle.text.specs.Split.{same?}
 use Rattle.text.specs.Laws.SameLaws.{same?→eq, eq→same?}
-use Rattle.text.specs.Model.{high, ActionLine, Model, aboveLast?}
+use Rattle.text.specs.Model.{high, ActionLine, Model, someHigh?, aboveLast?}
 use Rattle.text.specs.Lines.{headFits?, name?, used?, startFits?, aboveStarts?, stepFits?}
 use Rattle.model.specs.Store.{storeOf, Good}
 use Rattle.model.specs.WellFormed.{EachAfter, ActionFits, StartFits, StepFits, WellFormed}
@@ -113,6 +113,9 @@ module _ (m : Model) where
   abbrev actions? : Bool
   actions? = eachAfter? actionFits? [] (m .actions)
 
+  abbrev high? : Bool
+  high? = someHigh? (m .actions)
+
   abbrev starts? : Bool
   starts? = eachAfter? (startRises? (m .head)) [] (m .extraStarts)
 
@@ -122,8 +125,9 @@ module _ (m : Model) where
   pub wellFormed?→WellFormed : T (wellFormed? m) → WellFormed m
   unfolding wellFormed?
   wellFormed?→WellFormed t =
-      let five = and-left (head? && actionCount? && stepCount? && actions? && starts?) steps? t in
-      let four = and-left (head? && actionCount? && stepCount? && actions?) starts? five in
+      let six = and-left (head? && actionCount? && stepCount? && actions? && high? && starts?) steps? t in
+      let five = and-left (head? && actionCount? && stepCount? && actions? && high?) starts? six in
+      let four = and-left (head? && actionCount? && stepCount? && actions?) high? five in
       let three = and-left (head? && actionCount? && stepCount?) actions? four in
       let two = and-left (head? && actionCount?) stepCount? three in
       record {
@@ -133,14 +137,15 @@ module _ (m : Model) where
         actions =
             eachAfter?→EachAfter actionFits? ActionFits actionFits?→ActionFits [] (m .actions)
             (and-right (head? && actionCount? && stepCount?) actions? four);
+        some-high = and-right (head? && actionCount? && stepCount? && actions?) high? five;
         extra-starts =
             eachAfter?→EachAfter (startRises? (m .head)) (StartFits (m .head)) (startRises?→StartFits (m .head)) []
             (m .extraStarts)
-            (and-right (head? && actionCount? && stepCount? && actions?) starts? five);
+            (and-right (head? && actionCount? && stepCount? && actions? && high?) starts? six);
         steps =
             eachAfter?→EachAfter (stepRises? (m .head)) (StepFits (m .head)) (stepRises?→StepFits (m .head)) []
             (m .steps)
-            (and-right (head? && actionCount? && stepCount? && actions? && starts?) steps? t);
+            (and-right (head? && actionCount? && stepCount? && actions? && high? && starts?) steps? t);
       }
 
   pub WellFormed→wellFormed? : WellFormed m → T (wellFormed? m)
@@ -155,11 +160,12 @@ module _ (m : Model) where
       let s =
       EachAfter→eachAfter? (stepRises? (m .head)) (StepFits (m .head)) (StepFits→stepRises? (m .head)) [] (m .steps)
       (w .steps) in
-      and-intro (head? && actionCount? && stepCount? && actions? && starts?) steps?
-      (and-intro (head? && actionCount? && stepCount? && actions?) starts?
+      and-intro (head? && actionCount? && stepCount? && actions? && high? && starts?) steps?
+      (and-intro (head? && actionCount? && stepCount? && actions? && high?) starts?
+      (and-intro (head? && actionCount? && stepCount? && actions?) high?
       (and-intro (head? && actionCount? && stepCount?) actions?
       (and-intro (head? && actionCount?) stepCount?
-      (and-intro head? actionCount? (w .head) ac) sc) a) p) s
+      (and-intro head? actionCount? (w .head) ac) sc) a) (w .some-high)) p) s
 
 -- ---- stores
 

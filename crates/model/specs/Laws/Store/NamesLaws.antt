@@ -1,4 +1,4 @@
--- The names of actions as they stand in the store, and the test whether one is used.
+-- The names and levels of actions as they stand in the store, and the test whether a name is used.
 -- Document 01, "The text" and "The model store". Assumes nothing.
 use mathlib.Core.Bool.{Bool, true, false, _||_}
 use mathlib.Core.List.{List, [], _∷_, _++_, append-assoc}
@@ -33,6 +33,12 @@ same?-differ s t i h = go (same? s t) refl
     go false e = e
 
 module _ (store : List ℕ) (at : ℕ) (a : ActionLine) (s : ActionStored store at a) (name : List ℕ) where
+  pub stored-level : getD store at 0 ≡ a .level
+  unfolding actionNumbers
+  stored-level =
+      let z : at + 0 ≡ at = omega arith in
+      ap (λ (k : ℕ). getD store k 0) (sym z) ∙ sym (getD-drop at store 0 0) ∙ rw (s .stored)
+
   stored-length : getD store (at + nameLengthColumn) 0 ≡ length (a .name)
   unfolding actionNumbers
   stored-length = sym (getD-drop at store nameLengthColumn 0) ∙ rw (s .stored)
@@ -98,18 +104,23 @@ actionsStored-drop store at (suc k) (a ∷ rest) s h =
     let l : k ≤ length rest = omega arith in
     rw z (actionsStored-drop store (at + actionSize) k rest (actionsStored-rest store at a rest s) l)
 
-module _ (store name : List ℕ) (before : List ActionLine) (s : ActionsStored store actionsBegin before) (i : ℕ)
-    (l : i < length before) (r : Bool)
-    (tested : (a : ActionLine) → ActionStored store (actionPlace i) a → r ≡ same? (a .name) name) where
-  pub used?-drop : used? name (drop i before) ≡ r || used? name (drop (i + 1) before)
+module _ (store : List ℕ) (actions : List ActionLine) (s : ActionsStored store actionsBegin actions) (i : ℕ)
+    (l : i < length actions) where
+  actionStored-at : ActionStored store (actionPlace i) (getD actions i noAction)
+  actionStored-at =
+      let k : i ≤ length actions = omega arith in
+      let c : drop i actions ≡ getD actions i noAction ∷ drop (suc i) actions = drop-cons actions i noAction l in
+      actionsStored-first store (actionPlace i) (getD actions i noAction) (drop (suc i) actions)
+      (rw c at (actionsStored-drop store actionsBegin i actions s k))
+
+  pub actionsStored-level : getD store (actionPlace i) 0 ≡ getD actions i noAction .level
+  actionsStored-level = stored-level store (actionPlace i) (getD actions i noAction) actionStored-at []
+
+  pub used?-drop : (name : List ℕ) (r : Bool)
+      → ((a : ActionLine) → ActionStored store (actionPlace i) a → r ≡ same? (a .name) name)
+      → used? name (drop i actions) ≡ r || used? name (drop (i + 1) actions)
   unfolding used?
-  used?-drop =
-      let a : ActionLine = getD before i noAction in
-      let k : i ≤ length before = omega arith in
-      let c : drop i before ≡ a ∷ drop (suc i) before = drop-cons before i noAction l in
-      let d = rw c at (actionsStored-drop store actionsBegin i before s k) in
-      let t = tested a (actionsStored-first store (actionPlace i) a (drop (suc i) before) d) in
-      rw (c, add-one, t)
+  used?-drop name r tested = rw (drop-cons actions i noAction l, add-one, tested _ actionStored-at)
 
 pub used?-none : (name : List ℕ) (before : List ActionLine) (i : ℕ) → i ≡ length before
     → used? name (drop i before) ≡ false

@@ -2,7 +2,7 @@
 -- Document 01, "The text". Assumes nothing.
 use mathlib.Core.List.{List, [], _∷_, _++_, map, append-assoc, append-nil}
 use mathlib.Core.Path.{_≡_, refl, sym, ap, _∙_}
-use Prim.Native.Nat.{ℕ, zero, suc, _<_}
+use Prim.Native.Nat.{ℕ, zero, suc, _+_, _<_}
 use native.Mathlib.Omega.{arith}
 use lib.ListN.{length, length-append}
 use Rattle.text.specs.Model.{Model}
@@ -55,18 +55,16 @@ module _ {A : Type 0} (line : A → List ℕ) (Fits : List A → A → Type 0) (
     ≡ onLine k parts (λ l rest. orFault k (of before l) (λ x. read n (suc k) (before ++ (x ∷ [])) rest))) where
   pub lines-read : ((before : List A) (x : A) → Fits before x → of before (line x) ≡ good x)
       → (xs : List A) (k : ℕ) (before : List A) (parts : List (List ℕ)) → 0 < length parts → EachAfter Fits before xs
-      → (next : ℕ) × (read (length xs) k before (map line xs ++ parts) ≡ read 0 next (before ++ xs) parts)
+      → read (length xs) k before (map line xs ++ parts) ≡ read 0 (k + length xs) (before ++ xs) parts
   unfolding EachAfter orFault
-  lines-read reads [] k before parts l e = (k, rw append-nil)
+  lines-read reads [] k before parts l e = let z : k + 0 ≡ k = omega arith in rw (append-nil, z)
   lines-read reads (x ∷ xs) k before parts l e =
       let n : 0 < length (map line xs ++ parts) = simp length-append (omega arith) in
-      let i = lines-read reads xs (suc k) (before ++ (x ∷ [])) parts l (e .1) in
-      let q = i .1 in (
-        i .0,
-        read-suc (length xs) k before (line x ∷ (map line xs ++ parts))
-            ∙ onLine-cons k (line x) (map line xs ++ parts) _ n
-            ∙ rw (reads before x (e .0), orFault, q, append-assoc),
-      )
+      let q = lines-read reads xs (suc k) (before ++ (x ∷ [])) parts l (e .1) in
+      let z : suc k + length xs ≡ k + suc (length xs) = omega arith in
+      read-suc (length xs) k before (line x ∷ (map line xs ++ parts))
+      ∙ onLine-cons k (line x) (map line xs ++ parts) _ n
+      ∙ rw (reads before x (e .0), orFault, q, append-assoc, z)
 
   regroup : (next : ℕ) (before : List A) (x : A) (xs : List A) (rest : List (List ℕ)) (m : Model)
       → read 0 next (before ++ (x ∷ []) ++ xs) rest ≡ done m

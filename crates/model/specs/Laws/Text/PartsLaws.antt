@@ -1,23 +1,26 @@
 -- The parts of a model's text are read to the model, and only the parts of its text are.
--- Document 01, "The text"; document 02, (iii). Assumes nothing.
-use mathlib.Core.Bool.{Bool, true, false, cond}
+-- Document 01, "The text"; document 02, (iii) and (vi). Assumes nothing.
+use mathlib.Core.Bool.{Bool, true, false, cond, not}
 use mathlib.Core.List.{List, [], _∷_, _++_, map}
+use mathlib.Core.Logic.{_⊎_, inl, inr}
 use mathlib.Core.Path.{_≡_, refl, sym, ap, _∙_, subst}
-use Prim.Native.Nat.{ℕ, suc, _<_}
+use Prim.Native.Nat.{ℕ, suc, _+_, _-_, _<_}
 use native.Mathlib.Omega.{arith}
 use lib.Dec.{T}
 use lib.ListN.{length, length-append}
+use Rattle.lts.specs.TestsLaws.{T-cases, T→true, not-T→false}
 use Rattle.text.specs.Bytes.{byteE}
-use Rattle.text.specs.declared.Fault.the-variants.{Shape}
+use Rattle.text.specs.declared.Fault.the-variants.{Shape, NoHigh}
 use Rattle.text.specs.declared.Head.{Head}
 use Rattle.text.specs.declared.StepLine.{StepLine}
 use Rattle.text.specs.Split.{same?}
 use Rattle.text.specs.Join.{join}
 use Rattle.text.specs.Laws.SameLaws.{same?→eq}
-use Rattle.text.specs.Model.{ActionLine, Model}
+use Rattle.text.specs.Model.{ActionLine, Model, someHigh?}
 use Rattle.text.specs.Lines.{good, headFits?, headOf, actionOf, startOf, stepOf}
 use Rattle.model.specs.Reading.{Reading, done, faulty, onLine, orFault, readNothing, readEnd, readSteps}
-use Rattle.model.specs.Reading.{readStarts, startLine?, startLines, readActions, headModel, readModel}
+use Rattle.model.specs.Reading.{readStarts, startLine?, startLines, behindActions, readActions, headModel}
+use Rattle.model.specs.Reading.{readModel}
 use Rattle.model.specs.WellFormed.{EachAfter, ActionFits, StartFits, StepFits, WellFormed}
 use Rattle.text.specs.Inner.Ranges.{HeadRanges}
 use Rattle.text.specs.Laws.RangesLaws.{headFits?→HeadRanges}
@@ -79,7 +82,7 @@ module _ (h : Head) (actions : List ActionLine) (starts : List ℕ) where
       let s =
       lines-read lineOfStep (StepFits h) (stepOf h) stepsRead (λ n j b p. refl)
       (λ b s. stepOf-line h b s r) steps k [] last (omega arith) e in
-      s .1 ∙ readEnd-last (s .0) (model h actions starts steps)
+      s ∙ readEnd-last (k + length steps) (model h actions starts steps)
 
   readSteps-done : (n k : ℕ) (parts : List (List ℕ)) (m : Model)
       → readSteps n k (model h actions starts []) parts ≡ done m
@@ -113,12 +116,6 @@ unfolding startLines
 startLines-all [] steps = startLines-steps steps
 startLines-all (p ∷ ps) steps = rw (startLine?-start p, startLines-all ps steps)
 
--- where no `I` line follows the `A` lines the steps are read next, as of a text that has none
-pub readActions-no-starts : (k : ℕ) (m : Model) (parts : List (List ℕ)) → startLines parts ≡ 0
-    → readActions 0 k m parts ≡ readSteps (m .head .steps) k m parts
-unfolding readActions readStarts
-readActions-no-starts k m parts e = ap (λ (n : ℕ). readStarts n k m parts) e
-
 module _ (h : Head) (actions : List ActionLine) where
   abbrev startsRead : ℕ → ℕ → List ℕ → List (List ℕ) → Reading
   startsRead n k before parts = readStarts n k (model h actions before []) parts
@@ -135,9 +132,9 @@ module _ (h : Head) (actions : List ActionLine) where
       lines-read lineOfStart (StartFits h) (startOf h) startsRead (λ n j b p. refl)
       (λ b p. startOf-line h b p r) starts k [] from-steps l e in
       ap (λ (n : ℕ). startsRead n k [] (map lineOfStart starts ++ from-steps)) (startLines-all starts steps)
-      ∙ s .1
-      ∙ ap (λ (n : ℕ). readSteps n (s .0) (model h actions starts []) from-steps) (sym c)
-      ∙ readSteps-lines h actions starts (s .0) steps r f
+      ∙ s
+      ∙ ap (λ (n : ℕ). readSteps n (k + length starts) (model h actions starts []) from-steps) (sym c)
+      ∙ readSteps-lines h actions starts (k + length starts) steps r f
 
   readStarts-done : (n k : ℕ) (parts : List (List ℕ)) (m : Model)
       → readStarts n k (model h actions [] []) parts ≡ done m
@@ -148,27 +145,70 @@ module _ (h : Head) (actions : List ActionLine) where
       lines-of-done lineOfStart (StartFits h) (startOf h) startsRead (λ n j b p. refl) (line-of-startOf h)
       n k [] parts m q
 
+-- ---- behind the actions
+
+module _ (k : ℕ) (m : Model) (parts : List (List ℕ)) where
+  behindActions-high : T (someHigh? (m .actions))
+      → behindActions k m parts ≡ readStarts (startLines parts) k m parts
+  unfolding behindActions
+  behindActions-high t = rw (T→true (someHigh? (m .actions)) t)
+
+  behindActions-no-high : T (not (someHigh? (m .actions))) → behindActions k m parts ≡ faulty NoHigh (k - 1)
+  unfolding behindActions
+  behindActions-no-high t = rw (not-T→false (someHigh? (m .actions)) t)
+
+  behindActions-done : (n : Model) → behindActions k m parts ≡ done n
+      → T (someHigh? (m .actions)) × (readStarts (startLines parts) k m parts ≡ done n)
+  unfolding behindActions
+  behindActions-done n q = by-test (T-cases (someHigh? (m .actions)))
+    where
+      by-test : T (someHigh? (m .actions)) ⊎ T (not (someHigh? (m .actions)))
+          → T (someHigh? (m .actions)) × (readStarts (startLines parts) k m parts ≡ done n)
+      by-test (inl t) = (t, sym (behindActions-high t) ∙ q)
+      by-test (inr t) = let e = sym (behindActions-no-high t) ∙ q in let z : _≡_ {A = ℕ} 0 1 = cc in absurd (omega arith)
+
+  -- where no `I` line follows the `A` lines the steps are read next, as of a text that has none
+  pub behindActions-no-starts : T (someHigh? (m .actions)) → startLines parts ≡ 0
+      → behindActions k m parts ≡ readSteps (m .head .steps) k m parts
+  unfolding readStarts
+  behindActions-no-starts t e = behindActions-high t ∙ ap (λ (n : ℕ). readStarts n k m parts) e
+
 -- ---- the whole
 
 abbrev actionsRead : Head → ℕ → ℕ → List ActionLine → List (List ℕ) → Reading
 actionsRead h n k before parts = readActions n k (model h before [] []) parts
 
+-- a first line and actions without a fault
+module _ (h : Head) (actions : List ActionLine) (fits : T (headFits? h)) (count : length actions ≡ h .actions)
+    (each : EachAfter ActionFits [] actions) (parts : List (List ℕ)) (some : 0 < length parts) where
+  readModel-actions : readModel (lineOfHead h ∷ (map lineOfAction actions ++ parts))
+      ≡ behindActions (2 + length actions) (model h actions [] []) parts
+  unfolding readModel readActions orFault
+  readModel-actions =
+      let l : 0 < length (map lineOfAction actions ++ parts) = simp length-append (omega arith) in
+      onLine-cons 1 (lineOfHead h) (map lineOfAction actions ++ parts) _ l
+      ∙ rw (headOf-line h fits, orFault)
+      (ap (λ (n : ℕ). actionsRead h n 2 [] (map lineOfAction actions ++ parts)) (sym count)
+      ∙ lines-read lineOfAction ActionFits actionOf (actionsRead h) (λ n j b p. refl) actionOf-line
+      actions 2 [] parts some each)
+
+  -- Without a high action they are refused at the last `A` line, whatever follows it.
+  pub readModel-no-high : T (not (someHigh? actions))
+      → readModel (lineOfHead h ∷ (map lineOfAction actions ++ parts)) ≡ faulty NoHigh (1 + length actions)
+  readModel-no-high t =
+      let z : 2 + length actions - 1 ≡ 1 + length actions = omega arith in
+      readModel-actions
+      ∙ behindActions-no-high (2 + length actions) (model h actions [] []) parts t
+      ∙ ap (faulty NoHigh) z
+
 pub readModel-parts : (m : Model) → WellFormed m → readModel (partsOf m) ≡ done m
-unfolding readModel readActions orFault
 readModel-parts m w =
-    let h = m .head in
     let from-starts : List (List ℕ) = map lineOfStart (m .extraStarts) ++ (map lineOfStep (m .steps) ++ last) in
     let k : 0 < length from-starts = simp length-append (omega arith) in
-    let l : 0 < length (map lineOfAction (m .actions) ++ from-starts) = simp length-append (omega arith) in
-    let a =
-    lines-read lineOfAction ActionFits actionOf (actionsRead h) (λ n j b p. refl) actionOf-line
-    (m .actions) 2 [] from-starts k (w .actions) in
-    onLine-cons 1 (lineOfHead h) (map lineOfAction (m .actions) ++ from-starts) _ l
-    ∙ rw (headOf-line h (w .head), orFault)
-    (ap (λ (n : ℕ). actionsRead h n 2 [] (map lineOfAction (m .actions) ++ from-starts)) (sym (w .action-count))
-    ∙ a .1
-    ∙ readStarts-lines h (m .actions) (a .0) (m .extraStarts) (m .steps) (headFits?→HeadRanges h (w .head))
-    (w .step-count) (w .extra-starts) (w .steps))
+    readModel-actions (m .head) (m .actions) (w .head) (w .action-count) (w .actions) from-starts k
+    ∙ behindActions-high (2 + length (m .actions)) (model (m .head) (m .actions) [] []) from-starts (w .some-high)
+    ∙ readStarts-lines (m .head) (m .actions) (2 + length (m .actions)) (m .extraStarts) (m .steps)
+    (headFits?→HeadRanges (m .head) (w .head)) (w .step-count) (w .extra-starts) (w .steps)
 
 joined : (parts : List (List ℕ)) (m : Model) (line : List ℕ) (from-actions from-starts from-steps end : List (List ℕ))
     → parts ≡ line ∷ from-actions → line ≡ lineOfHead (m .head)
@@ -185,10 +225,11 @@ partsOf-of-readModel parts m q = first (onLine-done 1 parts _ m q)
     whole : (line : List ℕ) (rest : List (List ℕ)) (h : Head) → parts ≡ line ∷ rest
         → (line ≡ lineOfHead h) × T (headFits? h)
         → Stated lineOfAction ActionFits (h .actions) [] rest
-        (λ actions after. (next : ℕ) × (readStarts (startLines after) next (model h actions [] []) after ≡ done m))
+        (λ actions after. (next : ℕ) × (behindActions next (model h actions [] []) after ≡ done m))
         → WellFormed m × (parts ≡ partsOf m)
     whole line rest h p l a =
-        let i = readStarts-done h (a .stated) (startLines (a .rest)) (a .after .0) (a .rest) m (a .after .1) in
+        let b = behindActions-done (a .after .0) (model h (a .stated) [] []) (a .rest) m (a .after .1) in
+        let i = readStarts-done h (a .stated) (startLines (a .rest)) (a .after .0) (a .rest) m (b .1) in
         let s = readSteps-done h (a .stated) (i .stated) (h .steps) (i .after .0) (i .rest) m (i .after .1) in
         subst (λ (n : Model). WellFormed n × (parts ≡ partsOf n)) (s .after .1) (
           record {
@@ -196,6 +237,7 @@ partsOf-of-readModel parts m q = first (onLine-done 1 parts _ m q)
             action-count = a .count;
             step-count = s .count;
             actions = a .fit;
+            some-high = b .0;
             extra-starts = i .fit;
             steps = s .fit;
           },
