@@ -11,7 +11,11 @@ use second::{read, write, Model, Refusal};
 
 /// The rules of a good store, one after the other.
 fn follows_the_rules(store: &[u16]) -> bool {
-    head_follows(store) && actions_follow(store) && steps_follow(store) && starts_follow(store)
+    head_follows(store)
+        && actions_follow(store)
+        && some_action_is_high(store)
+        && steps_follow(store)
+        && starts_follow(store)
 }
 
 fn head_follows(store: &[u16]) -> bool {
@@ -38,6 +42,11 @@ fn actions_follow(store: &[u16]) -> bool {
         let (name, rest) = entry[2..].split_at(length);
         name.iter().all(|n| matches!(n, 48..=57 | 97..=122)) && unused(rest) && names.insert(name)
     })
+}
+
+/// The level of some action is 2 (request (vi) of document 02).
+fn some_action_is_high(store: &[u16]) -> bool {
+    (0..usize::from(store[1])).any(|action| store[4 + 14 * action] == 2)
 }
 
 fn steps_follow(store: &[u16]) -> bool {
