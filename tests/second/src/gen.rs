@@ -32,7 +32,7 @@ pub use models::{
 };
 pub use rng::Rng;
 pub use starts::with_all_starts;
-pub use stores::{bad_stores, mutated_store, scrap_store};
+pub use stores::{bad_stores, mutated_store, no_high_store, scrap_store};
 pub use texts::{bad_lines, faults, mutated_text, no_high_text, scrap_text};
 pub use texts::{BadLine, Fault, Kind};
 pub use variants::{shuffle, with_twin, with_unreachable};

@@ -385,6 +385,24 @@ fn stores_made_from_such_texts() {
     }
 }
 
+/// The same for stores of many models.
+#[test]
+fn stores_made_without_a_high_action() {
+    let mut rng = gen::seeded("second::high::stores_made_without_a_high_action", 603);
+    let old = Lists::new();
+    for _ in 0..200 {
+        let model = gen::any_model(&mut rng);
+        let store = gen::no_high_store(&mut rng, &model);
+        let _case = gen::case(|| gen::shown_store(&model, &store));
+        let mut lists = old.clone();
+        for operation in ON_STORES {
+            let refusal = (operation.refusal)(&store, &mut lists);
+            assert_eq!(refusal, Some(Refusal::new(22, 0)), "{}", operation.name);
+        }
+        assert!(lists == old);
+    }
+}
+
 /// 22 comes before 25 of Run and 34 of Check, and nothing is told of the rest.
 #[test]
 fn refusals_after_22() {

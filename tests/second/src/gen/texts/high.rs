@@ -44,8 +44,8 @@ fn bad_lines(list: &mut Faults, model: &Model, lines: &[Vec<u8>]) {
     }
 }
 
-/// The text cut off around the last action's line, longer than it ought to be,
-/// and far too long.
+/// The text cut off around the last action's line, with bytes after its end, and
+/// with too many of them.
 fn text_ends(list: &mut Faults, lines: &[Vec<u8>]) {
     let (last, place) = (list.last_action(), list.last_action() + 1);
     let (actions, text) = (join(&lines[..=last]), join(lines));
