@@ -27,8 +27,8 @@ pub use cases::{
 pub use deep::{branching_deep_model, chain, deep_model};
 pub use limits::limit_models;
 pub use models::{
-    any_model, deterministic_model, narrow_model, nearly_passing_model, passing_model,
-    random_model, small_model,
+    any_model, deterministic_model, narrow_model, nearly_passing_model, one_high_model,
+    passing_model, random_model, small_model,
 };
 pub use rng::Rng;
 pub use starts::with_all_starts;

@@ -481,8 +481,7 @@ fn one_level_of_many_changed() {
     for high in 0..64 {
         let level = |action: usize| match action {
             _ if action == high => 'H',
-            _ if action % 2 == 0 => 'L',
-            _ => 'D',
+            _ => ['L', 'D'][action % 2],
         };
         let store = store_of(&many_actions(level));
         for action in 0..64 {
