@@ -495,8 +495,8 @@ fn one_level_of_many_changed() {
     }
 }
 
-/// Texts that were read before, and the stores of the same models: what the
-/// number says, the store gets 22.
+/// Texts that were read before get the new number, and the stores made from them
+/// get 22.
 #[test]
 fn archived_texts_and_stores() {
     let mut rng = gen::seeded("second::high::archived_texts_and_stores", 601);
