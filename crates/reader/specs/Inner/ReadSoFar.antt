@@ -30,7 +30,7 @@ use Rattle.reader.specs.Answers.{readingStore, ReadAs}
 abbrev pub whole : List ℕ → Reading
 whole text = readModel (split lineEnd text)
 
--- A line that is not the first begins inside the text, and each line before it but the first has at least its line
+-- A line begins inside the text. Lines are counted from 1, and each line before it but the first has at least its line
 -- end, so that the lines are no more than the bytes and two.
 pub record InText (text : List ℕ) (from : LineStart) : Type 0 where
   pub place : from .at ≤ length text

@@ -5,37 +5,28 @@ use mathlib.Core.List.{List, [], _∷_, _++_}
 use mathlib.Core.Path.{_≡_, refl, sym, ap, _∙_}
 use Prim.Native.Nat.{ℕ, suc, _+_, _-_, _≤_, _<_}
 use native.Mathlib.Omega.{arith}
-use lib.Dec.{eqb, not-T}
+use lib.Dec.{eqb}
 use lib.ListN.{length, drop, getD, set, length-append}
 use lib.Seq.{getD-drop}
 use borrow.Author.Tests.{eq-eqb, ne-eqb}
-use Rattle.lts.specs.Tests.{Some}
 use Rattle.text.specs.declared.Fault.{Fault}
-use Rattle.text.specs.declared.Fault.the-variants.{NoHigh}
 use Rattle.text.specs.declared.Head.{Head}
-use Rattle.text.specs.Limits.{extraLimit, storeLength, actionPlace, extraCountPlace, extraPlace}
+use Rattle.text.specs.Limits.{extraLimit, storeLength, extraCountPlace, extraPlace}
 use Rattle.text.specs.Bytes.{byteI, lineEnd, kindOf}
 use Rattle.text.specs.Split.{consFirst, split}
 use Rattle.text.specs.Laws.SplitLaws.{Is, same, other, is, split-nil, split-end, split-cons, split-first}
 use Rattle.text.specs.Laws.RangesLaws.{startFits?→lt, aboveStarts?→lt}
-use Rattle.text.specs.Model.{Model, noAction, someHigh?, withExtraStart}
+use Rattle.text.specs.Model.{Model, withExtraStart}
 use Rattle.text.specs.Lines.{startOf}
 use Rattle.text.specs.Inner.Row.{LineTaken, LineRefused}
 use Rattle.model.specs.Reading.{Reading, faulty, onLine, orFault, startLine?, startLines, readStarts}
-use Rattle.model.specs.Reading.{behindActions, readActions}
-use Rattle.model.specs.Inner.GoodPlaces.{highAt?}
-use Rattle.model.specs.Laws.Text.PartsLaws.{behindActions-high, behindActions-no-high}
-use Rattle.model.specs.Laws.Store.LevelsLaws.{someHigh?→Some, Some→someHigh?}
-use Rattle.model.specs.Laws.Store.NamesLaws.{actionsStored-level}
 use Rattle.model.specs.Laws.Text.LineTextLaws.{line-of-startOf}
-use Rattle.model.specs.Laws.Store.StartsLaws.{lastStart-nil, lastStart-snoc}
+use Rattle.model.specs.Laws.Store.StartsLaws.{lastStart-snoc}
 use Rattle.model.specs.Laws.Store.StoreLaws.{storeOf-length-of-places}
-use Rattle.model.specs.Laws.Store.PutLaws.{actionsNumbers-length-of-short, storeOf-withExtraStart}
+use Rattle.model.specs.Laws.Store.PutLaws.{storeOf-withExtraStart}
 use Rattle.reader.specs.declared.answers.LineStart.{LineStart}
-use Rattle.reader.specs.Inner.ReadSoFar.{whole, partsFrom, AfterActions, AfterAllActions, AfterStart}
-use Rattle.reader.specs.Inner.ReadSoFar.{AfterStarts}
+use Rattle.reader.specs.Inner.ReadSoFar.{whole, partsFrom, AfterStart, AfterStarts}
 use Rattle.reader.specs.Laws.ReadLaws.{line-refused, line-taken, inText-next}
-use Rattle.reader.specs.Laws.NameLaws.{actionsStored-so-far}
 
 -- ---- the lines that begin with `I`
 
@@ -86,47 +77,6 @@ module _ (text : List ℕ) (from : LineStart) where
       go line (part ∷ parts) s = rw s
 
 -- ---- the extra starts
-
--- what the store says of the levels after the last action
-module _ (h : Head) (text : List ℕ) (from : LineStart) (store : List ℕ)
-    (b : AfterActions h text from (h .actions) store) where
-  behind : whole text ≡ behindActions (from .line)
-      (record { head = h; actions = b .actions; extraStarts = []; steps = [] }) (partsFrom text from)
-  unfolding readActions
-  behind = let z : h .actions - h .actions ≡ 0 = omega arith in b .rest ∙ rw z
-
-  levels : (i : ℕ) → i < h .actions → getD store (actionPlace i) 0 ≡ getD (b .actions) i noAction .level
-  levels i l =
-      actionsStored-level store (b .actions) (actionsStored-so-far h text from (h .actions) store b) i
-      (omega (arith, b .count))
-
-  -- without a high action the text is refused at the line before
-  pub no-high-refused : ¬ (Some (h .actions) (highAt? store)) → whole text ≡ faulty NoHigh (from .line - 1)
-  no-high-refused n =
-      behind
-      ∙ behindActions-no-high (from .line) _ (partsFrom text from)
-      (not-T (someHigh? (b .actions)) (λ t. n (someHigh?→Some store (b .actions) (h .actions) (b .count) levels t)))
-
-  -- with one the extra starts come next
-  pub after-actions : Some (h .actions) (highAt? store) → AfterAllActions h text from store
-  after-actions w =
-      let n = actionsNumbers-length-of-short (b .actions) (b .short) in
-      let m = b .ranges .actions in
-      record {
-        ranges = b .ranges;
-        inside = b .inside;
-        actions = b .actions;
-        action-places = omega (arith, n, m, b .count);
-        extraStarts = [];
-        count = refl;
-        last-start = lastStart-nil (h .start .0);
-        count-le = omega arith;
-        last-lt = b .ranges .start;
-        stored = b .stored;
-        rest = behind
-            ∙ behindActions-high (from .line) _ (partsFrom text from)
-            (Some→someHigh? store (b .actions) (h .actions) (b .count) levels w);
-      }
 
 module _ (h : Head) (text : List ℕ) (from : LineStart) (i last : ℕ) (store : List ℕ)
     (b : AfterStart h text from i last store) where

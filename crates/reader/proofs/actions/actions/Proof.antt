@@ -7,7 +7,7 @@ use mathlib.Core.Path.{_≡_, refl, _∙_}
 use lib.ListN.{length}
 use Rattle.reader.specs.Inner.ReadSoFar.{AfterActions, Further}
 use Rattle.reader.specs.Laws.ReadLaws.{afterActions-count, afterActions-length, further-faulty, further-next}
-use Rattle.reader.specs.Laws.ReadStartsLaws.{no-high-refused, after-actions}
+use Rattle.reader.specs.Laws.ReadLevelsLaws.{no-high-refused, after-actions}
 use Rattle.text.specs.Laws.DecidesLaws.{decides-passed, decides-refused}
 use Rattle.reader.proofs.actions.actions.Statement.{statement}
 use Rattle.reader.proofs.actions.actions.Tie as tie
