@@ -13,7 +13,7 @@ use Rattle.text.specs.Lines.{checked, fieldsFrom, fieldsOf, consNumber, numbers
 use Rattle.text.specs.Lines.{rowLetter, rowCount, rowBounds, valueOr0, statesOf, rowFrom, rowOf, headFrom, headOf}
 use Rattle.text.specs.Lines.{levelOf, allOf, nameByte?, name?, nameFrom, actionFields, used?, actionFrom, actionOf}
 use Rattle.text.specs.Lines.{stepFrom, stepOf}
-use Rattle.model.specs.Reading.{done, faulty, onLine, orFault, readNothing, readEnd, readSteps}
+use Rattle.model.specs.Reading.{faulty, onLine, orFault, readNothing, readEnd, readSteps}
 use Rattle.model.specs.Reading.{startLine?, startLines, readStarts, behindActions, readActions, readModel}
 use Rattle.model.specs.Reading.{readText}
 use Rattle.model.specs.CornerCases.{head, low, high, first, second, end}

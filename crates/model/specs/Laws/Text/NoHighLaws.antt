@@ -3,7 +3,7 @@
 -- Document 02, (vi). Assumes nothing.
 use mathlib.Core.Bool.{not}
 use mathlib.Core.List.{List, [], _∷_, _++_, map, append-assoc}
-use mathlib.Core.Path.{_≡_, refl, sym, ap, _∙_}
+use mathlib.Core.Path.{_≡_, refl, ap, _∙_}
 use Prim.Native.Nat.{ℕ, _+_, _≤_, _<_}
 use native.Mathlib.Omega.{arith}
 use lib.Dec.{T}
@@ -18,9 +18,9 @@ use Rattle.text.specs.All.{All}
 use Rattle.text.specs.Laws.AllLaws.{all-of-all}
 use Rattle.text.specs.Laws.SplitLaws.{split-first}
 use Rattle.text.specs.Laws.JoinLaws.{split-append}
-use Rattle.text.specs.Model.{ActionLine, Model, someHigh?}
+use Rattle.text.specs.Model.{ActionLine, someHigh?}
 use Rattle.text.specs.Lines.{headFits?}
-use Rattle.model.specs.Reading.{done, faulty, readText}
+use Rattle.model.specs.Reading.{faulty, readText}
 use Rattle.model.specs.Text.{headText, actionsText}
 use Rattle.model.specs.WellFormed.{EachAfter, ActionFits}
 use Rattle.model.specs.Inner.LineText.{LineByte, lineOfHead, lineOfAction}

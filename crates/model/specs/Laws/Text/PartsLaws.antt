@@ -1,24 +1,22 @@
 -- The parts of a model's text are read to the model, and only the parts of its text are.
 -- Document 01, "The text"; document 02, (iii) and (vi). Assumes nothing.
-use mathlib.Core.Bool.{Bool, true, false, cond, not}
+use mathlib.Core.Bool.{true, false, not}
 use mathlib.Core.List.{List, [], _∷_, _++_, map}
 use mathlib.Core.Logic.{_⊎_, inl, inr}
 use mathlib.Core.Path.{_≡_, refl, sym, ap, _∙_, subst}
-use Prim.Native.Nat.{ℕ, suc, _+_, _-_, _<_}
+use Prim.Native.Nat.{ℕ, _+_, _-_, _<_}
 use native.Mathlib.Omega.{arith}
 use lib.Dec.{T}
 use lib.ListN.{length, length-append}
 use Rattle.lts.specs.TestsLaws.{T-cases, T→true, not-T→false}
 use Rattle.text.specs.Bytes.{byteE}
-use Rattle.text.specs.declared.Fault.the-variants.{Shape, NoHigh}
+use Rattle.text.specs.declared.Fault.the-variants.{NoHigh}
 use Rattle.text.specs.declared.Head.{Head}
 use Rattle.text.specs.declared.StepLine.{StepLine}
-use Rattle.text.specs.Split.{same?}
 use Rattle.text.specs.Join.{join}
-use Rattle.text.specs.Laws.SameLaws.{same?→eq}
 use Rattle.text.specs.Model.{ActionLine, Model, someHigh?}
 use Rattle.text.specs.Lines.{good, headFits?, headOf, actionOf, startOf, stepOf}
-use Rattle.model.specs.Reading.{Reading, done, faulty, onLine, orFault, readNothing, readEnd, readSteps}
+use Rattle.model.specs.Reading.{Reading, done, faulty, orFault, readSteps}
 use Rattle.model.specs.Reading.{readStarts, startLine?, startLines, behindActions, readActions, headModel}
 use Rattle.model.specs.Reading.{readModel}
 use Rattle.model.specs.WellFormed.{EachAfter, ActionFits, StartFits, StepFits, WellFormed}
