@@ -107,11 +107,11 @@ record Refused : Type 0 where
   too-many-bytes : readText (replicate 16385 10) ≡ tooLong
 
 refused : Refused
-unfolding readText readModel readActions behindActions someHigh? any startLines startLine? readStarts readSteps readEnd readNothing orFault onLine
-    stepOf stepFrom actionOf actionFrom used? actionFields nameFrom name?
-    nameByte? allOf levelOf headOf headFrom rowOf rowFrom statesOf valueOr0 rowBounds rowCount rowLetter stepBounds
-    headBounds numbersOf consNumber fieldsOf fieldsFrom checked above? aboveLast? same? split consFirst
-    numberIn bounded inBounds? numberOf numberShape? digitsValue kindOf
+unfolding readText readModel readActions behindActions someHigh? any startLines startLine? readStarts readSteps readEnd
+    readNothing orFault onLine stepOf stepFrom actionOf actionFrom used? actionFields nameFrom name? nameByte? allOf
+    levelOf headOf headFrom rowOf rowFrom statesOf valueOr0 rowBounds rowCount rowLetter stepBounds headBounds numbersOf
+    consNumber fieldsOf fieldsFrom checked above? aboveLast? same? split consFirst numberIn bounded inBounds? numberOf
+    numberShape? digitsValue kindOf
 refused = record {
   empty = refl;
   absent-before-shape = refl;

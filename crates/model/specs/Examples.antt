@@ -70,11 +70,11 @@ wokenText =
     ∷ []
 
 reads : (readText workedText ≡ done worked) × (readText wokenText ≡ done woken)
-unfolding readText readModel readActions behindActions someHigh? any startLines startLine? readStarts readSteps readEnd readNothing orFault onLine
-    stepOf stepFrom startOf startFrom aboveStarts? lastStart actionOf actionFrom used? actionFields nameFrom name?
-    nameByte? allOf levelOf headOf headFrom rowOf rowFrom statesOf valueOr0 rowBounds rowCount rowLetter stepBounds
-    startBounds headBounds numbersOf consNumber fieldsOf fieldsFrom checked above? aboveLast? same? split consFirst
-    numberIn bounded inBounds? numberOf numberShape? digitsValue kindOf
+unfolding readText readModel readActions behindActions someHigh? any startLines startLine? readStarts readSteps readEnd
+    readNothing orFault onLine stepOf stepFrom startOf startFrom aboveStarts? lastStart actionOf actionFrom used?
+    actionFields nameFrom name? nameByte? allOf levelOf headOf headFrom rowOf rowFrom statesOf valueOr0 rowBounds
+    rowCount rowLetter stepBounds startBounds headBounds numbersOf consNumber fieldsOf fieldsFrom checked above?
+    aboveLast? same? split consFirst numberIn bounded inBounds? numberOf numberShape? digitsValue kindOf
 reads = (refl, refl)
 
 writes : (modelText worked ≡ workedText) × (modelText woken ≡ wokenText)

@@ -64,9 +64,10 @@ record Tested : Type 0 where
   extra-count-too-large : good? (set (storeOf two-starts) extraCountPlace 65535) ≡ false
 
 tested : Tested
-unfolding good? holds? wellFormed? someHigh? any eachAfter? actionFits? startRises? stepRises? modelAt listed storeOf padded
-    actionNumbers actionsNumbers stepsNumbers headRow extraNumbers startFits? aboveStarts? lastStart stepFits? used?
-    name? nameByte? allOf headFits? fits? headBounds startBounds stepBounds inBounds? above? aboveLast? same? kindOf
+unfolding good? holds? wellFormed? someHigh? any eachAfter? actionFits? startRises? stepRises? modelAt listed storeOf
+    padded actionNumbers actionsNumbers stepsNumbers headRow extraNumbers startFits? aboveStarts? lastStart stepFits?
+    used? name? nameByte? allOf headFits? fits? headBounds startBounds stepBounds inBounds? above? aboveLast? same?
+    kindOf
 tested = record {
   one-state-good = refl;
   two-starts-good = refl;

@@ -37,7 +37,8 @@ record RefusedHigh : Type 0 where
   next-an-action : readText (head ++ low ++ release ++ low) ≡ faulty NoHigh 3
   next-a-start : readText (head ++ low ++ release ++ (73 ∷ 44 ∷ 57 ∷ 10 ∷ [])) ≡ faulty NoHigh 3
   next-without-fields : readText (head ++ low ++ release ++ (83 ∷ 44 ∷ 120 ∷ 10 ∷ [])) ≡ faulty NoHigh 3
-  next-out-of-range : readText (head ++ low ++ release ++ (83 ∷ 44 ∷ 57 ∷ 44 ∷ 48 ∷ 44 ∷ 48 ∷ 10 ∷ [])) ≡ faulty NoHigh 3
+  next-out-of-range : readText (head ++ low ++ release ++ (83 ∷ 44 ∷ 57 ∷ 44 ∷ 48 ∷ 44 ∷ 48 ∷ 10 ∷ []))
+      ≡ faulty NoHigh 3
   next-a-byte : readText (head ++ low ++ release ++ (113 ∷ [])) ≡ faulty NoHigh 3
   -- "tested when that line is otherwise good": A,D,b has no line end, its name is B, or a is used twice
   last-absent : readText (head ++ low ++ (65 ∷ 44 ∷ 68 ∷ 44 ∷ 98 ∷ [])) ≡ faulty Absent 3

@@ -51,10 +51,10 @@ record RefusedStarts : Type 0 where
   start-behind-step : readText (beforeStarts ++ first ++ startLine 2 ++ second ++ end) ≡ faulty Shape 5
 
 refusedStarts : RefusedStarts
-unfolding readText readModel readActions behindActions someHigh? any startLines startLine? readStarts readSteps orFault onLine
-    stepOf stepFrom startOf startFrom aboveStarts? lastStart actionOf actionFrom used? actionFields nameFrom name?
-    nameByte? allOf levelOf headOf headFrom rowOf rowFrom statesOf valueOr0 rowBounds rowCount rowLetter stepBounds
-    startBounds headBounds numbersOf consNumber fieldsOf fieldsFrom checked aboveLast? same? split consFirst
+unfolding readText readModel readActions behindActions someHigh? any startLines startLine? readStarts readSteps orFault
+    onLine stepOf stepFrom startOf startFrom aboveStarts? lastStart actionOf actionFrom used? actionFields nameFrom
+    name? nameByte? allOf levelOf headOf headFrom rowOf rowFrom statesOf valueOr0 rowBounds rowCount rowLetter
+    stepBounds startBounds headBounds numbersOf consNumber fieldsOf fieldsFrom checked aboveLast? same? split consFirst
     numberIn bounded inBounds? numberOf numberShape? digitsValue kindOf
 refusedStarts = record {
   start-given-twice = refl;

@@ -1,6 +1,7 @@
 -- How far a text has been read: what the store holds after some of its lines, and that what remains reads as the
 -- whole does.
--- Only the contracts of inner functions cite it. Document 01, "The text" and "The model store"; document 02, (iii) and (vi).
+-- Only the contracts of inner functions cite it. Document 01, "The text" and "The model store"; document 02, (iii) and
+-- (vi).
 use mathlib.Core.List.{List, []}
 use mathlib.Core.Path.{_≡_}
 use Prim.Native.Nat.{ℕ, _+_, _-_, _≤_, _<_}

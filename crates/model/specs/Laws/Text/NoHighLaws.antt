@@ -1,5 +1,5 @@
--- A text whose first line and `A` lines are good, and that has no high action, is refused at the last `A` line, whatever
--- follows it.
+-- A text whose first line and `A` lines are good, and that has no high action, is refused at the last `A` line,
+-- whatever follows it.
 -- Document 02, (vi). Assumes nothing.
 use mathlib.Core.Bool.{not}
 use mathlib.Core.List.{List, [], _∷_, _++_, map, append-assoc}

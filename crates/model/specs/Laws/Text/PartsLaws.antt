@@ -134,7 +134,10 @@ module _ (k : ℕ) (m : Model) (parts : List (List ℕ)) where
       by-test : T (someHigh? (m .actions)) ⊎ T (not (someHigh? (m .actions)))
           → T (someHigh? (m .actions)) × (readStarts (startLines parts) k m parts ≡ done n)
       by-test (inl t) = (t, sym (behindActions-high t) ∙ q)
-      by-test (inr t) = let e = sym (behindActions-no-high t) ∙ q in let z : _≡_ {A = ℕ} 0 1 = cc in absurd (omega arith)
+      by-test (inr t) =
+          let e = sym (behindActions-no-high t) ∙ q in
+          let z : _≡_ {A = ℕ} 0 1 = cc in
+          absurd (omega arith)
 
   -- where no `I` line follows the `A` lines the steps are read next, as of a text that has none
   pub behindActions-no-starts : T (someHigh? (m .actions)) → startLines parts ≡ 0

@@ -1,5 +1,5 @@
--- After i lines the store holds i actions, and what remains reads as the whole does. Behind the last the levels that the
--- store holds decide whether one is high.
+-- After i lines the store holds i actions, and what remains reads as the whole does. Behind the last, the levels that
+-- the store holds decide whether one is high.
 use borrow.Author.Needs.{needs}
 use native.Mathlib.Omega.{arith}
 use Prim.Native.Nat.{_-_, _≤_}
@@ -75,7 +75,8 @@ returns-2 : tie.Need-returns-2 Inv-loop μ-loop
 unfolding Further
 returns-2 c =
     let f = c .before .before .some-high in
-    no-high-refused _ _ _ _ (all (c .before .before .before)) (decides-refused (f .result) _ (f .ensures) (c .before .if1 .taken))
+    no-high-refused _ _ _ _ (all (c .before .before .before))
+    (decides-refused (f .result) _ (f .ensures) (c .before .if1 .taken))
 
 same-length-3 : tie.Need-same-length-3 Inv-loop μ-loop
 same-length-3 c = c .before .before .before .before .loop .inv .1
