@@ -1,5 +1,4 @@
--- Texts without a high action, each refused by evaluation with its fault at its line, and one whose high action has no
--- step, which is read.
+-- Texts without a high action, each refused by evaluation with its fault at its line.
 -- Document 02, (vi).
 use mathlib.Core.List.{List, [], _∷_, _++_}
 use mathlib.Core.Path.{_≡_, refl}

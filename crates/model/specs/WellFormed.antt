@@ -37,6 +37,7 @@ pub record WellFormed (m : Model) : Type 0 where
   pub action-count : length (m .actions) ≡ m .head .actions
   pub step-count : length (m .steps) ≡ m .head .steps
   pub actions : EachAfter ActionFits [] (m .actions)
+  -- "A text without an H action is refused"
   pub some-high : T (someHigh? (m .actions))
   pub extra-starts : EachAfter (StartFits (m .head)) [] (m .extraStarts)
   pub steps : EachAfter (StepFits (m .head)) [] (m .steps)

@@ -1,4 +1,5 @@
 pub mod ReadLaws
+pub mod ReadLevelsLaws
 pub mod ReadStartsLaws
 pub mod ReadStepsLaws
 pub mod TextReadLaws

@@ -1,6 +1,7 @@
 // The lines of the actions.
 use crate::answers::LineStart;
 use crate::answers::LinesRead;
+use model::levels::some_high;
 use model::names::used;
 use model::put::put_action;
 use text::Action;
@@ -11,7 +12,7 @@ use text::line::ActionRead;
 use text::line::action_line;
 use text::line::find;
 ghost use Prim.Native.Nat.{_+_, _<_};
-ghost use Rattle.reader.specs.Inner.ReadSoFar.{AfterActions, Further};
+ghost use Rattle.reader.specs.Inner.ReadSoFar.{AfterActions, AfterAllActions, Further};
 
 // The line of action i.
 fn action(text: &[u8], start: LineStart, head: Head, i: u16, out: &mut [u16]) -> LinesRead
@@ -48,10 +49,10 @@ fn action(text: &[u8], start: LineStart, head: Head, i: u16, out: &mut [u16]) ->
     }
 }
 
-// The lines of the actions, into a store that holds what the first line states.
+// The lines of the actions, one of which must be high, into a store that holds what the first line states.
 pub fn actions(text: &[u8], start: LineStart, head: Head, out: &mut [u16]) -> LinesRead
     requires { ⌜ AfterActions head (now text) start 0 (now out) ⌝ }
-    ensures { λ r. ⌜ Further (λ next. AfterActions head (now (text .entry)) next (head .actions) (now (out .exit)))
+    ensures { λ r. ⌜ Further (λ next. AfterAllActions head (now (text .entry)) next (now (out .exit)))
         (now (text .entry)) r ⌝ }
 {
     let count = head.actions;
@@ -68,6 +69,11 @@ pub fn actions(text: &[u8], start: LineStart, head: Head, out: &mut [u16]) -> Li
             }
         }
         i += 1;
+    }
+    if !some_high(out, count) {
+        let line = from.line - 1;
+        let fault = Fault::NoHigh;
+        return LinesRead::Faulty { fault, line };
     }
     LinesRead::Next(from)
 }

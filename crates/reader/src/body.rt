@@ -23,7 +23,8 @@ ghost use Rattle.text.specs.Bytes.{lineEnd};
 ghost use Rattle.text.specs.Split.{split};
 ghost use Rattle.text.specs.Limits.{storeLength};
 ghost use Rattle.text.specs.Inner.LineAnswers.{headRead};
-ghost use Rattle.reader.specs.Inner.ReadSoFar.{AfterHead, AfterActions, AfterSteps, Through, ReadOut};
+ghost use Rattle.reader.specs.Inner.ReadSoFar.{AfterHead, AfterActions, AfterAllActions, AfterSteps};
+ghost use Rattle.reader.specs.Inner.ReadSoFar.{Through, ReadOut};
 ghost use Rattle.reader.specs.Inner.FirstLine.{AfterLine, firstLine, AfterFirst};
 
 // The line at a place, taken as the first one.
@@ -89,7 +90,7 @@ fn last_line(text: &[u8], start: LineStart, out: &[u16]) -> TextRead
 
 // The lines behind the actions, into a store that holds the first line and the actions.
 fn after_actions(text: &[u8], start: LineStart, head: Head, out: &mut [u16]) -> TextRead
-    requires { ⌜ AfterActions head (now text) start (head .actions) (now out) ⌝ }
+    requires { ⌜ AfterAllActions head (now text) start (now out) ⌝ }
     ensures { λ r. ⌜ Through (now (text .entry)) (now (out .exit)) r ⌝ }
 {
     let started = starts(text, start, head, out);

@@ -10,7 +10,7 @@ ghost use mathlib.Core.Path.{_≡_};
 ghost use lib.ListN.{getD};
 ghost use Rattle.text.specs.Bytes.{byteI};
 ghost use Rattle.text.specs.Decides.{Decides};
-ghost use Rattle.reader.specs.Inner.ReadSoFar.{AfterActions, AfterStarts, Further};
+ghost use Rattle.reader.specs.Inner.ReadSoFar.{AfterAllActions, AfterStarts, Further};
 
 // Whether the line at a place begins with `I`; past the text there is none.
 fn is_start_line(text: &[u8], at: usize) -> bool
@@ -24,7 +24,7 @@ fn is_start_line(text: &[u8], at: usize) -> bool
 
 // The lines of the extra starts, into a store that holds the first line and the actions.
 pub fn starts(text: &[u8], from: LineStart, head: Head, out: &mut [u16]) -> LinesRead
-    requires { ⌜ AfterActions head (now text) from (head .actions) (now out) ⌝ }
+    requires { ⌜ AfterAllActions head (now text) from (now out) ⌝ }
     ensures { λ r. ⌜ Further (λ next. AfterStarts head (now (text .entry)) next (now (out .exit)))
         (now (text .entry)) r ⌝ }
 {

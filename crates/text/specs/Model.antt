@@ -38,12 +38,12 @@ noLevel = 65535
 abbrev pub noAction : ActionLine
 noAction = record { level = noLevel; name = [] }
 
--- some action is high: a text "without an H action is refused"
-unfoldable pub someHigh? : List ActionLine → Bool
-someHigh? actions = any (length actions) (λ a. eqb (getD actions a noAction .level) high)
-
 abbrev pub noStep : StepLine
 noStep = record { source = record { 0 = 0 }; action = record { 0 = 0 }; target = record { 0 = 0 } }
+
+-- some action is high: "A text without an H action is refused"
+unfoldable pub someHigh? : List ActionLine → Bool
+someHigh? actions = any (length actions) (λ a. eqb (getD actions a noAction .level) high)
 
 -- a model with one more action, extra start or step, at the end
 abbrev pub withAction : Model → ActionLine → Model

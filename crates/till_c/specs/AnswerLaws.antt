@@ -4,6 +4,7 @@ use Prim.Native.Nat.{_<_}
 use native.Mathlib.Omega.{arith}
 use Rattle.text.specs.declared.Fault.{Fault}
 use Rattle.text.specs.declared.Fault.the-variants.{Absent, Shape, Digits, Range, Repeated, Order, StartOrder}
+use Rattle.text.specs.declared.Fault.the-variants.{NoHigh}
 use Rattle.text.specs.Faults.{Outcome, faultNumber}
 use Rattle.till_c.specs.declared.answer.TillAnswer.{TillAnswer}
 use Rattle.till_c.specs.Answer.{answerFor, Plain}
@@ -24,3 +25,4 @@ faultNumber-positive Range = omega arith
 faultNumber-positive Repeated = omega arith
 faultNumber-positive Order = omega arith
 faultNumber-positive StartOrder = omega arith
+faultNumber-positive NoHigh = omega arith

@@ -27,13 +27,14 @@ pub use cases::{
 pub use deep::{branching_deep_model, chain, deep_model};
 pub use limits::limit_models;
 pub use models::{
-    any_model, deterministic_model, narrow_model, nearly_passing_model, passing_model,
-    random_model, small_model,
+    any_model, deterministic_model, narrow_model, nearly_passing_model, one_high_model,
+    passing_model, random_model, small_model,
 };
 pub use rng::Rng;
 pub use starts::with_all_starts;
-pub use stores::{bad_stores, mutated_store, scrap_store};
-pub use texts::{bad_lines, faults, mutated_text, scrap_text, BadLine, Fault, Kind};
+pub use stores::{bad_stores, mutated_store, no_high_store, scrap_store};
+pub use texts::{bad_lines, faults, mutated_text, no_high_text, scrap_text};
+pub use texts::{BadLine, Fault, Kind};
 pub use variants::{shuffle, with_twin, with_unreachable};
 pub use wide::{greatest_roll, wide_model};
 

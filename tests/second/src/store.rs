@@ -105,7 +105,8 @@ impl Step {
     }
 }
 
-/// A model as plain data. Read builds it only inside all limits.
+/// A model as plain data. Read builds it only inside all limits and with a high
+/// action.
 #[derive(Debug, Clone, PartialEq, Eq)]
 pub struct Model {
     pub states: u16,
@@ -146,7 +147,7 @@ impl Model {
         store
     }
 
-    /// The text that reads to this model.
+    /// The text that reads to this model, if any does.
     pub fn to_text(&self) -> Vec<u8> {
         spell(&self.to_store())
     }
@@ -165,6 +166,13 @@ impl Model {
             extra_starts: rising.collect(),
             ..self.clone()
         }
+    }
+
+    /// Whether some action is high. A model without one is refused (request
+    /// (vi) of document 02).
+    pub fn has_high(&self) -> bool {
+        let is_high = |action: &Action| action.level == Level::High;
+        self.actions.iter().any(is_high)
     }
 
     pub fn level(&self, action: u16) -> Level {
@@ -191,7 +199,8 @@ impl Model {
 /// The model in a good store, otherwise refusal 22.
 ///
 /// The store is written out as it stands and that text is read back. If some
-/// text reads to the store, this text does.
+/// text reads to the store, this text does. A store without a high action is
+/// written as a text without one, and no text reads to it.
 pub fn good(store: &[u16]) -> Result<Model, Refusal> {
     let not_good = Refusal::new(22, 0);
     let numbers = store.get(..STORE).ok_or(not_good)?;

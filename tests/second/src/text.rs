@@ -32,7 +32,7 @@ pub fn write(store: &[u16], out: &mut [u8]) -> Result<usize, Refusal> {
 }
 
 /// Why a text is refused, in the order in which a line is tested: 32 first,
-/// then 2, then 31, then 3, then 4, 5 or 33.
+/// then 2, then 31, then 3, then 4, 5 or 33, then 35.
 #[derive(Debug, Clone, Copy, PartialEq, Eq, PartialOrd, Ord, Hash)]
 pub enum Cause {
     /// More bytes than a text may have.
@@ -56,11 +56,13 @@ pub enum Cause {
     /// An `I` line not above the one before it, the first not above line 1's
     /// start.
     StartOrder,
+    /// The last `A` line, and no action is high (request (vi) of document 02).
+    NoHigh,
 }
 
 impl Cause {
     /// All causes, in their order.
-    pub const ALL: [Cause; 12] = [
+    pub const ALL: [Cause; 13] = [
         Cause::TooLong,
         Cause::NoLine,
         Cause::AfterEnd,
@@ -73,6 +75,7 @@ impl Cause {
         Cause::NameUsed,
         Cause::Order,
         Cause::StartOrder,
+        Cause::NoHigh,
     ];
 
     /// The number of the refusal.
@@ -86,6 +89,7 @@ impl Cause {
             Cause::NameUsed => 4,
             Cause::Order => 5,
             Cause::StartOrder => 33,
+            Cause::NoHigh => 35,
         }
     }
 }
@@ -111,6 +115,10 @@ pub fn parse_or_cause(text: &[u8]) -> Result<Model, (Cause, u64)> {
     for _ in 0..actions {
         let action = action(&mut lines, &model)?;
         model.actions.push(action);
+    }
+    // The last action's line is otherwise good, and no later line is looked at.
+    if !model.has_high() {
+        return Err(lines.refused(Cause::NoHigh));
     }
     // Here a line is an `I` line by its first byte alone, however many there are.
     while lines.rest.starts_with(b"I") {

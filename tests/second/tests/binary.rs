@@ -38,6 +38,8 @@ fn pages_and_refusals() {
     assert_eq!(printed(&[b'\n'; 16_385]), b"F,1,0\n");
     assert_eq!(printed(&[b'\n'; 200_000]), b"F,1,0\n");
     assert_eq!(printed(&till(129, &[])), b"F,3,1\n");
+    let no_high = include_bytes!("../../../examples/no_high.txt");
+    assert_eq!(printed(no_high), b"F,35,4\n");
 }
 
 #[test]

@@ -6,7 +6,7 @@ use std::collections::BTreeSet;
 use std::process::Command;
 
 use common::Lists;
-use second::{gen, judge, meaning, Action, Level, Model, Step, Verdict};
+use second::{gen, judge, meaning, Level, Model, Step, Verdict};
 
 /// What a command prints.
 fn printed(command: &str) -> Vec<u8> {
@@ -38,7 +38,15 @@ fn a_shown_text_is_printed_again() {
     }
 }
 
-/// Every model that is made for the tests has a high action.
+/// The numbers of the high actions.
+fn high(model: &Model) -> Vec<u16> {
+    let actions = 0..model.actions.len() as u16;
+    let is_high = |&action: &u16| model.level(action) == Level::High;
+    actions.filter(is_high).collect()
+}
+
+/// Every model that is made for the tests has a high action (request (vi) of
+/// document 02).
 #[test]
 fn every_model_has_a_high_action() {
     let mut rng = gen::seeded("second::cases::every_model_has_a_high_action", 304);
@@ -51,11 +59,43 @@ fn every_model_has_a_high_action() {
     models.extend((1..=127).map(|depth| gen::branching_deep_model(&mut rng, depth)));
     models.extend((0..4_000).map(|_| gen::any_model(&mut rng)));
     models.extend((0..400).map(|round| gen::wide_model(&mut rng, round % 2 == 0)));
+    models.extend((0..400).map(|round| gen::one_high_model(&mut rng, round % 2 == 0)));
     for model in models {
         let _case = gen::model_case(&model);
-        let is_high = |action: &Action| action.level == Level::High;
-        assert!(model.actions.iter().any(is_high));
+        assert!(!high(&model).is_empty() && model.has_high());
     }
+}
+
+/// Of the models that the tests draw some have one action, which is high; in many
+/// one action alone is high, the first, the last or one in between, also of as
+/// many as there may be; in some no step is high, or not of each high action.
+#[test]
+fn high_actions_are_few_and_anywhere() {
+    let mut rng = gen::seeded("second::cases::high_actions_are_few_and_anywhere", 306);
+    let models: Vec<Model> = (0..20_000).map(|_| gen::any_model(&mut rng)).collect();
+    let count = |is: &dyn Fn(&Model) -> bool| models.iter().filter(|model| is(model)).count();
+    let last = |model: &Model| model.actions.len() as u16 - 1;
+    let unused = |model: &Model, action: u16| !model.steps.iter().any(|step| step.action == action);
+    let all_unused = |model: &Model| high(model).iter().all(|&action| unused(model, action));
+    let kinds = [
+        count(&|model| model.actions.len() == 1),
+        count(&|model| model.actions.len() > 2 && high(model) == [0]),
+        count(&|model| model.actions.len() > 2 && high(model) == [last(model)]),
+        count(&|model| high(model).len() == 1 && (1..last(model)).contains(&high(model)[0])),
+        count(&|model| high(model).len() > 1),
+        count(&|model| high(model).iter().any(|&action| unused(model, action))),
+        count(&|model| all_unused(model)),
+        count(&|model| all_unused(model) && model.steps.len() > 3),
+    ];
+    assert!(kinds.iter().all(|&count| count > 300), "{kinds:?}");
+    let most: Vec<u16> = models
+        .iter()
+        .filter(|model| model.actions.len() == 64 && high(model).len() == 1)
+        .map(|model| high(model)[0])
+        .collect();
+    let of = |action: u16| most.iter().filter(|&&high| high == action).count();
+    let between: BTreeSet<u16> = most.iter().copied().collect();
+    assert!(of(0) > 20 && of(63) > 20 && between.len() > 20, "{most:?}");
 }
 
 fn models(test: &str, seed: u64) -> Vec<Model> {

@@ -1,6 +1,7 @@
 //! What is told of a bad line: each cause alone, each two of one line, and bad
 //! lines beside each other. In a line 32 is tested first, then 2, then 31,
-//! then 3, then 4, 5 or 33. What `I` lines get is in `starts.rs` too.
+//! then 3, then 4, 5 or 33, then 35. What `I` lines get is in `starts.rs` too,
+//! and what a text without a high action gets in `high.rs`.
 
 mod common;
 
@@ -368,7 +369,7 @@ fn causes_of(kind: Kind) -> &'static [Cause] {
     use Cause::*;
     match kind {
         Kind::Model => &[NoLine, Letter, FieldCount, Digits, Range],
-        Kind::Action => &[NoLine, Letter, FieldCount, Level, Name, NameUsed],
+        Kind::Action => &[NoLine, Letter, FieldCount, Level, Name, NameUsed, NoHigh],
         Kind::Start => &[NoLine, Letter, FieldCount, Digits, Range, StartOrder],
         Kind::Step => &[NoLine, Letter, FieldCount, Digits, Range, Order],
         Kind::End => &[NoLine, Letter, FieldCount],
@@ -410,7 +411,7 @@ fn all_bad_lines() -> BTreeSet<(Kind, Cause, Option<Cause>)> {
 
 /// The turn of a cause in the tests of a line.
 fn turn(cause: Cause) -> Option<usize> {
-    let turns = [32, 2, 31, 3, 4, 5, 33];
+    let turns = [32, 2, 31, 3, 4, 5, 33, 35];
     turns.iter().position(|&number| number == cause.number())
 }
 

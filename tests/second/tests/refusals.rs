@@ -4,12 +4,13 @@ mod common;
 
 use std::collections::BTreeMap;
 
+use common::operations::{OnStore, ON_STORES};
 use common::{refusal, store_of, till, waking_till};
-use common::{Lists, CLOSE, EXAMPLE, LONGER, PRINT, SCAN};
+use common::{Lists, CLOSE, EXAMPLE, PRINT, SCAN};
 use second::gen;
-use second::store::{DISTANCES, STORE};
+use second::store::{action_place, DISTANCES, STORE};
 use second::text::{parse_or_cause, Cause};
-use second::{book, check, judge, page, program, rank, reach, read, roll, run, word, write};
+use second::{judge, program, read, run, word};
 use second::{Refusal, Verdict};
 
 #[test]
@@ -96,7 +97,8 @@ fn steps_and_names() {
     }
 }
 
-/// Models in which some level has no action.
+/// Models in which some level has no action. Just the high level may not be
+/// missing (request (vi) of document 02).
 #[test]
 fn levels_that_are_missing() {
     for levels in ["L", "D", "H", "LD", "LH", "DH", "LDH"] {
@@ -104,8 +106,14 @@ fn levels_that_are_missing() {
         for (index, level) in levels.chars().enumerate() {
             text += &format!("A,{level},a{index}\n");
         }
-        let page = program((text + "E\n").as_bytes());
-        assert_eq!(page, b"V,pass,0\nC,0,0,0\nE\n", "{levels}");
+        text += "E\n";
+        if levels.contains('H') {
+            let page = program(text.as_bytes());
+            assert_eq!(page, b"V,pass,0\nC,0,0,0\nE\n", "{levels}");
+        } else {
+            let last = levels.len() as u64 + 1;
+            assert_eq!(refusal(text.as_bytes()), (35, last), "{levels}");
+        }
     }
 }
 
@@ -113,7 +121,7 @@ fn levels_that_are_missing() {
 #[test]
 fn causes_have_these_numbers() {
     let numbers = Cause::ALL.map(Cause::number);
-    assert_eq!(numbers, [1, 32, 32, 2, 2, 2, 2, 31, 3, 4, 5, 33]);
+    assert_eq!(numbers, [1, 32, 32, 2, 2, 2, 2, 31, 3, 4, 5, 33, 35]);
 }
 
 #[test]
@@ -161,51 +169,6 @@ fn faults_in_many_texts() {
     assert!(Cause::ALL.iter().all(often), "{causes:?}");
 }
 
-/// An operation on a store. The lists that it is lent are fields of `Lists`.
-struct OnStore {
-    name: &'static str,
-    /// Its refusal, if it refuses.
-    refusal: fn(&[u16], &mut Lists) -> Option<Refusal>,
-    /// The least lengths of the store and of each list.
-    least: fn() -> Vec<usize>,
-    /// Makes each list as long as these lengths say, of which the first is the store's.
-    shorten: fn(&mut Lists, &[usize]),
-    /// The state that it is called with, which no model has.
-    states: &'static [u64],
-}
-
-/// `operation(lists);` or `operation(lists; a state that no model has);`
-macro_rules! on_stores {
-    ($($name:ident($($list:ident),+ $(; $state:literal)?);)*) => {
-        const ON_STORES: &[OnStore] = &[$(OnStore {
-            name: stringify!($name),
-            refusal: |store, lists| $name(store, $(&mut lists.$list,)+ $($state)?).err(),
-            least: || {
-                let lists = Lists::new();
-                vec![STORE, $(lists.$list.len() - LONGER),+]
-            },
-            shorten: |lists, lengths| {
-                let mut lengths = lengths.iter().skip(1);
-                $(lists.$list.truncate(*lengths.next().expect("a length"));)+
-            },
-            states: &[$($state)?],
-        }),*];
-    };
-}
-
-on_stores! {
-    reach(distances);
-    rank(table);
-    judge(distances, table);
-    run(distances, run; 9_999);
-    word(distances, table, word);
-    page(distances, table, run, word, out);
-    roll(distances, table, run, word, paper);
-    write(written);
-    book(table, book);
-    check(book);
-}
-
 /// Lists of which some are one element short, or empty. 21 comes before 22, and 22 before 25.
 #[test]
 fn short_lists() {
@@ -224,14 +187,21 @@ fn short_lists() {
     }
 }
 
-/// The operation on a good store and on a bad one, with lists of these lengths. `short` has a bit for each short one.
+/// The operation on a good store, on a bad one and on one without a high action,
+/// with lists of these lengths. `short` has a bit for each short one.
 fn refuses_short_lists(operation: &OnStore, short: usize, lengths: &[usize]) {
     let no_state = operation
         .states
         .first()
         .map(|&state| Refusal::new(25, state));
     let not_good = Some(Refusal::new(22, 0));
-    for (store, enough) in [(store_of(EXAMPLE), no_state), (vec![0; STORE], not_good)] {
+    let mut no_high = store_of(EXAMPLE);
+    no_high[action_place(usize::from(PRINT))] = 0;
+    for (store, enough) in [
+        (store_of(EXAMPLE), no_state),
+        (vec![0; STORE], not_good),
+        (no_high, not_good),
+    ] {
         let expected = match short {
             0 => enough,
             _ => Some(Refusal::new(21, u64::from(short.trailing_zeros()) + 1)),

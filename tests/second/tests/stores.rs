@@ -11,6 +11,11 @@ use second::{read, write, Model, Refusal};
 
 /// The rules of a good store, one after the other.
 fn follows_the_rules(store: &[u16]) -> bool {
+    follows_the_other_rules(store) && some_action_is_high(store)
+}
+
+/// All rules but that of the high action.
+fn follows_the_other_rules(store: &[u16]) -> bool {
     head_follows(store) && actions_follow(store) && steps_follow(store) && starts_follow(store)
 }
 
@@ -38,6 +43,11 @@ fn actions_follow(store: &[u16]) -> bool {
         let (name, rest) = entry[2..].split_at(length);
         name.iter().all(|n| matches!(n, 48..=57 | 97..=122)) && unused(rest) && names.insert(name)
     })
+}
+
+/// The level of some action is 2 (request (vi) of document 02).
+fn some_action_is_high(store: &[u16]) -> bool {
+    (0..usize::from(store[1])).any(|action| store[4 + 14 * action] == 2)
 }
 
 fn steps_follow(store: &[u16]) -> bool {
@@ -142,7 +152,7 @@ fn good_stores_are_those_that_follow_the_rules() {
         "second::stores::good_stores_are_those_that_follow_the_rules",
         104,
     );
-    let mut count = [0, 0];
+    let (mut count, mut no_high) = ([0, 0], 0);
     for round in 0..12_000 {
         let store = if round % 10 == 0 {
             gen::scrap_store(&mut rng)
@@ -154,8 +164,36 @@ fn good_stores_are_those_that_follow_the_rules() {
         let is_good = good(&store).is_ok();
         assert_eq!(is_good, follows_the_rules(&store));
         count[usize::from(is_good)] += 1;
+        no_high += usize::from(!is_good && follows_the_other_rules(&store));
     }
     assert!(count[0] > 1_000 && count[1] > 500, "{count:?}");
+    assert!(no_high > 300, "{no_high}");
+}
+
+/// Stores with no high action and nothing else wrong: not good, and good again
+/// as soon as any one of the levels is high.
+#[test]
+fn stores_without_a_high_action() {
+    let mut rng = gen::seeded("second::stores::stores_without_a_high_action", 106);
+    let mut stores = Vec::new();
+    for _ in 0..300 {
+        let model = gen::any_model(&mut rng);
+        stores.push((gen::no_high_store(&mut rng, &model), model));
+    }
+    for (_, model) in gen::limit_models(&mut rng) {
+        stores.push((gen::no_high_store(&mut rng, &model), model));
+    }
+    for (store, model) in stores {
+        let _case = gen::case(|| gen::shown_store(&model, &store));
+        assert!(follows_the_other_rules(&store) && !some_action_is_high(&store));
+        assert_eq!(good(&store), Err(Refusal::new(22, 0)));
+        for action in [0, rng.below(model.actions.len()), model.actions.len() - 1] {
+            let mut high = store.clone();
+            high[4 + 14 * action] = 2;
+            assert!(follows_the_rules(&high));
+            assert!(good(&high).is_ok());
+        }
+    }
 }
 
 #[test]

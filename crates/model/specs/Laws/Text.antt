@@ -4,5 +4,7 @@ pub mod ActionLineLaws
 pub mod TextLaws
 pub mod TextLengthLaws
 pub mod LinesReadLaws
+pub mod EndLaws
 pub mod PartsLaws
 pub mod ReadingLaws
+pub mod NoHighLaws

@@ -8,6 +8,7 @@ use Prim.Native.Nat.{ℕ}
 use native.Mathlib.Omega.{arith}
 use Rattle.text.specs.declared.Fault.{Fault}
 use Rattle.text.specs.declared.Fault.the-variants.{Absent, Shape, Digits, Range, Repeated, Order, StartOrder}
+use Rattle.text.specs.declared.Fault.the-variants.{NoHigh}
 use Rattle.text.specs.Faults.{refuses, faultNumber}
 use Rattle.read_write.specs.declared.read.ReadAnswer.{ReadAnswer}
 use Rattle.read_write.specs.declared.read.ReadAnswer.the-variants as read
@@ -30,6 +31,7 @@ short-read (read.Faulty fault line) k e = absurd (not-short fault e)
     not-short Repeated h = let z : _≡_ {A = ℕ} 4 21 = cc in absurd (omega arith)
     not-short Order h = let z : _≡_ {A = ℕ} 5 21 = cc in absurd (omega arith)
     not-short StartOrder h = let z : _≡_ {A = ℕ} 33 21 = cc in absurd (omega arith)
+    not-short NoHigh h = let z : _≡_ {A = ℕ} 35 21 = cc in absurd (omega arith)
 
 -- Read's promise with its cause pins Read's answer.
 pub readAnswer-unique : {text store exit exit′ : List ℕ} (r q : ReadAnswer)

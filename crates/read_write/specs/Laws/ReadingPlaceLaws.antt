@@ -13,10 +13,10 @@ use Rattle.text.specs.Bytes.{byteE, lineEnd}
 use Rattle.text.specs.Faults.{refuses}
 use Rattle.text.specs.Limits.{textLimit}
 use Rattle.text.specs.Lines.{Line, good, bad, headOf, actionOf, startOf, stepOf}
-use Rattle.text.specs.Model.{Model, withAction, withExtraStart, withStep}
+use Rattle.text.specs.Model.{Model, someHigh?, withAction, withExtraStart, withStep}
 use Rattle.read_write.specs.ReadPromise.{readingOutcome}
 use Rattle.model.specs.Reading.{Reading, done, tooLong, faulty, onLine, orFault, readNothing, readEnd, readSteps}
-use Rattle.model.specs.Reading.{startLines, readStarts, readActions, headModel, readModel, readText}
+use Rattle.model.specs.Reading.{startLines, readStarts, behindActions, readActions, headModel, readModel, readText}
 use Rattle.text.specs.Split.{split, same?}
 use Rattle.text.specs.Laws.SplitLaws.{split-length-le}
 
@@ -75,8 +75,9 @@ module _ (n : ℕ) where
 
   place-actions : (i k : ℕ) (m : Model) (parts : List (List ℕ)) → k + length parts ≤ n
       → PlaceLe (readActions i k m parts)
-  unfolding readActions
-  place-actions zero k m parts l = place-starts (startLines parts) k m parts l
+  unfolding readActions behindActions
+  place-actions zero k m parts l =
+      place-cond (someHigh? (m .actions)) _ _ (place-starts (startLines parts) k m parts l) (omega arith)
   place-actions (suc i) k m parts l = place-onLine k parts _ l (λ line rest h.
       place-orFault k (actionOf (m .actions) line) _ (omega arith) (λ a.
       place-actions i (suc k) (withAction m a) rest h))

@@ -1,6 +1,6 @@
 -- How far a text has been read: what the store holds after some of its lines, and that what remains reads as the
 -- whole does.
--- Only the contracts of inner functions cite it. Document 01, "The text" and "The model store"; document 02, (iii).
+-- Only the contracts of inner functions cite it. Document 01, "The text" and "The model store"; document 02, (iii) and (vi).
 use mathlib.Core.List.{List, []}
 use mathlib.Core.Path.{_≡_}
 use Prim.Native.Nat.{ℕ, _+_, _-_, _≤_, _<_}
@@ -30,10 +30,11 @@ use Rattle.reader.specs.Answers.{readingStore, ReadAs}
 abbrev pub whole : List ℕ → Reading
 whole text = readModel (split lineEnd text)
 
--- A line begins inside the text, and each line before it but the first has at least its line end, so that the lines
--- are no more than the bytes and two.
+-- A line begins inside the text. Lines are counted from 1, and each line before it but the first has at least its line
+-- end, so that the lines are no more than the bytes and two.
 pub record InText (text : List ℕ) (from : LineStart) : Type 0 where
   pub place : from .at ≤ length text
+  pub line-pos : 0 < from .line
   pub line-le : from .line ≤ from .at + 2
 
 -- the parts of the text from a line on
@@ -74,6 +75,10 @@ pub record AfterStart (h : Head) (text : List ℕ) (from : LineStart) (i last : 
   pub rest : whole text
       ≡ readStarts (startLines (partsFrom text from)) (from .line)
       (record { head = h; actions = actions; extraStarts = extraStarts; steps = [] }) (partsFrom text from)
+
+-- after all actions, one of which is high
+abbrev pub AfterAllActions : Head → List ℕ → LineStart → List ℕ → Type 0
+AfterAllActions h text from store = AfterStart h text from 0 (h .start .0) store
 
 -- after all actions, all extra starts and j steps, of which `last` is the last
 pub record AfterStep (h : Head) (text : List ℕ) (from : LineStart) (j : ℕ) (last : StepLine) (store : List ℕ)

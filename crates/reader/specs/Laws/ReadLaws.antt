@@ -145,7 +145,7 @@ afterActions-length h text start i store b l =
 pub inText-next : (text : List ℕ) (start : LineStart) (e : ℕ) → InText text start
     → e ≡ start .at + indexOf lineEnd (drop (start .at) text) → e < length text
     → InText text (record { at = e + 1; line = start .line + 1 })
-inText-next text start e b found l = let n = b .line-le in record { place = omega arith; line-le = omega arith }
+inText-next text start e b found l = let n = b .line-le in record { place = omega arith; line-pos = omega arith; line-le = omega arith }
 
 module _ (h : Head) (text : List ℕ) (start : LineStart) (i : ℕ) (store : List ℕ) (b : AfterActions h text start i store)
     (lt : i < h .actions) where

@@ -19,13 +19,13 @@ use Rattle.text.specs.Laws.RangesLaws.{startFits?→lt, aboveStarts?→lt}
 use Rattle.text.specs.Model.{Model, withExtraStart}
 use Rattle.text.specs.Lines.{startOf}
 use Rattle.text.specs.Inner.Row.{LineTaken, LineRefused}
-use Rattle.model.specs.Reading.{Reading, faulty, onLine, orFault, startLine?, startLines, readStarts, readActions}
+use Rattle.model.specs.Reading.{Reading, faulty, onLine, orFault, startLine?, startLines, readStarts}
 use Rattle.model.specs.Laws.Text.LineTextLaws.{line-of-startOf}
-use Rattle.model.specs.Laws.Store.StartsLaws.{lastStart-nil, lastStart-snoc}
+use Rattle.model.specs.Laws.Store.StartsLaws.{lastStart-snoc}
 use Rattle.model.specs.Laws.Store.StoreLaws.{storeOf-length-of-places}
-use Rattle.model.specs.Laws.Store.PutLaws.{actionsNumbers-length-of-short, storeOf-withExtraStart}
+use Rattle.model.specs.Laws.Store.PutLaws.{storeOf-withExtraStart}
 use Rattle.reader.specs.declared.answers.LineStart.{LineStart}
-use Rattle.reader.specs.Inner.ReadSoFar.{whole, partsFrom, AfterActions, AfterStart, AfterStarts}
+use Rattle.reader.specs.Inner.ReadSoFar.{whole, partsFrom, AfterStart, AfterStarts}
 use Rattle.reader.specs.Laws.ReadLaws.{line-refused, line-taken, inText-next}
 
 -- ---- the lines that begin with `I`
@@ -77,28 +77,6 @@ module _ (text : List ℕ) (from : LineStart) where
       go line (part ∷ parts) s = rw s
 
 -- ---- the extra starts
-
--- after the last action come the extra starts
-pub after-actions : (h : Head) (text : List ℕ) (from : LineStart) (store : List ℕ)
-    → AfterActions h text from (h .actions) store → AfterStart h text from 0 (h .start .0) store
-unfolding readActions
-after-actions h text from store b =
-    let z : h .actions - h .actions ≡ 0 = omega arith in
-    let n = actionsNumbers-length-of-short (b .actions) (b .short) in
-    let m = b .ranges .actions in
-    record {
-      ranges = b .ranges;
-      inside = b .inside;
-      actions = b .actions;
-      action-places = omega (arith, n, m, b .count);
-      extraStarts = [];
-      count = refl;
-      last-start = lastStart-nil (h .start .0);
-      count-le = omega arith;
-      last-lt = b .ranges .start;
-      stored = b .stored;
-      rest = b .rest ∙ rw z;
-    }
 
 module _ (h : Head) (text : List ℕ) (from : LineStart) (i last : ℕ) (store : List ℕ)
     (b : AfterStart h text from i last store) where

@@ -102,7 +102,7 @@ after-first r text at e b = go (split lineEnd text) refl r e
     go (line ∷ part ∷ parts) s (head-read.Good h) d =
         record {
           ranges = headOf-ranges line h (sym d);
-          inside = record { place = b .place; line-le = omega arith };
+          inside = record { place = b .place; line-pos = omega arith; line-le = omega arith };
           rest = rw (s, ← d, b .rest line part parts s);
         }
     go (line ∷ part ∷ parts) s (head-read.Bad f) d = rw (s, ← d)

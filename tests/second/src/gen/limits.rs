@@ -4,7 +4,7 @@ use std::collections::BTreeSet;
 
 use super::deep::{chain, chain_behind_releases, deep_model};
 use super::models::{passing_model, random_model};
-use super::parts::{Steps, NAME_BYTES};
+use super::parts::{named, Steps, NAME_BYTES};
 use super::starts::with_all_starts;
 use super::wide::greatest_roll;
 use super::Rng;
@@ -27,6 +27,13 @@ pub fn limit_models(rng: &mut Rng) -> Vec<(&'static str, Model)> {
         ("greatest roll", greatest_roll()),
     ]);
     models.extend(all_starts(rng, &actions));
+    models.extend([
+        ("shortest text", shortest_text()),
+        ("one high action, the first", one_high(&actions, 0)),
+        ("one high action, the last", one_high(&actions, 63)),
+        ("one high action, in between", one_high(&actions, 31)),
+        ("one high action, no steps", unused_high(&actions)),
+    ]);
     models
 }
 
@@ -103,6 +110,37 @@ fn one_state(actions: &[Action]) -> Model {
         extra_starts: Vec::new(),
         actions: actions.to_vec(),
         steps: (0..64).map(|action| Step::new(0, action, 0)).collect(),
+    }
+}
+
+/// As little as a text may have: one action, which is high, and no step.
+fn shortest_text() -> Model {
+    Model {
+        states: 1,
+        start: 0,
+        extra_starts: Vec::new(),
+        actions: vec![named(Level::High, "a")],
+        steps: Vec::new(),
+    }
+}
+
+/// One state with all its 64 steps, of which just one is high.
+fn one_high(actions: &[Action], high: usize) -> Model {
+    let mut model = one_state(actions);
+    for (action, entry) in model.actions.iter_mut().enumerate() {
+        entry.level = match action {
+            _ if action == high => Level::High,
+            _ => [Level::Low, Level::Release][action % 2],
+        };
+    }
+    model
+}
+
+/// The same with no steps.
+fn unused_high(actions: &[Action]) -> Model {
+    Model {
+        steps: Vec::new(),
+        ..one_high(actions, 31)
     }
 }
 

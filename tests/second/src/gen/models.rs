@@ -18,23 +18,9 @@ pub fn random_model(
     deterministic: bool,
 ) -> Model {
     let actions = actions(rng, action_count);
-    let mut steps = Steps::new(deterministic);
     let start = rng.below(states);
-    // Some models get a tree of steps first, so that most states are reachable.
-    if step_count + 1 >= states && rng.percent(50) {
-        let order = rng.order(states);
-        for (index, &target) in order.iter().enumerate().skip(1) {
-            let source = order[rng.below(index)];
-            steps.add(source, rng.below(action_count) as u16, target);
-        }
-    }
-    for _ in 0..2 * step_count {
-        if steps.steps.len() >= step_count {
-            break;
-        }
-        let (source, target) = (rng.below(states), rng.below(states));
-        steps.add(source, rng.below(action_count) as u16, target);
-    }
+    let played: Vec<u16> = (0..action_count as u16).collect();
+    let steps = random_steps(rng, states, &played, step_count, deterministic);
     let model = Model {
         states: states as u16,
         start: start as u16,
@@ -45,12 +31,88 @@ pub fn random_model(
     with_some_starts(rng, model)
 }
 
+/// Random steps of these actions, at most as many as asked for.
+fn random_steps(
+    rng: &mut Rng,
+    states: usize,
+    actions: &[u16],
+    step_count: usize,
+    deterministic: bool,
+) -> Steps {
+    let mut steps = Steps::new(deterministic);
+    if actions.is_empty() {
+        return steps;
+    }
+    // Some models get a tree of steps first, so that most states are reachable.
+    if step_count + 1 >= states && rng.percent(50) {
+        let order = rng.order(states);
+        for (index, &target) in order.iter().enumerate().skip(1) {
+            let source = order[rng.below(index)];
+            steps.add(source, *rng.pick(actions), target);
+        }
+    }
+    for _ in 0..2 * step_count {
+        if steps.steps.len() >= step_count {
+            break;
+        }
+        let (source, target) = (rng.below(states), rng.below(states));
+        steps.add(source, *rng.pick(actions), target);
+    }
+    steps
+}
+
 /// A small model: at most 12 states and 6 actions.
 pub fn small_model(rng: &mut Rng, deterministic: bool) -> Model {
     let states = rng.between(1, 12);
     let actions = rng.between(1, 6);
     let steps = rng.below(states * actions + 3);
     random_model(rng, states, actions, steps, deterministic)
+}
+
+/// A model of at most 12 states with one high action alone, which stands first,
+/// last or in between and in many cases has no step. Some have no other action,
+/// some as many as there may be.
+pub fn one_high_model(rng: &mut Rng, deterministic: bool) -> Model {
+    let levels = one_high(rng);
+    let unused = rng.percent(40);
+    let numbered = (0..).zip(&levels);
+    let played = numbered.filter(|&(_, &level)| !unused || level != Level::High);
+    let played: Vec<u16> = played.map(|(action, _)| action).collect();
+    let states = rng.between(1, 12);
+    let step_count = rng.below(states * levels.len().min(6) + 3);
+    let steps = random_steps(rng, states, &played, step_count, deterministic);
+    let model = Model {
+        states: states as u16,
+        start: rng.below(states) as u16,
+        extra_starts: Vec::new(),
+        actions: actions_of(rng, &levels),
+        steps: steps.into_vec(),
+    };
+    with_some_starts(rng, model)
+}
+
+/// Levels of which one is high.
+fn one_high(rng: &mut Rng) -> Vec<Level> {
+    let count = match rng.below(4) {
+        0 => 1,
+        1 => MOST_ACTIONS,
+        _ => rng.between(2, 12),
+    };
+    let high = match rng.below(3) {
+        0 => 0,
+        1 => count - 1,
+        _ => rng.below(count),
+    };
+    let low = *rng.pick(&[0, 50, 80, 100]);
+    let mut levels = Vec::new();
+    for action in 0..count {
+        levels.push(match rng.percent(low) {
+            _ if action == high => Level::High,
+            true => Level::Low,
+            false => Level::Release,
+        });
+    }
+    levels
 }
 
 /// A small model in which a low action is missing from few states, so that
@@ -212,7 +274,8 @@ pub fn any_model(rng: &mut Rng) -> Model {
 
 fn any_kind(rng: &mut Rng, deterministic: bool) -> Model {
     let model = match rng.below(100) {
-        0..=24 => small_model(rng, deterministic),
+        0..=20 => small_model(rng, deterministic),
+        21..=24 => one_high_model(rng, deterministic),
         25..=49 => narrow_model(rng, deterministic),
         50..=64 => {
             let states = rng.between(1, 12);

@@ -1,9 +1,9 @@
 //! Damaged stores.
 
-use super::parts::NAME_BYTES;
+use super::parts::{of_level, NAME_BYTES};
 use super::{some_of, Rng};
 use crate::store::{
-    action_place, extra_start_place, step_place, Model, Step, EXTRA_STARTS, LONGEST_NAME,
+    action_place, extra_start_place, step_place, Level, Model, Step, EXTRA_STARTS, LONGEST_NAME,
     MOST_ACTIONS, MOST_EXTRA_STARTS, MOST_STEPS, STORE,
 };
 
@@ -29,6 +29,7 @@ pub fn bad_stores(model: &Model) -> Vec<(&'static str, Vec<u16>)> {
             list.add("unused action", &[(action_place(i) + k, 1)]);
         }
     }
+    list.no_high();
     some_of(0, steps).into_iter().for_each(|j| list.step(j));
     some_of(1, steps).into_iter().for_each(|j| list.order(j));
     for j in some_of(steps, MOST_STEPS) {
@@ -146,6 +147,17 @@ impl BadStores<'_> {
         self.add("name used before", &copied);
     }
 
+    /// Other levels in place of each high one (request (vi) of document 02).
+    fn no_high(&mut self) {
+        let high = of_level(&self.model.actions, Level::High);
+        let places: Vec<usize> = high.into_iter().map(level_place).collect();
+        for levels in [[0, 0], [1, 1], [0, 1], [1, 0]] {
+            let levels = levels.into_iter().cycle();
+            let lost: Vec<(usize, u16)> = places.iter().copied().zip(levels).collect();
+            self.add("no high action", &lost);
+        }
+    }
+
     /// A step's numbers outside their ranges.
     fn step(&mut self, j: usize) {
         let place = step_place(j);
@@ -221,6 +233,12 @@ pub fn mutated_store(rng: &mut Rng, model: &Model) -> Vec<u16> {
             return store;
         }
     }
+    if rng.percent(15) {
+        change_levels(rng, model, &mut store);
+        if rng.percent(70) {
+            return store;
+        }
+    }
     for _ in 0..rng.between(1, 2) {
         let place = match rng.below(11) {
             0 => rng.below(4),
@@ -251,6 +269,38 @@ fn add_start(rng: &mut Rng, model: &Model, store: &mut [u16]) {
         store[EXTRA_STARTS] += 1;
         store[extra_start_place(count)] = rng.below(usize::from(model.states) + 2) as u16;
     }
+}
+
+/// Other levels in place of each high one, or in one place.
+fn change_levels(rng: &mut Rng, model: &Model, store: &mut [u16]) {
+    if rng.percent(50) {
+        lose_high(rng, model, store);
+    } else {
+        let action = rng.below(model.actions.len()) as u16;
+        store[level_place(action)] = rng.below(4) as u16;
+    }
+}
+
+/// Other levels in place of each high one: all low, all releases, or some of
+/// both.
+fn lose_high(rng: &mut Rng, model: &Model, store: &mut [u16]) {
+    let levels = *rng.pick(&[&[0][..], &[1], &[0, 1]]);
+    for action in of_level(&model.actions, Level::High) {
+        store[level_place(action)] = *rng.pick(levels);
+    }
+}
+
+/// A store that has no high action, and nothing else wrong. It is not good
+/// (request (vi) of document 02).
+pub fn no_high_store(rng: &mut Rng, model: &Model) -> Vec<u16> {
+    let mut store = model.to_store();
+    lose_high(rng, model, &mut store);
+    store
+}
+
+/// Place of an action's level.
+fn level_place(action: u16) -> usize {
+    action_place(usize::from(action))
 }
 
 /// A store of random numbers.

@@ -3,11 +3,13 @@
 mod changes;
 mod ends;
 mod fields;
+mod high;
 mod lines;
 mod pairs;
 mod starts;
 
 pub use changes::{mutated_text, scrap_text};
+pub use high::no_high_text;
 pub use pairs::{BadLine, Kind};
 
 use std::collections::BTreeSet;
@@ -34,6 +36,7 @@ pub fn faults(model: &Model) -> Vec<Fault> {
     lines::add(&mut list, model);
     fields::add(&mut list, model);
     starts::add(&mut list, model);
+    high::add(&mut list, model);
     ends::add(&mut list, model);
     let bad_lines = pairs::bad_lines(&list, model);
     list.faults
@@ -69,6 +72,11 @@ impl<'a> Faults<'a> {
             last: lines.len() - 1,
             faults: Vec::new(),
         }
+    }
+
+    /// The line of the last action.
+    fn last_action(&self) -> usize {
+        self.first_start - 1
     }
 
     /// The first and the last line, and some of those between.

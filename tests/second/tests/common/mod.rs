@@ -1,6 +1,8 @@
 //! Lists to lend, and what the operations must leave in them.
 #![allow(dead_code)]
 
+pub mod operations;
+
 use std::collections::BTreeSet;
 
 use second::book::{entry_number, Entry};

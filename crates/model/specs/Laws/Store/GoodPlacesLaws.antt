@@ -14,7 +14,7 @@ use Rattle.text.specs.Limits.{stepsBegin, stepSize, stepsLength, stepsEnd, extr
 use Rattle.text.specs.Limits.{storeLength}
 use Rattle.text.specs.Limits.{actionPlace, nameLengthPlace, namePlace, stepPlace, actionOfStepPlace, targetPlace}
 use Rattle.text.specs.Bytes.{between?}
-use Rattle.text.specs.Model.{ActionLine, noAction, aboveLast?}
+use Rattle.text.specs.Model.{aboveLast?}
 use Rattle.text.specs.Lines.{allOf, nameByte?, name?, used?}
 use Rattle.model.specs.Store.{padded, actionNumbers, actionsNumbers, stepRow, stepsNumbers, headRow}
 use Rattle.model.specs.Store.{extraNumbers, storeOf}
@@ -24,8 +24,8 @@ use Rattle.text.specs.Inner.Ranges.{HeadRanges}
 use Rattle.text.specs.Laws.BytesLaws.{le→between?}
 use Rattle.text.specs.Laws.RangesLaws.{headFits?→HeadRanges, lt→aboveStarts?}
 use Rattle.model.specs.Laws.Store.StartsLaws.{lastStart-listed}
-use Rattle.model.specs.Laws.Store.StoredModelLaws.{listed-length, listed-getD, listed-take}
-use Rattle.model.specs.Laws.Store.LevelsLaws.{Some→someHigh?}
+use Rattle.model.specs.Laws.Store.StoredModelLaws.{listed-length, listed-take}
+use Rattle.model.specs.Laws.Store.LevelsLaws.{someHigh?-shown}
 use Rattle.model.specs.Inner.GoodPlaces.{nameLengthAt, GoodAction, GoodPlaces}
 use Rattle.model.specs.Laws.Store.PlacesLaws.{part-length, part-cons, padded-part, getD→allOf}
 use Rattle.model.specs.Laws.Store.ListedLaws.{listed-each, used?-listed, blocks-listed}
@@ -92,10 +92,7 @@ module _ (s : List ℕ) (fits : storeLength ≤ length s) where
       action-count = listed-length (headAt s .actions) (actionAt s);
       step-count = listed-length (headAt s .steps) (stepAt s);
       actions = listed-each ActionFits (actionAt s) (headAt s .actions) action-fits;
-      some-high =
-          Some→someHigh? s _ (headAt s .actions) (listed-length (headAt s .actions) (actionAt s))
-          (λ i l. ap (λ (a : ActionLine). a .level) (sym (listed-getD (headAt s .actions) (actionAt s) noAction i l)))
-          (g .some-high);
+      some-high = someHigh?-shown s (g .some-high);
       extra-starts = listed-each (StartFits (headAt s)) (extraStartAt s) (extraCountAt s) start-fits;
       steps = listed-each (StepFits (headAt s)) (stepAt s) (headAt s .steps) step-fits;
     }

@@ -13,7 +13,7 @@ use Rattle.text.specs.Limits.{actionLimit, nameLimit, actionsBegin, actionsLeng
 use Rattle.text.specs.Limits.{stepsBegin, stepsLength, stepsEnd, extraCountPlace, extraBegin, extraEnd, extraLimit}
 use Rattle.text.specs.Limits.{storeLength, actionPlace, namePlace, stepPlace, extraPlace}
 use Rattle.text.specs.Bytes.{between?}
-use Rattle.text.specs.Model.{ActionLine, noAction, above?, aboveLast?}
+use Rattle.text.specs.Model.{ActionLine, above?, aboveLast?}
 use Rattle.text.specs.Lines.{allOf, nameByte?, name?, used?}
 use Rattle.model.specs.Store.{padded, actionNumbers, actionsNumbers, stepsNumbers, headRow, extraNumbers, storeOf}
 use Rattle.model.specs.WellFormed.{ActionFits, StartFits, StepFits}
@@ -25,9 +25,9 @@ use Rattle.model.specs.Laws.Text.ActionLineLaws.{name-length}
 use Rattle.model.specs.Laws.Store.StoreLaws.{actionsNumbers-length, stepsNumbers-length}
 use Rattle.model.specs.Laws.Store.StoreLaws.{beforeSteps-length, actions-places, storeOf-action}
 use Rattle.model.specs.Laws.Store.StartsLaws.{lastStart-listed, extra-count-le}
-use Rattle.model.specs.Laws.Store.StoredModelLaws.{listed-length, listed-getD, getD-of-drop, holds-store, actionAt-holds}
+use Rattle.model.specs.Laws.Store.StoredModelLaws.{listed-length, getD-of-drop, holds-store, actionAt-holds}
 use Rattle.model.specs.Laws.Store.StoredModelLaws.{extra-drop}
-use Rattle.model.specs.Laws.Store.LevelsLaws.{someHigh?→Some}
+use Rattle.model.specs.Laws.Store.LevelsLaws.{shown-someHigh?}
 use Rattle.model.specs.Inner.GoodPlaces.{nameLengthAt, GoodAction, GoodStep, GoodStart, GoodStarts, GoodPlaces}
 use Rattle.model.specs.Laws.Store.PlacesLaws.{padded-zero, allOf→getD}
 use Rattle.model.specs.Laws.Store.ListedLaws.{each-listed, listed-used?}
@@ -204,8 +204,5 @@ module _ (s : List ℕ) (fits : storeLength ≤ length s) where
     unused-actions = record { at = action-zeros holds };
     unused-steps = record { at = step-zeros holds };
     extra-starts = Holds→GoodStarts holds;
-    some-high =
-        someHigh?→Some s _ (headAt s .actions) (listed-length (headAt s .actions) (actionAt s))
-        (λ i l. ap (λ (a : ActionLine). a .level) (sym (listed-getD (headAt s .actions) (actionAt s) noAction i l)))
-        (holds .well-formed .some-high);
+    some-high = shown-someHigh? s (holds .well-formed .some-high);
   }

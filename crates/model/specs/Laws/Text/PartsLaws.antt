@@ -28,39 +28,10 @@ use Rattle.model.specs.Inner.LineText.{lineOfHead, lineOfAction, lineOfS
 use Rattle.model.specs.Inner.StatedLines.{Stated}
 use Rattle.model.specs.Laws.Text.LinesReadLaws.{onLine-cons, onLine-done, orFault-done, lines-read}
 use Rattle.model.specs.Laws.Text.LinesReadLaws.{lines-of-done, stated-after}
+use Rattle.model.specs.Laws.Text.EndLaws.{readEnd-last, readEnd-done}
 use Rattle.model.specs.Laws.Text.LineTextLaws.{headOf-line, line-of-headOf, startOf-line, line-of-startOf}
 use Rattle.model.specs.Laws.Text.LineTextLaws.{stepOf-line, line-of-stepOf}
 use Rattle.model.specs.Laws.Text.ActionLineLaws.{actionOf-line, line-of-actionOf}
-
--- ---- the end
-
-readEnd-last : (k : ℕ) (m : Model) → readEnd k m ((byteE ∷ []) ∷ [] ∷ []) ≡ done m
-unfolding readEnd onLine same? readNothing
-readEnd-last k m = refl
-
-readNothing-done : (k : ℕ) (m n : Model) (parts : List (List ℕ)) → 0 < length parts → readNothing k m parts ≡ done n
-    → (parts ≡ [] ∷ []) × (m ≡ n)
-unfolding readNothing
-readNothing-done k m n [] l h = absurd (omega arith)
-readNothing-done k m n ([] ∷ []) l h = (refl, cc)
-readNothing-done k m n ([] ∷ part ∷ parts) l h = let z : _≡_ {A = ℕ} 0 1 = cc in absurd (omega arith)
-readNothing-done k m n ((b ∷ bs) ∷ parts) l h = let z : _≡_ {A = ℕ} 0 1 = cc in absurd (omega arith)
-
-readEnd-done : (k : ℕ) (m n : Model) (parts : List (List ℕ)) → readEnd k m parts ≡ done n
-    → (parts ≡ (byteE ∷ []) ∷ [] ∷ []) × (m ≡ n)
-unfolding readEnd
-readEnd-done k m n parts h =
-    let o = onLine-done k parts _ n h in by-test (o .0) (o .1) (o .2) (o .3) (same? (o .0) (byteE ∷ [])) refl (o .4)
-  where
-    by-test : (line : List ℕ) (rest : List (List ℕ)) → parts ≡ line ∷ rest → 0 < length rest
-        → (t : Bool) → same? line (byteE ∷ []) ≡ t → cond t (readNothing (suc k) m rest) (faulty Shape k) ≡ done n
-        → (parts ≡ (byteE ∷ []) ∷ [] ∷ []) × (m ≡ n)
-    by-test line rest p l true e q =
-        let a = same?→eq line (byteE ∷ []) (subst T (sym e) tt) in
-        let b = readNothing-done (suc k) m n rest l q in
-        let c = b .0 in
-        (cc, b .1)
-    by-test line rest p l false e q = let z : _≡_ {A = ℕ} 0 1 = cc in absurd (omega arith)
 
 -- ---- the parts of a text
 
@@ -148,12 +119,12 @@ module _ (h : Head) (actions : List ActionLine) where
 -- ---- behind the actions
 
 module _ (k : ℕ) (m : Model) (parts : List (List ℕ)) where
-  behindActions-high : T (someHigh? (m .actions))
+  pub behindActions-high : T (someHigh? (m .actions))
       → behindActions k m parts ≡ readStarts (startLines parts) k m parts
   unfolding behindActions
   behindActions-high t = rw (T→true (someHigh? (m .actions)) t)
 
-  behindActions-no-high : T (not (someHigh? (m .actions))) → behindActions k m parts ≡ faulty NoHigh (k - 1)
+  pub behindActions-no-high : T (not (someHigh? (m .actions))) → behindActions k m parts ≡ faulty NoHigh (k - 1)
   unfolding behindActions
   behindActions-no-high t = rw (not-T→false (someHigh? (m .actions)) t)
 

@@ -12,7 +12,7 @@ use Rattle.text.specs.Inner.Row.{LineTaken}
 use Rattle.text.specs.Laws.DecidesLaws.{decides-true, decides-false}
 use Rattle.text.specs.Laws.ScanLaws.{start-at-good, start-at-bad}
 use Rattle.reader.specs.Inner.ReadSoFar.{AfterStart, Further}
-use Rattle.reader.specs.Laws.ReadStartsLaws.{after-actions, afterStart-length, after-starts}
+use Rattle.reader.specs.Laws.ReadStartsLaws.{afterStart-length, after-starts}
 use Rattle.reader.specs.Laws.ReadStartsLaws.{start-refused, start-room, start-taken}
 use Rattle.reader.proofs.starts.starts.Statement.{statement}
 use Rattle.reader.proofs.starts.starts.Tie as tie
@@ -47,7 +47,7 @@ room c =
     start-room _ _ _ (l .loop .i) _ _ (l .loop .inv .1) _ _ (named c)
 
 loop-holds : tie.Need-loop-holds Inv-loop μ-loop
-loop-holds c = (refl, after-actions _ _ _ _ (c .before .before .before .pre))
+loop-holds c = (refl, c .before .before .before .pre)
 
 is-start-line-requires : tie.Need-is-start-line-requires Inv-loop μ-loop
 is-start-line-requires c κs = search needs

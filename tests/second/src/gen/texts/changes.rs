@@ -22,7 +22,7 @@ pub fn mutated_text(rng: &mut Rng, text: &[u8]) -> Vec<u8> {
 /// One change, of most kinds at this place.
 fn change(rng: &mut Rng, text: &mut Vec<u8>, place: usize, byte: u8) {
     let inside = place < text.len();
-    match rng.below(15) {
+    match rng.below(17) {
         0 | 1 => text.insert(place, byte),
         2 | 3 if inside => {
             text.remove(place);
@@ -41,6 +41,7 @@ fn change(rng: &mut Rng, text: &mut Vec<u8>, place: usize, byte: u8) {
         }
         9 | 10 => *text = with_number_changed(rng, text),
         11..=13 => *text = with_starts_changed(rng, text),
+        14 | 15 => *text = with_levels_changed(rng, text),
         _ => *text = with_lines_swapped(rng, text),
     }
 }
@@ -52,6 +53,26 @@ fn with_lines_swapped(rng: &mut Rng, text: &[u8]) -> Vec<u8> {
     }
     let (one, other) = (rng.below(lines.len()), rng.below(lines.len()));
     lines.swap(one, other);
+    join(&lines)
+}
+
+/// A text with another level in place of each H, or in one `A` line.
+fn with_levels_changed(rng: &mut Rng, text: &[u8]) -> Vec<u8> {
+    let mut lines = lines_of(text);
+    let has_level = |line: &&mut Vec<u8>| line.starts_with(b"A,") && line.len() > 2;
+    let mut actions: Vec<&mut Vec<u8>> = lines.iter_mut().filter(has_level).collect();
+    if actions.is_empty() {
+        return text.to_vec();
+    }
+    if rng.percent(60) {
+        let levels = *rng.pick(&[&b"L"[..], b"D", b"LD"]);
+        for line in actions.iter_mut().filter(|line| line[2] == b'H') {
+            line[2] = *rng.pick(levels);
+        }
+    } else {
+        let index = rng.below(actions.len());
+        actions[index][2] = *rng.pick(b"LDH");
+    }
     join(&lines)
 }
 
@@ -133,6 +154,7 @@ pub fn scrap_text(rng: &mut Rng) -> Vec<u8> {
         b"M,1,1,0,0\n",
         b"A,L,a\n",
         b"A,H,b\n",
+        b"A,D,c\n",
         b"I,1\n",
         b"S,0,0,1\n",
         b"S,0,1,1\n",

@@ -65,7 +65,7 @@ fn sizes(list: &mut Faults, text: &[u8]) {
 }
 
 /// Bad lines of every kind, by index, each with its cause.
-fn bad_lines(list: &Faults, model: &Model) -> Vec<(usize, Vec<u8>, Cause)> {
+pub(super) fn bad_lines(list: &Faults, model: &Model) -> Vec<(usize, Vec<u8>, Cause)> {
     let lines = list.lines;
     let outside = model.states.to_string().into_bytes();
     let changed = |index: usize, field: usize, new: &[u8]| with_field(&lines[index], field, new);

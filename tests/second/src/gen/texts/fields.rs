@@ -1,7 +1,7 @@
 //! Faults of the fields of one kind of line, and of the order of steps.
 
 use super::{fields_of, join, some_of, with_field, Faults};
-use crate::store::{Level, Model, Step, MOST_ACTIONS, MOST_STATES, MOST_STEPS};
+use crate::store::{Action, Level, Model, Step, MOST_ACTIONS, MOST_STATES, MOST_STEPS};
 use crate::text::Cause;
 
 pub(super) fn add(list: &mut Faults, model: &Model) {
@@ -109,11 +109,14 @@ fn counts(list: &mut Faults, model: &Model) {
         let what = "an action too few";
         list.counted(what, (2, actions + 1), Cause::Letter, actions + 2);
     }
-    // A high action is left.
-    let is_high = |action: &crate::Action| action.level == Level::High;
-    if model.actions[..actions - 1].iter().any(is_high) {
-        let what = "an action too many";
-        list.counted(what, (2, actions - 1), Cause::Letter, actions + 1);
+    if actions > 1 {
+        // Whether a high action is left.
+        let is_high = |action: &Action| action.level == Level::High;
+        let (cause, place) = match model.actions[..actions - 1].iter().any(is_high) {
+            true => (Cause::Letter, actions + 1),
+            false => (Cause::NoHigh, actions),
+        };
+        list.counted("an action too many", (2, actions - 1), cause, place);
     }
     let before_steps = actions + model.extra_starts.len();
     let end = before_steps + steps;

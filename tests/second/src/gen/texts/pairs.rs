@@ -3,6 +3,7 @@
 use std::iter;
 use std::ops::Range;
 
+use super::high::without_high;
 use super::starts::before_start;
 use super::{fields_of, join, Fault, Faults};
 use crate::store::{Model, Step, MOST_ACTIONS, MOST_STEPS};
@@ -37,32 +38,56 @@ pub struct BadLine {
 pub(super) fn bad_lines(list: &Faults, model: &Model) -> Vec<BadLine> {
     let mut bad = Vec::new();
     for index in list.everywhere() {
-        let damages = damages(list, model, index);
-        for one in &damages {
-            bad.push(bad_line(list, index, one, None));
-            let together = |other: &&Damage| other.cause > one.cause && !other.overlaps(one);
-            for other in damages.iter().filter(together) {
-                bad.push(bad_line(list, index, one, Some(other)));
-            }
-        }
+        bad.extend(bad_lines_at(list, model, index));
     }
     bad.extend(after_end(list));
     bad
 }
 
+/// Those at one line.
+pub(super) fn bad_lines_at(list: &Faults, model: &Model, index: usize) -> Vec<BadLine> {
+    let mut bad = Vec::new();
+    let damages = damages(list, model, index);
+    for one in &damages {
+        bad.push(bad_line(list, index, one, None));
+        let together = |other: &&Damage| other.cause > one.cause && !other.overlaps(one);
+        for other in damages.iter().filter(together) {
+            bad.push(bad_line(list, index, one, Some(other)));
+        }
+    }
+    bad
+}
+
 /// A change to a line that brings in one cause: other fields in place of these,
 /// of which the letter is field 0. Without its line end the line has the same
-/// fields, but the text ends with it.
+/// fields, but the text ends with it. Without a high action it has the same
+/// fields but for its level, and the other levels of the text are changed too.
 struct Damage {
     cause: Cause,
     fields: Range<usize>,
     new: Vec<Vec<u8>>,
+    /// In place of each H of the text.
+    level: Option<u8>,
 }
 
 impl Damage {
     fn new(cause: Cause, fields: Range<usize>, new: &[&[u8]]) -> Damage {
         let new = new.iter().map(|field| field.to_vec()).collect();
-        Damage { cause, fields, new }
+        let level = None;
+        Damage {
+            cause,
+            fields,
+            new,
+            level,
+        }
+    }
+
+    /// Another level in place of each high one.
+    fn no_high(level: u8) -> Damage {
+        Damage {
+            level: Some(level),
+            ..Damage::new(Cause::NoHigh, 1..1, &[])
+        }
     }
 
     /// Other bytes in one field.
@@ -141,7 +166,8 @@ fn outside_step(model: &Model) -> [usize; 3] {
     [usize::from(model.states), model.actions.len(), 99_999]
 }
 
-/// A wrong level, a wrong name, and the name of the first action.
+/// A wrong level, a wrong name, and the name of the first action. In the last
+/// action's line also what is told if no action is high.
 fn action(list: &Faults, index: usize) -> Vec<Damage> {
     let mut damages = vec![
         Damage::field(Cause::Level, 1, b"X"),
@@ -150,6 +176,9 @@ fn action(list: &Faults, index: usize) -> Vec<Damage> {
     if index > 1 {
         let name = &fields_of(&list.lines[1])[2];
         damages.push(Damage::field(Cause::NameUsed, 2, name));
+    }
+    if index == list.last_action() {
+        damages.extend([b'L', b'D'].map(Damage::no_high));
     }
     damages
 }
@@ -206,14 +235,17 @@ fn bad_line(list: &Faults, index: usize, told: &Damage, also: Option<&Damage>) -
 
 /// The text with a line changed so.
 fn changed(list: &Faults, index: usize, damages: &[&Damage]) -> Vec<u8> {
-    let mut fields = fields_of(&list.lines[index]);
+    let mut lines = match damages.iter().find_map(|damage| damage.level) {
+        Some(level) => without_high(list, &[level]),
+        None => list.lines.to_vec(),
+    };
+    let mut fields = fields_of(&lines[index]);
     let mut damages = damages.to_vec();
     // From the last field on, so that the others keep their numbers.
     damages.sort_by_key(|damage| damage.fields.start);
     for damage in damages.iter().rev() {
         fields.splice(damage.fields.clone(), damage.new.clone());
     }
-    let mut lines = list.lines.to_vec();
     lines[index] = fields.join(&b","[..]);
     if damages.iter().any(|damage| damage.cause == Cause::NoLine) {
         let mut text = join(&lines[..=index]);
