@@ -1,6 +1,6 @@
 //! Stores as a caller may lend them: good, damaged, and of any length.
 use second::gen::{self, Rng};
-use second::store::{action_place, STORE};
+use second::store::STORE;
 use second::Model;
 use std::fmt;
 use std::ops::Deref;
@@ -43,14 +43,6 @@ impl Store {
         }
         store.wrong = Some(wrong);
         store
-    }
-
-    /// The store with its high actions made low or release, whichever this level is: it has no high action.
-    pub fn without_high(&self, level: u16) -> Store {
-        let places = (0..usize::from(self.numbers[1])).map(action_place);
-        let high = places.filter(|&place| self.numbers[place] == HIGH);
-        let changes: Vec<(usize, u16)> = high.map(|place| (place, level)).collect();
-        self.damaged("no high action", &changes)
     }
 
     /// The store as it is, with nothing and with one number too few, and with a few more.
@@ -96,9 +88,6 @@ pub fn damaged(rng: &mut Rng) -> Vec<Store> {
             wrong: Some(what),
             ..Store::made_of(&model, numbers)
         });
-    }
-    for level in [LOW, RELEASE] {
-        stores.push(Store::of(&model).without_high(level));
     }
     for _ in 0..20 {
         stores.push(Store::made_of(&model, gen::mutated_store(rng, &model)));

@@ -1,6 +1,6 @@
 //! Texts with every fault.
 use second::gen::{self, Fault, Rng};
-use second::{Level, Model};
+use second::Model;
 use std::collections::BTreeSet;
 
 /// Models of every kind whose texts are to be damaged: random ones, the longest of one start, two with no step, one of
@@ -40,17 +40,6 @@ pub fn one_of_each(rng: &mut Rng, model: &Model) -> Vec<Fault> {
         }
     }
     picked
-}
-
-/// The model as an exporter writes it that has lost the level H: each high action is low or a release.
-pub fn without_high(rng: &mut Rng, model: &Model) -> Model {
-    let mut lost = model.clone();
-    for action in &mut lost.actions {
-        if action.level == Level::High {
-            action.level = *rng.pick(&[Level::Low, Level::Release]);
-        }
-    }
-    lost
 }
 
 /// The letter that a line begins with; 0 after the last line.

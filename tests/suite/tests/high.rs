@@ -1,9 +1,11 @@
 //! Models without a high action: by hand what a text without one gets, and that one is enough, wherever it stands and
 //! though it has no step. By the operations, the programs and the script. What a store without one gets is in
 //! `refusals.rs`.
-use second::gen::{self, Rng};
+use std::collections::BTreeMap;
+
+use second::gen::{self, Fault, Rng};
 use second::store::{action_place, BOOK, STORE};
-use second::{Level, Model, Refusal, Verdict};
+use second::{Level, Model, Refusal, Step, Verdict};
 use suite::bench::{store_of, text_of, WORKED};
 use suite::lists::Lists;
 use suite::not_read;
@@ -11,7 +13,6 @@ use suite::operations::{on_stores, JUDGE, PAGE, PRINT, READ, WORD, WRITE};
 use suite::program::{LONGEST, TILL};
 use suite::script::with_book;
 use suite::stores::{Store, HIGH};
-use suite::texts::without_high;
 
 const SEED: u64 = 8_200;
 
@@ -332,10 +333,64 @@ fn a_high_action_without_a_step() {
     }
 }
 
-/// Models with steps of every action whose levels are lost: their texts, and their stores, which Read made before.
+/// Models with one high action, first, last or in between, with steps of it and without: each is read, and passes where
+/// there are none.
+#[test]
+fn models_with_one_high_action() {
+    let mut rng = gen::seeded("high::models_with_one_high_action", SEED + 4);
+    let (mut unused, mut refused) = (0, 0);
+    for round in 0..600 {
+        let model = gen::one_high_model(&mut rng, round % 2 == 0);
+        let store = read_and_written(&mut rng, &model.to_text());
+        let before = Lists::enough(&mut rng);
+        let passes = match JUDGE.same(&store, &before).0.expect("the store is good") {
+            Verdict::Passed { .. } => true,
+            Verdict::Refused { .. } => false,
+        };
+        assert!(PAGE.same(&store, &before).0.is_ok(), "{store}");
+        let is_high = |step: &Step| model.level(step.action) == Level::High;
+        if !model.steps.iter().any(is_high) {
+            assert!(passes, "{store}");
+            unused += 1;
+        }
+        refused += usize::from(!passes);
+    }
+    assert!(unused > 100 && refused > 30, "{unused} {refused}");
+}
+
+/// Without a high action, and most with another fault: in an earlier line, in the last action's or in a later one.
+#[test]
+fn texts_without_a_high_action() {
+    let mut rng = gen::seeded("high::texts_without_a_high_action", SEED + 5);
+    let mut numbers = BTreeMap::new();
+    for round in 0..3_000 {
+        let model = gen::any_model(&mut rng);
+        let Fault { text, refusal, .. } = gen::no_high_text(&mut rng, &model);
+        not_read::by_the_operations(&text, refusal, &Lists::enough(&mut rng));
+        if round % 10 == 0 {
+            not_read::by_the_programs(&text, refusal);
+        }
+        *numbers.entry(refusal.number).or_insert(0) += 1;
+    }
+    assert!(numbers.keys().eq(&[2, 3, 4, 31, 32, 35]), "{numbers:?}");
+    assert!(numbers.values().all(|&count| count > 20), "{numbers:?}");
+}
+
+/// The model as an exporter that has lost the level H writes it.
+fn without_high(rng: &mut Rng, model: &Model) -> Model {
+    let mut lost = model.clone();
+    for action in &mut lost.actions {
+        if action.level == Level::High {
+            action.level = *rng.pick(&[Level::Low, Level::Release]);
+        }
+    }
+    lost
+}
+
+/// Archived texts, the stores that were made of them, and what mends them: an action that is high, whichever it is.
 #[test]
 fn models_that_lost_the_level() {
-    let mut rng = gen::seeded("high::models_that_lost_the_level", SEED + 4);
+    let mut rng = gen::seeded("high::models_that_lost_the_level", SEED + 6);
     let mut models: Vec<Model> = (0..600).map(|_| gen::any_model(&mut rng)).collect();
     let limits = gen::limit_models(&mut rng).into_iter();
     models.extend(limits.map(|(_, model)| model));
@@ -353,11 +408,10 @@ fn models_that_lost_the_level() {
             assert_eq!(refusal, Some(Refusal::new(22, 0)), "{name}");
             assert!(after == before, "{name}");
         }
-        longest = longest.max(text.len());
-        // Any one of them made high is enough.
         let (mut mended, action) = (model.clone(), rng.below(model.actions.len()));
         mended.actions[action].level = Level::High;
         read_and_written(&mut rng, &mended.to_text());
+        longest = longest.max(text.len());
     }
     assert_eq!(longest, 15_072, "the most bytes of a model's text");
 }
@@ -365,7 +419,7 @@ fn models_that_lost_the_level() {
 /// A store that holds a model keeps it, and can be judged still.
 #[test]
 fn what_the_store_held_stays() {
-    let mut rng = gen::seeded("high::what_the_store_held_stays", SEED + 5);
+    let mut rng = gen::seeded("high::what_the_store_held_stays", SEED + 7);
     let kept = worked_with("A,L,scan", "A,H,print", "A,D,close");
     assert_eq!(kept.as_bytes(), WORKED);
     let mut lists = Lists::enough(&mut rng);
