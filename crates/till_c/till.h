@@ -8,7 +8,8 @@
 
    A program that was compiled before there were I lines lends stores of 3,972 numbers, and till_write an out of 14,420
    bytes: each such call gets TILL_SHORT_LIST until the program is compiled anew. Of a store that was kept, read the
-   text again, or put 128 zeros behind it. */
+   text again, or put 128 zeros behind it. A kept store without a high action is no longer good and gets TILL_NOT_GOOD;
+   its text gets TILL_NO_HIGH: export the model again. */
 #ifndef TILL_H
 #define TILL_H
 
@@ -55,7 +56,7 @@ extern "C" {
 #define TILL_EXTRA_STARTS (TILL_STEPS_AT + TILL_STEP_LIMIT * TILL_STEP_SIZE)
 #define TILL_EXTRA_START(k) (TILL_EXTRA_STARTS + 1 + (k))
 
-/* Levels. */
+/* Levels. A good store has a high action, which need not have a step. */
 #define TILL_LOW 0
 #define TILL_RELEASE 1
 #define TILL_HIGH 2
@@ -102,6 +103,7 @@ extern "C" {
 #define TILL_DIGITS 31      /* a number field that is not 1 to 5 digits without a leading zero */
 #define TILL_ABSENT 32      /* a line that is absent or has no line end; bytes after E */
 #define TILL_START_ORDER 33 /* an I line not above the one before it, the first not above line 1's start */
+#define TILL_NO_HIGH 35     /* no action is high; the place is the last A line */
 
 /* Refusals: of what a call finds. */
 #define TILL_SHORT_LIST 21        /* a list below its least length */

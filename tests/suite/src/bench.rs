@@ -159,7 +159,7 @@ pub fn examples() -> Vec<(PathBuf, Vec<u8>, Vec<u8>)> {
         let page = fs::read(file.with_extension("page")).expect("a page beside each text");
         (file, text, page)
     };
-    files("txt", 26).into_iter().map(with_page).collect()
+    files("txt", 28).into_iter().map(with_page).collect()
 }
 
 /// The file, the text and what the roll's program prints of each example that has a roll, and of each that is not read:

@@ -5,6 +5,7 @@ pub mod books;
 pub mod command;
 pub mod input;
 pub mod lists;
+pub mod not_read;
 pub mod operations;
 pub mod program;
 pub mod script;

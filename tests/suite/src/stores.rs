@@ -8,6 +8,11 @@ use std::rc::Rc;
 
 use crate::lists::Lent;
 
+/// The levels as a store has them.
+pub const LOW: u16 = 0;
+pub const RELEASE: u16 = 1;
+pub const HIGH: u16 = 2;
+
 /// A store to lend, the model that it was made of, and what is wrong with it for sure.
 #[derive(Clone, Default, PartialEq)]
 pub struct Store {

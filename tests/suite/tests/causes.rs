@@ -1,22 +1,21 @@
 //! What is told of a text that is not read: the number and the place of its first bad line. In a line 32 is tested
-//! first, then 2, then 31, then 3, then 4, 5 or 33, each over the whole line. By the operations, the programs and the
-//! script.
+//! first, then 2, then 31, then 3, then 4, 5 or 33, each over the whole line; in the last `A` line 35 comes last, and
+//! `high.rs` has more of it. By the operations, the programs and the script.
 use std::collections::BTreeSet;
 use std::fs;
-use std::process::Command;
 
 use second::gen::{self, BadLine};
 use second::text::{self, Cause};
 use second::Refusal;
 use suite::bench::{root, waking_text, ACTIONS, TWO_STARTS, WORKED};
-use suite::command::{prints, run};
 use suite::lists::Lists;
-use suite::operations::{PRINT, READ, TELL};
+use suite::not_read;
+use suite::operations::READ;
 use suite::texts::models_to_damage;
 
 const SEED: u64 = 7_900;
 
-/// Texts of the causes that requests (i) and (iii) name, and of 4 and 5, each with its number and its place.
+/// Texts of the causes that requests (i), (iii) and (vi) name, and of 4 and 5, each with its number and its place.
 const REQUESTED: &[(&str, u16, u64)] = &[
     // the empty text
     ("", 32, 1),
@@ -70,6 +69,14 @@ const REQUESTED: &[(&str, u16, u64)] = &[
     ("M,2,1,0,0\nA,H,print\nI,1", 32, 3),
     ("M,2,1,0,0\nA,H,print\nI,1\n", 32, 4),
     ("M,2,1,0,0\nA,H,print\nE\nI,1\n", 32, 4),
+    // no action is high: at the last `A` line, after its other causes and before those of a later line
+    ("M,1,1,0,0\nA,L,print\nE\n", 35, 2),
+    ("M,1,2,0,0\nA,L,scan\nA,D,print\nE\n", 35, 3),
+    ("M,1,2,0,0\nA,L,scan\nA,L,print", 32, 3),
+    ("M,1,2,0,0\nA,L,scan\nA,L,Print\nE\n", 2, 3),
+    ("M,1,2,0,0\nA,L,scan\nA,L,scan\nE\n", 4, 3),
+    ("M,1,2,0,0\nA,L,scan\nA,L,print\n", 35, 3),
+    ("M,1,2,1,0\nA,L,scan\nA,L,print\nS,0,2,x\nE\n", 35, 3),
 ];
 
 /// Another line in place of one of the worked example's: its place, which is the refusal's, and the number.
@@ -288,46 +295,18 @@ fn cases() -> Vec<(Vec<u8>, Refusal)> {
     cases
 }
 
-fn line_of(refusal: Refusal) -> String {
-    format!("F,{},{}\n", refusal.number, refusal.place)
-}
-
-/// Read and `tell` refuse the text so and leave every list as it was; `print` prints it.
-fn refused(text: &[u8], expected: Refusal, before: &Lists) {
-    let _case = gen::text_case(text);
-    let (answer, after) = READ.same(text, before);
-    assert_eq!(answer, Err(expected));
-    assert!(after == *before, "Read changed a list");
-    let (told, after) = TELL.same(text, before);
-    let told = told.expect("an answer for each of the three");
-    assert_eq!((told.read, told.judged), (Err(expected), None));
-    assert!(after == *before, "tell changed a list");
-    let line = line_of(expected);
-    let (length, after) = PRINT.same(text, before);
-    assert_eq!(length, Ok(line.len()));
-    assert_eq!(&after.page[..line.len()], line.as_bytes());
-}
-
-fn printed_by_the_programs(text: &[u8], expected: Refusal) {
-    let _case = gen::text_case(text);
-    for program in ["till", "till_roll"] {
-        let mut program = Command::new(root().join("target/bin").join(program));
-        prints(run(&mut program, text), 0, &line_of(expected));
-    }
-}
-
 #[test]
 fn by_the_operations() {
     let mut rng = gen::seeded("causes::by_the_operations", SEED);
     for (text, expected) in cases() {
-        refused(&text, expected, &Lists::enough(&mut rng));
+        not_read::by_the_operations(&text, expected, &Lists::enough(&mut rng));
     }
 }
 
 #[test]
 fn by_the_programs() {
     for (text, expected) in cases() {
-        printed_by_the_programs(&text, expected);
+        not_read::by_the_programs(&text, expected);
     }
 }
 
@@ -336,23 +315,21 @@ fn by_the_programs() {
 #[test]
 fn by_the_script() {
     for &(text, number, place) in REQUESTED {
-        let _case = gen::text_case(text.as_bytes());
-        let mut script = Command::new(root().join("till"));
-        let output = run(&mut script, text.as_bytes());
-        prints(output, 2, &line_of(Refusal::new(number, place)));
+        not_read::by_the_script(&[], text.as_bytes(), Refusal::new(number, place));
     }
 }
 
 /// For each number, those that a line can have besides and that are tested later. No line has both a number field and a
-/// name, and the one number of an `I` line has one cause alone.
+/// name, and the one number of an `I` line has one cause alone; 35 is told at an `A` line.
 const LATER: &[(u16, &[u16])] = &[
-    (32, &[2, 31, 3, 4, 5, 33]),
-    (2, &[2, 31, 3, 4, 5, 33]),
+    (32, &[2, 31, 3, 4, 5, 33, 35]),
+    (2, &[2, 31, 3, 4, 5, 33, 35]),
     (31, &[3, 5]),
     (3, &[5]),
-    (4, &[]),
+    (4, &[35]),
     (5, &[]),
     (33, &[]),
+    (35, &[]),
 ];
 
 /// Each number alone and with each other of one line.
@@ -382,7 +359,7 @@ fn every_cause_and_every_pair() {
     for model in models_to_damage(&mut rng, 20) {
         let before = Lists::enough(&mut rng);
         for bad in gen::bad_lines(&model) {
-            refused(&bad.fault.text, bad.fault.refusal, &before);
+            not_read::by_the_operations(&bad.fault.text, bad.fault.refusal, &before);
             seen.insert(numbers(&bad, &before));
         }
     }
@@ -394,7 +371,7 @@ fn every_cause_and_every_pair_by_the_programs() {
     let model = text::parse(TWO_STARTS).expect("the text is good");
     let bad_lines = gen::bad_lines(&model);
     for bad in &bad_lines {
-        printed_by_the_programs(&bad.fault.text, bad.fault.refusal);
+        not_read::by_the_programs(&bad.fault.text, bad.fault.refusal);
     }
     let number = |bad: &BadLine| (bad.fault.refusal.number, bad.also.map(|also| also.number()));
     let seen: BTreeSet<_> = bad_lines.iter().map(number).collect();

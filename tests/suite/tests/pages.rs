@@ -4,7 +4,7 @@ use std::fs;
 
 use second::gen::{self, Rng};
 use second::store::{DISTANCES, TABLE};
-use second::{Level, Model, Verdict};
+use second::{Level, Model, Refusal, Verdict};
 use suite::bench::{examples, root, store_of, worked_distances, worked_table, WORKED, WORKED_PAGE};
 use suite::lists::{Lists, LEAST};
 use suite::operations::{JUDGE, PAGE, PRINT, READ};
@@ -198,16 +198,26 @@ fn random_models() {
     assert!(words.len() > 60 && runs.len() > 4, "{words:?} {runs:?}");
 }
 
-/// Models whose actions have some of the levels only.
+/// A model with these levels alone. If H is one of them, an action has it.
+fn of_levels(rng: &mut Rng, levels: &[Level]) -> Model {
+    let mut model = gen::any_model(rng);
+    for action in &mut model.actions {
+        action.level = *rng.pick(levels);
+    }
+    if levels.contains(&Level::High) {
+        let action = rng.below(model.actions.len());
+        model.actions[action].level = Level::High;
+    }
+    model
+}
+
+/// Models whose actions have some of the levels only, H among them.
 #[test]
 fn levels_that_are_missing() {
     use Level::{High, Low, Release};
     let mut rng = gen::seeded("pages::levels_that_are_missing", SEED + 10);
-    let choices: [&[Level]; 7] = [
-        &[Low],
-        &[Release],
+    let choices: [&[Level]; 4] = [
         &[High],
-        &[Low, Release],
         &[Low, High],
         &[Release, High],
         &[Low, Release, High],
@@ -215,17 +225,32 @@ fn levels_that_are_missing() {
     for levels in choices {
         let mut passed = 0;
         for _ in 0..100 {
-            let mut model = gen::any_model(&mut rng);
-            for action in &mut model.actions {
-                action.level = *rng.pick(levels);
-            }
+            let model = of_levels(&mut rng, levels);
             let page = told(&mut rng, &model);
             assert_eq!(printed(&model.to_text(), &Lists::enough(&mut rng)), page);
             passed += usize::from(page.starts_with("V,pass,"));
         }
-        // Nothing is to be seen, or nothing to be kept out of sight.
-        let all_pass = !(levels.contains(&Low) && levels.contains(&High));
+        // Nothing is to be seen.
+        let all_pass = !levels.contains(&Low);
         assert_eq!(passed == 100, all_pass, "{levels:?}");
+    }
+}
+
+/// Without H there is no page: nothing is to be kept out of sight.
+#[test]
+fn no_level_is_high() {
+    use Level::{Low, Release};
+    let mut rng = gen::seeded("pages::no_level_is_high", SEED + 11);
+    for levels in [&[Low][..], &[Release], &[Low, Release]] {
+        for _ in 0..100 {
+            let model = of_levels(&mut rng, levels);
+            let before = Lists::enough(&mut rng);
+            let line = format!("F,35,{}\n", model.actions.len() + 1);
+            assert_eq!(printed(&model.to_text(), &before), line);
+            let (answer, after) = PAGE.same(&Store::of(&model), &before);
+            assert_eq!(answer, Err(Refusal::new(22, 0)));
+            assert!(after == before, "{}", after.difference(&before));
+        }
     }
 }
 

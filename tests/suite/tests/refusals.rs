@@ -3,13 +3,14 @@
 use std::collections::BTreeMap;
 
 use second::gen;
-use second::store::{action_place, DISTANCES, STORE};
+use second::store::{action_place, BOOK, DISTANCES, STORE};
 use second::{Model, Refusal};
 use suite::bench::{store_of, text_of, waking_text, ACTIONS, TWO_STARTS, WORKED};
+use suite::books::Book;
 use suite::input::Input;
 use suite::lists::{every_length, with_length, Lengths, List, Lists, LEAST};
-use suite::operations::{on_stores, AnyOperation, PRINT, READ, RUN, TELL, WORD};
-use suite::stores::{self, Store};
+use suite::operations::{on_stores, AnyOperation, CHECK, PRINT, READ, RUN, TELL, WORD};
+use suite::stores::{self, Store, HIGH, LOW, RELEASE};
 
 const SEED: u64 = 7_600;
 
@@ -247,6 +248,78 @@ fn stores_of_one_start() {
     assert_eq!(store_of(WORKED)[3_972..], [0; 128]);
 }
 
+/// The places of the levels in the worked example's store, and of one past its actions.
+const SCAN: usize = 4;
+const PRINTING: usize = 18;
+const CLOSE: usize = 32;
+const UNUSED: usize = 46;
+
+/// 22 from every operation where the only high action was made low or release, whatever the state and the book are; 21
+/// comes before it, for each list, and no list changes.
+#[test]
+fn stores_without_a_high_action() {
+    let mut rng = gen::seeded("refusals::stores_without_a_high_action", SEED + 11);
+    let worked = store_of(WORKED);
+    let lists = Lists::enough(&mut rng);
+    let choices: [&[(usize, u16)]; 6] = [
+        &[(PRINTING, LOW)],
+        &[(PRINTING, RELEASE)],
+        &[(SCAN, RELEASE), (PRINTING, RELEASE)],
+        &[(PRINTING, LOW), (CLOSE, LOW)],
+        // a high level where no action is
+        &[(PRINTING, LOW), (UNUSED, HIGH)],
+        &[(PRINTING, RELEASE), (action_place(63), HIGH)],
+    ];
+    for changes in choices {
+        let store = worked.damaged("no high action", changes);
+        for operation in on_stores() {
+            refuses(operation, &store, &lists, NOT_GOOD);
+            refuses_short_lists(operation, &store, &lists, 0);
+            for length in [0, 3_972, STORE - 1] {
+                let mut short = store.clone();
+                short.numbers.truncate(length);
+                refuses(operation, &short, &lists, Refusal::new(21, 1));
+            }
+        }
+        for state in [3, 4, NO_STATE, 65_535] {
+            refuses(&RUN, (&store, state), &lists, NOT_GOOD);
+        }
+        let sound = Book::without_entries();
+        for book in [&sound, &sound.with(0, [3, 0, 0, 0])] {
+            refuses(&CHECK, (&store, book), &lists, NOT_GOOD);
+            let short = book.of_length(BOOK - 1);
+            refuses(&CHECK, (&store, &short), &lists, Refusal::new(21, 2));
+        }
+    }
+}
+
+/// The only high action of 64 made low or release, wherever it stands. With two of them one is left, and the store is
+/// good.
+#[test]
+fn one_level_of_a_store() {
+    let mut rng = gen::seeded("refusals::one_level_of_a_store", SEED + 12);
+    let lists = Lists::enough(&mut rng);
+    let of_levels = |high: &[usize]| {
+        let level = |i| if high.contains(&i) { 'H' } else { 'L' };
+        let action = |i| format!("A,{},a{i}\n", level(i));
+        store_of(&text_of(1, &(0..64).map(action).collect::<String>(), &[]))
+    };
+    for high in [0, 1, 31, 62, 63] {
+        let (one, two) = (of_levels(&[high]), of_levels(&[high, (high + 7) % 64]));
+        let place = action_place(high);
+        for level in [LOW, RELEASE] {
+            let lost = one.damaged("no high action", &[(place, level)]);
+            let mut kept = two.clone();
+            kept.numbers[place] = level;
+            for operation in on_stores() {
+                refuses(operation, &lost, &lists, NOT_GOOD);
+                let (refusal, _) = operation.refusal(&(&kept).into(), &lists);
+                assert!(refusal.is_none_or(|refusal| refusal.number > 22), "{kept}");
+            }
+        }
+    }
+}
+
 /// The distances and the table are as Judge leaves them; the rest is as it was.
 fn as_judged(store: &Store, before: &Lists, after: &Lists) {
     let mut expected = before.clone();
@@ -337,7 +410,7 @@ fn a_short_store_comes_before_every_fault() {
             }
         }
     }
-    let all = [1, 2, 3, 4, 5, 31, 32, 33];
+    let all = [1, 2, 3, 4, 5, 31, 32, 33, 35];
     assert!(numbers.keys().eq(&all), "{numbers:?}");
     assert!(numbers.values().all(|&count| count > 10), "{numbers:?}");
 }

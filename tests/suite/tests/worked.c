@@ -27,8 +27,12 @@ _Static_assert(TILL_WRITTEN == 15182, "written");
 _Static_assert(TILL_TOO_LONG == 1 && TILL_FORM == 2 && TILL_RANGE == 3, "refusals of a text");
 _Static_assert(TILL_REPEATED == 4 && TILL_ORDER == 5, "refusals of a text");
 _Static_assert(TILL_DIGITS == 31 && TILL_ABSENT == 32 && TILL_START_ORDER == 33, "refusals of a text");
+_Static_assert(TILL_NO_HIGH == 35, "refusals of a text");
 
 static const char text[] = "M,4,3,4,0\nA,L,scan\nA,H,print\nA,D,close\n"
+                           "S,0,0,1\nS,0,1,2\nS,1,0,1\nS,2,0,3\nE\n";
+/* The same with the level of print lost. */
+static const char lost[] = "M,4,3,4,0\nA,L,scan\nA,L,print\nA,D,close\n"
                            "S,0,0,1\nS,0,1,2\nS,1,0,1\nS,2,0,3\nE\n";
 static const char page[] = "V,refuse,1,2\nC,0,0,0\nC,1,1,0\nC,2,1,2\nC,3,2,3\n"
                            "W,scan\nW,scan\nB,source\nE\n";
@@ -109,8 +113,13 @@ static void expect_book(void) {
     expect("the byte after the book", book[TILL_BOOK], 7);
 }
 
+/* So many letters 0, and old contents after them. */
+static void expect_letters(size_t count) {
+    for (size_t i = 0; i <= TILL_WORD; i++) expect("a letter", word[i], i < count ? 0 : 0x0707);
+}
+
 static void expect_word(void) {
-    for (size_t i = 0; i <= TILL_WORD; i++) expect("a letter", word[i], i < 2 ? 0 : 0x0707);
+    expect_letters(2);
 }
 
 static void expect_out(const char *bytes, size_t length) {
@@ -159,6 +168,9 @@ static void refuses_texts(void) {
         {"M,1,1,0,0\nA,H,print\nE\n\n", TILL_ABSENT, 4},
         {"M,4,1,0,1\nA,H,print\nI,1\nE\n", TILL_START_ORDER, 3},
         {"M,4,1,0,1\nA,H,print\nI,2\nI,3\nI,3\nE\n", TILL_START_ORDER, 5},
+        {"M,1,1,0,0\nA,L,print\nE\n", TILL_NO_HIGH, 2},
+        {"M,4,3,4,0\nA,L,scan\nA,L,print\nA,D,close\nS,0,0,4\n", TILL_NO_HIGH, 4},
+        {"M,4,3,4,0\nA,L,scan\nA,L,print\nA,D,scan\n", TILL_REPEATED, 4},
     };
     memset(store, 7, sizeof store);
     for (size_t i = 0; i < sizeof bad / sizeof *bad; i++)
@@ -263,15 +275,64 @@ static void wakes(void) {
     refuses("Write", till_write(store, TILL_STORE, out, 14420), TILL_SHORT_LIST, 2);
 }
 
-static TillTold tell(size_t length) {
+/* No operation takes the store, and each list is as it was. */
+static void expect_not_good(void) {
+    forget();
+    refuses("Reach", till_reach(store, TILL_STORE, distances, TILL_DISTANCES), TILL_NOT_GOOD, 0);
+    refuses("Rank", till_rank(store, TILL_STORE, table, TILL_TABLE), TILL_NOT_GOOD, 0);
+    refuses("Judge", till_judge(store, TILL_STORE, distances, TILL_DISTANCES, table, TILL_TABLE), TILL_NOT_GOOD, 0);
+    refuses("Run", till_run(store, TILL_STORE, distances, TILL_DISTANCES, run, TILL_RUN, 0), TILL_NOT_GOOD, 0);
+    refuses("Word",
+            till_word(store, TILL_STORE, distances, TILL_DISTANCES, table, TILL_TABLE, word, TILL_WORD),
+            TILL_NOT_GOOD, 0);
+    refuses("Book", till_book(store, TILL_STORE, table, TILL_TABLE, book, TILL_BOOK), TILL_NOT_GOOD, 0);
+    refuses("Check", till_check(store, TILL_STORE, book, TILL_BOOK), TILL_NOT_GOOD, 0);
+    refuses("Page",
+            till_page(store, TILL_STORE, distances, TILL_DISTANCES, table, TILL_TABLE, run, TILL_RUN, word, TILL_WORD,
+                      out, TILL_PAGE),
+            TILL_NOT_GOOD, 0);
+    refuses("Roll",
+            till_roll(store, TILL_STORE, distances, TILL_DISTANCES, table, TILL_TABLE, run, TILL_RUN, word, TILL_WORD,
+                      out, TILL_ROLL),
+            TILL_NOT_GOOD, 0);
+    refuses("Write", till_write(store, TILL_STORE, out, TILL_WRITTEN), TILL_NOT_GOOD, 0);
+    refuses("Write", till_write(store, TILL_STORE, out, TILL_WRITTEN - 1), TILL_SHORT_LIST, 2);
+    for (size_t i = 0; i <= TILL_DISTANCES; i++) expect("a distance", distances[i], 0x0707);
+    for (size_t i = 0; i <= TILL_RUN; i++) expect("a step", run[i], 0x0707);
+    for (size_t i = 0; i <= TILL_TABLE; i++) expect("a rank", table[i], 7);
+    for (size_t i = 0; i <= TILL_BOOK; i++) expect("a byte of the book", book[i], 7);
+    expect_letters(0);
+    expect_out("", 0);
+}
+
+/* A store that was kept, and that has no high action. */
+static void lacks_high(void) {
+    static const uint16_t levels[2] = {TILL_LOW, TILL_RELEASE};
+    reads();
+    for (size_t i = 0; i < 2; i++) {
+        store[TILL_ACTION_LEVEL(1)] = levels[i];
+        expect_not_good();
+    }
+    /* One is enough, whichever it is. */
+    store[TILL_ACTION_LEVEL(2)] = TILL_HIGH;
+    answers("Judge", till_judge(store, TILL_STORE, distances, TILL_DISTANCES, table, TILL_TABLE), 1, 2, 0);
+}
+
+static TillTold tell(const char *bytes, size_t length) {
     forget();
     memset(store, 7, sizeof store);
-    return till_tell((const uint8_t *)text, length, store, TILL_STORE, distances, TILL_DISTANCES, table, TILL_TABLE,
+    return till_tell((const uint8_t *)bytes, length, store, TILL_STORE, distances, TILL_DISTANCES, table, TILL_TABLE,
                      word, TILL_WORD);
 }
 
+static void expect_no_verdict(TillTold told) {
+    answers("Judge", told.judge, 0, 0, 0);
+    answers("Word", told.word, 0, 0, 0);
+    expect("no verdict", (uint64_t)(till_refused(told.judge) + till_passed(told.judge)), 0);
+}
+
 static void tells(void) {
-    TillTold told = tell(TEXT_LENGTH);
+    TillTold told = tell(text, TEXT_LENGTH);
     answers("Read", told.read, 0, 0, 0);
     answers("Judge", told.judge, 2, 1, 2);
     answers("Word", told.word, 2, 2, TILL_SOURCE);
@@ -281,17 +342,18 @@ static void tells(void) {
     expect_distances();
     expect_table();
     expect_word();
-    told = tell(TEXT_LENGTH - 1);
+    told = tell(text, TEXT_LENGTH - 1);
     refuses("Read", told.read, TILL_ABSENT, 9);
-    answers("Judge", told.judge, 0, 0, 0);
-    answers("Word", told.word, 0, 0, 0);
-    expect("no verdict", (uint64_t)(till_refused(told.judge) + till_passed(told.judge)), 0);
+    expect_no_verdict(told);
+    told = tell(lost, sizeof lost - 1);
+    refuses("Read", told.read, TILL_NO_HIGH, 4);
+    expect_no_verdict(told);
 }
 
-static TillAnswer print(size_t length) {
+static TillAnswer print(const char *bytes, size_t length) {
     forget();
     memset(store, 7, sizeof store);
-    return till_print((const uint8_t *)text, length, store, TILL_STORE, distances, TILL_DISTANCES, table, TILL_TABLE,
+    return till_print((const uint8_t *)bytes, length, store, TILL_STORE, distances, TILL_DISTANCES, table, TILL_TABLE,
                       run, TILL_RUN, word, TILL_WORD, out, TILL_PAGE);
 }
 
@@ -302,10 +364,13 @@ int main(void) {
     plays();
     shows();
     wakes();
+    lacks_high();
     tells();
-    answers("print", print(TEXT_LENGTH - 1), 1, 7, 0);
+    answers("print", print(text, TEXT_LENGTH - 1), 1, 7, 0);
     expect_out("F,32,9\n", 7);
-    answers("print", print(TEXT_LENGTH), 1, PAGE_LENGTH, 0);
+    answers("print", print(lost, sizeof lost - 1), 1, 7, 0);
+    expect_out("F,35,4\n", 7);
+    answers("print", print(text, TEXT_LENGTH), 1, PAGE_LENGTH, 0);
     expect_out(page, PAGE_LENGTH);
     return fwrite(out, 1, PAGE_LENGTH, stdout) == PAGE_LENGTH ? 0 : 1;
 }
