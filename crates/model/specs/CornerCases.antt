@@ -4,7 +4,6 @@ use mathlib.Core.List.{List, [], _∷_, _++_}
 use mathlib.Core.Path.{_≡_, refl}
 use Prim.Native.Nat.{ℕ, _+_}
 use lib.ListN.{replicate}
-use Rattle.lts.specs.Tests.{any}
 use Rattle.text.specs.declared.Fault.the-variants.{Absent, Shape, Digits, Range, Repeated, Order}
 use Rattle.text.specs.Bytes.{kindOf}
 use Rattle.text.specs.Numbers.{digitsValue, numberShape?, numberOf, inBounds?, bounded, numberIn}
@@ -107,7 +106,7 @@ record Refused : Type 0 where
   too-many-bytes : readText (replicate 16385 10) ≡ tooLong
 
 refused : Refused
-unfolding readText readModel readActions behindActions someHigh? any startLines startLine? readStarts readSteps readEnd
+unfolding readText readModel readActions behindActions someHigh? startLines startLine? readStarts readSteps readEnd
     readNothing orFault onLine stepOf stepFrom actionOf actionFrom used? actionFields nameFrom name? nameByte? allOf
     levelOf headOf headFrom rowOf rowFrom statesOf valueOr0 rowBounds rowCount rowLetter stepBounds headBounds numbersOf
     consNumber fieldsOf fieldsFrom checked above? aboveLast? same? split consFirst numberIn bounded inBounds? numberOf

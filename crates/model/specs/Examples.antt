@@ -3,7 +3,6 @@
 use mathlib.Core.List.{List, [], _∷_}
 use mathlib.Core.Path.{_≡_, refl}
 use Prim.Native.Nat.{ℕ}
-use Rattle.lts.specs.Tests.{any}
 use Rattle.text.specs.declared.Fault.the-variants.{Absent}
 use Rattle.text.specs.declared.StepLine.{StepLine}
 use Rattle.text.specs.Bytes.{kindOf}
@@ -70,7 +69,7 @@ wokenText =
     ∷ []
 
 reads : (readText workedText ≡ done worked) × (readText wokenText ≡ done woken)
-unfolding readText readModel readActions behindActions someHigh? any startLines startLine? readStarts readSteps readEnd
+unfolding readText readModel readActions behindActions someHigh? startLines startLine? readStarts readSteps readEnd
     readNothing orFault onLine stepOf stepFrom startOf startFrom aboveStarts? lastStart actionOf actionFrom used?
     actionFields nameFrom name? nameByte? allOf levelOf headOf headFrom rowOf rowFrom statesOf valueOr0 rowBounds
     rowCount rowLetter stepBounds startBounds headBounds numbersOf consNumber fieldsOf fieldsFrom checked above?

@@ -5,7 +5,6 @@ use mathlib.Core.List.{[], _∷_}
 use mathlib.Core.Path.{_≡_, refl}
 use Prim.Native.Nat.{_-_}
 use lib.ListN.{set}
-use Rattle.lts.specs.Tests.{any}
 use Rattle.text.specs.Limits.{stepsEnd, storeLength, actionPlace, targetPlace, extraCountPlace, extraPlace}
 use Rattle.text.specs.Bytes.{kindOf}
 use Rattle.text.specs.Numbers.{inBounds?}
@@ -64,7 +63,7 @@ record Tested : Type 0 where
   extra-count-too-large : good? (set (storeOf two-starts) extraCountPlace 65535) ≡ false
 
 tested : Tested
-unfolding good? holds? wellFormed? someHigh? any eachAfter? actionFits? startRises? stepRises? modelAt listed storeOf
+unfolding good? holds? wellFormed? someHigh? eachAfter? actionFits? startRises? stepRises? modelAt listed storeOf
     padded actionNumbers actionsNumbers stepsNumbers headRow extraNumbers startFits? aboveStarts? lastStart stepFits?
     used? name? nameByte? allOf headFits? fits? headBounds startBounds stepBounds inBounds? above? aboveLast? same?
     kindOf

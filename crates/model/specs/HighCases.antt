@@ -1,9 +1,8 @@
--- Texts without a high action, each refused by evaluation with its fault at its line.
+-- Texts without a high action, and some with one, each refused by evaluation with its fault at its line.
 -- Document 02, (vi).
 use mathlib.Core.List.{List, [], _∷_, _++_}
 use mathlib.Core.Path.{_≡_, refl}
 use Prim.Native.Nat.{ℕ}
-use Rattle.lts.specs.Tests.{any}
 use Rattle.text.specs.declared.Fault.the-variants.{Absent, Shape, Repeated, Order, NoHigh}
 use Rattle.text.specs.Bytes.{kindOf}
 use Rattle.text.specs.Numbers.{digitsValue, numberShape?, numberOf, inBounds?, bounded, numberIn}
@@ -32,7 +31,8 @@ record RefusedHigh : Type 0 where
   no-high : readText (head ++ low ++ release ++ first ++ second ++ end) ≡ faulty NoHigh 3
   -- M,1,1,0,0 / A,L,a / E
   one-low : readText (headOfOne ++ low ++ end) ≡ faulty NoHigh 2
-  -- before a fault of the next line: it is absent, or it is A,L,a, I,9, S,x, S,9,0,0 or q
+  -- before a fault of the next line: it is absent, or it is A,L,a, I,9, S,x, S,9,0,0, or q without its
+  -- line end
   next-absent : readText (head ++ low ++ release) ≡ faulty NoHigh 3
   next-an-action : readText (head ++ low ++ release ++ low) ≡ faulty NoHigh 3
   next-a-start : readText (head ++ low ++ release ++ (73 ∷ 44 ∷ 57 ∷ 10 ∷ [])) ≡ faulty NoHigh 3
@@ -51,7 +51,7 @@ record RefusedHigh : Type 0 where
   last-high : readText (head ++ low ++ high ++ first ++ first) ≡ faulty Order 5
 
 refusedHigh : RefusedHigh
-unfolding readText readModel readActions behindActions someHigh? any startLines startLine? readStarts readSteps readEnd
+unfolding readText readModel readActions behindActions someHigh? startLines startLine? readStarts readSteps readEnd
     readNothing orFault onLine stepOf stepFrom actionOf actionFrom used? actionFields nameFrom name? nameByte? allOf
     levelOf headOf headFrom rowOf rowFrom statesOf valueOr0 rowBounds rowCount rowLetter stepBounds headBounds numbersOf
     consNumber fieldsOf fieldsFrom checked above? aboveLast? same? split consFirst numberIn bounded inBounds? numberOf

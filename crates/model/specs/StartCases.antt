@@ -3,7 +3,6 @@
 use mathlib.Core.List.{List, [], _∷_, _++_}
 use mathlib.Core.Path.{_≡_, refl}
 use Prim.Native.Nat.{ℕ, _+_}
-use Rattle.lts.specs.Tests.{any}
 use Rattle.text.specs.declared.Fault.the-variants.{Absent, Shape, Digits, Range, StartOrder}
 use Rattle.text.specs.Bytes.{kindOf}
 use Rattle.text.specs.Numbers.{digitsValue, numberShape?, numberOf, inBounds?, bounded, numberIn}
@@ -51,7 +50,7 @@ record RefusedStarts : Type 0 where
   start-behind-step : readText (beforeStarts ++ first ++ startLine 2 ++ second ++ end) ≡ faulty Shape 5
 
 refusedStarts : RefusedStarts
-unfolding readText readModel readActions behindActions someHigh? any startLines startLine? readStarts readSteps orFault
+unfolding readText readModel readActions behindActions someHigh? startLines startLine? readStarts readSteps orFault
     onLine stepOf stepFrom startOf startFrom aboveStarts? lastStart actionOf actionFrom used? actionFields nameFrom
     name? nameByte? allOf levelOf headOf headFrom rowOf rowFrom statesOf valueOr0 rowBounds rowCount rowLetter
     stepBounds startBounds headBounds numbersOf consNumber fieldsOf fieldsFrom checked aboveLast? same? split consFirst

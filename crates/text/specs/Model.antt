@@ -1,11 +1,9 @@
 -- A model as its text states it: the numbers of line 1, then what each `A`, `I` and `S` line states.
 -- Document 01, "The text"; document 02, (iii) and (vi).
-use mathlib.Core.Bool.{Bool, true, _&&_, _||_}
+use mathlib.Core.Bool.{Bool, true, false, _&&_, _||_}
 use mathlib.Core.List.{List, [], _∷_, _++_}
 use Prim.Native.Nat.{ℕ}
 use lib.Dec.{ltb, eqb}
-use lib.ListN.{length, getD}
-use Rattle.lts.specs.Tests.{any}
 use Rattle.text.specs.declared.Head.{Head}
 use Rattle.text.specs.declared.StepLine.{StepLine}
 
@@ -43,7 +41,8 @@ noStep = record { source = record { 0 = 0 }; action = record { 0 = 0 }; target =
 
 -- some action is high: "A text without an H action is refused"
 unfoldable pub someHigh? : List ActionLine → Bool
-someHigh? actions = any (length actions) (λ a. eqb (getD actions a noAction .level) high)
+someHigh? [] = false
+someHigh? (a ∷ rest) = eqb (a .level) high || someHigh? rest
 
 -- a model with one more action, extra start or step, at the end
 abbrev pub withAction : Model → ActionLine → Model

@@ -35,7 +35,7 @@ pub struct StepLine {
 // Why a line is refused: it is absent or has no line end, or bytes follow the last line; its letter, field count, level
 // or name is wrong; a number field is not 1 to 5 digits without a leading zero; a number is outside its range; a name
 // was used before; a step is not above the one before it; an extra start is not above the one before it, the first not
-// above the start in line 1; of the last action's line, no action is high.
+// above the start in line 1; no action is high, which is told of the last action's line.
 pub enum Fault {
     Absent,
     Shape,

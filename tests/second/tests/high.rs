@@ -1,5 +1,5 @@
 //! Models without a high action (request (vi) of document 02), sentence by
-//! sentence, with answers found by hand.
+//! sentence, with answers found by hand; at the end on random models.
 
 mod common;
 
@@ -466,7 +466,7 @@ fn one_level_of_a_store_changed() {
     assert!(is_good(&[(4, 2), (18, 2), (32, 2)]));
     // A 2 in the place of an unused action's level is no high action.
     assert!(!is_good(&[(18, 0), (46, 2)]) && !is_good(&[(46, 2)]));
-    // Nor are its other numbers levels.
+    // Nor is a name of two bytes, whose length is 2.
     let named_2 = text(&["M,1,1,0,0", "A,H,ab", "E"]);
     let mut store = store_of(&named_2);
     assert_eq!(store[4..8], [2, 2, 97, 98]);

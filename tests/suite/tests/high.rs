@@ -1,6 +1,6 @@
 //! Models without a high action: by hand what a text without one gets, and that one is enough, wherever it stands and
-//! though it has no step. By the operations, the programs and the script. What a store without one gets is in
-//! `refusals.rs`.
+//! though it has no step. By the operations, the programs and the script. Stores without one are in `refusals.rs` and
+//! `pages.rs` as well.
 use std::collections::BTreeMap;
 
 use second::gen::{self, Fault, Rng};
@@ -197,6 +197,13 @@ fn cases() -> Vec<(Vec<u8>, Refusal)> {
     for &(text, number, place) in COUNTED {
         add(text, number, place);
     }
+    // Cut off anywhere: the line at hand has no end, until the last action's line has its own.
+    let lost = lost().into_bytes();
+    for length in 0..lost.len() {
+        let ended = lost[..length].iter().filter(|&&b| b == b'\n').count() as u64;
+        let (number, place) = if ended < 4 { (32, ended + 1) } else { (35, 4) };
+        cases.push((lost[..length].to_vec(), Refusal::new(number, place)));
+    }
     cases.push((of_64_actions(|_| 'L'), Refusal::new(35, 65)));
     cases.push((of_64_actions(|_| 'D'), Refusal::new(35, 65)));
     let either = |i| if i % 3 == 0 { 'D' } else { 'L' };
@@ -303,7 +310,7 @@ const UNUSED: &[(&str, u16, &str)] = &[
         0,
         "V,pass,0\nC,0,0,0\nC,1,1,0\nE\n",
     ),
-    // another high action has one, from which it cannot be told
+    // another high action has one, whose ends cannot be told apart
     (
         "M,2,3,1,0\nA,H,print\nA,L,scan\nA,H,drawer\nS,0,0,1\nE\n",
         0,

@@ -1,19 +1,17 @@
 -- A good store, place by place: what the code tests. `GoodLaws` shows that a store is good exactly if its places are.
 -- Document 01, "The text" and "The model store"; document 02, (iii) and (vi).
-use mathlib.Core.Bool.{Bool}
 use mathlib.Core.List.{List}
 use mathlib.Core.Path.{_≡_}
 use Prim.Native.Nat.{ℕ, zero, suc, _+_, _-_, _≤_, _<_}
-use lib.Dec.{T, eqb}
+use lib.Dec.{T}
 use lib.ListN.{getD}
-use Rattle.lts.specs.Tests.{Some}
 use Rattle.text.specs.declared.Head.{Head}
 use Rattle.text.specs.Limits.{nameLimit, extraLimit, actionsEnd, stepsEnd, extraEnd}
 use Rattle.text.specs.Limits.{actionPlace, nameLengthPlace, namePlace, stepPlace, extraPlace}
-use Rattle.text.specs.Model.{high, above?}
+use Rattle.text.specs.Model.{high, someHigh?, above?}
 use Rattle.text.specs.Lines.{headFits?, nameByte?, startFits?, stepFits?}
 use Rattle.model.specs.Inner.EachFrom.{EachFrom}
-use Rattle.model.specs.StoredModel.{headAt, stepAt, extraCountAt, extraStartAt}
+use Rattle.model.specs.StoredModel.{headAt, actionAt, stepAt, extraCountAt, extraStartAt, listed}
 
 -- ---- places
 
@@ -51,10 +49,6 @@ pub record GoodAction (s : List ℕ) (i : ℕ) : Type 0 where
   pub once : EachFrom (OtherName s i) 0 i
   -- "Unused places are 0."
   pub unused : EachFrom (ZeroAt s) (namePlace i + nameLengthAt s i) (namePlace i + nameLimit)
-
--- action i is high
-abbrev pub highAt? : List ℕ → ℕ → Bool
-highAt? s i = eqb (getD s (actionPlace i) 0) high
 
 -- ---- steps
 
@@ -96,4 +90,4 @@ pub record GoodPlaces (s : List ℕ) : Type 0 where
   -- "a count, then the extra starts, unused ones 0"
   pub extra-starts : GoodStarts (headAt s) s
   -- "A text without an H action is refused"
-  pub some-high : Some (headAt s .actions) (highAt? s)
+  pub some-high : T (someHigh? (listed (headAt s .actions) (actionAt s)))

@@ -77,7 +77,7 @@ pub record AfterStart (h : Head) (text : List ℕ) (from : LineStart) (i last : 
       ≡ readStarts (startLines (partsFrom text from)) (from .line)
       (record { head = h; actions = actions; extraStarts = extraStarts; steps = [] }) (partsFrom text from)
 
--- after all actions, one of which is high
+-- after all actions, where the extra starts come next: that one action is high has been tested
 abbrev pub AfterAllActions : Head → List ℕ → LineStart → List ℕ → Type 0
 AfterAllActions h text from store = AfterStart h text from 0 (h .start .0) store
 

@@ -1,7 +1,7 @@
 -- Where the name of an action's line stands in the text, and where the names used before stand in the store.
 -- Document 01, "The text" and "The model store". Assumes nothing.
-use mathlib.Core.List.{List, [], _∷_}
-use mathlib.Core.Path.{_≡_, ap, _∙_}
+use mathlib.Core.List.{List, [], _∷_, append-nil}
+use mathlib.Core.Path.{_≡_, sym, ap, _∙_, subst}
 use Prim.Native.Nat.{ℕ, zero, suc, _+_, _-_, _≤_, _<_}
 use native.Mathlib.Omega.{arith}
 use lib.ListN.{length, take, drop, length-drop}
@@ -43,4 +43,6 @@ name-part text at e level h l r =
 -- the actions so far stand in the store
 pub actionsStored-so-far : (h : Head) (text : List ℕ) (start : LineStart) (i : ℕ) (store : List ℕ)
     (b : AfterActions h text start i store) → ActionsStored store actionsBegin (b .actions)
-actionsStored-so-far h text start i store b = rw (b .stored) (actionsStored-storeOf h (b .actions) [] [] (b .short))
+actionsStored-so-far h text start i store b =
+    subst (λ (s : List ℕ). ActionsStored s actionsBegin (b .actions)) (append-nil _ ∙ sym (b .stored))
+    (actionsStored-storeOf (record { head = h; actions = b .actions; extraStarts = []; steps = [] }) [] (b .short))

@@ -69,7 +69,7 @@ record Read : Type 0 where
   woken-print : readText wokenPrintText ≡ done wokenPrint
 
 read : Read
-unfolding readText readModel readActions behindActions someHigh? any startLines startLine? readStarts readSteps readEnd
+unfolding readText readModel readActions behindActions someHigh? startLines startLine? readStarts readSteps readEnd
     readNothing orFault onLine stepOf stepFrom startOf startFrom aboveStarts? lastStart actionOf actionFrom used?
     actionFields nameFrom name? nameByte? allOf levelOf headOf headFrom rowOf rowFrom statesOf valueOr0 rowBounds
     rowCount rowLetter stepBounds startBounds headBounds numbersOf consNumber fieldsOf fieldsFrom checked above?

@@ -90,24 +90,21 @@ returns-5 c =
 extra-good-requires : tie.Need-extra-good-requires
 extra-good-requires c κs = search needs
 
+-- where the head has passed, from where the unused steps have
+abbrev head-passed : tie.Else5 → tie.Else1
+head-passed c = c .before .before .before .before .before .before .before .before .before .before
+
 returns-6 : tie.Need-returns-6
 returns-6 c =
     let f = c .before .extra-good in
-    let rest-passed = c .before .before in
-    let unused-passed = rest-passed .before .before .before in
-    let steps-passed = unused-passed .before .before .before in
-    let head-passed = steps-passed .before .before .before .before in
-    let e = head-passed .before .before .head .ensures in
+    let e = head-passed (c .before .before) .before .before .head .ensures in
     λ p. decides-refused (f .result) _ (f .ensures) (c .if6 .taken) (rw e (p .extra-starts))
 
 some-high-requires : tie.Need-some-high-requires
 some-high-requires c κs =
-    let rest-passed = c .before .before in
-    let unused-passed = rest-passed .before .before .before in
-    let steps-passed = unused-passed .before .before .before in
-    let head-passed = steps-passed .before .before .before .before in
-    let f = head-passed .before .head-fits in
-    let r = head-ranges (f .result) (f .ensures) (head-passed .if1 .left) in
+    let p = head-passed (c .before .before) in
+    let f = p .before .head-fits in
+    let r = head-ranges (f .result) (f .ensures) (p .if1 .left) in
     (omega arith, r .actions)
 
 returns-7 : tie.Need-returns-7
@@ -117,19 +114,19 @@ returns-7 c =
     let unused-passed = rest-passed .before .before .before in
     let steps-passed = unused-passed .before .before .before in
     let actions-passed = steps-passed .before .before in
-    let head-passed = actions-passed .before .before in
-    let e = head-passed .before .before .head .ensures in
+    let first-passed = actions-passed .before .before in
+    let e = first-passed .before .before .head .ensures in
     let n = ap (λ (x : Head). x .actions) e in
     let m = ap (λ (x : Head). x .steps) e in
     let a = unused-passed .before .before .action-place .ensures in
     let t = rest-passed .before .before .step-place .ensures in
-    let hd = head-passed .before .head-fits in
+    let hd = first-passed .before .head-fits in
     let ac = actions-passed .before .actions-good in
     let st = steps-passed .before .steps-good in
     let ua = unused-passed .before .zeros in
     let us = rest-passed .before .zeros2 in
     let ex = extra-passed .before .extra-good in
-    let head = decides-passed (hd .result) _ (decides-test (hd .result) _ (hd .ensures)) (head-passed .if1 .left) in
+    let head = decides-passed (hd .result) _ (decides-test (hd .result) _ (hd .ensures)) (first-passed .if1 .left) in
     let actions = decides-passed (ac .result) _ (ac .ensures) (actions-passed .if2 .left) in
     let steps = decides-passed (st .result) _ (st .ensures) (steps-passed .if3 .left) in
     let unused-actions = decides-passed (ua .result) _ (ua .ensures) (unused-passed .if4 .left) in

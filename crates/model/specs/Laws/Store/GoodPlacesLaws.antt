@@ -25,7 +25,6 @@ use Rattle.text.specs.Laws.BytesLaws.{le→between?}
 use Rattle.text.specs.Laws.RangesLaws.{headFits?→HeadRanges, lt→aboveStarts?}
 use Rattle.model.specs.Laws.Store.StartsLaws.{lastStart-listed}
 use Rattle.model.specs.Laws.Store.StoredModelLaws.{listed-length, listed-take}
-use Rattle.model.specs.Laws.Store.LevelsLaws.{someHigh?-shown}
 use Rattle.model.specs.Inner.GoodPlaces.{nameLengthAt, GoodAction, GoodPlaces}
 use Rattle.model.specs.Laws.Store.PlacesLaws.{part-length, part-cons, padded-part, getD→allOf}
 use Rattle.model.specs.Laws.Store.ListedLaws.{listed-each, used?-listed, blocks-listed}
@@ -92,7 +91,7 @@ module _ (s : List ℕ) (fits : storeLength ≤ length s) where
       action-count = listed-length (headAt s .actions) (actionAt s);
       step-count = listed-length (headAt s .steps) (stepAt s);
       actions = listed-each ActionFits (actionAt s) (headAt s .actions) action-fits;
-      some-high = someHigh?-shown s (g .some-high);
+      some-high = g .some-high;
       extra-starts = listed-each (StartFits (headAt s)) (extraStartAt s) (extraCountAt s) start-fits;
       steps = listed-each (StepFits (headAt s)) (stepAt s) (headAt s .steps) step-fits;
     }

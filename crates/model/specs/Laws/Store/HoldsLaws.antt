@@ -27,7 +27,6 @@ use Rattle.model.specs.Laws.Store.StoreLaws.{beforeSteps-length, actions
 use Rattle.model.specs.Laws.Store.StartsLaws.{lastStart-listed, extra-count-le}
 use Rattle.model.specs.Laws.Store.StoredModelLaws.{listed-length, getD-of-drop, holds-store, actionAt-holds}
 use Rattle.model.specs.Laws.Store.StoredModelLaws.{extra-drop}
-use Rattle.model.specs.Laws.Store.LevelsLaws.{shown-someHigh?}
 use Rattle.model.specs.Inner.GoodPlaces.{nameLengthAt, GoodAction, GoodStep, GoodStart, GoodStarts, GoodPlaces}
 use Rattle.model.specs.Laws.Store.PlacesLaws.{padded-zero, allOf→getD}
 use Rattle.model.specs.Laws.Store.ListedLaws.{each-listed, listed-used?}
@@ -204,5 +203,5 @@ module _ (s : List ℕ) (fits : storeLength ≤ length s) where
     unused-actions = record { at = action-zeros holds };
     unused-steps = record { at = step-zeros holds };
     extra-starts = Holds→GoodStarts holds;
-    some-high = shown-someHigh? s (holds .well-formed .some-high);
+    some-high = holds .well-formed .some-high;
   }

@@ -1,4 +1,4 @@
--- Lists given by their elements: what holds of each element, which names they use, and the blocks of
+-- Lists given by their elements: what holds of each element, whether some element passes a test, and the blocks of
 -- numbers that they are stored as.
 -- Assumes nothing.
 use mathlib.Core.Bool.{Bool, true, false, _||_}
@@ -8,13 +8,13 @@ use mathlib.Core.Path.{_≡_, refl, sym, ap, _∙_, subst}
 use Prim.Native.Nat.{ℕ, zero, suc, _+_, _*_, _<_}
 use native.Mathlib.Nat.{mul-suc, mul-zero}
 use native.Mathlib.Omega.{arith}
-use lib.Dec.{T}
+use lib.Dec.{T, eqb, eqb→eq}
 use lib.ListN.{take, drop}
 use lib.Seq.{take-add, drop-drop}
-use Rattle.lts.specs.TestsLaws.{lt-suc-cases, or-left, or-right, or-cases}
+use Rattle.lts.specs.TestsLaws.{T-eqb, lt-suc-cases, or-left, or-right, or-cases}
 use Rattle.text.specs.Split.{same?}
 use Rattle.text.specs.Laws.SameLaws.{same?→eq, eq→same?}
-use Rattle.text.specs.Model.{ActionLine}
+use Rattle.text.specs.Model.{high, ActionLine, someHigh?}
 use Rattle.text.specs.Lines.{used?}
 use Rattle.model.specs.WellFormed.{EachAfter}
 use Rattle.model.specs.Laws.Store.BlocksLaws.{blocks-snoc}
@@ -40,46 +40,68 @@ module _ {A : Type 0} (P : List A → A → Type 0) (f : ℕ → A) where
       (λ l. each-listed n (u .0) i l)
       (lt-suc-cases h)
 
--- ---- names
+-- ---- some element passes a test
 
-used?-snoc : (name : List ℕ) (xs : List ActionLine) (x : ActionLine)
-    → used? name (xs ++ (x ∷ [])) ≡ used? name xs || same? (x .name) name
-unfolding used?
-used?-snoc name [] x = or-false (same? (x .name) name)
-  where
-    or-false : (b : Bool) → b || false ≡ b
-    or-false true = refl
-    or-false false = refl
-used?-snoc name (y ∷ ys) x =
-    ap (λ (b : Bool). same? (y .name) name || b) (used?-snoc name ys x)
-    ∙ or-assoc (same? (y .name) name) (used? name ys) (same? (x .name) name)
-  where
-    or-assoc : (a b c : Bool) → a || (b || c) ≡ a || b || c
-    or-assoc true b c = refl
-    or-assoc false b c = refl
+or-false : (b : Bool) → b || false ≡ b
+or-false true = refl
+or-false false = refl
 
+or-assoc : (a b c : Bool) → a || (b || c) ≡ a || b || c
+or-assoc true b c = refl
+or-assoc false b c = refl
+
+module _ {A : Type 0} (test : A → Bool) (some? : List A → Bool) (nil : some? [] ≡ false)
+    (cons : (x : A) (xs : List A) → some? (x ∷ xs) ≡ test x || some? xs) where
+  some-snoc : (xs : List A) (x : A) → some? (xs ++ (x ∷ [])) ≡ some? xs || test x
+  some-snoc [] x = cons x [] ∙ rw nil (or-false (test x))
+  some-snoc (y ∷ ys) x =
+      cons y (ys ++ (x ∷ [])) ∙ rw (some-snoc ys x, cons y ys) (or-assoc (test y) (some? ys) (test x))
+
+  module _ (f : ℕ → A) where
+    some-listed : (n : ℕ) → T (some? (listed n f)) → (i : ℕ) × (i < n) × T (test (f i))
+    unfolding listed
+    some-listed zero t = absurd (rw nil at t)
+    some-listed (suc n) t =
+        ⊎-elim
+        (λ v. let i = some-listed n v in (i .0, omega arith, i .2))
+        (λ v. (n, omega arith, v))
+        (or-cases (some? (listed n f)) (test (f n)) (rw (some-snoc (listed n f) (f n)) at t))
+
+    listed-some : (n i : ℕ) → i < n → T (test (f i)) → T (some? (listed n f))
+    unfolding listed
+    listed-some zero i h t = absurd (omega arith)
+    listed-some (suc n) i h t =
+        rw (some-snoc (listed n f) (f n))
+        (⊎-elim
+        (λ z. or-right (some? (listed n f)) (test (f n)) (subst (λ (k : ℕ). T (test (f k))) z t))
+        (λ l. or-left (some? (listed n f)) (test (f n)) (listed-some n i l t))
+        (lt-suc-cases h))
+
+-- a name that is used is that of one of the elements
 module _ (name : List ℕ) (f : ℕ → ActionLine) where
-  -- a name that is used is that of one of the elements
   pub used?-listed : (n : ℕ) → T (used? name (listed n f)) → (i : ℕ) × (i < n) × (f i .name ≡ name)
-  unfolding listed used?
-  used?-listed zero t = absurd t
-  used?-listed (suc n) t =
-      let u = rw (used?-snoc name (listed n f) (f n)) at t in
-      ⊎-elim
-      (λ v. let i = used?-listed n v in (i .0, omega arith, i .2))
-      (λ v. (n, omega arith, same?→eq (f n .name) name v))
-      (or-cases (used? name (listed n f)) (same? (f n .name) name) u)
+  unfolding used?
+  used?-listed n t =
+      let w = some-listed (λ a. same? (a .name) name) (used? name) refl (λ x xs. refl) f n t in
+      (w .0, w .1, same?→eq (f (w .0) .name) name (w .2))
 
   pub listed-used? : (n i : ℕ) → i < n → f i .name ≡ name → T (used? name (listed n f))
-  unfolding listed
-  listed-used? zero i h e = absurd (omega arith)
-  listed-used? (suc n) i h e =
-      rw (used?-snoc name (listed n f) (f n))
-      (⊎-elim
-      (λ z. or-right (used? name (listed n f)) (same? (f n .name) name)
-      (eq→same? (f n .name) name (subst (λ (k : ℕ). f k .name ≡ name) z e)))
-      (λ l. or-left (used? name (listed n f)) (same? (f n .name) name) (listed-used? n i l e))
-      (lt-suc-cases h))
+  unfolding used?
+  listed-used? n i l e =
+      listed-some (λ a. same? (a .name) name) (used? name) refl (λ x xs. refl) f n i l (eq→same? (f i .name) name e)
+
+-- where some action is high one of the elements is
+module _ (f : ℕ → ActionLine) where
+  pub someHigh?-listed : (n : ℕ) → T (someHigh? (listed n f)) → (i : ℕ) × (i < n) × (f i .level ≡ high)
+  unfolding someHigh?
+  someHigh?-listed n t =
+      let w = some-listed (λ a. eqb (a .level) high) someHigh? refl (λ x xs. refl) f n t in
+      (w .0, w .1, eqb→eq (f (w .0) .level) high (w .2))
+
+  pub listed-someHigh? : (n i : ℕ) → i < n → f i .level ≡ high → T (someHigh? (listed n f))
+  unfolding someHigh?
+  listed-someHigh? n i l e =
+      listed-some (λ a. eqb (a .level) high) someHigh? refl (λ x xs. refl) f n i l (T-eqb e)
 
 -- ---- blocks of numbers
 

@@ -10,18 +10,18 @@ use lib.Dec.{T}
 use lib.ListN.{length, drop, getD, replicate, List·getD-append}
 use lib.Seq.{drop-cons, drop-drop, drop-at, getD-drop, ext-getD, drop-length}
 use Rattle.lts.specs.TestsLaws.{T→true}
-use Rattle.text.specs.declared.Head.{Head}
-use Rattle.text.specs.declared.StepLine.{StepLine}
 use Rattle.text.specs.Limits.{nameLimit, actionsBegin, nameLengthColumn, nameColumn, actionSize, actionsLength}
 use Rattle.text.specs.Limits.{stepsLength, actionPlace}
 use Rattle.text.specs.Split.{same?}
 use Rattle.text.specs.Laws.SameLaws.{same?→eq, same?-refl, same?-length}
-use Rattle.text.specs.Model.{ActionLine, noAction}
+use Rattle.text.specs.Model.{ActionLine, Model, noAction}
 use Rattle.text.specs.Lines.{used?}
 use Rattle.model.specs.Store.{padded, actionNumbers, actionsNumbers, stepsNumbers, headRow}
 use Rattle.model.specs.Store.{extraNumbers, storeOf}
 use Rattle.model.specs.Inner.StoredActions.{ActionStored, ActionsStored, Short}
 use Rattle.model.specs.Laws.Store.StoreLaws.{actionNumbers-length}
+use Rattle.model.specs.Laws.Store.StoredModelLaws.{listed-all, action-at}
+use Rattle.model.specs.StoredModel.{actionAt, listed}
 
 -- ---- one name
 
@@ -33,12 +33,6 @@ same?-differ s t i h = go (same? s t) refl
     go false e = e
 
 module _ (store : List ℕ) (at : ℕ) (a : ActionLine) (s : ActionStored store at a) (name : List ℕ) where
-  pub stored-level : getD store at 0 ≡ a .level
-  unfolding actionNumbers
-  stored-level =
-      let z : at + 0 ≡ at = omega arith in
-      ap (λ (k : ℕ). getD store k 0) (sym z) ∙ sym (getD-drop at store 0 0) ∙ rw (s .stored)
-
   stored-length : getD store (at + nameLengthColumn) 0 ≡ length (a .name)
   unfolding actionNumbers
   stored-length = sym (getD-drop at store nameLengthColumn 0) ∙ rw (s .stored)
@@ -113,8 +107,8 @@ module _ (store : List ℕ) (actions : List ActionLine) (s : ActionsStored store
       actionsStored-first store (actionPlace i) (getD actions i noAction) (drop (suc i) actions)
       (rw c at (actionsStored-drop store actionsBegin i actions s k))
 
-  pub actionsStored-level : getD store (actionPlace i) 0 ≡ getD actions i noAction .level
-  actionsStored-level = stored-level store (actionPlace i) (getD actions i noAction) actionStored-at []
+  actionAt-stored : actionAt store i ≡ getD actions i noAction
+  actionAt-stored = action-at store i _ _ (actionStored-at .stored)
 
   pub used?-drop : (name : List ℕ) (r : Bool)
       → ((a : ActionLine) → ActionStored store (actionPlace i) a → r ≡ same? (a .name) name)
@@ -127,13 +121,18 @@ pub used?-none : (name : List ℕ) (before : List ActionLine) (i : ℕ) → i �
 unfolding used?
 used?-none name before i e = rw (e, drop-length before)
 
--- the actions of a model stand in its store
-pub actionsStored-storeOf : (h : Head) (actions : List ActionLine) (ps : List ℕ) (steps : List StepLine) → Short actions
-    → ActionsStored (storeOf (record { head = h; actions = actions; extraStarts = ps; steps = steps })) actionsBegin
-    actions
+-- actions that stand in a store are those that it shows
+pub listed-stored : (store : List ℕ) (actions : List ActionLine) (n : ℕ) → n ≡ length actions
+    → ActionsStored store actionsBegin actions → listed n (actionAt store) ≡ actions
+listed-stored store actions n e s =
+    listed-all actions noAction (actionAt store) n e (λ i l. actionAt-stored store actions s i l)
+
+-- the actions of a model stand in its store, whatever follows
+pub actionsStored-storeOf : (m : Model) (rest : List ℕ) → Short (m .actions)
+    → ActionsStored (storeOf m ++ rest) actionsBegin (m .actions)
 unfolding storeOf padded headRow
-actionsStored-storeOf h actions ps steps short =
-    let n : List ℕ = actionsNumbers actions in
+actionsStored-storeOf m rest short =
+    let n : List ℕ = actionsNumbers (m .actions) in
     let z : List ℕ = replicate (actionsLength - length n) 0 in
-    let y : List ℕ = padded stepsLength (stepsNumbers steps) ++ extraNumbers ps in
+    let y : List ℕ = padded stepsLength (stepsNumbers (m .steps)) ++ (extraNumbers (m .extraStarts) ++ rest) in
     record { after = z ++ y; stored = simp append-assoc; short = short }

@@ -1,14 +1,13 @@
 -- A store that holds a well-formed model shows it: each accessor gives its part, so the model is the only one.
 -- Document 01, "The model store"; document 02, (iii). Assumes nothing.
-use mathlib.Core.List.{List, [], _∷_, _++_}
-use mathlib.Core.Logic.{_↔_, ⊎-elim}
+use mathlib.Core.List.{List, _++_}
+use mathlib.Core.Logic.{_↔_}
 use mathlib.Core.Path.{_≡_, refl, sym, ap, _∙_, subst}
 use Prim.Native.Nat.{ℕ, zero, suc, _+_, _≤_, _<_}
 use native.Mathlib.Omega.{arith}
 use native.Mathlib.Nat.{add-zero}
 use lib.ListN.{length, getD, take, drop, take-append-drop, length-append, List·getD-append}
-use lib.Seq.{getD-append-seam, take-suc, take-length, take-at, getD-drop, drop-drop}
-use Rattle.lts.specs.TestsLaws.{lt-suc-cases}
+use lib.Seq.{take-suc, take-length, take-at, getD-drop, drop-drop}
 use Rattle.text.specs.declared.Head.{Head}
 use Rattle.text.specs.declared.StepLine.{StepLine}
 use Rattle.text.specs.Limits.{nameLimit, nameLengthColumn, nameColumn, actionColumn, targetColumn, storeLength}
@@ -33,17 +32,6 @@ unfolding listed
 listed-length zero f = refl
 listed-length (suc n) f = let i = listed-length n f in simp length-append (omega arith)
 
-pub listed-getD : {A : Type 0} (n : ℕ) (f : ℕ → A) (d : A) (i : ℕ) → i < n → getD (listed n f) i d ≡ f i
-unfolding listed
-listed-getD zero f d i h = absurd (omega arith)
-listed-getD (suc n) f d i h =
-    let l = listed-length n f in
-    ⊎-elim
-    (λ e. ap (λ (k : ℕ). getD (listed n f ++ (f n ∷ [])) k d) (e ∙ sym l)
-    ∙ getD-append-seam (listed n f) (f n) [] d ∙ ap f (sym e))
-    (λ k. List·getD-append (listed n f) (f n ∷ []) d i (omega arith) ∙ listed-getD n f d i k)
-    (lt-suc-cases h)
-
 pub listed-take : {A : Type 0} (xs : List A) (d : A) (f : ℕ → A) (n : ℕ) → n ≤ length xs
     → ((i : ℕ) → i < length xs → f i ≡ getD xs i d) → listed n f ≡ take n xs
 unfolding listed
@@ -65,7 +53,7 @@ getD-of-drop s l p k e = sym (getD-drop p s k 0) ∙ ap (λ (x : List ℕ). getD
 first-of-drop : (s l : List ℕ) (p : ℕ) → drop p s ≡ l → getD s p 0 ≡ getD l 0 0
 first-of-drop s l p e = ap (λ (k : ℕ). getD s k 0) (sym (add-zero p)) ∙ getD-of-drop s l p 0 e
 
-action-at : (s : List ℕ) (i : ℕ) (a : ActionLine) (more : List ℕ) → drop (actionPlace i) s ≡ actionNumbers a ++ more
+pub action-at : (s : List ℕ) (i : ℕ) (a : ActionLine) (more : List ℕ) → drop (actionPlace i) s ≡ actionNumbers a ++ more
     → actionAt s i ≡ a
 unfolding actionNumbers
 action-at s i a more e =

@@ -1,13 +1,16 @@
 -- Lines that are read one after the other, whatever they are lines of.
 -- Document 01, "The text". Assumes nothing.
+use mathlib.Core.Bool.{Bool, true, false, cond}
 use mathlib.Core.List.{List, [], _∷_, _++_, map, append-assoc, append-nil}
 use mathlib.Core.Path.{_≡_, refl, sym, ap, _∙_}
 use Prim.Native.Nat.{ℕ, zero, suc, _+_, _<_}
 use native.Mathlib.Omega.{arith}
+use lib.Dec.{T}
 use lib.ListN.{length, length-append}
+use Rattle.text.specs.declared.Fault.{Fault}
 use Rattle.text.specs.Model.{Model}
 use Rattle.text.specs.Lines.{Line, good, bad}
-use Rattle.model.specs.Reading.{Reading, done, onLine, orFault}
+use Rattle.model.specs.Reading.{Reading, done, faulty, onLine, orFault}
 use Rattle.model.specs.WellFormed.{EachAfter}
 use Rattle.model.specs.Inner.StatedLines.{Stated}
 
@@ -32,6 +35,11 @@ pub orFault-done : {A : Type 0} (k : ℕ) (l : Line A) (read : A → Reading) (m
 unfolding orFault
 orFault-done k (good a) read m h = (a, refl, h)
 orFault-done k (bad fault) read m h = let z : _≡_ {A = ℕ} 0 1 = cc in absurd (omega arith)
+
+pub cond-done : (b : Bool) (r : Reading) (fault : Fault) (k : ℕ) (m : Model) → cond b r (faulty fault k) ≡ done m
+    → T b × (r ≡ done m)
+cond-done true r fault k m h = (tt, h)
+cond-done false r fault k m h = let z : _≡_ {A = ℕ} 0 1 = cc in absurd (omega arith)
 
 -- ---- lines of one kind, one after the other
 

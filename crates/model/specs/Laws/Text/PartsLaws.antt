@@ -2,13 +2,12 @@
 -- Document 01, "The text"; document 02, (iii) and (vi). Assumes nothing.
 use mathlib.Core.Bool.{true, false, not}
 use mathlib.Core.List.{List, [], _∷_, _++_, map}
-use mathlib.Core.Logic.{_⊎_, inl, inr}
 use mathlib.Core.Path.{_≡_, refl, sym, ap, _∙_, subst}
 use Prim.Native.Nat.{ℕ, _+_, _-_, _<_}
 use native.Mathlib.Omega.{arith}
 use lib.Dec.{T}
 use lib.ListN.{length, length-append}
-use Rattle.lts.specs.TestsLaws.{T-cases, T→true, not-T→false}
+use Rattle.lts.specs.TestsLaws.{T→true, not-T→false}
 use Rattle.text.specs.Bytes.{byteE}
 use Rattle.text.specs.declared.Fault.the-variants.{NoHigh}
 use Rattle.text.specs.declared.Head.{Head}
@@ -25,7 +24,7 @@ use Rattle.text.specs.Laws.RangesLaws.{headFits?→HeadRanges}
 use Rattle.model.specs.Inner.LineText.{lineOfHead, lineOfAction, lineOfStart, lineOfStep, partsOf}
 use Rattle.model.specs.Inner.StatedLines.{Stated}
 use Rattle.model.specs.Laws.Text.LinesReadLaws.{onLine-cons, onLine-done, orFault-done, lines-read}
-use Rattle.model.specs.Laws.Text.LinesReadLaws.{lines-of-done, stated-after}
+use Rattle.model.specs.Laws.Text.LinesReadLaws.{cond-done, lines-of-done, stated-after}
 use Rattle.model.specs.Laws.Text.EndLaws.{readEnd-last, readEnd-done}
 use Rattle.model.specs.Laws.Text.LineTextLaws.{headOf-line, line-of-headOf, startOf-line, line-of-startOf}
 use Rattle.model.specs.Laws.Text.LineTextLaws.{stepOf-line, line-of-stepOf}
@@ -129,15 +128,7 @@ module _ (k : ℕ) (m : Model) (parts : List (List ℕ)) where
   behindActions-done : (n : Model) → behindActions k m parts ≡ done n
       → T (someHigh? (m .actions)) × (readStarts (startLines parts) k m parts ≡ done n)
   unfolding behindActions
-  behindActions-done n q = by-test (T-cases (someHigh? (m .actions)))
-    where
-      by-test : T (someHigh? (m .actions)) ⊎ T (not (someHigh? (m .actions)))
-          → T (someHigh? (m .actions)) × (readStarts (startLines parts) k m parts ≡ done n)
-      by-test (inl t) = (t, sym (behindActions-high t) ∙ q)
-      by-test (inr t) =
-          let e = sym (behindActions-no-high t) ∙ q in
-          let z : _≡_ {A = ℕ} 0 1 = cc in
-          absurd (omega arith)
+  behindActions-done n q = cond-done (someHigh? (m .actions)) _ NoHigh (k - 1) n q
 
   -- where no `I` line follows the `A` lines the steps are read next, as of a text that has none
   pub behindActions-no-starts : T (someHigh? (m .actions)) → startLines parts ≡ 0
