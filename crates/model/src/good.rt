@@ -276,6 +276,9 @@ fn places_good(store: &[u16]) -> bool
     if !actions_good(store, h.actions) {
         return false;
     }
+    if !some_high(store, h.actions) {
+        return false;
+    }
     if !steps_good(store, h) {
         return false;
     }
@@ -285,10 +288,7 @@ fn places_good(store: &[u16]) -> bool
     if !zeros(store, step_place(Step(h.steps)), STEPS_END) {
         return false;
     }
-    if !extra_good(store, h) {
-        return false;
-    }
-    some_high(store, h.actions)
+    extra_good(store, h)
 }
 
 // Whether a store is good: some text reads to it.

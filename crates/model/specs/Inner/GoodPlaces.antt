@@ -83,11 +83,11 @@ pub record GoodPlaces (s : List ℕ) : Type 0 where
   -- "States 1 to 128, actions 1 to 64, steps 0 to 1,024, start below states."
   pub head : T (headFits? (headAt s))
   pub actions : EachFrom (GoodAction s) 0 (headAt s .actions)
+  -- "A text without an H action is refused"
+  pub some-high : T (someHigh? (listed (headAt s .actions) (actionAt s)))
   pub steps : EachFrom (GoodStep (headAt s) s) 0 (headAt s .steps)
   -- "Unused places are 0."
   pub unused-actions : EachFrom (ZeroAt s) (actionPlace (headAt s .actions)) actionsEnd
   pub unused-steps : EachFrom (ZeroAt s) (stepPlace (headAt s .steps)) stepsEnd
   -- "a count, then the extra starts, unused ones 0"
   pub extra-starts : GoodStarts (headAt s) s
-  -- "A text without an H action is refused"
-  pub some-high : T (someHigh? (listed (headAt s .actions) (actionAt s)))

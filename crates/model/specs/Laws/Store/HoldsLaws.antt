@@ -199,9 +199,9 @@ module _ (s : List ℕ) (fits : storeLength ≤ length s) where
   Holds→GoodPlaces holds = record {
     head = holds .well-formed .head;
     actions = record { at = λ i u v. Holds→GoodAction holds i v };
+    some-high = holds .well-formed .some-high;
     steps = record { at = λ j u v. Holds→GoodStep holds j v };
     unused-actions = record { at = action-zeros holds };
     unused-steps = record { at = step-zeros holds };
     extra-starts = Holds→GoodStarts holds;
-    some-high = holds .well-formed .some-high;
   }
