@@ -6,7 +6,9 @@
 mod beside;
 mod growth;
 mod plain;
+mod plain_bits;
 mod plain_books;
+mod plain_mirror;
 mod plot;
 mod process;
 mod shapes;

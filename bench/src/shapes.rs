@@ -36,6 +36,18 @@ pub fn chain(states: u16, actions: u16) -> Model {
     low(states, 0, (0..states - 1).flat_map(on))
 }
 
+/// From each state to the one before it, with each action.
+fn backward_chain(states: u16, actions: u16) -> Model {
+    let back = move |i| (0..actions).map(move |a| (i, a, i - 1));
+    low(states, states - 2, (1..states).flat_map(back))
+}
+
+/// Two chains of 64 with 8 actions, each state of the one alike to one of the other.
+fn two_chains() -> Model {
+    let on = |i| (0..8).map(move |a| (i, a, i + 1));
+    low(128, 0, (0..63).chain(64..127).flat_map(on))
+}
+
 /// The chain of 128 with 8 actions, with a start in each of its last 63 states too. Only that of line 1 leads to the 64
 /// states before them.
 fn chain_of_64_starts() -> Model {
@@ -77,6 +89,27 @@ fn two_states_of_63_steps() -> Model {
     )
 }
 
+/// A chain of 104, 11 states without steps, and eight states with a step to each of these 115.
+fn eight_wide_states() -> Model {
+    let chain = (0..103).map(|i| (i, 0, i + 1));
+    let wide = (115..123).flat_map(|p| (0..115).map(move |q| (p, 0, q)));
+    low(123, 115, chain.chain(wide))
+}
+
+/// A chain of 64, and 64 states with a step to every fourth of its states but the last of these.
+fn states_of_15_targets() -> Model {
+    let chain = (0..63).map(|i| (i, 0, i + 1));
+    let wide = (64..128).flat_map(|p| (0..15).map(move |k| (p, 0, 4 * k)));
+    low(128, 64, chain.chain(wide))
+}
+
+/// A ring, and a step of a second action from each of its first 8 states.
+fn ring_with_jumps() -> Model {
+    let ring = (0..128).map(|i| (i, 0, (i + 1) % 128));
+    let jumps = (0..8).map(|i| (i, 1, 16 * i + 15));
+    low(128, 0, ring.chain(jumps))
+}
+
 /// As many random low steps as asked for.
 pub fn dense(states: usize, steps: usize) -> Model {
     let mut rng = Rng::new(SEED);
@@ -97,6 +130,13 @@ fn dense_deterministic() -> Model {
         0,
         all.take(1_023).map(|(p, a)| (p, a, rng.below(128) as u16)),
     )
+}
+
+/// From each state a step of each of 8 actions to a random state, so that no two states are ever told apart.
+fn all_alike() -> Model {
+    let mut rng = Rng::new(SEED);
+    let all = (0..127).flat_map(|p| (0..8).map(move |a| (p, a)));
+    low(127, 0, all.map(|(p, a)| (p, a, rng.below(127) as u16)))
 }
 
 /// A till of 20 stages of a sale, its printer free or busy. Printing starts up to stage 10; at the last stage a busy
@@ -140,6 +180,9 @@ pub fn shapes() -> Vec<(&'static str, Model)> {
     vec![
         ("chain of 128, 8 actions", chain(128, 8)),
         ("chain of 128, 1 action", chain(128, 1)),
+        ("backward chain, 8 actions", backward_chain(128, 8)),
+        ("backward chain, 1 action", backward_chain(128, 1)),
+        ("two chains of 64", two_chains()),
         ("chain of 128 starts", with_all_starts(&chain(128, 8))),
         ("chain of 64 starts", chain_of_64_starts()),
         ("fan, 1 action", fan(true)),
@@ -148,8 +191,12 @@ pub fn shapes() -> Vec<(&'static str, Model)> {
         ("on and back, 8 actions", on_and_back(false)),
         ("two states of 400 steps", two_wide_states()),
         ("two states of 63 steps", two_states_of_63_steps()),
+        ("eight states of 115 steps", eight_wide_states()),
+        ("64 states of 15 steps", states_of_15_targets()),
+        ("ring with 8 jumps", ring_with_jumps()),
         ("dense random", dense(128, 1_023)),
         ("dense deterministic", dense_deterministic()),
+        ("all alike", all_alike()),
         ("greatest roll", greatest_roll()),
         ("typical", typical()),
     ]
@@ -157,14 +204,18 @@ pub fn shapes() -> Vec<(&'static str, Model)> {
 
 /// What the names mean.
 pub const LEGEND: &str = "\
-Chain: from each state to the next. Chain of 128 starts: that of 8 actions with 127 `I` lines, so that each state is a
+Chain: from each state to the next; backward chain: to the one before it. Two chains of 64: with 8 actions, each state
+alike to one of the other chain. Chain of 128 starts: that of 8 actions with 127 `I` lines, so that each state is a
 start and Run's run is empty; it shows what the greatest number of starts takes by itself. Chain of 64 starts: that of 8
 actions with 63 `I` lines, for its last states; only the start of line 1 leads to the 64 states before these, so that
 Reach counts up to 64 and Run's run has 64 steps; it shows what many starts take where the way is long as well. Fan:
 from i to i+1 up to i+8. On and back: from i to i+1 and to 0 up to 6. Two states of 400 steps: they lead to each state
 of a chain of 100 with 4 actions; two of 63 steps: to states of such a chain, as wide as 64 actions allow without
-branching. Dense: 128 states, 1,023 random steps. These have one high step, from the start of line 1 to the state after
-it. Greatest roll: a ring with 7 or 9 actions from each state to the next, whose roll has 832 lines; its leak is 127
-steps from the start. Typical: a till of 20 stages of a sale, its printer free or busy, 40 states; its leak is 10 steps
-from the start.
+branching; eight of 115 steps: to each state of a chain of 104 and to 11 states without steps; 64 of 15 steps: to every
+fourth state of a chain of 64 but the last of these. Ring with 8 jumps: from each state to the next, from the last to 0,
+and from 0 up to 7 elsewhere with a second action. Dense: 128 states, 1,023 random steps. All alike: from each state
+with each of 8 actions to a random state, so that no two states are ever told apart. These have one high step, from the
+start of line 1 to the state after it. Greatest roll: a ring with 7 or 9 actions from each state to the next, whose roll
+has 832 lines; its leak is 127 steps from the start. Typical: a till of 20 stages of a sale, its printer free or busy,
+40 states; its leak is 10 steps from the start.
 ";

@@ -136,8 +136,13 @@ impl Measured {
 
     fn plain_row(&self) -> Vec<String> {
         let times = (0..PLAIN.len()).flat_map(|index| self.beside_plain(index));
-        let cells = times.map(digits);
+        let cells = times.chain([self.times.bits, self.to_bits()]).map(digits);
         [self.name.to_string()].into_iter().chain(cells).collect()
+    }
+
+    /// Our time of Rank by that of plain Rust over bit sets.
+    fn to_bits(&self) -> f64 {
+        self.times.ours[column("Rank")] / self.times.bits
     }
 }
 
@@ -149,10 +154,11 @@ fn machine() -> String {
 }
 
 const COLUMNS: &str = "\
-Letters: the length of the word that Word shows. *: the model branches and has no word, and Word's time is that of its
-refusal, 23; the row below it has its deterministic variant, which is refused with a word. Run goes to a reachable state
-as far from the nearest start as any. Print is the way from the text to the page in one call, and tell is Read, Judge
-and Word in one; program is `till`: print with its process, from its start to its end.
+Letters: the length of the word that Word shows. *: there is none, and Word's time is that of its refusal, which is 24
+for all alike, which passes, and else 23, since the model branches. The row below fan, on and back, two states of 400
+steps and dense random has a deterministic variant, which is refused with a word. Run goes to a reachable state as far
+from the nearest start as any. Print is the way from the text to the page in one call, and tell is Read, Judge and Word
+in one; program is `till`: print with its process, from its start to its end.
 ";
 
 const RATIOS: &str = "\
@@ -162,8 +168,10 @@ Our times by those of the second checker (Word's without refusals), and those of
 const SECOND: &str = "\
 The second checker is written to be clear and not fast; its program is timed with its process too. Every operation that
 takes a store tests within its time that the store is good, and so does the second checker's. Plain Rust is written for
-speed and not proved, and takes a good store for granted. It ranks by classes; its book is one call that ranks, too, and
-like its check it finds a state's steps with an action by an index. Check is timed on the model's own book.
+speed and not proved, and takes a good store for granted. It ranks in the way of the proved operation, and looks again
+only where something changed; its book is one call that ranks, too, and like its check it finds a state's steps with an
+action by an index. Check is timed on the model's own book. Another ranking in plain Rust is over bit sets: it shows how
+fast one can be where each move is a single step and a set of states the bits of one number.
 ";
 
 /// The models that the README shows, and what it calls them.
@@ -239,13 +247,16 @@ impl Report {
         let slowest = digits(self.most(Measured::program));
         let more = digits(self.most(Measured::more));
         let [rank, book, check] = [0, 1, 2].map(|index| digits(self.to_plain(index, f64::max)));
+        let bits = digits(self.most(Measured::to_bits));
         let [process, _] = self.empty.map(digits);
         format!(
             "Microseconds, the best of many calls, on {}:\n\n{times}\n\
              The program `till` answers on every model of the benchmark within {slowest}; {process} of that go to its \
              process, as\nan empty text shows. Roll takes at most {more} more than Page. \
-             Rank takes at most {rank} times as long as plain Rust,\n\
-             which is not proved, Book at most {book} times and Check at most {check} times.\n\
+             Rank takes at most {rank} times as long as plain Rust\n\
+             that ranks in the same way and is not proved, Book at most {book} times and Check at most {check} times. \
+             Plain Rust over\nbit sets, for single steps alone, ranks faster: Rank takes at most {bits} times as \
+             long as that.\n\
              `bench/TABLE.md` has every model and operation, and beside them the times of the second checker \
              and of plain Rust.\n",
             machine()
@@ -257,7 +268,7 @@ impl Report {
         let head = [&["model"], &names()[..]].concat();
         let second = table(&head, self.models.iter().map(Measured::second_row));
         let plain_head = PLAIN.map(|name| [name, "plain", "ratio"]).concat();
-        let head = [&["model"], &plain_head[..]].concat();
+        let head = [&["model"], &plain_head[..], &["bit sets", "Rank's ratio"]].concat();
         let plain = table(&head, self.models.iter().map(Measured::plain_row));
         let head = ["model", "lines of the roll", "Page", "Roll", "Roll - Page"];
         let rolls = table(&head, self.models.iter().map(Measured::roll_row));

@@ -12,6 +12,7 @@ use suite::operations::{AnyOperation, ALL, JUDGE, PRINT, READ, WORD, WRITE};
 use suite::stores::Store;
 
 use crate::plain;
+use crate::plain_bits;
 use crate::plain_books;
 use crate::process;
 
@@ -95,6 +96,8 @@ pub struct Times {
     pub second: Each,
     /// In the order of `PLAIN`.
     pub plain: Each,
+    /// Rank over bit sets.
+    pub bits: f64,
 }
 
 /// A model and its lists, which are filled over and over.
@@ -144,6 +147,9 @@ impl Timed {
         let mut plain = vec![2; TABLE];
         plain::rank(&input.store, &mut plain);
         assert!(lists.table[..] == plain, "one table");
+        plain.fill(2);
+        plain_bits::rank(&input.store, &mut plain);
+        assert!(lists.table[..] == plain, "one table over bit sets");
         let length = WRITE.told(input.clone(), lists).expect("a text");
         assert!(lists.written[..length] == input.text[..], "one text");
         let word = WORD.told(input.clone(), lists);
@@ -193,11 +199,13 @@ impl Timed {
             ours: vec![f64::MAX; names().len()],
             second: vec![f64::MAX; names().len()],
             plain: vec![f64::MAX; PLAIN.len()],
+            bits: f64::MAX,
         };
         for _ in 0..TURNS {
             least(&mut times.ours, &self.ours());
             least(&mut times.second, &self.second());
             least(&mut times.plain, &self.plain());
+            times.bits = times.bits.min(self.bits());
         }
         times
     }
@@ -211,6 +219,12 @@ impl Timed {
         let book = best(|| plain_books::book(black_box(store), table, book));
         let check = best(|| plain_books::check(black_box(store), black_box(own)));
         vec![rank, book, check]
+    }
+
+    /// One turn of plain Rust over bit sets.
+    fn bits(&mut self) -> f64 {
+        let Timed { input, lists, .. } = self;
+        best(|| plain_bits::rank(black_box(&input.store), &mut lists.table))
     }
 
     /// One turn of the proved operations.

@@ -30,7 +30,7 @@ pub fn book_good(store: &[u16], table: &mut [u8], book: &mut [u8])
     let mut targets = [0u16; MOVES_LENGTH];
     moves::moves::list_store_moves(store, &mut first, &mut actions, &mut targets);
     let n = model::store::states(store);
-    ranking::classes::rank_moves(n, &first, &actions, &targets, table);
+    moves::table::rank_steps(n, &first, &actions, &targets, table);
     books::book::fill_book(n, &first, &actions, &targets, table, book);
 }
 

@@ -1,6 +1,7 @@
 pub mod Tests
 pub mod TestsLaws
 pub mod CountLaws
+pub mod PigeonholeLaws
 pub mod Alike
 pub mod AlikeLaws
 pub mod Game

@@ -16,7 +16,7 @@ ghost use Rattle.model.specs.Inner.Stored.{Stored};
 ghost use Rattle.model.specs.Inner.Index.{Index};
 ghost use Rattle.model.specs.Inner.Roles.{Roles};
 ghost use Rattle.text.specs.Limits.{indexLength};
-ghost use Rattle.ranking.specs.MoveList.{Lists, Rising, Ordered};
+ghost use Rattle.comparing.specs.MoveList.{Lists, Rising, Ordered};
 ghost use Rattle.moves.specs.Inner.Listing.{Appended, LowAmong};
 ghost use Rattle.model.specs.System.{view};
 ghost use Rattle.lts.specs.Noninterference.{LowMove};

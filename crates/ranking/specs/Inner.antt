@@ -1,3 +1,2 @@
 pub mod ClassList
 pub mod TableWrites
-pub mod Marks

@@ -1,6 +1,5 @@
-pub mod MoveListLaws
 pub mod ClassListLaws
 pub mod TableWritesLaws
 pub mod RoundsLaws
-pub mod MarksLaws
+pub mod ReadyLaws
 pub mod RankedLaws

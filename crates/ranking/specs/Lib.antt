@@ -1,4 +1,3 @@
 pub mod Laws
 pub mod Inner
-pub mod MoveList
 pub mod Table

@@ -1,3 +1,5 @@
-// Ranks of states by classes, over moves given as lists.
-pub mod classes;
+// Ranks of states by classes, over moves given as lists. A round looks again only at states with a move to one whose
+// class changed in the round before.
+pub mod rounds;
 pub mod table;
+pub mod writes;

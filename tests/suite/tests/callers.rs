@@ -241,9 +241,8 @@ fn the_needs() {
         let most = match name {
             "till_reach" | "till_run" | "till_write" => KB,
             "till_read" => 9 * KB,
-            "till_book" => 32 * KB,
-            "till_check" => 24 * KB,
-            _ => 16 * KB,
+            "till_book" => 40 * KB,
+            _ => 24 * KB,
         };
         let bytes: usize = bytes.parse().expect("a number");
         assert!(0 < bytes && bytes < most, "{line}");

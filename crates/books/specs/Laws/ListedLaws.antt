@@ -7,7 +7,7 @@ use Rattle.lts.specs.Alike.{Moves}
 use Rattle.lts.specs.OwnBookLaws.{ownBook-same}
 use Rattle.text.specs.Faults.{Outcome}
 use Rattle.text.specs.Limits.{stateLimit}
-use Rattle.ranking.specs.MoveList.{Listed, Lists, Ordered}
+use Rattle.comparing.specs.MoveList.{Listed, Lists, Ordered}
 use Rattle.books.specs.Books.{bookOf, BookFilled}
 use Rattle.books.specs.Checks.{CheckDone}
 use Rattle.books.specs.Laws.ChecksLaws.{checkDone-same}

@@ -12,8 +12,8 @@ use Rattle.lts.specs.Book.{Opens, Plays, first-opens, second-opens, LowerRank, 
 use Rattle.lts.specs.BookLaws.{opens-map, plays-side-pos, opens-of-first}
 use Rattle.lts.specs.OwnBookLaws.{lowerRank-sym, play-exists}
 use Rattle.text.specs.Limits.{pairPlace}
-use Rattle.ranking.specs.MoveList.{Listed, MoveList, Ordered}
-use Rattle.ranking.specs.Laws.MoveListLaws.{listed-game, listed-target-lt}
+use Rattle.comparing.specs.MoveList.{Listed, MoveList, Ordered}
+use Rattle.comparing.specs.Laws.MoveListLaws.{listed-game, listed-target-lt}
 use Rattle.ranking.specs.Table.{Ranks}
 use Rattle.books.specs.Inner.Openings.{RankIn, LowerAnswers, FirstOpening}
 

@@ -7,7 +7,7 @@ use lib.ListN.{getD}
 use Rattle.lts.specs.Alike.{Moves}
 use Rattle.text.specs.Model.{Model}
 use Rattle.model.specs.System.{action, target, view}
-use Rattle.ranking.specs.MoveList.{Listed, Ordered}
+use Rattle.comparing.specs.MoveList.{Listed, Ordered}
 
 -- From place `from` up to place `to` the lists have the actions and targets of Out, each of them; the places before are
 -- as they were.

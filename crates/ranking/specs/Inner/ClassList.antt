@@ -1,43 +1,49 @@
--- Classes of states as lists, over any moves: entry p is the lowest state of the class of p, and one round makes the
--- next list from it. Only the contracts of inner functions cite it. Document 01, "Alike" and operation 3.
+-- Classes of states by number, over any moves, and one round on them. Only the contracts of inner functions cite it.
+-- Document 01, "Alike" and operation 3.
 use mathlib.Core.List.{List}
 use mathlib.Core.Path.{_≡_}
-use Prim.Native.Nat.{ℕ, _≤_, _<_}
-use lib.ListN.{getD}
+use Prim.Native.Nat.{ℕ, _+_, _<_}
 use Rattle.lts.specs.Alike.{Moves, Answers, Alike}
-
--- p and q are of one class.
-abbrev pub Same : List ℕ → ℕ → ℕ → Type 0
-Same class p q = getD class p 0 ≡ getD class q 0
+use Rattle.lts.specs.Game.{Settled, Separates}
+use Rattle.comparing.specs.Inner.Numbered.{Same}
+use Rattle.comparing.specs.Inner.Marks.{Unmarked}
+use Rattle.touching.specs.Inner.StateSets.{StateSet}
+use Rattle.touching.specs.Inner.Touched.{Together}
+use Rattle.parts.specs.Inner.Reps.{Counted}
+use Rattle.parts.specs.Inner.Numbering.{Changed}
 
 -- The classes of k-alike states among n.
 pub record Classes (Move : Moves) (n k : ℕ) (class : List ℕ) : Type 0 where
-  pub lowest-le : (p : ℕ) → p < n → getD class p 0 ≤ p
-  pub alike : (p : ℕ) → p < n → Alike Move k p (getD class p 0)
-  pub none-lower : (p q : ℕ) → p < n → q < getD class p 0 → ¬ (Alike Move k p q)
+  pub same-of-alike : (p q : ℕ) → p < n → q < n → Alike Move k p q → Same class p q
+  pub alike-of-same : (p q : ℕ) → p < n → q < n → Same class p q → Alike Move k p q
 
--- What a round needs of the classes before it: the states of a new class are of one old class.
-pub record Refinable (Move : Moves) (n : ℕ) (class : List ℕ) : Type 0 where
-  pub lowest-le : (p : ℕ) → p < n → getD class p 0 ≤ p
-  pub same-of-answers : (p q : ℕ) → p < n → q < n → Answers Move (Same class) p q → Same class p q
+-- `next` has the classes one round after `class`: those of states that answer each other inside `class`.
+pub record Refined (Move : Moves) (n : ℕ) (class next : List ℕ) : Type 0 where
+  pub same-before : (p q : ℕ) → p < n → q < n → Same next p q → Same class p q
+  pub answers-of-same : (p q : ℕ) → p < n → q < n → Same next p q → Answers Move (Same class) p q
+  pub same-of-answers : (p q : ℕ) → p < n → q < n → Same class p q → Answers Move (Same class) p q → Same next p q
 
--- r is the lowest state that p answers, and that answers p, with targets compared by their classes.
-pub record Lowest (Move : Moves) (class : List ℕ) (p r : ℕ) : Type 0 where
-  pub lowest-le : r ≤ p
-  pub answers : Answers Move (Same class) p r
-  pub none-lower : (q : ℕ) → q < r → ¬ (Answers Move (Same class) p q)
+-- What a round finds after k of them: the classes with their representatives, the states that it must look at, and no
+-- marks.
+pub record Ready (Move : Moves) (n k : ℕ) (class : List ℕ) (classes : ℕ) (reps flags list : List ℕ) (count : ℕ)
+    (marks : List ℕ) : Type 0 where
+  pub are-classes : Classes Move n k class
+  pub counted : Counted n classes class reps
+  pub touched : StateSet n flags list count
+  pub together : Together Move n class flags
+  pub unmarked : Unmarked marks
 
--- The entries of `next` below m are the classes one round after `class`.
-pub record Refined (Move : Moves) (class next : List ℕ) (m : ℕ) : Type 0 where
-  pub lowest : (p : ℕ) → p < m → Lowest Move class p (getD next p 0)
+-- What the round after k of them leaves: the classes one round later, their representatives, the states that changed
+-- theirs, and no marks.
+pub record Divided (Move : Moves) (n k : ℕ) (class next : List ℕ) (classes : ℕ) (reps changed moved : List ℕ)
+    (changes : ℕ) (marks : List ℕ) : Type 0 where
+  pub are-classes : Classes Move n (k + 1) next
+  pub refined : Refined Move n class next
+  pub counted : Counted n classes next reps
+  pub changes-are : Changed n class next changed moved changes
+  pub unmarked : Unmarked marks
 
--- q is the lowest state of its new class, and p is of that class.
-pub record Joins (Move : Moves) (class next : List ℕ) (p q : ℕ) : Type 0 where
-  pub represents : getD next q 0 ≡ q
-  pub answers : Answers Move (Same class) p q
-
--- One of the first m states has left its class.
-pub record Moved (class next : List ℕ) (m : ℕ) : Type 0 where
-  pub state : ℕ
-  pub state-lt : state < m
-  pub left : ¬ (getD class state 0 ≡ getD next state 0)
+-- The round after k of them separates a pair exactly if a state changes its class.
+pub record RoundSeparates (Move : Moves) (n k changed : ℕ) : Type 0 where
+  pub settled : changed ≡ 0 → Settled Move n k
+  pub separates : 0 < changed → Separates Move n k

@@ -9,7 +9,7 @@ use Rattle.lts.specs.Alike.{Moves, Alike, Separated}
 use Rattle.lts.specs.Game.{Settled, Separates}
 use Rattle.text.specs.Limits.{stateLimit}
 use Rattle.text.specs.Limits.{pairPlace}
-use Rattle.ranking.specs.Inner.ClassList.{Same}
+use Rattle.comparing.specs.Inner.Numbered.{Same}
 
 -- "Entry 128p + q"
 abbrev pub entryOf : List ℕ → ℕ → ℕ → ℕ
@@ -38,9 +38,9 @@ pub record PairWritten (class next : List ℕ) (round : ℕ) (table : List ℕ) 
 pub record RowWritten (class next : List ℕ) (round : ℕ) (table : List ℕ) (p m : ℕ) : Type 0 where
   pub pair : (q : ℕ) → q < m → PairWritten class next round table p q
 
--- So have those of the first m states that left their class, and each of the n states.
-pub record RowsWritten (class next : List ℕ) (round : ℕ) (table : List ℕ) (m n : ℕ) : Type 0 where
-  pub row : (p : ℕ) → p < m → ¬ (getD class p 0 ≡ getD next p 0) → RowWritten class next round table p n
+-- So have the first m states of the list, and each of the n states.
+pub record RowsWritten (class next : List ℕ) (round : ℕ) (table list : List ℕ) (m n : ℕ) : Type 0 where
+  pub row : (i : ℕ) → i < m → RowWritten class next round table (getD list i 0) n
 
 -- v says what the first k rounds found of p and q: the round that separated them, 0 if none did.
 abbrev pub RankUpTo : Moves → ℕ → ℕ → ℕ → ℕ → Type 0

@@ -2,21 +2,23 @@
 -- relation have its ranks: what is ranked by the lists is ranked by the relation.
 -- Document 01, "Rank" and operation 3. Assumes nothing.
 use mathlib.Core.List.{List}
-use mathlib.Core.Logic.{_⊎_, inl, inr, ⊎-elim}
+use mathlib.Core.Logic.{_⊎_, inl, inr, ⊎-elim, _↔_}
 use mathlib.Core.Path.{_≡_, sym, _∙_, subst}
 use Prim.Native.Nat.{ℕ, _/_, _%_, _≤_, _<_}
 use native.Mathlib.Omega.{arith}
 use lib.ListN.{getD}
 use lib.Seq.{ext-getD}
-use Rattle.lts.specs.Alike.{Moves, Rank}
+use Rattle.lts.specs.Alike.{Moves, Separated, Rank}
 use Rattle.lts.specs.AlikeLaws.{rank-unique}
-use Rattle.lts.specs.AgreeLaws.{separated-same, rank-same}
+use Rattle.lts.specs.AgreeLaws.{separated-same, rank-same, separated-agree, rank-agree}
 use Rattle.lts.specs.TestsLaws.{lt-or-le}
 use Rattle.text.specs.Limits.{stateLimit}
 use Rattle.text.specs.Limits.{tableLength, pairPlace}
 use Rattle.text.specs.Lists.{Past}
 use Rattle.text.specs.Laws.ListsLaws.{past-getD}
-use Rattle.ranking.specs.MoveList.{Listed, MoveList, Lists}
+use Rattle.comparing.specs.MoveList.{Listed, MoveList, Lists, OwnRows, Played, silentLabel}
+use Rattle.comparing.specs.Laws.MoveListLaws.{listed-game, played-game}
+use Rattle.comparing.specs.Laws.OwnRowsLaws.{ownRows-rowList, own-agree}
 use Rattle.ranking.specs.Table.{Below, SomePair, Ranks, LastRound, Greatest, Ranked}
 
 -- ---- one table, one answer
@@ -73,47 +75,68 @@ module _ (Move : Moves) (n : ℕ) where
     ranks-unique entry t u (r .table) (r .past) (s .table) (s .past),
   )
 
+-- ---- other moves with the same ranks
+
+somePair-map : {n : ℕ} {P Q : ℕ → ℕ → Type 0} → ((p q : ℕ) → p < n → q < n → P p q → Q p q)
+    → SomePair (Below n) P → SomePair (Below n) Q
+somePair-map f x = record {
+  one = x .one;
+  other = x .other;
+  one-among = x .one-among;
+  other-among = x .other-among;
+  holds = f (x .one) (x .other) (x .one-among) (x .other-among) (x .holds);
+}
+
+ranked-map : {M N : Moves} {n : ℕ} → ((p q k : ℕ) → p < n → q < n → Rank M p q k ↔ Rank N p q k)
+    → ((p q k : ℕ) → p < n → q < n → Separated M p q k ↔ Separated N p q k) → {entry exit : List ℕ} {last : ℕ}
+    → Ranked M n entry exit last → Ranked N n entry exit last
+ranked-map f g {last = last} r = record {
+  table = record {
+    ranks = λ p q lp lq. f p q _ lp lq .0 (r .table .ranks p q lp lq);
+    outside = r .table .outside;
+  };
+  past = r .past;
+  last-round = record {
+    separates =
+        ⊎-elim inl (λ x. inr (somePair-map (λ p q lp lq. g p q last lp lq .0) x)) (r .last-round .separates);
+    none-later = λ p q k lp lq x. r .last-round .none-later p q k lp lq (g p q k lp lq .1 x);
+  };
+  greatest = record {
+    attained = somePair-map (λ p q lp lq. f p q last lp lq .0) (r .greatest .attained);
+    bound = λ p q k lp lq x. r .greatest .bound p q k lp lq (f p q k lp lq .1 x);
+  };
+}
+
+-- Where each row holds its own state alone, the moves that are played are the steps, silent moves of no steps apart,
+-- and these change no rank.
+module _ {n : ℕ} {first actions targets begins rows : List ℕ} (L : MoveList n first actions targets)
+    (O : OwnRows n begins rows) where
+  pub ranked-of-own : {entry exit : List ℕ} {last : ℕ}
+      → Ranked (Played n first actions targets begins rows) n entry exit last
+      → Ranked (Listed n first actions targets) n entry exit last
+  ranked-of-own =
+      ranked-map (λ p q k lp lq. (rank p q k lp lq .1, rank p q k lp lq .0))
+      (λ p q k lp lq. (separated p q k lp lq .1, separated p q k lp lq .0))
+    where
+      rank : (p q k : ℕ) → p < n → q < n
+          → Rank (Listed n first actions targets) p q k ↔ Rank (Played n first actions targets begins rows) p q k
+      rank p q k lp lq = rank-agree (λ x. x < n) (λ a. a ≡ silentLabel) (Listed n first actions targets)
+          (Played n first actions targets begins rows) (own-agree O L) n _ _ (listed-game L)
+          (played-game L (ownRows-rowList O)) p q k lp lq lp lq
+
+      separated : (p q k : ℕ) → p < n → q < n → Separated (Listed n first actions targets) p q k
+          ↔ Separated (Played n first actions targets begins rows) p q k
+      separated p q k lp lq = separated-agree (λ x. x < n) (λ a. a ≡ silentLabel) (Listed n first actions targets)
+          (Played n first actions targets begins rows) (own-agree O L) p q k lp lq
+
 -- ---- the lists and the relation
 
 module _ {Move : Moves} {n : ℕ} {first actions targets : List ℕ} (l : Lists Move n first actions targets) where
-  abbrev Played : Moves
-  Played = Listed n first actions targets
-
-  rank-forth : (p q : ℕ) {k : ℕ} → Rank Played p q k → Rank Move p q k
-  rank-forth = rank-same (l .sound) (l .complete)
-
-  rank-back : (p q : ℕ) {k : ℕ} → Rank Move p q k → Rank Played p q k
-  rank-back = rank-same (l .complete) (l .sound)
-
-  somePair-map : {P Q : ℕ → ℕ → Type 0} → ((p q : ℕ) → P p q → Q p q) → SomePair (Below n) P → SomePair (Below n) Q
-  somePair-map f x = record {
-    one = x .one;
-    other = x .other;
-    one-among = x .one-among;
-    other-among = x .other-among;
-    holds = f (x .one) (x .other) (x .holds);
-  }
-
-  ranked-of-played : {entry exit : List ℕ} {last : ℕ} → Ranked Played n entry exit last → Ranked Move n entry exit last
-  ranked-of-played {last = last} r = record {
-    table = record {
-      ranks = λ p q lp lq. rank-forth p q (r .table .ranks p q lp lq);
-      outside = r .table .outside;
-    };
-    past = r .past;
-    last-round = record {
-      separates =
-          ⊎-elim inl
-          (λ x. inr (somePair-map (λ p q. separated-same (l .sound) (l .complete) p q last .0) x))
-          (r .last-round .separates);
-      none-later = λ p q k lp lq x.
-          r .last-round .none-later p q k lp lq (separated-same (l .sound) (l .complete) p q k .1 x);
-    };
-    greatest = record {
-      attained = somePair-map (λ p q. rank-forth p q) (r .greatest .attained);
-      bound = λ p q k lp lq x. r .greatest .bound p q k lp lq (rank-back p q x);
-    };
-  }
+  ranked-of-lists : {entry exit : List ℕ} {last : ℕ} → Ranked (Listed n first actions targets) n entry exit last
+      → Ranked Move n entry exit last
+  ranked-of-lists = ranked-map
+      (λ p q k _ _. (rank-same (l .sound) (l .complete) p q, rank-same (l .complete) (l .sound) p q))
+      (λ p q k _ _. separated-same (l .sound) (l .complete) p q k)
 
   -- the lists, and what is ranked by them, for a number that is n
   module _ {x : ℕ} (e : x ≡ n) where
@@ -123,4 +146,4 @@ module _ {Move : Moves} {n : ℕ} {first actions targets : List ℕ} (l : Lists 
     pub ranked-of-listed : {entry exit : List ℕ} {last : ℕ}
         → Ranked (Listed x first actions targets) x entry exit last → Ranked Move n entry exit last
     ranked-of-listed {entry} {exit} {last} r =
-        ranked-of-played (subst (λ (y : ℕ). Ranked (Listed y first actions targets) y entry exit last) e r)
+        ranked-of-lists (subst (λ (y : ℕ). Ranked (Listed y first actions targets) y entry exit last) e r)

@@ -9,10 +9,10 @@ use native.Mathlib.Numerals.{add-one}
 use native.Mathlib.Omega.{arith}
 use lib.ListN.{length, getD, drop, length-drop}
 use lib.Seq.{getD-drop, ext-getD}
-use borrow.Author.Count.{below-more}
 use Rattle.lts.specs.Alike.{Moves, Alike, Separated, Rank, bisimilar}
 use Rattle.lts.specs.AlikeLaws.{alike-suc, bisimilar-refl, rank-of-separated}
-use Rattle.lts.specs.Game.{Game, Settled, Separates}
+use Rattle.lts.specs.Game.{Game}
+use Rattle.lts.specs.TestsLaws.{eq-or-not}
 use Rattle.lts.specs.GameLaws.{separated-of-separates, bisimilar-of-settled, rank-le-settled}
 use Rattle.text.specs.Limits.{stateLimit}
 use Rattle.text.specs.Limits.{tableLength, pairPlace}
@@ -20,8 +20,10 @@ use Rattle.text.specs.Lists.{Past}
 use Rattle.text.specs.Inner.Clearing.{Cleared}
 use Rattle.text.specs.Laws.ListsLaws.{past-getD}
 use Rattle.ranking.specs.Table.{Below, SomePair, Ranked}
-use Rattle.ranking.specs.Inner.ClassList.{Classes, Refined, Moved}
-use Rattle.ranking.specs.Laws.ClassListLaws.{classes-suc, separates-of-moved, settled-of-not-moved}
+use Rattle.parts.specs.Inner.Reps.{Counted}
+use Rattle.parts.specs.Inner.Numbering.{NumbersKept, Changed}
+use Rattle.ranking.specs.Inner.ClassList.{Classes, Refined, RoundSeparates}
+use Rattle.ranking.specs.Laws.ClassListLaws.{classes-suc, separates-of-changed, settled-of-unchanged}
 use Rattle.ranking.specs.Inner.TableWrites.{entryOf, Written, RowsWritten, RankUpTo, RanksUpTo, Finished}
 use Rattle.ranking.specs.Laws.TableWritesLaws.{ranksUpTo-suc}
 
@@ -34,26 +36,35 @@ ranksUpTo-zero Move l C = record { found = λ p q lp lq. inl (C .given (pairPlac
 
 -- ---- one round
 
-module _ {Move : Moves} {n : ℕ} (target-lt : (p a q : ℕ) → Move p a q → q < n) {class next : List ℕ} {k : ℕ}
-    (C : Classes Move n k class) (R : Refined Move class next n) where
+module _ {Move : Moves} {n : ℕ} (target-lt : (p a q : ℕ) → p < n → Move p a q → q < n) {class next : List ℕ} {k : ℕ}
+    (C : Classes Move n k class) (R : Refined Move n class next) where
   D : Classes Move n (suc k) next
   D = classes-suc target-lt C R
 
   pub round-classes : Classes Move n (k + 1) next
   round-classes = subst (λ (j : ℕ). Classes Move n j next) (sym (add-one k)) D
 
-  pub round-ranks : {t u : List ℕ} → Written n class next (k + 1) t u → RowsWritten class next (k + 1) u n n
-      → RanksUpTo Move n k t → RanksUpTo Move n (k + 1) u
-  round-ranks {t} {u} W rows U = subst (λ (j : ℕ). RanksUpTo Move n j u) (sym (add-one k))
-      (ranksUpTo-suc target-lt C D (subst (λ (j : ℕ). Written n class next j t u) (add-one k) W)
-      (subst (λ (j : ℕ). RowsWritten class next j u n n) (add-one k) rows) U)
+  module _ {flags list : List ℕ} {count : ℕ} (H : Changed n class next flags list count) where
+    pub round-ranks : {t u : List ℕ} → Written n class next (k + 1) t u → RowsWritten class next (k + 1) u list count n
+        → RanksUpTo Move n k t → RanksUpTo Move n (k + 1) u
+    round-ranks {t} {u} W rows U = subst (λ (j : ℕ). RanksUpTo Move n j u) (sym (add-one k))
+        (ranksUpTo-suc C D H (subst (λ (j : ℕ). Written n class next j t u) (add-one k) W)
+        (subst (λ (j : ℕ). RowsWritten class next j u list count n) (add-one k) rows) U)
 
-  pub round-separates : ((j : ℕ) → j < k → Separates Move n j) → Moved class next n → (j : ℕ) → j < k + 1
-      → Separates Move n j
-  round-separates h m = below-more _ k h (separates-of-moved target-lt C D m)
-
-  pub round-settled : ¬ (Moved class next n) → Settled Move n k
-  round-settled m = settled-of-not-moved target-lt C D m
+    pub round-separates : {classes classes′ : ℕ} {reps reps′ : List ℕ} → Counted n classes class reps
+        → Counted n classes′ next reps′ → NumbersKept classes classes′ class reps′ → RoundSeparates Move n k count
+    round-separates A B K = record {
+      settled = λ e. settled-of-unchanged C D (λ p lp. none e p lp (eq-or-not (getD flags p 0) 0));
+      separates = λ l.
+          let p = getD list 0 0 in
+          let lp = H .states .listed-lt 0 l in
+          separates-of-changed C D A B K p lp (H .changed p lp (H .states .listed-in 0 l));
+    }
+      where
+        none : count ≡ 0 → (p : ℕ) → p < n → (getD flags p 0 ≡ 0) ⊎ ¬ (getD flags p 0 ≡ 0)
+            → getD class p 0 ≡ getD next p 0
+        none e p lp (inl o) = H .unchanged p lp o
+        none e p lp (inr i) = absurd (omega (arith, H .states .complete p lp i .1))
 
 -- ---- after the last round
 

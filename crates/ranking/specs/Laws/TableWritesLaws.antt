@@ -1,4 +1,4 @@
--- The rows of the states that left their class hold every pair that the round separates, so the table is right one
+-- The rows of the states that changed their class hold every pair that the round separates, so the table is right one
 -- round further. Document 01, operation 3. Assumes nothing.
 use mathlib.Core.Path.{_≡_, refl, sym, ap, _∙_, subst}
 use mathlib.Core.Logic.{_⊎_, inl, inr}
@@ -12,9 +12,10 @@ use Rattle.lts.specs.Alike.{Moves, Alike, Separated}
 use Rattle.lts.specs.AlikeLaws.{alike-le}
 use Rattle.text.specs.Limits.{stateLimit}
 use Rattle.text.specs.Limits.{tableLength, pairPlace}
-use Rattle.ranking.specs.Inner.ClassList.{Same, Classes}
 use Rattle.lts.specs.TestsLaws.{eq-or-not}
-use Rattle.ranking.specs.Laws.ClassListLaws.{same-of-alike, alike-of-same}
+use Rattle.comparing.specs.Inner.Numbered.{Same}
+use Rattle.parts.specs.Inner.Numbering.{Changed}
+use Rattle.ranking.specs.Inner.ClassList.{Classes}
 use Rattle.ranking.specs.Inner.TableWrites.{entryOf, SeparatedBy, Outside, Written, PairWritten}
 use Rattle.ranking.specs.Inner.TableWrites.{RowWritten, RowsWritten, RankUpTo, RanksUpTo}
 
@@ -67,9 +68,10 @@ module _ {n : ℕ} {class next : List ℕ} {round : ℕ} where
     };
   }
 
-  pub rows-stay : {t u : List ℕ} {m : ℕ} → Written n class next round t u → m ≤ n
-      → RowsWritten class next round t m n → RowsWritten class next round u m n
-  rows-stay f lm r = record { row = λ p l d. row-stays f (omega arith) (omega arith) (r .row p l d) }
+  pub rows-stay : {t u list : List ℕ} {m : ℕ} → Written n class next round t u
+      → ((i : ℕ) → i < m → getD list i 0 < n) → RowsWritten class next round t list m n
+      → RowsWritten class next round u list m n
+  rows-stay f below r = record { row = λ i l. row-stays f (below i l) (omega arith) (r .row i l) }
 
   pub written-set : (t : List ℕ) {p q : ℕ} → n ≤ stateLimit → p < n → q < n → tableLength ≤ length t
       → SeparatedBy class next p q → Written n class next round t (set t (pairPlace p q) round)
@@ -142,33 +144,42 @@ module _ {class next t : List ℕ} {round : ℕ} where
   pub row-le : {p m n : ℕ} → n ≤ m → RowWritten class next round t p m → RowWritten class next round t p n
   row-le l r = record { pair = λ q k. r .pair q (omega arith) }
 
-  pub rows-zero : {n : ℕ} → RowsWritten class next round t 0 n
-  rows-zero = record { row = λ p l. absurd (omega arith) }
+  pub rows-zero : {list : List ℕ} {n : ℕ} → RowsWritten class next round t list 0 n
+  rows-zero = record { row = λ i l. absurd (omega arith) }
 
-  pub rows-add-one : {p n : ℕ} → RowsWritten class next round t p n
-      → (¬ (getD class p 0 ≡ getD next p 0) → RowWritten class next round t p n)
-      → RowsWritten class next round t (p + 1) n
-  rows-add-one {p = p} r h = record { row = below-more _ p (r .row) h }
+  pub rows-add-one : {list : List ℕ} {i n : ℕ} → RowsWritten class next round t list i n
+      → RowWritten class next round t (getD list i 0) n → RowsWritten class next round t list (i + 1) n
+  rows-add-one {i = i} r h = record { row = below-more _ i (r .row) h }
 
-  pub rows-le : {m k n : ℕ} → k ≤ m → RowsWritten class next round t m n → RowsWritten class next round t k n
-  rows-le l r = record { row = λ p k. r .row p (omega arith) }
+  pub rows-le : {list : List ℕ} {m k n : ℕ} → k ≤ m → RowsWritten class next round t list m n
+      → RowsWritten class next round t list k n
+  rows-le l r = record { row = λ i k. r .row i (omega arith) }
 
 -- ---- a round, and all rounds
 
--- Every pair that the round separates stands in the row of one of the two.
-entry-of-separated : {class next t : List ℕ} {round n : ℕ} → RowsWritten class next round t n n → (p q : ℕ) → p < n
-    → q < n → SeparatedBy class next p q → entryOf t p q ≡ round
-entry-of-separated {class} {next} {t} {round} r p q lp lq h = go (eq-or-not (getD class p 0) (getD next p 0))
+-- Every pair that the round separates stands in the row of one of the two: if neither changed, they are of one class
+-- still.
+entry-of-separated : {class next t flags list : List ℕ} {round n count : ℕ} → Changed n class next flags list count
+    → RowsWritten class next round t list count n → (p q : ℕ) → p < n → q < n → SeparatedBy class next p q
+    → entryOf t p q ≡ round
+entry-of-separated {class} {next} {t} {flags} {list} {round} {n} {count} C r p q lp lq h =
+    go (eq-or-not (getD flags p 0) 0) (eq-or-not (getD flags q 0) 0)
   where
-    go : (getD class p 0 ≡ getD next p 0) ⊎ ¬ (getD class p 0 ≡ getD next p 0) → entryOf t p q ≡ round
-    go (inr d) = r .row p lp d .pair q lq .both h .0
-    go (inl e) =
-        let left : ¬ (getD class q 0 ≡ getD next q 0) = λ g. h .not-same-after (sym e ∙ h .same-before ∙ g) in
-        r .row q lq left .pair p lp .both (separatedBy-sym h) .1
+    row-of : (x : ℕ) → x < n → ¬ (getD flags x 0 ≡ 0) → RowWritten class next round t x n
+    row-of x lx i =
+        let l = C .states .complete x lx i in
+        subst (λ (y : ℕ). RowWritten class next round t y n) (l .2) (r .row (l .0) (l .1))
 
-module _ {Move : Moves} {n : ℕ} (target-lt : (p a q : ℕ) → Move p a q → q < n) {class next t u : List ℕ} {k : ℕ}
-    (C : Classes Move n k class) (D : Classes Move n (suc k) next) (W : Written n class next (suc k) t u)
-    (R : RowsWritten class next (suc k) u n n) where
+    go : (getD flags p 0 ≡ 0) ⊎ ¬ (getD flags p 0 ≡ 0) → (getD flags q 0 ≡ 0) ⊎ ¬ (getD flags q 0 ≡ 0)
+        → entryOf t p q ≡ round
+    go (inr i) d = row-of p lp i .pair q lq .both h .0
+    go (inl o) (inr i) = row-of q lq i .pair p lp .both (separatedBy-sym h) .1
+    go (inl o) (inl u) = absurd (h .not-same-after
+        (sym (C .unchanged p lp o) ∙ h .same-before ∙ C .unchanged q lq u))
+
+module _ {Move : Moves} {n k : ℕ} {class next t u flags list : List ℕ} {count : ℕ} (C : Classes Move n k class)
+    (D : Classes Move n (suc k) next) (H : Changed n class next flags list count) (W : Written n class next (suc k) t u)
+    (R : RowsWritten class next (suc k) u list count n) where
   kept-of-not : (p q : ℕ) → p < n → q < n → ¬ (SeparatedBy class next p q) → entryOf u p q ≡ entryOf t p q
   kept-of-not p q lp lq d = go (W .inside p q lp lq)
     where
@@ -183,7 +194,7 @@ module _ {Move : Moves} {n : ℕ} (target-lt : (p a q : ℕ) → Move p a q → 
     where
       sep : (p q : ℕ) → p < n → q < n → Alike Move k p q → ¬ (Same next p q) → Separated Move p q (suc k)
       sep p q lp lq h d = record {
-        not-alike = λ g. d (same-of-alike target-lt D p q lp lq g);
+        not-alike = λ g. d (D .same-of-alike p q lp lq g);
         alike-before = λ j l. alike-le Move p q j k (omega arith) h;
       }
 
@@ -191,19 +202,19 @@ module _ {Move : Moves} {n : ℕ} (target-lt : (p a q : ℕ) → Move p a q → 
           → (getD next p 0 ≡ getD next q 0) ⊎ ¬ (getD next p 0 ≡ getD next q 0)
           → RankUpTo Move (suc k) p q (entryOf u p q)
       new p q lp lq z h (inl e) =
-          inl (kept-of-not p q lp lq (λ s. s .not-same-after e) ∙ z, alike-of-same target-lt D p q lp lq e)
+          inl (kept-of-not p q lp lq (λ s. s .not-same-after e) ∙ z, D .alike-of-same p q lp lq e)
       new p q lp lq z h (inr d) =
           let s : SeparatedBy class next p q = record {
-            same-before = same-of-alike target-lt C p q lp lq h;
+            same-before = C .same-of-alike p q lp lq h;
             not-same-after = d;
           } in
-          let e : entryOf u p q ≡ suc k = entry-of-separated R p q lp lq s in
+          let e : entryOf u p q ≡ suc k = entry-of-separated H R p q lp lq s in
           inr (omega arith, subst (Separated Move p q) (sym e) (sep p q lp lq h d))
 
       go : (p q : ℕ) → p < n → q < n → RankUpTo Move k p q (entryOf t p q) → RankUpTo Move (suc k) p q (entryOf u p q)
       go p q lp lq (inl (z, h)) = new p q lp lq z h (eq-or-not (getD next p 0) (getD next q 0))
       go p q lp lq (inr (l, x)) =
           let apart : ¬ (SeparatedBy class next p q) = λ s. x .not-alike
-          (alike-le Move p q (entryOf t p q) k l (alike-of-same target-lt C p q lp lq (s .same-before))) in
+          (alike-le Move p q (entryOf t p q) k l (C .alike-of-same p q lp lq (s .same-before))) in
           let e : entryOf u p q ≡ entryOf t p q = kept-of-not p q lp lq apart in
           inr (omega arith, subst (Separated Move p q) (sym e) x)

@@ -23,8 +23,8 @@ list-store-moves-requires c κs = search needs
 states-requires : tie.Need-states-requires
 states-requires c κs = search needs
 
-rank-moves-requires : tie.Need-rank-moves-requires
-rank-moves-requires c κs =
+rank-steps-requires : tie.Need-rank-steps-requires
+rank-steps-requires c κs =
     let counted = c .before .before .before .before in
     let listed = counted .before .before .before .before in
     let pre = listed .before .before .before .before .before .before .before .pre in
@@ -39,7 +39,7 @@ fill-book-requires c κs =
     let pre = listed .before .before .before .before .before .before .before .pre in
     let e = counted .states .ensures ∙ stored-states (pre .0) in
     let moves = listed .list-store-moves .ensures in
-    let ranks = ranked .rank-moves .ensures in (
+    let ranks = ranked .rank-steps .ensures in (
       moveList-of-lists (moves .0) e,
       (
         ordered-of-lists (moves .0) e (moves .1),
@@ -61,7 +61,7 @@ returns c =
     let pre = listed .before .before .before .before .before .before .before .pre in
     let e = counted .states .ensures ∙ stored-states (pre .0) in
     let moves = listed .list-store-moves .ensures .0 in
-    let ranks = ranked-of-listed moves e (ranked .rank-moves .ensures) in
+    let ranks = ranked-of-listed moves e (ranked .rank-steps .ensures) in
     record {
       ranks = ranks .table;
       table-past = ranks .past;
@@ -77,7 +77,7 @@ book-good-spec =
     slice-aggregate-list-store-moves-3
     list-store-moves-requires
     states-requires
-    rank-moves-requires
+    rank-steps-requires
     fill-book-requires
     same-length
     same-length-2

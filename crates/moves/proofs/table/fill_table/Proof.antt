@@ -24,8 +24,8 @@ list-moves-requires c κs =
 states-requires : tie.Need-states-requires
 states-requires c κs = search needs
 
-rank-moves-requires : tie.Need-rank-moves-requires
-rank-moves-requires c κs =
+rank-steps-requires : tie.Need-rank-steps-requires
+rank-steps-requires c κs =
     let known = c .before .before .before .before in
     let after = known .before .before .before .before in
     let pre = after .before .before .before .before .before .before .before .before .pre in
@@ -40,7 +40,7 @@ returns c =
     let after = known .before .before .before .before in
     let pre = after .before .before .before .before .before .before .before .before .pre in
     ranked-of-listed (after .list-moves .ensures .0) (known .states .ensures ∙ stored-states (pre .0))
-    (c .before .before .rank-moves .ensures)
+    (c .before .before .rank-steps .ensures)
 
 pub fill-table-spec : {M : Type 1} → statement M
 fill-table-spec =
@@ -51,6 +51,6 @@ fill-table-spec =
     slice-aggregate-list-moves-3
     list-moves-requires
     states-requires
-    rank-moves-requires
+    rank-steps-requires
     same-length
     returns)

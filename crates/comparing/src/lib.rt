@@ -1,0 +1,6 @@
+// Two states compared by their moves: whether each move of either is answered by the other, with targets of one class.
+pub mod lists;
+pub mod marks;
+
+// The number of a class of states.
+pub struct Class(pub u16);

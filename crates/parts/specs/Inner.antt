@@ -1,0 +1,3 @@
+pub mod Reps
+pub mod Leads
+pub mod Numbering

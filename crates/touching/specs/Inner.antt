@@ -1,0 +1,3 @@
+pub mod StateSets
+pub mod Chains
+pub mod Touched
