@@ -6,25 +6,7 @@ use second::store::TABLE;
 
 use crate::plain::{Moves, MOVES, ROW};
 use crate::plain_mirror::mirror;
-
-type Set = u128;
-
-fn only(member: usize) -> Set {
-    1 << (member % ROW)
-}
-
-/// The least member of a set that is not empty.
-fn least(set: Set) -> usize {
-    set.trailing_zeros() as usize % ROW
-}
-
-fn members(mut set: Set) -> impl Iterator<Item = usize> {
-    std::iter::from_fn(move || {
-        let member = (set != 0).then(|| least(set));
-        set &= set.wrapping_sub(1);
-        member
-    })
-}
+use crate::sets::{least, members, only, Set};
 
 /// No link.
 const END: u16 = u16::MAX;

@@ -1,4 +1,5 @@
-//! A table made the same in rows and columns, in plain Rust: squares of 16 by 16 are turned by weaving their lines.
+//! A table made the same in rows and columns, or with them exchanged, in plain Rust: squares of 16 by 16 are turned by
+//! weaving their lines.
 use crate::plain::ROW;
 
 const SIDE: usize = 16;
@@ -40,6 +41,17 @@ pub fn mirror(rows: &mut [[u8; ROW]; ROW], states: usize) {
             put(rows, j, i, &turned(lines));
         }
     }
+}
+
+/// Rows and columns exchanged.
+pub fn transposed(rows: &[[u8; ROW]; ROW]) -> [[u8; ROW]; ROW] {
+    let mut exchanged = [[0; ROW]; ROW];
+    for i in 0..ROW / SIDE {
+        for j in 0..ROW / SIDE {
+            put(&mut exchanged, j, i, &turned(square(rows, i, j)));
+        }
+    }
+    exchanged
 }
 
 #[inline(always)]

@@ -30,6 +30,31 @@ fn low(states: u16, start: u16, steps: impl IntoIterator<Item = (u16, u16, u16)>
     }
 }
 
+/// The same with ticks, each from a state to another. The silent action comes last.
+fn ticking(
+    states: u16,
+    start: u16,
+    steps: impl IntoIterator<Item = (u16, u16, u16)>,
+    ticks: impl IntoIterator<Item = (u16, u16)>,
+) -> Model {
+    with_ticks(low(states, start, steps), ticks)
+}
+
+/// A model with one more action, which is silent, and its steps.
+fn with_ticks(mut model: Model, ticks: impl IntoIterator<Item = (u16, u16)>) -> Model {
+    let tick = model.actions.len() as u16;
+    model.actions.push(Action {
+        level: Level::Silent,
+        name: b"tick".to_vec(),
+    });
+    let ticks = ticks.into_iter();
+    model
+        .steps
+        .extend(ticks.map(|(source, target)| Step::new(source, tick, target)));
+    model.steps.sort();
+    model
+}
+
 /// From each state to the next, with each action.
 pub fn chain(states: u16, actions: u16) -> Model {
     let on = move |i| (0..actions).map(move |a| (i, a, i + 1));
@@ -175,6 +200,77 @@ fn typical() -> Model {
     }
 }
 
+/// A ring of ticks, and from each state a step of each of 7 actions to a random state; the last step is left out. All
+/// states are alike.
+fn ring_of_ticks() -> Model {
+    let mut rng = Rng::new(SEED);
+    let all = (0..128).flat_map(|p| (0..7).map(move |a| (p, a)));
+    ticking(
+        128,
+        0,
+        all.take(895).map(|(p, a)| (p, a, rng.below(128) as u16)),
+        (0..128).map(|i| (i, (i + 1) % 128)),
+    )
+}
+
+/// From each state to the next, with each of 7 actions and with a tick.
+fn chain_of_ticks_and_scans() -> Model {
+    let on = |i| (0..7).map(move |a| (i, a, i + 1));
+    let ticks = (0..127).map(|i| (i, i + 1));
+    ticking(128, 0, (0..127).flat_map(on), ticks)
+}
+
+/// From each state to the next, by turns with each of 8 actions and with a tick.
+fn tick_between_scans() -> Model {
+    let on = |i| (0..8).map(move |a| (i, a, i + 1));
+    let scans = (0..127).step_by(2).flat_map(on);
+    ticking(128, 0, scans, (1..127).step_by(2).map(|i| (i, i + 1)))
+}
+
+/// The chain of 128 with 6 actions, and a tick from each state to itself.
+fn chain_with_tick_loops() -> Model {
+    with_ticks(chain(128, 6), (0..128).map(|i| (i, i)))
+}
+
+/// A chain of 112, and eight states with a tick to each of its states. A step leads from each of the eight to the next.
+fn ticks_that_fan_out() -> Model {
+    let chain = (0..111).chain(112..119).map(|i| (i, 0, i + 1));
+    let ticks = (112..120).flat_map(|p| (0..112).map(move |q| (p, q)));
+    ticking(120, 112, chain, ticks)
+}
+
+/// Two chains of 64 with 7 actions, and a tick from each state of the one to its like of the other.
+fn ticks_across() -> Model {
+    let on = |i| (0..7).map(move |a| (i, a, i + 1));
+    let scans = (0..63).chain(64..127).flat_map(on);
+    ticking(128, 0, scans, (0..64).map(|i| (i, i + 64)))
+}
+
+/// The chain of 128 with 7 actions, from its last state a step of its own action, and a tick from each state to the one
+/// before it.
+fn backward_ticks() -> Model {
+    let on = |i| (0..7).map(move |a| (i, a, i + 1));
+    let scans = (0..127).flat_map(on).chain([(127, 7, 127)]);
+    ticking(128, 0, scans, (1..128).map(|i| (i, i - 1)))
+}
+
+/// The typical till with a timer that runs out in any state: a tick leads to a state beside it with the same steps, and
+/// goes on there.
+fn typical_with_ticks() -> Model {
+    let till = typical();
+    let beside = till.states;
+    let late = |step: &Step| Step::new(step.source + beside, step.action, step.target);
+    let steps = till.steps.iter().copied();
+    let both = steps.chain(till.steps.iter().map(late)).collect();
+    let ticks = (0..beside).flat_map(|i| [i, i + beside].map(|source| (source, i + beside)));
+    let doubled = Model {
+        states: 2 * beside,
+        steps: both,
+        ..till.clone()
+    };
+    with_ticks(doubled, ticks)
+}
+
 /// Each model with its name.
 pub fn shapes() -> Vec<(&'static str, Model)> {
     vec![
@@ -199,6 +295,14 @@ pub fn shapes() -> Vec<(&'static str, Model)> {
         ("all alike", all_alike()),
         ("greatest roll", greatest_roll()),
         ("typical", typical()),
+        ("ring of ticks", ring_of_ticks()),
+        ("chain of ticks and scans", chain_of_ticks_and_scans()),
+        ("tick between scans", tick_between_scans()),
+        ("chain with tick loops", chain_with_tick_loops()),
+        ("ticks that fan out", ticks_that_fan_out()),
+        ("two chains with ticks across", ticks_across()),
+        ("backward ticks", backward_ticks()),
+        ("typical with ticks", typical_with_ticks()),
     ]
 }
 
@@ -218,4 +322,14 @@ with each of 8 actions to a random state, so that no two states are ever told ap
 start of line 1 to the state after it. Greatest roll: a ring with 7 or 9 actions from each state to the next, whose roll
 has 832 lines; its leak is 127 steps from the start. Typical: a till of 20 stages of a sale, its printer free or busy,
 40 states; its leak is 10 steps from the start.
+
+The rest have ticks, and all but the last have one high step as well. Ring of ticks: a tick from each of 128 states to
+the next, from the last to 0, and 7 actions from each to random states; all states are alike. Chain of ticks and scans:
+from each state to the next with 7 actions and with a tick. Tick between scans: from each state to the next, by turns
+with 8 actions and with a tick. Chain with tick loops: that of 6 actions, with a tick from each state to itself. Ticks
+that fan out: from each of eight states to each state of a chain of 112, and a step from each of the eight to the next.
+Two chains with ticks across: two of 64 with 7 actions, and a tick from each state of the first to its like of the
+second. Backward ticks: the chain of 7 actions with a tick from each state to the one before it, and a step of its own
+action from the last state. Typical with ticks: the typical till with a timer that runs out in any state; a tick leads
+to a state beside it with the same steps, and goes on there, 80 states.
 ";

@@ -9,6 +9,7 @@ struct Measured {
     name: &'static str,
     states: u16,
     steps: usize,
+    has_ticks: bool,
     letters: Result<usize, u16>,
     /// The lines of the roll.
     lines: usize,
@@ -28,6 +29,7 @@ pub fn measure() -> Report {
             name,
             states: model.states,
             steps: model.steps.len(),
+            has_ticks: model.has_silent(),
             letters: timed.letters,
             lines: lines(&second::roll_program(&model.to_text())),
             times: timed.times(),
@@ -62,6 +64,11 @@ pub fn digits(value: f64) -> String {
         size if size >= 1.0 => format!("{value:.2}"),
         _ => format!("{value:.3}"),
     }
+}
+
+/// A number, or a mark that there is none.
+fn if_any(value: Option<f64>) -> String {
+    value.map_or("-".to_string(), digits)
 }
 
 impl Measured {
@@ -136,13 +143,15 @@ impl Measured {
 
     fn plain_row(&self) -> Vec<String> {
         let times = (0..PLAIN.len()).flat_map(|index| self.beside_plain(index));
-        let cells = times.chain([self.times.bits, self.to_bits()]).map(digits);
+        let bits = [self.times.bits, self.to_bits()].map(if_any);
+        let cells = times.map(digits).chain(bits);
         [self.name.to_string()].into_iter().chain(cells).collect()
     }
 
-    /// Our time of Rank by that of plain Rust over bit sets.
-    fn to_bits(&self) -> f64 {
-        self.times.ours[column("Rank")] / self.times.bits
+    /// Our time of Rank by that of plain Rust over bit sets, for models without ticks.
+    fn to_bits(&self) -> Option<f64> {
+        let ours = self.times.ours[column("Rank")];
+        self.times.bits.map(|bits| ours / bits)
     }
 }
 
@@ -155,14 +164,15 @@ fn machine() -> String {
 
 const COLUMNS: &str = "\
 Letters: the length of the word that Word shows. *: there is none, and Word's time is that of its refusal, which is 24
-for all alike, which passes, and else 23, since the model branches. The row below fan, on and back, two states of 400
-steps and dense random has a deterministic variant, which is refused with a word. Run goes to a reachable state as far
-from the nearest start as any. Print is the way from the text to the page in one call, and tell is Read, Judge and Word
-in one; program is `till`: print with its process, from its start to its end.
+for all alike, which passes, 23 where the model branches, and else 36, since it ticks. The row below fan, on and back,
+two states of 400 steps and dense random has a deterministic variant, which is refused with a word. Run goes to a
+reachable state as far from the nearest start as any. Print is the way from the text to the page in one call, and tell
+is Read, Judge and Word in one; program is `till`: print with its process, from its start to its end.
 ";
 
 const RATIOS: &str = "\
-Our times by those of the second checker (Word's without refusals), and those of Rank, Book and Check by plain Rust's:
+Our times by those of the second checker (Word's without refusals), and those of Rank, Book and Check by plain Rust's,
+of the models without ticks and of those with ticks:
 ";
 
 const SECOND: &str = "\
@@ -171,12 +181,15 @@ takes a store tests within its time that the store is good, and so does the seco
 speed and not proved, and takes a good store for granted. It ranks in the way of the proved operation, and looks again
 only where something changed; its book is one call that ranks, too, and like its check it finds a state's steps with an
 action by an index. Check is timed on the model's own book. Another ranking in plain Rust is over bit sets: it shows how
-fast one can be where each move is a single step and a set of states the bits of one number.
+fast one can be where each move is a single step and a set of states the bits of one number. On models with ticks all of
+plain Rust is over bit sets: it works out the targets of the moves of each state and action as one number, ranks by
+them, and finds the entries of its book in the same rounds; there is no other ranking beside it.
 ";
 
 /// The models that the README shows, and what it calls them.
-const SHORT: [(&str, &str); 4] = [
+const SHORT: [(&str, &str); 5] = [
     ("typical", "a typical till"),
+    ("typical with ticks", "a till with ticks"),
     ("chain of 128, 8 actions", "the largest chain"),
     ("dense random", "dense, at random"),
     ("greatest roll", "the greatest roll"),
@@ -192,27 +205,40 @@ impl Report {
         table(&head, self.models.iter().map(Measured::row))
     }
 
-    /// The least and the greatest ratios of all models.
+    /// The models with ticks, or those without.
+    fn with(&self, ticks: bool) -> impl Iterator<Item = &Measured> {
+        let models = self.models.iter();
+        models.filter(move |model| model.has_ticks == ticks)
+    }
+
+    /// The least and the greatest ratios of the models without ticks, and of those with ticks.
     fn ratios(&self) -> String {
-        let over = |index: usize, choose: fn(f64, f64) -> f64| {
-            let ratios = self.models.iter().filter_map(|model| model.ratio(index));
-            ratios.reduce(choose).expect("some model has a word")
-        };
-        let row = |name: &str, choose: fn(f64, f64) -> f64| {
-            let second = (0..names().len()).map(|index| digits(over(index, choose)));
-            let plain = (0..PLAIN.len()).map(|index| digits(self.to_plain(index, choose)));
+        let row = |name: &str, ticks: bool, choose: fn(f64, f64) -> f64| {
+            let over = |index| {
+                let ratios = self.with(ticks).filter_map(|model| model.ratio(index));
+                if_any(ratios.reduce(choose))
+            };
+            let second = (0..names().len()).map(over);
+            let plain = (0..PLAIN.len()).map(|index| digits(self.to_plain(index, ticks, choose)));
             let cells = second.chain(plain);
             [name.to_string()].into_iter().chain(cells).collect()
         };
         let to_plain = PLAIN.map(|name| format!("{name} to plain"));
         let mut head = [&["ratio"], &names()[..]].concat();
         head.extend(to_plain.iter().map(String::as_str));
-        table(&head, [row("least", f64::min), row("greatest", f64::max)])
+        let rows = [
+            row("least", false, f64::min),
+            row("greatest", false, f64::max),
+            row("least with ticks", true, f64::min),
+            row("greatest with ticks", true, f64::max),
+        ];
+        table(&head, rows)
     }
 
-    /// The least or the greatest of our times by plain Rust's.
-    fn to_plain(&self, index: usize, choose: fn(f64, f64) -> f64) -> f64 {
-        let ratios = self.models.iter().map(|model| model.beside_plain(index)[2]);
+    /// The least or the greatest of our times by plain Rust's, of models with ticks or without.
+    fn to_plain(&self, index: usize, ticks: bool, choose: fn(f64, f64) -> f64) -> f64 {
+        let models = self.with(ticks);
+        let ratios = models.map(|model| model.beside_plain(index)[2]);
         ratios.reduce(choose).expect("some model")
     }
 
@@ -246,17 +272,21 @@ impl Report {
         let times = table(&head, SHORT.map(row));
         let slowest = digits(self.most(Measured::program));
         let more = digits(self.most(Measured::more));
-        let [rank, book, check] = [0, 1, 2].map(|index| digits(self.to_plain(index, f64::max)));
-        let bits = digits(self.most(Measured::to_bits));
+        let most = |ticks| [0, 1, 2].map(|index| digits(self.to_plain(index, ticks, f64::max)));
+        let ([rank, book, check], [with_ticks, book_with, check_with]) = (most(false), most(true));
+        let bits = self.models.iter().filter_map(Measured::to_bits);
+        let bits = if_any(bits.reduce(f64::max));
         let [process, _] = self.empty.map(digits);
         format!(
             "Microseconds, the best of many calls, on {}:\n\n{times}\n\
              The program `till` answers on every model of the benchmark within {slowest}; {process} of that go to its \
              process, as\nan empty text shows. Roll takes at most {more} more than Page. \
-             Rank takes at most {rank} times as long as plain Rust\n\
-             that ranks in the same way and is not proved, Book at most {book} times and Check at most {check} times. \
-             Plain Rust over\nbit sets, for single steps alone, ranks faster: Rank takes at most {bits} times as \
-             long as that.\n\
+             On models without ticks Rank takes at most {rank} times as\n\
+             long as plain Rust that ranks in the same way and is not proved, Book at most {book} times and \
+             Check at most {check}\ntimes. Plain Rust over bit sets, for single steps alone, ranks faster: \
+             Rank takes at most {bits} times as long as that.\n\
+             On models with ticks Rank takes at most {with_ticks} times as long as plain Rust over bit sets, \
+             Book at most {book_with} times and Check\nat most {check_with} times.\n\
              `bench/TABLE.md` has every model and operation, and beside them the times of the second checker \
              and of plain Rust.\n",
             machine()

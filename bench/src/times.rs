@@ -3,7 +3,7 @@ use std::hint::black_box;
 use std::time::{Duration, Instant};
 
 use second::gen::{self, Rng};
-use second::store::{BOOK, TABLE};
+use second::store::{BOOK, STORE, TABLE};
 use second::Model;
 use suite::books::Book;
 use suite::input::Input;
@@ -14,6 +14,8 @@ use suite::stores::Store;
 use crate::plain;
 use crate::plain_bits;
 use crate::plain_books;
+use crate::plain_ticks;
+use crate::plain_ticks_books;
 use crate::process;
 
 /// How long each call is repeated at a time, and how often at least.
@@ -39,6 +41,33 @@ pub fn names() -> Vec<&'static str> {
 
 /// What is timed in plain Rust too.
 pub const PLAIN: [&str; 3] = ["Rank", "Book", "Check"];
+
+/// Fills the table of a good store.
+type Ranking = fn(&[u16], &mut [u8]) -> u8;
+
+/// These in plain Rust, and another ranking.
+struct Plain {
+    rank: Ranking,
+    book: fn(&[u16; STORE], &mut [u8; TABLE], &mut [u8; BOOK]),
+    check: fn(&[u16; STORE], &[u8; BOOK]) -> Option<usize>,
+    bits: Option<Ranking>,
+}
+
+/// For models whose moves are single steps.
+const WITHOUT_TICKS: Plain = Plain {
+    rank: plain::rank,
+    book: plain_books::book,
+    check: plain_books::check,
+    bits: Some(plain_bits::rank),
+};
+
+/// For those with ticks, over bit sets alone.
+const WITH_TICKS: Plain = Plain {
+    rank: plain_ticks::rank,
+    book: plain_ticks_books::book,
+    check: plain_ticks_books::check,
+    bits: None,
+};
 
 /// The place of a name among them.
 pub fn column(name: &str) -> usize {
@@ -96,8 +125,8 @@ pub struct Times {
     pub second: Each,
     /// In the order of `PLAIN`.
     pub plain: Each,
-    /// Rank over bit sets.
-    pub bits: f64,
+    /// Rank over bit sets, for models without ticks.
+    pub bits: Option<f64>,
 }
 
 /// A model and its lists, which are filled over and over.
@@ -106,6 +135,7 @@ pub struct Timed {
     /// Run goes to a reachable state as far from the nearest start as any.
     input: Input,
     lists: Lists,
+    plain: Plain,
     /// The letters of Word's answer, or its refusal's number.
     pub letters: Result<usize, u16>,
 }
@@ -126,6 +156,11 @@ impl Timed {
                 ..Input::from(&model.to_text())
             },
             lists: Lists::anything(&mut Rng::new(0), LEAST),
+            plain: if model.has_silent() {
+                WITH_TICKS
+            } else {
+                WITHOUT_TICKS
+            },
             letters: Ok(0),
         };
         // Past its own least length an archive of a shorter store leaves the list as it is.
@@ -136,7 +171,7 @@ impl Timed {
         timed
     }
 
-    /// What the three rankings fill is the same, both pages are, and what is written is the text.
+    /// What all rankings fill is the same, both pages are, and what is written is the text.
     fn fill(&mut self) {
         let Timed { input, lists, .. } = self;
         let length = PRINT.told(input.clone(), lists).expect("a page");
@@ -144,12 +179,11 @@ impl Timed {
             second::program(&input.text) == lists.page[..length],
             "one page"
         );
-        let mut plain = vec![2; TABLE];
-        plain::rank(&input.store, &mut plain);
-        assert!(lists.table[..] == plain, "one table");
-        plain.fill(2);
-        plain_bits::rank(&input.store, &mut plain);
-        assert!(lists.table[..] == plain, "one table over bit sets");
+        for rank in [Some(self.plain.rank), self.plain.bits].iter().flatten() {
+            let mut plain = vec![2; TABLE];
+            rank(&input.store, &mut plain);
+            assert!(lists.table[..] == plain, "one table");
+        }
         let length = WRITE.told(input.clone(), lists).expect("a text");
         assert!(lists.written[..length] == input.text[..], "one text");
         let word = WORD.told(input.clone(), lists);
@@ -177,14 +211,14 @@ impl Timed {
         let Input { store, book, .. } = &self.input;
         let store = array(store);
         let (mut table, mut plain) = ([2; TABLE], [2; BOOK]);
-        plain_books::book(store, &mut table, &mut plain);
+        (self.plain.book)(store, &mut table, &mut plain);
         assert!(
             plain == book[..] && table == self.lists.table[..],
             "one book"
         );
-        assert_eq!(plain_books::check(store, &plain), None, "a sound book");
+        assert_eq!((self.plain.check)(store, &plain), None, "a sound book");
         for bad in gen::bad_books(&mut Rng::new(0), model, book) {
-            let first = plain_books::check(store, array(&bad.book));
+            let first = (self.plain.check)(store, array(&bad.book));
             assert_eq!(first, Some(bad.refusal.place as usize), "{}", bad.what);
         }
     }
@@ -199,32 +233,38 @@ impl Timed {
             ours: vec![f64::MAX; names().len()],
             second: vec![f64::MAX; names().len()],
             plain: vec![f64::MAX; PLAIN.len()],
-            bits: f64::MAX,
+            bits: self.plain.bits.map(|_| f64::MAX),
         };
         for _ in 0..TURNS {
             least(&mut times.ours, &self.ours());
             least(&mut times.second, &self.second());
             least(&mut times.plain, &self.plain());
-            times.bits = times.bits.min(self.bits());
+            times.bits = times.bits.zip(self.bits()).map(|(a, b)| a.min(b));
         }
         times
     }
 
     /// One turn of plain Rust.
     fn plain(&mut self) -> Each {
-        let Timed { input, lists, .. } = self;
+        let Timed {
+            input,
+            lists,
+            plain,
+            ..
+        } = self;
         let (store, own) = (array(&input.store), array(&input.book));
-        let rank = best(|| plain::rank(black_box(store), &mut lists.table));
+        let rank = best(|| (plain.rank)(black_box(store), &mut lists.table));
         let (table, book) = (array_mut(&mut lists.table), array_mut(&mut lists.book));
-        let book = best(|| plain_books::book(black_box(store), table, book));
-        let check = best(|| plain_books::check(black_box(store), black_box(own)));
+        let book = best(|| (plain.book)(black_box(store), table, book));
+        let check = best(|| (plain.check)(black_box(store), black_box(own)));
         vec![rank, book, check]
     }
 
-    /// One turn of plain Rust over bit sets.
-    fn bits(&mut self) -> f64 {
+    /// One turn of the other ranking in plain Rust, over bit sets.
+    fn bits(&mut self) -> Option<f64> {
         let Timed { input, lists, .. } = self;
-        best(|| plain_bits::rank(black_box(&input.store), &mut lists.table))
+        let time = |rank: Ranking| best(|| rank(black_box(&input.store), &mut lists.table));
+        self.plain.bits.map(time)
     }
 
     /// One turn of the proved operations.

@@ -2,8 +2,8 @@
    fills no list past its least length. No pointer may be null, and no two lists of one call may overlap.
 
    For firmware: the archive has no globals, allocates nothing, calls nothing back, and needs only memcpy and memset
-   from outside; its code and constants take less than 38 kB of read-only memory, and a call takes less than 24 kB of
-   stack (till_book less than 40 kB; till_read less than 9 kB; till_reach, till_run and till_write less than 1 kB). It
+   from outside; its code and constants take less than 42 kB of read-only memory, and a call takes less than 24 kB of
+   stack (till_book less than 44 kB; till_read less than 9 kB; till_reach, till_run and till_write less than 1 kB). It
    is for x86-64 and uses the SSE registers.
 
    A program that was compiled before there were I lines lends stores of 3,972 numbers, and till_write an out of 14,420
@@ -60,6 +60,7 @@ extern "C" {
 #define TILL_LOW 0
 #define TILL_RELEASE 1
 #define TILL_HIGH 2
+#define TILL_SILENT 3 /* not high; from T in an A line */
 
 /* Least lengths of the lists, in elements. */
 #define TILL_STORE TILL_EXTRA_START(TILL_EXTRA_START_LIMIT)
@@ -81,7 +82,7 @@ extern "C" {
 #define TILL_PAIR_SECOND(place) ((place) % TILL_STATE_LIMIT)
 
 /* A book has an entry for each ordered pair of states p and q; TILL_PAIR(p, q) is its number. Its place, and those of
-   its bytes: the side that opens, the action and the target of its step, and the depth. */
+   its bytes: the side that opens, the action and the target of its move, and the depth. */
 #define TILL_ENTRY_SIZE 4
 #define TILL_ENTRY(p, q) (TILL_PAIR(p, q) * TILL_ENTRY_SIZE)
 #define TILL_ENTRY_SIDE(p, q) TILL_ENTRY(p, q)
@@ -93,6 +94,9 @@ extern "C" {
 #define TILL_NO_SIDE 0
 #define TILL_FIRST 1
 #define TILL_SECOND 2
+
+/* The action of a silent opening. No action has this number. */
+#define TILL_SILENT_MOVE 255
 
 /* Refusals: of a text, by till_read. */
 #define TILL_TOO_LONG 1     /* more than TILL_TEXT_LIMIT bytes */
@@ -113,6 +117,7 @@ extern "C" {
 #define TILL_NO_STATE 25          /* till_run: the state is not below states */
 #define TILL_UNREACHABLE 26       /* till_run: no start leads to the state */
 #define TILL_NOT_SOUND 34         /* till_check: the book is not sound; the place is its first bad entry's number */
+#define TILL_SILENT_STEP 36       /* till_word: deterministic, with a reachable silent step; the place is the first */
 
 /* Ends of a step, as till_word names them. */
 #define TILL_SOURCE 0
@@ -164,20 +169,23 @@ TillAnswer till_run(const uint16_t *store, size_t store_len, uint16_t *distances
                     uint16_t *run, size_t run_len, uint16_t state);
 
 /* Fills distances and ranks, and the action numbers of the first shortest low sequence that just one end of Judge's
-   step allows. Two values: its length, and the end that allows it, TILL_SOURCE or TILL_TARGET. */
+   step allows. Two values: its length, and the end that allows it, TILL_SOURCE or TILL_TARGET. Where a silent step can
+   be reached, no such sequence need show the leak: the book does. */
 TillAnswer till_word(const uint16_t *store, size_t store_len, uint16_t *distances, size_t distances_len,
                      uint8_t *table, size_t table_len, uint16_t *word, size_t word_len);
 
 /* Fills ranks, and the book of plays: an entry for each two states of a rank above 0, which is its depth; all else is
-   0. It tells how the scanner tells the two apart: one side opens with a low step, and whatever step with the same
-   action the other side answers, the two targets, the opening's on the opener's side, have an entry of lower depth. Of
-   the openings that allow this it has the first: by side, then action, then target. No value. */
+   0. It tells how the scanner tells the two apart: one side opens with a move, and whatever move with the same action
+   the other side answers, the two targets, the opening's on the opener's side, have an entry of lower depth. A low move
+   is a low step with any number of silent steps before and after it; a silent move is any number of silent steps, none
+   too, and has the action TILL_SILENT_MOVE. Of the openings that allow this it has the first: by side, then action,
+   then target. No value. */
 TillAnswer till_book(const uint16_t *store, size_t store_len, uint8_t *table, size_t table_len, uint8_t *book,
                      size_t book_len);
 
 /* Whether a book is sound, whoever made it: each entry that is not absent has side TILL_FIRST or TILL_SECOND, its
-   opening is a low step of that side in the model, and every answer of the other side, a step with the same action,
-   leads to a pair, the opening's target on the opener's side, that has an entry of lower depth. No low-view
+   opening is a move of that side in the model, and every answer of the other side, a move with the same action, leads
+   to a pair, the opening's target on the opener's side, that has an entry of lower depth. No low-view
    bisimulation pairs two states that a sound book has an entry for. No value, or TILL_NOT_SOUND. The book is only
    read. */
 TillAnswer till_check(const uint16_t *store, size_t store_len, const uint8_t *book, size_t book_len);

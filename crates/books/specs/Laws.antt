@@ -6,6 +6,7 @@ pub mod RowsLaws
 pub mod InGroupLaws
 pub mod SidesLaws
 pub mod EntryLaws
+pub mod StillLaws
 pub mod ChecksLaws
 pub mod ListedLaws
 pub mod BytesLaws

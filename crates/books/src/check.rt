@@ -17,12 +17,16 @@ ghost use Prim.Native.Nat.{ℕ, _≤_, _<_};
 ghost use lib.ListN.{length, getD};
 ghost use Rattle.text.specs.Decides.{Decides};
 ghost use Rattle.text.specs.Limits.{stateLimit, actionLimit, tableLength, bookLength};
-ghost use Rattle.comparing.specs.MoveList.{Listed, MoveList, Ordered};
+ghost use Rattle.comparing.specs.MoveList.{MoveList, Ordered};
 ghost use Rattle.lts.specs.Book.{LowerEntry, Opens, SoundAt};
 ghost use Rattle.books.specs.Books.{bookOf};
-ghost use Rattle.books.specs.Checks.{checkedOutcome, CheckDone};
+ghost use Rattle.books.specs.Checks.{checkedOutcome, CheckDone, StillMove};
 ghost use Rattle.books.specs.Inner.Groups.{Indexed, Groups};
 ghost use Rattle.books.specs.Inner.Sides.{BySide, leadPlace, SoundTo};
+ghost use Rattle.books.specs.Inner.Still.{Still, Unanswered, UnansweredBy};
+
+// The action of a silent opening.
+pub const SILENT_ACTION: u16 = 255;
 
 // What is found of a book: that it is sound, or the number of the first bad entry.
 pub enum Checked {
@@ -31,7 +35,7 @@ pub enum Checked {
 }
 
 // The value of a byte, in the width of states and actions.
-fn byte_value(b: u8) -> u16
+pub fn byte_value(b: u8) -> u16
     ensures { λ r. ⌜ r ≡ b ⌝ }
 {
     b as u16
@@ -73,7 +77,7 @@ fn lead_place(forward: bool, t: State, u: State) -> usize
 }
 
 // Whether that entry is there, of a depth below the one given.
-fn is_lower(book: &[u8], forward: bool, t: State, u: State, depth: u8) -> bool
+pub fn is_lower(book: &[u8], forward: bool, t: State, u: State, depth: u8) -> bool
     requires { ⌜ (t .0 < stateLimit) × (u .0 < stateLimit) × (bookLength ≤ length (now book)) ⌝ }
     ensures { λ r. ⌜ Decides r (BySide forward (LowerEntry (bookOf (now (book .entry))) depth) (t .0) (u .0)) ⌝ }
 {
@@ -139,8 +143,42 @@ fn opens(
     all_lower(groups, targets, book, forward, q, a, t, depth)
 }
 
+// Whether p is one of n states and stays where it is, t, and q is none, so that it has no answer.
+fn stays(n: u16, p: State, q: State, t: State) -> bool
+    ensures { λ r. ⌜ Decides r (Unanswered n (p .0) (q .0) (t .0)) ⌝ }
+{
+    if n <= p.0 {
+        return false;
+    }
+    if t.0 != p.0 {
+        return false;
+    }
+    if q.0 < n {
+        return false;
+    }
+    true
+}
+
+// Whether an entry of p and q whose action no step has is sound: its opening is silent, of zero steps, and without an
+// answer. An answer of zero steps would lead to this very entry.
+fn sound_still(n: u16, p: State, q: State, side: u8, a: u16, t: State) -> bool
+    ensures { λ r. ⌜ Decides r (UnansweredBy n (p .0) (q .0) side a (t .0)) ⌝ }
+{
+    if a != SILENT_ACTION {
+        return false;
+    }
+    if side == 1 {
+        return stays(n, p, q, t);
+    }
+    if side == 2 {
+        return stays(n, q, p, t);
+    }
+    false
+}
+
 // Whether the entry of p and q is sound.
 fn sound_at(
+    n: u16,
     groups: &[u16; GROUPS_LENGTH],
     targets: &[u16; MOVES_LENGTH],
     book: &[u8],
@@ -149,7 +187,7 @@ fn sound_at(
 ) -> bool
     requires { ⌜ Groups (now groups) (now targets) ⌝ }
     requires { ⌜ (p .0 < stateLimit) × (q .0 < stateLimit) × (bookLength ≤ length (now book)) ⌝ }
-    ensures { λ r. ⌜ Decides r (SoundAt (Indexed (now (groups .entry)) (now (targets .entry)))
+    ensures { λ r. ⌜ Decides r (SoundAt (Still (Indexed (now (groups .entry)) (now (targets .entry))) n)
         (bookOf (now (book .entry))) (p .0) (q .0)) ⌝ }
 {
     let at = ENTRY_SIZE * pair_place(p, q);
@@ -158,10 +196,10 @@ fn sound_at(
         return true;
     }
     let a = byte_value(book[at + 1]);
-    if a >= ACTION_LIMIT {
-        return false;
-    }
     let t = byte_value(book[at + 2]);
+    if a >= ACTION_LIMIT {
+        return sound_still(n, p, q, side, a, State(t));
+    }
     let depth = book[at + 3];
     if side == 1 {
         return opens(
@@ -193,16 +231,21 @@ fn sound_at(
 }
 
 // The number of the first bad entry, or of all entries if none is bad.
-fn first_bad(groups: &[u16; GROUPS_LENGTH], targets: &[u16; MOVES_LENGTH], book: &[u8]) -> usize
+fn first_bad(
+    n: u16,
+    groups: &[u16; GROUPS_LENGTH],
+    targets: &[u16; MOVES_LENGTH],
+    book: &[u8],
+) -> usize
     requires { ⌜ Groups (now groups) (now targets) ⌝ }
     requires { ⌜ bookLength ≤ length (now book) ⌝ }
-    ensures { λ r. ⌜ SoundTo (Indexed (now (groups .entry)) (now (targets .entry))) (now (book .entry)) r ⌝ }
+    ensures { λ r. ⌜ SoundTo (Still (Indexed (now (groups .entry)) (now (targets .entry))) n) (now (book .entry)) r ⌝ }
 {
     let mut k = 0;
     while k < TABLE_LENGTH {
         let p = State((k / ROW) as u16);
         let q = State((k % ROW) as u16);
-        if !sound_at(groups, targets, book, p, q) {
+        if !sound_at(n, groups, targets, book, p, q) {
             return k;
         }
         k += 1;
@@ -210,7 +253,7 @@ fn first_bad(groups: &[u16; GROUPS_LENGTH], targets: &[u16; MOVES_LENGTH], book:
     k
 }
 
-// Tests a book of the moves.
+// Tests a book of the moves, where no step is silent.
 pub fn check_book(
     n: u16,
     first: &[u16; INDEX_LENGTH],
@@ -221,12 +264,12 @@ pub fn check_book(
     requires { ⌜ MoveList n (now first) (now actions) (now targets) ⌝ }
     requires { ⌜ Ordered n (now first) (now actions) (now targets) ⌝ }
     requires { ⌜ bookLength ≤ length (now book) ⌝ }
-    ensures { λ r. ⌜ CheckDone (Listed n (now (first .entry)) (now (actions .entry)) (now (targets .entry)))
+    ensures { λ r. ⌜ CheckDone (StillMove n (now (first .entry)) (now (actions .entry)) (now (targets .entry)))
         (now (book .entry)) (checkedOutcome r) ⌝ }
 {
     let mut groups = [0u16; GROUPS_LENGTH];
     index_moves(n, first, actions, targets, &mut groups);
-    let k = first_bad(&groups, targets, book);
+    let k = first_bad(n, &groups, targets, book);
     if k < TABLE_LENGTH {
         return Checked::Bad(k);
     }

@@ -2,6 +2,7 @@ pub mod ColumnsLaws
 pub mod DistanceOfLaws
 pub mod FillingLaws
 pub mod FirstLowLaws
+pub mod LetterCountLaws
 pub mod LowNamesLaws
 pub mod RoomLaws
 pub mod PassingLaws

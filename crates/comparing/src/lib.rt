@@ -1,4 +1,5 @@
-// Two states compared by their moves: whether each move of either is answered by the other, with targets of one class.
+// Two states compared by their listed steps: whether each step of either is answered by the other, with targets of one
+// class.
 pub mod lists;
 pub mod marks;
 

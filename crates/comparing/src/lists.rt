@@ -1,4 +1,4 @@
-// Moves as lists: the steps of each state, and its row. Classes as a list: entry p is the number of the class of p.
+// Moves as lists: the steps of each state. Classes as a list: entry p is the number of the class of p.
 use crate::Class;
 use text::State;
 use text::limits::INDEX_LENGTH;
@@ -15,7 +15,7 @@ pub fn wide(x: u16) -> usize
     x as usize
 }
 
-// Where the steps of p begin in their lists, or its row in the rows.
+// Where the steps of p begin in their lists.
 pub fn moves_from(first: &[u16; INDEX_LENGTH], p: State) -> usize
     requires { ⌜ p .0 < stateLimit ⌝ }
     ensures { λ r. ⌜ r ≡ getD (now (first .entry)) (p .0) 0 ⌝ }

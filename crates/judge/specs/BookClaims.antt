@@ -6,7 +6,7 @@ use mathlib.Core.Option.{none}
 use mathlib.Core.Path.{_≡_}
 use Prim.Native.Nat.{ℕ, _<_}
 use Rattle.lts.specs.Alike.{Relation, Bisimulation, Rank}
-use Rattle.lts.specs.Noninterference.{LowMove}
+use Rattle.lts.specs.Weak.{WeakMove}
 use Rattle.lts.specs.Book.{Present, Sound}
 use Rattle.text.specs.Faults.{Outcome, answers}
 use Rattle.text.specs.Limits.{stateLimit}
@@ -24,30 +24,30 @@ Accepts store book = CheckPromise store book (answers [])
 -- each of them in a list that is long enough.
 pub record AcceptsExactly : Type 0 where
   pub only-sound : (store book : List ℕ) → Accepts store book
-      → (g : Good store) × Sound (LowMove (view (g .model))) stateLimit (bookOf book)
+      → (g : Good store) × Sound (WeakMove (view (g .model))) stateLimit (bookOf book)
   pub each-sound : (store book : List ℕ) (outcome : Outcome) → checkLists store book ≡ none → (g : Good store)
-      → Sound (LowMove (view (g .model))) stateLimit (bookOf book) → CheckPromise store book outcome
+      → Sound (WeakMove (view (g .model))) stateLimit (bookOf book) → CheckPromise store book outcome
       → outcome ≡ answers []
 
 -- "No low-view bisimulation pairs two states that an accepted book has an entry for."
 abbrev pub AcceptedNotPaired : Type 1
 AcceptedNotPaired =
     (store book : List ℕ) → Accepts store book → (g : Good store) (R : Relation)
-    → Bisimulation (LowMove (view (g .model))) R → (p q : ℕ) → IsState (g .model) p → IsState (g .model) q
+    → Bisimulation (WeakMove (view (g .model))) R → (p q : ℕ) → IsState (g .model) p → IsState (g .model) q
     → Present (bookOf book p q) → ¬ (R p q)
 
 -- Two states of rank 0 have no entry in any accepted book.
 abbrev pub RankZeroAbsent : Type 0
 RankZeroAbsent =
     (store book : List ℕ) → Accepts store book → (g : Good store) (p q : ℕ) → IsState (g .model) p
-    → IsState (g .model) q → Rank (LowMove (view (g .model))) p q 0 → bookOf book p q .side ≡ 0
+    → IsState (g .model) q → Rank (WeakMove (view (g .model))) p q 0 → bookOf book p q .side ≡ 0
 
 -- "has entries for just the pairs of nonzero rank, and its depths are the ranks"
 abbrev pub OwnEntries : Type 0
 OwnEntries =
     (store table book table′ book′ : List ℕ) → BookPromise store table book (answers []) table′ book′
     → (g : Good store) (p q r : ℕ) → IsState (g .model) p → IsState (g .model) q
-    → Rank (LowMove (view (g .model))) p q r
+    → Rank (WeakMove (view (g .model))) p q r
     → (Present (bookOf book′ p q) ↔ (0 < r)) × (bookOf book′ p q .depth ≡ r)
 
 -- "Our own book is accepted".

@@ -11,7 +11,7 @@ use Rattle.text.specs.Lists.{Past}
 use Rattle.text.specs.Model.{Model}
 use Rattle.model.specs.OnStore.{OnStore}
 use Rattle.model.specs.System.{view}
-use Rattle.lts.specs.Noninterference.{LowMove}
+use Rattle.lts.specs.Weak.{WeakMove}
 use Rattle.ranking.specs.Table.{Ranks}
 use Rattle.books.specs.Books.{BookFilled}
 use Rattle.judge.specs.declared.book.BookAnswer.{BookAnswer}
@@ -29,9 +29,9 @@ bookLists store table book =
 
 -- The lists as Book leaves them: the table as Rank does, and our own book.
 pub record BookDone (m : Model) (table book table′ book′ : List ℕ) : Type 0 where
-  pub ranks : Ranks (LowMove (view m)) (m .head .states) table′
+  pub ranks : Ranks (WeakMove (view m)) (m .head .states) table′
   pub table-past : Past tableLength table table′
-  pub book-filled : BookFilled (LowMove (view m)) (m .head .states) book book′
+  pub book-filled : BookFilled (WeakMove (view m)) (m .head .states) book book′
 
 abbrev pub BookPromise : List ℕ → List ℕ → List ℕ → Outcome → List ℕ → List ℕ → Type 0
 BookPromise store table book outcome table′ book′ =

@@ -8,7 +8,7 @@ use Rattle.text.specs.Limits.{storeLength, bookLength}
 use Rattle.text.specs.Faults.{Outcome, refuses, firstShort}
 use Rattle.model.specs.OnStore.{OnStore}
 use Rattle.model.specs.System.{view}
-use Rattle.lts.specs.Noninterference.{LowMove}
+use Rattle.lts.specs.Weak.{WeakMove}
 use Rattle.books.specs.Checks.{checkedOutcome, CheckDone}
 use Rattle.judge.specs.declared.check.CheckAnswer.{CheckAnswer}
 use Rattle.judge.specs.declared.check.CheckAnswer.the-variants as check
@@ -24,4 +24,4 @@ checkLists store book = firstShort 1 (length store ∷ length book ∷ []) (stor
 
 abbrev pub CheckPromise : List ℕ → List ℕ → Outcome → Type 0
 CheckPromise store book outcome =
-    OnStore (checkLists store book) store outcome (Unit {0}) (λ g. CheckDone (LowMove (view (g .model))) book outcome)
+    OnStore (checkLists store book) store outcome (Unit {0}) (λ g. CheckDone (WeakMove (view (g .model))) book outcome)

@@ -5,6 +5,7 @@ pub mod JudgePromiseLaws
 pub mod JudgeOutcomeLaws
 pub mod RunPromiseLaws
 pub mod WordPromiseLaws
+pub mod StoreBooksLaws
 pub mod BookPromiseLaws
 pub mod CheckPromiseLaws
 pub mod BookClaimsLaws

@@ -13,7 +13,7 @@ use Rattle.ranking.specs.Table.{Ranked}
 use Rattle.judge.specs.declared.rank.RankAnswer.{RankAnswer}
 use Rattle.judge.specs.declared.rank.RankAnswer.the-variants as rank
 use Rattle.model.specs.System.{view}
-use Rattle.lts.specs.Noninterference.{LowMove}
+use Rattle.lts.specs.Weak.{WeakMove}
 
 -- "that number is the answer"
 unfoldable pub rankOutcome : RankAnswer → Outcome
@@ -28,4 +28,4 @@ abbrev pub RankPromise : List ℕ → List ℕ → Outcome → List ℕ → Type
 RankPromise store table outcome exit =
     OnStore (rankLists store table) store outcome (exit ≡ table)
     (λ g. (last : ℕ) × (outcome ≡ answers (last ∷ []))
-    × Ranked (LowMove (view (g .model))) (g .model .head .states) table exit last)
+    × Ranked (WeakMove (view (g .model))) (g .model .head .states) table exit last)

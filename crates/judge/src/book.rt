@@ -1,12 +1,15 @@
 // The operation Book.
+use silent::LABELS_LENGTH;
 use text::limits::BOOK_LENGTH;
 use text::limits::INDEX_LENGTH;
 use text::limits::MOVES_LENGTH;
 use text::limits::STORE_LENGTH;
 use text::limits::TABLE_LENGTH;
-ghost use Prim.Native.Nat.{_≤_};
+ghost use Prim.Native.Nat.{ℕ, _≤_};
 ghost use lib.ListN.{length};
+ghost use Rattle.lts.specs.Weak.{Tick};
 ghost use Rattle.model.specs.StoredModel.{modelAt};
+ghost use Rattle.model.specs.System.{view};
 ghost use Rattle.model.specs.Inner.Stored.{Stored};
 ghost use Rattle.text.specs.Limits.{tableLength, bookLength};
 ghost use Rattle.judge.specs.BookPromise.{bookOutcome, BookPromise, BookDone};
@@ -18,10 +21,27 @@ pub enum BookAnswer {
     NotGood,
 }
 
-// Book on a good store: the moves are listed once, for the ranks and for the book.
-pub fn book_good(store: &[u16], table: &mut [u8], book: &mut [u8])
+// Book on a good store with silent actions: the steps are listed once, for the ranks and for the book.
+fn book_labels(store: &[u16], table: &mut [u8], book: &mut [u8])
     requires { ⌜ Stored (now store) (modelAt (now store)) ⌝ }
     requires { ⌜ (tableLength ≤ length (now table)) × (bookLength ≤ length (now book)) ⌝ }
+    ensures { λ _. ⌜ BookDone (modelAt (now (store .entry))) (now (table .entry)) (now (book .entry))
+        (now (table .exit)) (now (book .exit)) ⌝ }
+{
+    let mut from = [0u16; LABELS_LENGTH];
+    let mut sources = [0u16; MOVES_LENGTH];
+    let mut targets = [0u16; MOVES_LENGTH];
+    moves::labels::list_store_labels(store, &mut from, &mut sources, &mut targets);
+    let n = model::store::states(store);
+    let top = weak_ranks::rounds::rank_labels(n, &from, &sources, &targets, table);
+    weak_books::book::fill_label_book(n, &from, &sources, &targets, top, table, book);
+}
+
+// The same of a good store without silent steps.
+fn book_steps(store: &[u16], table: &mut [u8], book: &mut [u8])
+    requires { ⌜ Stored (now store) (modelAt (now store)) ⌝ }
+    requires { ⌜ (tableLength ≤ length (now table)) × (bookLength ≤ length (now book)) ⌝ }
+    requires { ⌜ ((p q : ℕ) → ¬ (Tick (view (modelAt (now store))) p q)) ⌝ }
     ensures { λ _. ⌜ BookDone (modelAt (now (store .entry))) (now (table .entry)) (now (book .entry))
         (now (table .exit)) (now (book .exit)) ⌝ }
 {
@@ -30,8 +50,22 @@ pub fn book_good(store: &[u16], table: &mut [u8], book: &mut [u8])
     let mut targets = [0u16; MOVES_LENGTH];
     moves::moves::list_store_moves(store, &mut first, &mut actions, &mut targets);
     let n = model::store::states(store);
-    moves::table::rank_steps(n, &first, &actions, &targets, table);
+    ranking::rounds::rank_moves(n, &first, &actions, &targets, table);
     books::book::fill_book(n, &first, &actions, &targets, table, book);
+}
+
+// Book on a good store.
+pub fn book_good(store: &[u16], table: &mut [u8], book: &mut [u8])
+    requires { ⌜ Stored (now store) (modelAt (now store)) ⌝ }
+    requires { ⌜ (tableLength ≤ length (now table)) × (bookLength ≤ length (now book)) ⌝ }
+    ensures { λ _. ⌜ BookDone (modelAt (now (store .entry))) (now (table .entry)) (now (book .entry))
+        (now (table .exit)) (now (book .exit)) ⌝ }
+{
+    if moves::labels::has_silent(store) {
+        book_labels(store, table, book);
+        return;
+    }
+    book_steps(store, table, book);
 }
 
 // Fills the table with the ranks, and the book with an opening for each two states of a rank above 0.

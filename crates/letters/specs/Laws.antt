@@ -1,4 +1,5 @@
 pub mod WordsLaws
+pub mod FirstSilentLaws
 pub mod LettersLaws
 pub mod LastLetterLaws
 pub mod WordHeadLaws

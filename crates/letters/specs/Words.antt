@@ -1,5 +1,5 @@
--- Models in which some state branches, and the word that Word shows.
--- Document 01, operation 6, and "Refused because of the state", 23 and 24.
+-- Models in which some state branches or a silent step can be reached, and the word that Word shows of the others.
+-- Document 01, operation 6, and "Refused because of the state", 23 and 24; document 02, (vii).
 use mathlib.Core.List.{List, [], _∷_, _++_}
 use mathlib.Core.Path.{_≡_}
 use Prim.Native.Nat.{ℕ, suc, _<_}
@@ -8,7 +8,7 @@ use Rattle.lts.specs.Word.{OnlyFrom, FirstWord}
 use Rattle.text.specs.Faults.{Outcome, answers}
 use Rattle.text.specs.First.{First}
 use Rattle.text.specs.Model.{Model}
-use Rattle.model.specs.System.{source, action, target, ReachableIn, view}
+use Rattle.model.specs.System.{source, action, target, ReachableIn, SilentStep, view}
 use Rattle.letters.specs.declared.word.End.{End}
 use Rattle.letters.specs.declared.word.End.the-variants.{Source, Target}
 
@@ -24,6 +24,10 @@ pub record Branches (m : Model) (j : ℕ) : Type 0 where
 -- "the first" such step
 abbrev pub FirstBranch : Model → ℕ → Type 0
 FirstBranch m j = First (Branches m) j
+
+-- "the first such step": the first silent step that can be reached (document 02, (vii))
+abbrev pub FirstSilent : Model → ℕ → Type 0
+FirstSilent m j = First (SilentStep m) j
 
 -- "The two ends of a step are its source and its target." The numbers by which an answer names them are ours.
 unfoldable pub endNumber : End → ℕ

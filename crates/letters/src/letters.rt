@@ -8,7 +8,7 @@ ghost use Prim.Native.Nat.{_+_, _≤_, _<_};
 ghost use lib.ListN.{length};
 ghost use Rattle.text.specs.Decides.{Decides};
 ghost use Rattle.model.specs.StoredModel.{modelAt};
-ghost use Rattle.model.specs.System.{ReachableIn, DeterministicModel};
+ghost use Rattle.model.specs.System.{source, ReachableIn, DeterministicModel};
 ghost use Rattle.text.specs.Limits.{indexLength};
 ghost use Rattle.model.specs.Inner.Stored.{Stored};
 ghost use Rattle.model.specs.Inner.Index.{Index};
@@ -88,7 +88,8 @@ fn answer(
 ) -> Found
     requires { ⌜ WordLists (modelAt (now store)) (now store) (now begins) (now roles) (now table) ⌝ }
     requires { ⌜ DeterministicModel (modelAt (now store)) × ReachableIn (modelAt (now store)) (q .0) ⌝ }
-    requires { ⌜ (0 < k) × (j .0 < length (modelAt (now store) .steps)) ⌝ }
+    requires { ⌜ (0 < k) × (j .0 < length (modelAt (now store) .steps))
+        × ReachableIn (modelAt (now store)) (source (modelAt (now store)) (j .0)) ⌝ }
     ensures { λ r. ⌜ FoundFirst (Answer (modelAt (now (store .entry))) (q .0) k (j .0)) r ⌝ }
 {
     let action = model::store::action(store, j);

@@ -9,6 +9,7 @@ ghost use Prim.Native.Nat.{_≤_};
 ghost use lib.ListN.{length};
 ghost use Rattle.text.specs.Limits.{wordLength};
 ghost use Rattle.model.specs.StoredModel.{modelAt};
+ghost use Rattle.model.specs.System.{DeterministicModel, NoSilentStep};
 ghost use Rattle.letters.specs.WordDone.{shownOutcome, WordDone};
 ghost use Rattle.letters.specs.Inner.Letters.{Showable, StepLists, WordLists, SeparatedPair};
 ghost use Rattle.letters.specs.Inner.WordHead.{WordFrom, WordWritten};
@@ -24,6 +25,7 @@ pub enum End {
 pub enum Shown {
     Word(usize, End),
     NotDeterministic(Step),
+    Silent(Step),
     NoLeak,
 }
 
@@ -108,6 +110,33 @@ fn fill_word(
     last.end
 }
 
+// The word of a judged model that is deterministic and has no reachable silent step.
+fn show_word(
+    store: &[u16],
+    begins: &[u16],
+    roles: &[u16],
+    distances: &[u16],
+    table: &[u8],
+    verdict: Verdict,
+    word: &mut [u16],
+) -> Shown
+    requires { ⌜ Showable (modelAt (now store)) verdict (now store) (now begins) (now roles) (now distances) (now table)
+        (now word) ⌝ }
+    requires { ⌜ DeterministicModel (modelAt (now store)) × NoSilentStep (modelAt (now store)) ⌝ }
+    ensures { λ r. ⌜ WordDone (modelAt (now (store .entry))) (shownOutcome r) (now (word .entry)) (now (word .exit)) ⌝ }
+{
+    match verdict {
+        Verdict::Passed(_) => Shown::NoLeak,
+        Verdict::Refused(j, depth) => {
+            let p = model::store::source(store, j);
+            let q = model::store::target(store, j);
+            let end = fill_word(store, begins, roles, table, word, p, q, depth);
+            let length = depth as usize;
+            Shown::Word(length, end)
+        }
+    }
+}
+
 // The word of a judged model; the lists are as `judge_good` leaves them.
 pub fn show(
     store: &[u16],
@@ -124,15 +153,9 @@ pub fn show(
 {
     match crate::branch::first_branch(store, distances) {
         Found::At(j) => Shown::NotDeterministic(j),
-        Found::Nothing => match verdict {
-            Verdict::Passed(_) => Shown::NoLeak,
-            Verdict::Refused(j, depth) => {
-                let p = model::store::source(store, j);
-                let q = model::store::target(store, j);
-                let end = fill_word(store, begins, roles, table, word, p, q, depth);
-                let length = depth as usize;
-                Shown::Word(length, end)
-            }
+        Found::Nothing => match crate::silent_steps::first_silent(store, roles, distances) {
+            Found::At(j) => Shown::Silent(j),
+            Found::Nothing => show_word(store, begins, roles, distances, table, verdict, word),
         },
     }
 }

@@ -7,7 +7,8 @@ use Prim.Native.Nat.{ℕ, suc, _<_}
 use lib.ListN.{length, drop}
 use Rattle.lts.specs.Alike.{Rank}
 use Rattle.text.specs.Model.{Model}
-use Rattle.model.specs.System.{source, ReachableIn, DistanceIn, DeterministicModel, IsState, view, nameOf}
+use Rattle.model.specs.System.{source, ReachableIn, DistanceIn, SilentStep, NoSilentStep, DeterministicModel, IsState}
+use Rattle.model.specs.System.{view, nameOf}
 use Rattle.verdicts.specs.declared.judging.Verdict.{Verdict}
 use Rattle.verdicts.specs.declared.judging.Verdict.the-variants.{Passed, Refused}
 use Rattle.distances.specs.Runs.{RunTo}
@@ -15,8 +16,8 @@ use Rattle.verdicts.specs.Verdicts.{Judged}
 use Rattle.letters.specs.declared.word.End.{End}
 use Rattle.letters.specs.Words.{WordOf}
 use Rattle.lines.specs.PageLines.{PageLine, verdict-line, state-line, run-line, word-line, allows-line}
-use Rattle.lines.specs.PageLines.{branch-line, last-line}
-use Rattle.lts.specs.Noninterference.{LowMove}
+use Rattle.lines.specs.PageLines.{no-word-line, last-line}
+use Rattle.lts.specs.Weak.{WeakMove}
 
 -- What stands in a `C` line as the distance of state p: "distance `-` if unreachable".
 pub data DistanceField (m : Model) (p : ℕ) : Option ℕ → Type 0 where
@@ -26,8 +27,8 @@ pub data DistanceField (m : Model) (p : ℕ) : Option ℕ → Type 0 where
 -- Of the states of a kind, the lowest of rank 0 to p.
 pub record LowestAlike (m : Model) (Among : ℕ → Type 0) (p class : ℕ) : Type 0 where
   pub class-among : Among class
-  pub rank-zero : Rank (LowMove (view m)) p class 0
-  pub lowest : (q : ℕ) → q < class → Among q → ¬ (Rank (LowMove (view m)) p q 0)
+  pub rank-zero : Rank (WeakMove (view m)) p class 0
+  pub lowest : (q : ℕ) → q < class → Among q → ¬ (Rank (WeakMove (view m)) p q 0)
 
 -- "class is the lowest state of rank 0 to it"
 abbrev pub ClassOf : Model → ℕ → ℕ → Type 0
@@ -46,11 +47,13 @@ nameLine m a = word-line (nameOf m a)
 
 -- "if deterministic, `W,name` per letter of the word and `B,source` or `B,target` for the end that allows it, otherwise
 -- `N`". "Page fills [..] word if it prints a `B` line (as Word does)." The word has as many letters as the depth says.
+-- A model with a reachable silent step has none: "Page prints `N` for it if it is refused" (document 02, (vii)).
 pub data LeakShown (m : Model) (j depth : ℕ) (word word′ : List ℕ) : List PageLine → Type 0 where
-  by-word : {w : List ℕ} {end : End} → DeterministicModel m → WordOf m j w end → length w ≡ depth
+  by-word : {w : List ℕ} {end : End} → DeterministicModel m → NoSilentStep m → WordOf m j w end → length w ≡ depth
       → word′ ≡ w ++ drop (length w) word
       → LeakShown m j depth word word′ (map (nameLine m) w ++ (allows-line end ∷ []))
-  by-branch : ¬ (DeterministicModel m) → word′ ≡ word → LeakShown m j depth word word′ (branch-line ∷ [])
+  by-branch : ¬ (DeterministicModel m) → word′ ≡ word → LeakShown m j depth word word′ (no-word-line ∷ [])
+  by-silent : (i : ℕ) → SilentStep m i → word′ ≡ word → LeakShown m j depth word word′ (no-word-line ∷ [])
 
 -- "If refused: `R,step` per step of the run to the source of Judge's step"; then what shows the leak. "Page fills run
 -- if the model is refused (as Run does for the source of Judge's step)".

@@ -19,7 +19,7 @@ pub data PageLine : Type 0 where
   run-line : (step : ℕ) → PageLine
   word-line : (name : List ℕ) → PageLine
   allows-line : End → PageLine
-  branch-line : PageLine
+  no-word-line : PageLine
   last-line : PageLine
 
 -- `pass` and `refuse`
@@ -45,7 +45,7 @@ lineText (state-line p distance class) =
 lineText (run-line j) = (byteR ∷ []) ++ field (digits j)
 lineText (word-line name) = (byteW ∷ []) ++ field name
 lineText (allows-line end) = (byteB ∷ []) ++ field (endText end)
-lineText branch-line = byteN ∷ []
+lineText no-word-line = byteN ∷ []
 lineText last-line = byteE ∷ []
 
 -- "each line ends in byte 10"

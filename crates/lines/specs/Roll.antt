@@ -9,7 +9,7 @@ use Rattle.columns.specs.StateRows.{stateRows}
 use Rattle.lines.specs.declared.lines.Form.{Form}
 use Rattle.lines.specs.declared.lines.Form.the-variants.{Page, Roll}
 use Rattle.lines.specs.PageLines.{PageLine, verdict-line, state-line, run-line, word-line, allows-line}
-use Rattle.lines.specs.PageLines.{branch-line, last-line, lineText, pageBytes}
+use Rattle.lines.specs.PageLines.{no-word-line, last-line, lineText, pageBytes}
 
 -- The lines of the roll for a line of the page: a state has its columns and names; "All other lines of the page stand
 -- padded in their page order."
@@ -19,7 +19,7 @@ rollRows m (verdict-line v) = lineText (verdict-line v) ∷ []
 rollRows m (run-line j) = lineText (run-line j) ∷ []
 rollRows m (word-line name) = lineText (word-line name) ∷ []
 rollRows m (allows-line end) = lineText (allows-line end) ∷ []
-rollRows m branch-line = lineText branch-line ∷ []
+rollRows m no-word-line = lineText no-word-line ∷ []
 rollRows m last-line = lineText last-line ∷ []
 
 -- The bytes of the roll.

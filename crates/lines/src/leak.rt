@@ -64,7 +64,7 @@ impl PagePosition {
         page
     }
 
-    // A word's at most 127 letters and the end that allows it, or `N`.
+    // A word's at most 127 letters and the end that allows it; `N` where no word is shown.
     fn shown_lines(
         self,
         out: &mut [u8],
@@ -86,7 +86,7 @@ impl PagePosition {
             return page.allows_text(out, end).line_end(out, begin, form);
         }
         let begin = self.at.at;
-        self.branch_text(out).line_end(out, begin, form)
+        self.no_word_text(out).line_end(out, begin, form)
     }
 
     // What follows the `C` lines: for a refused model the run to the source of Judge's step and what Word shows. The
@@ -106,10 +106,11 @@ impl PagePosition {
     ) -> PagePosition
         requires { ⌜ JudgedLists (modelAt (now store)) v (now store) (now begins) (now roles) (now distances)
             (now table) (now run) (now word) ⌝ }
-        requires { ⌜ self .at .at + leakRoom form v ≤ length (now out) ⌝ }
+        requires { ⌜ self .at .at + leakRoom form (modelAt (now store)) v ≤ length (now out) ⌝ }
         ensures { λ r. ⌜ LinesWritten form (modelAt (now (store .entry))) (AfterStates (modelAt (now (store .entry))) v
-            (now (run .entry)) (now (word .entry)) (now (run .exit)) (now (word .exit))) (leakRoom form v)
-            (now (out .entry)) (self .at .at) (now (out .exit)) (r .at .at) ⌝ }
+            (now (run .entry)) (now (word .entry)) (now (run .exit)) (now (word .exit)))
+            (leakRoom form (modelAt (now (store .entry))) v) (now (out .entry)) (self .at .at) (now (out .exit))
+            (r .at .at) ⌝ }
     {
         let Verdict::Refused(j, _) = v else {
             return self;

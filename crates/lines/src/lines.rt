@@ -17,7 +17,7 @@ ghost use Rattle.model.specs.Text.{field};
 ghost use Rattle.writer.specs.Inner.Writable.{Writable};
 ghost use Rattle.writer.specs.Wrote.{Wrote};
 ghost use Rattle.verdicts.specs.declared.judging.Verdict.the-variants.{Passed, Refused};
-ghost use Rattle.lines.specs.PageLines.{verdict-line, state-line, run-line, allows-line, branch-line};
+ghost use Rattle.lines.specs.PageLines.{verdict-line, state-line, run-line, allows-line, no-word-line};
 ghost use Rattle.lines.specs.PageLines.{last-line, distanceText, lineText, faultText};
 ghost use Rattle.lines.specs.Page.{nameLine};
 ghost use Rattle.lines.specs.Inner.Entries.{distanceOf};
@@ -169,9 +169,9 @@ impl PagePosition {
     }
 
     // `N`
-    pub fn branch_text(self, out: &mut [u8]) -> PagePosition
-        requires { ⌜ self .at .at + length (lineText branch-line) ≤ length (now out) ⌝ }
-        ensures { λ r. ⌜ Wrote (now (out .entry)) (self .at .at) (lineText branch-line) (now (out .exit))
+    pub fn no_word_text(self, out: &mut [u8]) -> PagePosition
+        requires { ⌜ self .at .at + length (lineText no-word-line) ≤ length (now out) ⌝ }
+        ensures { λ r. ⌜ Wrote (now (out .entry)) (self .at .at) (lineText no-word-line) (now (out .exit))
             (r .at .at) ⌝ }
     {
         let at = self.at.byte(out, b'N');

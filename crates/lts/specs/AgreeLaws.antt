@@ -101,6 +101,9 @@ module _ (C Idle : ℕ → Type 0) (M N : Moves) (A : Agree C Idle M N) where
     pairs = (cp, cq, b .pairs);
   }
 
+  pub bisimilarBy-agree : (p q : ℕ) → C p → C q → BisimilarBy M p q ↔ BisimilarBy N p q
+  bisimilarBy-agree p q cp cq = (bisimilarBy-forth p q cp cq, bisimilarBy-back p q cp cq)
+
   module _ (n : ℕ) (roundM roundN : (ℕ → ℕ → Bool) → ℕ → ℕ → Bool) (GM : Game M n roundM) (GN : Game N n roundN) where
     pub bisimilar-agree : (p q : ℕ) → p < n → q < n → C p → C q → Bisimilar M p q ↔ Bisimilar N p q
     bisimilar-agree p q lp lq cp cq =

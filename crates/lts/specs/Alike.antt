@@ -1,5 +1,5 @@
 -- Alike states, low-view bisimulations and ranks, over any moves: `Move p a q` says that a move with the label a leads
--- from the state p to the state q. In the base the moves are the low steps, `LowMove` of Noninterference.antt.
+-- from the state p to the state q. What is played is `WeakMove` of Weak.antt, and words go by its `LowStep`.
 -- Document 01, "The meaning"; definition 14 of source 000. Assumes nothing.
 use mathlib.Core.Bool.{Bool}
 use Prim.Native.Nat.{ℕ, zero, suc, _<_}

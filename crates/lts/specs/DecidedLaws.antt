@@ -17,6 +17,18 @@ pub decided→Bounded : (v : View) (t : ViewTest) → DecidedView v t → Bounde
 decided→Bounded v t D = record { start-lt = D .start-lt; target-lt = D .steps .target-lt }
 
 module _ (Move : Moves) (n l : ℕ) (move? : ℕ → ℕ → ℕ → Bool) (D : Decided Move n l move?) where
+  -- So are the moves whose label passes a test.
+  pub decided-labels : (label? : ℕ → Bool)
+      → Decided (λ p a q. T (label? a) × Move p a q) n l (λ p a q. label? a && move? p a q)
+  decided-labels label? = record {
+    move?→Move = λ p a q t.
+        (and-left (label? a) (move? p a q) t, D .move?→Move p a q (and-right (label? a) (move? p a q) t));
+    Move→move? = λ p a q m. and-intro (label? a) (move? p a q) (m .0) (D .Move→move? p a q (m .1));
+    source-lt = λ p a q m. D .source-lt p a q (m .1);
+    label-lt = λ p a q m. D .label-lt p a q (m .1);
+    target-lt = λ p a q m. D .target-lt p a q (m .1);
+  }
+
   pub answered?→Answered : (R : ℕ → ℕ → Bool) (p q : ℕ) → T (answered? n l move? R p q)
       → Answered Move (λ x y. T (R x y)) p q
   unfolding answered?

@@ -17,7 +17,9 @@ use Rattle.lts.specs.AlikeLaws.{separated-of-rank}
 use Rattle.lts.specs.Game.{alike?, rankBelow}
 use Rattle.lts.specs.View.{Levels, View}
 use Rattle.lts.specs.Run.{Run, begin, onward, Deterministic, Distance}
-use Rattle.lts.specs.Noninterference.{Levelled, low, release, high, LevelledSteps, LowMove, SameLow}
+use Rattle.lts.specs.Noninterference.{Levelled, low, release, high, LevelledSteps, SameLow}
+use Rattle.lts.specs.Weak.{LowStep, WeakMove, NoTick}
+use Rattle.lts.specs.WeakTests.{silentMove?, playedLow?, weakAnswers?}
 use Rattle.lts.specs.Noninterference.{BNID, INI}
 use Rattle.lts.specs.NoninterferenceLaws.{bnid↔INI}
 use Rattle.lts.specs.LowLaws.{simulation-allows}
@@ -26,64 +28,84 @@ use Rattle.lts.specs.FirstWordLaws.{first-word-one, first-word-cons}
 use Rattle.lts.specs.Decided.{Decided, answered?, answers?, simulation?, within?}
 use Rattle.lts.specs.DecidedLaws.{decided→Bounded, simulation?→Answered}
 use Rattle.lts.specs.DistanceLaws.{distance-suc}
-use Rattle.lts.specs.Checked.{lowMove?, lowRound, lowRank, bnid?, deterministic?}
+use Rattle.lts.specs.Checked.{lowMove?, lowRound, lowRank, weakRound, weakRank, bnid?, deterministic?}
 use Rattle.lts.specs.CheckedLaws.{decided-low}
 use Rattle.lts.specs.Examples.Listed.{System, view, tests}
 use Rattle.lts.specs.Examples.ListedLaws.{decided, listed-deterministic, listed-game}
-use Rattle.lts.specs.Examples.ListedLaws.{listed-rank, listed-passed, listed-refused}
+use Rattle.lts.specs.Examples.ListedLaws.{listed-rank, listed-weak-game, listed-weak-rank}
+use Rattle.lts.specs.Examples.ListedLaws.{listed-labels, listed-passed, listed-refused}
 use Rattle.lts.specs.Examples.ByHand.{page-scan-scan}
-use Rattle.lts.specs.Examples.Systems.{scan, print, usual, closeLow}
+use Rattle.lts.specs.Examples.Systems.{scan, print, usual, closeLow, timed}
 use Rattle.lts.specs.Examples.Systems.{pageSystem, releaseSystem, branchingSystem, unreachedSystem}
+use Rattle.lts.specs.Examples.Systems.{lateScanSystem, unseenTickSystem}
 
 -- ---- what the tests compute
 
+-- The computed rank of p and q in M under the low steps.
+abbrev lowRankIn : Levels → System → ℕ → ℕ → ℕ
+lowRankIn L M p q = lowRank (view L M) (tests M) p q
+
 -- The computed rank of p and q in M.
 abbrev rankIn : Levels → System → ℕ → ℕ → ℕ
-rankIn L M p q = lowRank (view L M) (tests M) p q
+rankIn L M p q = weakRank (view L M) (tests M) p q
 
 -- The test of BNID for M.
 abbrev bnidIn? : Levels → System → Bool
 bnidIn? L M = bnid? (view L M) (tests M)
 
 record Computed : Type 0 where
+  page-low-rank : lowRankIn usual pageSystem 0 2 ≡ 2
+  page-low-rank-next : lowRankIn usual pageSystem 1 3 ≡ 1
   page-rank : rankIn usual pageSystem 0 2 ≡ 2
   page-rank-next : rankIn usual pageSystem 1 3 ≡ 1
   close-low-rank : rankIn closeLow releaseSystem 0 1 ≡ 1
   branching-rank : rankIn usual branchingSystem 0 1 ≡ 2
   unreached-rank : rankIn usual (unreachedSystem (0 ∷ [])) 1 2 ≡ 1
+  late-scan-rank : rankIn timed lateScanSystem 0 1 ≡ 1
+  late-scan-rank-next : rankIn timed lateScanSystem 1 2 ≡ 0
+  unseen-tick-rank : rankIn timed unseenTickSystem 0 1 ≡ 0
   page : bnidIn? usual pageSystem ≡ false
   release : bnidIn? usual releaseSystem ≡ true
   close-low : bnidIn? closeLow releaseSystem ≡ false
   branching : bnidIn? usual branchingSystem ≡ false
   unreached : bnidIn? usual (unreachedSystem (0 ∷ [])) ≡ true
   two-starts : bnidIn? usual (unreachedSystem (0 ∷ 1 ∷ [])) ≡ false
+  late-scan : bnidIn? timed lateScanSystem ≡ false
+  unseen-tick : bnidIn? timed unseenTickSystem ≡ true
 
 computed : Computed
-unfolding bnid? rankBelow alike? answers? answered? within? all any
+unfolding bnid? rankBelow alike? weakAnswers? playedLow? silentMove? answers? answered? within? all any
 computed = record {
+  page-low-rank = refl;
+  page-low-rank-next = refl;
   page-rank = refl;
   page-rank-next = refl;
   close-low-rank = refl;
   branching-rank = refl;
   unreached-rank = refl;
+  late-scan-rank = refl;
+  late-scan-rank-next = refl;
+  unseen-tick-rank = refl;
   page = refl;
   release = refl;
   close-low = refl;
   branching = refl;
   unreached = refl;
   two-starts = refl;
+  late-scan = refl;
+  unseen-tick = refl;
 }
 
 -- ---- and so the definitions say
 
-page-rank : Rank (LowMove (view usual pageSystem)) 0 2 2
-page-rank = listed-rank pageSystem usual 0 2 2 (omega arith) (omega arith) (computed .page-rank)
+page-rank : Rank (WeakMove (view usual pageSystem)) 0 2 2
+page-rank = listed-weak-rank pageSystem usual 0 2 2 (omega arith) (omega arith) (computed .page-rank)
 
-page-rank-next : Rank (LowMove (view usual pageSystem)) 1 3 1
-page-rank-next = listed-rank pageSystem usual 1 3 1 (omega arith) (omega arith) (computed .page-rank-next)
+branching-rank : Rank (WeakMove (view usual branchingSystem)) 0 1 2
+branching-rank = listed-weak-rank branchingSystem usual 0 1 2 (omega arith) (omega arith) (computed .branching-rank)
 
-branching-rank : Rank (LowMove (view usual branchingSystem)) 0 1 2
-branching-rank = listed-rank branchingSystem usual 0 1 2 (omega arith) (omega arith) (computed .branching-rank)
+late-scan-rank : Rank (WeakMove (view timed lateScanSystem)) 0 1 1
+late-scan-rank = listed-weak-rank lateScanSystem timed 0 1 1 (omega arith) (omega arith) (computed .late-scan-rank)
 
 page-refused : ¬ (BNID (view usual pageSystem))
 page-refused = listed-refused pageSystem usual (computed .page)
@@ -103,6 +125,12 @@ unreached-passed = listed-passed (unreachedSystem (0 ∷ [])) usual (computed .u
 two-starts-refused : ¬ (BNID (view usual (unreachedSystem (0 ∷ 1 ∷ []))))
 two-starts-refused = listed-refused (unreachedSystem (0 ∷ 1 ∷ [])) usual (computed .two-starts)
 
+late-scan-refused : ¬ (BNID (view timed lateScanSystem))
+late-scan-refused = listed-refused lateScanSystem timed (computed .late-scan)
+
+unseen-tick-passed : BNID (view timed unseenTickSystem)
+unseen-tick-passed = listed-passed unseenTickSystem timed (computed .unseen-tick)
+
 -- Both ends of the branching system's print step allow the same low sequences: each follows the other, and 1 goes to 2
 -- where 0 stops in 3.
 branching-same-low : SameLow (view usual branchingSystem) 0 1
@@ -115,7 +143,7 @@ branching-same-low w l = (
 )
   where
     Moved : Moves
-    Moved = LowMove (view usual branchingSystem)
+    Moved = LowStep (view usual branchingSystem)
 
     moved? : ℕ → ℕ → ℕ → Bool
     moved? = lowMove? (view usual branchingSystem) (tests branchingSystem)
@@ -143,6 +171,9 @@ usual-levelled M p a q r s = go a (decided M usual .steps .label-lt p a q s)
     go (suc (suc zero)) h = release tt tt tt
     go (suc (suc (suc a))) h = absurd (omega arith)
 
+usual-still : (M : System) → NoTick (view usual M)
+usual-still M p q r t = t .is-silent
+
 page-deterministic : Deterministic pageView
 unfolding deterministic? within? all any
 page-deterministic = listed-deterministic pageSystem usual tt
@@ -150,7 +181,8 @@ page-deterministic = listed-deterministic pageSystem usual tt
 page-not-INI : ¬ (INI pageView)
 page-not-INI ini = page-refused (bnid↔INI pageView
     (decided→Bounded pageView (tests pageSystem) (decided pageSystem usual)) (usual-levelled pageSystem)
-    page-deterministic (lowRound pageView (tests pageSystem)) (listed-game pageSystem usual) .1 ini)
+    (usual-still pageSystem) (listed-labels pageSystem usual) page-deterministic
+    (weakRound pageView (tests pageSystem)) (listed-weak-game pageSystem usual) .1 ini)
 
 page-distance : Distance pageView 3 2
 unfolding within? all any
@@ -162,11 +194,18 @@ unfolding Run
 page-last-letter = first-word-one pageView 1 3 scan tt
     (inl ((1, (1, tt, refl)), λ z. z .1 .1)) (λ b l. absurd (omega arith))
 
+-- The ranks under the low steps, which words go by.
+page-low-rank : Rank (LowStep pageView) 0 2 2
+page-low-rank = listed-rank pageSystem usual 0 2 2 (omega arith) (omega arith) (computed .page-low-rank)
+
+page-low-rank-next : Rank (LowStep pageView) 1 3 1
+page-low-rank-next = listed-rank pageSystem usual 1 3 1 (omega arith) (omega arith) (computed .page-low-rank-next)
+
 page-word : FirstWord pageView 0 2 (scan ∷ scan ∷ [])
 page-word = first-word-cons pageView (lowRound pageView (tests pageSystem)) (listed-game pageSystem usual)
     page-deterministic 0 0 2 scan 1 3 (scan ∷ []) (begin tt) (onward {a = print} (begin {p = 0} tt) tt)
-    (separated-of-rank (LowMove pageView) 0 2 2 (omega arith) page-rank) (tt, tt) (tt, tt)
-    (separated-of-rank (LowMove pageView) 1 3 1 (omega arith) page-rank-next)
+    (separated-of-rank (LowStep pageView) 0 2 2 (omega arith) page-low-rank) (tt, tt) (tt, tt)
+    (separated-of-rank (LowStep pageView) 1 3 1 (omega arith) page-low-rank-next)
     (λ b x y l. absurd (omega arith)) page-last-letter
 
 page-end : OnlyFrom (pageView .Step) 0 2 (scan ∷ scan ∷ [])

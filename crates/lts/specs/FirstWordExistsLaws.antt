@@ -17,7 +17,7 @@ use Rattle.lts.specs.Game.{Game, alike?}
 use Rattle.lts.specs.GameLaws.{¬Alike→not-alike?, not-alike?→¬Alike}
 use Rattle.lts.specs.View.{View}
 use Rattle.lts.specs.Run.{Run, Allows, Reachable, onward, Deterministic}
-use Rattle.lts.specs.Noninterference.{LowMove}
+use Rattle.lts.specs.Weak.{LowStep}
 use Rattle.lts.specs.Decided.{ViewTest, DecidedView}
 use Rattle.lts.specs.Checked.{lowMove?, lowRound}
 use Rattle.lts.specs.CheckedLaws.{decided-low, low-game}
@@ -38,7 +38,7 @@ module _ (v : View) (tests : ViewTest) (D : DecidedView v tests) (det : Determin
   abbrev round : (ℕ → ℕ → Bool) → ℕ → ℕ → Bool
   round = lowRound v tests
 
-  G : Game (LowMove v) n round
+  G : Game (LowStep v) n round
   G = low-game v tests D
 
   -- ---- the last letter
@@ -86,7 +86,7 @@ module _ (v : View) (tests : ViewTest) (D : DecidedView v tests) (det : Determin
   JustOne→just? p q a t (inr x) = and-intro (v .levels .low? a) (only? p q a || only? q p a) t
       (or-right (only? p q a) (only? q p a) (OnlyFrom→only? q p a x))
 
-  first-word-last : (p q : ℕ) → Separated (LowMove v) p q 1 → (w : List ℕ) × FirstWord v p q w
+  first-word-last : (p q : ℕ) → Separated (LowStep v) p q 1 → (w : List ℕ) × FirstWord v p q w
   first-word-last p q s =
       let x = letter-of-separated-one v round G det p q s in
       let m = least-of-passes (just? p q) (x .0) (JustOne→just? p q (x .0) (x .1) (x .2)) in
@@ -111,9 +111,9 @@ module _ (v : View) (tests : ViewTest) (D : DecidedView v tests) (det : Determin
   record Letter (k p q a : ℕ) : Type 0 where
     first : ℕ
     second : ℕ
-    move-first : LowMove v p a first
-    move-second : LowMove v q a second
-    not-alike : ¬ (Alike (LowMove v) k first second)
+    move-first : LowStep v p a first
+    move-second : LowStep v q a second
+    not-alike : ¬ (Alike (LowStep v) k first second)
 
   letter?→Letter : (k p q a : ℕ) → T (letter? k p q a) → Letter k p q a
   letter?→Letter k p q a t =
@@ -128,7 +128,7 @@ module _ (v : View) (tests : ViewTest) (D : DecidedView v tests) (det : Determin
         second = y;
         move-first = M .move?→Move p a x (and-left (move? p a x) (move? q a y) u);
         move-second = M .move?→Move q a y (and-right (move? p a x) (move? q a y) u);
-        not-alike = not-alike?→¬Alike (LowMove v) n round G k x y
+        not-alike = not-alike?→¬Alike (LowStep v) n round G k x y
             (and-right (move? p a x && move? q a y) (not (alike? round k x y)) (j .2));
       }
 
@@ -139,18 +139,18 @@ module _ (v : View) (tests : ViewTest) (D : DecidedView v tests) (det : Determin
       let M = decided-low v tests D in
       let u = and-intro (move? p a x) (move? q a y) (M .Move→move? p a x (z .move-first))
       (M .Move→move? q a y (z .move-second)) in
-      let w = ¬Alike→not-alike? (LowMove v) n round G k x y (z .not-alike) in
+      let w = ¬Alike→not-alike? (LowStep v) n round G k x y (z .not-alike) in
       Some→any n (λ x. any n (targets? k p q a x)) x (M .target-lt p a x (z .move-first))
       (Some→any n (targets? k p q a x) y (M .target-lt q a y (z .move-second))
       (and-intro (move? p a x && move? q a y) (not (alike? round k x y)) u w))
 
-  pub first-word-exists : (k p q : ℕ) → Reachable v p → Reachable v q → Separated (LowMove v) p q k
+  pub first-word-exists : (k p q : ℕ) → Reachable v p → Reachable v q → Separated (LowStep v) p q k
       → (w : List ℕ) × FirstWord v p q w
-  first-word-exists zero p q rp rq s = absurd (omega (arith, separated-pos (LowMove v) p q 0 s))
+  first-word-exists zero p q rp rq s = absurd (omega (arith, separated-pos (LowStep v) p q 0 s))
   first-word-exists (suc zero) p q rp rq s = first-word-last p q s
   first-word-exists (suc (suc k)) p q rp rq s = go (first-word-exists (suc k))
     where
-      found : (b x y : ℕ) → LowMove v p b x → LowMove v q b y → Separated (LowMove v) x y (suc k)
+      found : (b x y : ℕ) → LowStep v p b x → LowStep v q b y → Separated (LowStep v) x y (suc k)
           → T (letter? (suc k) p q b)
       found b x y m o d = Letter→letter? (suc k) p q b
           (record { first = x; second = y; move-first = m; move-second = o; not-alike = d .not-alike })
@@ -169,10 +169,10 @@ module _ (v : View) (tests : ViewTest) (D : DecidedView v tests) (det : Determin
       z : Letter (suc k) p q a
       z = letter?→Letter (suc k) p q a (least .2 .passes)
 
-      none-lower : (b x y : ℕ) → b < a → LowMove v p b x → LowMove v q b y → ¬ (Separated (LowMove v) x y (suc k))
+      none-lower : (b x y : ℕ) → b < a → LowStep v p b x → LowStep v q b y → ¬ (Separated (LowStep v) x y (suc k))
       none-lower b x y h m o d = T-not (letter? (suc k) p q b) (least .2 .none-below b h) (found b x y m o d)
 
-      go : ((p q : ℕ) → Reachable v p → Reachable v q → Separated (LowMove v) p q (suc k)
+      go : ((p q : ℕ) → Reachable v p → Reachable v q → Separated (LowStep v) p q (suc k)
           → (w : List ℕ) × FirstWord v p q w) → (w : List ℕ) × FirstWord v p q w
       go ih =
           let d = targets-separated v round G det k p q a (z .first) (z .second) rq s (z .move-first)

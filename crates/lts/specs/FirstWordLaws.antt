@@ -17,7 +17,8 @@ use Rattle.lts.specs.GameLaws.{alike-cases, ¬Alike→not-alike?, not-al
 use Rattle.lts.specs.View.{View}
 use Rattle.lts.specs.Run.{Run, Reachable, onward, Deterministic}
 use Rattle.lts.specs.RunLaws.{allows-cons}
-use Rattle.lts.specs.Noninterference.{Low, LowMove}
+use Rattle.lts.specs.Noninterference.{Low}
+use Rattle.lts.specs.Weak.{LowStep}
 use Rattle.lts.specs.LowLaws.{alike-allows}
 use Rattle.lts.specs.Word.{OnlyFrom, JustOne, NotAfter, FirstWord}
 use Rattle.lts.specs.WordLaws.{just-one-cons, just-one-uncons, just-one-not-both, separated-length-le}
@@ -72,7 +73,7 @@ module _ (v : View) where
   -- Where q answers each letter b of p by a k-alike target, no word of p that begins with b and has at most k letters
   -- more is p's alone.
   no-word-from : (k p q b : ℕ) (u : List ℕ) → T (v .levels .low? b) → Low (v .levels) u → length u ≤ k
-      → ((x : ℕ) → LowMove v p b x → (y : ℕ) × LowMove v q b y × Alike (LowMove v) k x y)
+      → ((x : ℕ) → LowStep v p b x → (y : ℕ) × LowStep v q b y × Alike (LowStep v) k x y)
       → ¬ (OnlyFrom (v .Step) p q (b ∷ u))
   unfolding Run
   no-word-from k p q b u lo lu c f ((e, x), y) =
@@ -80,50 +81,50 @@ module _ (v : View) where
       y (allows-cons (v .Step) q b (m .0) u (m .1 .1) (alike-allows v k u (x .0) (m .0) lu c (m .2) .0 (e, x .2)))
 
 module _ (v : View) (round : (ℕ → ℕ → Bool) → ℕ → ℕ → Bool)
-    (G : Game (LowMove v) (v .states) round) (det : Deterministic v) where
+    (G : Game (LowStep v) (v .states) round) (det : Deterministic v) where
   -- Of two states that the round k+2 separates, the targets of an action are k-alike; so they are (k+1)-alike, or the
   -- round k+1 separates them.
-  pub targets-separated : (k p q b x y : ℕ) → Reachable v q → Separated (LowMove v) p q (suc (suc k)) → LowMove v p b x
-      → LowMove v q b y → ¬ (Alike (LowMove v) (suc k) x y) → Separated (LowMove v) x y (suc k)
+  pub targets-separated : (k p q b x y : ℕ) → Reachable v q → Separated (LowStep v) p q (suc (suc k)) → LowStep v p b x
+      → LowStep v q b y → ¬ (Alike (LowStep v) (suc k) x y) → Separated (LowStep v) x y (suc k)
   unfolding Alike
   targets-separated k p q b x y rq s m o d =
       let h = s .alike-before (suc k) (omega arith) .there b x m in
       let e : h .0 ≡ y = det q b (h .0) y rq (h .1 .1) (o .1) in
-      let near : Alike (LowMove v) k x y = subst (λ (z : ℕ). Alike (LowMove v) k x z) e (h .2) in
-      record { not-alike = d; alike-before = λ j l. alike-le (LowMove v) x y j k (omega arith) near }
+      let near : Alike (LowStep v) k x y = subst (λ (z : ℕ). Alike (LowStep v) k x z) e (h .2) in
+      record { not-alike = d; alike-before = λ j l. alike-le (LowStep v) x y j k (omega arith) near }
 
-  targets-alike : (k p q b x y : ℕ) → Reachable v q → Separated (LowMove v) p q (suc (suc k)) → LowMove v p b x
-      → LowMove v q b y → ¬ (Separated (LowMove v) x y (suc k)) → Alike (LowMove v) (suc k) x y
-  targets-alike k p q b x y rq s m o d = go (alike-cases (LowMove v) (v .states) round G (suc k) x y)
+  targets-alike : (k p q b x y : ℕ) → Reachable v q → Separated (LowStep v) p q (suc (suc k)) → LowStep v p b x
+      → LowStep v q b y → ¬ (Separated (LowStep v) x y (suc k)) → Alike (LowStep v) (suc k) x y
+  targets-alike k p q b x y rq s m o d = go (alike-cases (LowStep v) (v .states) round G (suc k) x y)
     where
-      go : Alike (LowMove v) (suc k) x y ⊎ ¬ (Alike (LowMove v) (suc k) x y) → Alike (LowMove v) (suc k) x y
+      go : Alike (LowStep v) (suc k) x y ⊎ ¬ (Alike (LowStep v) (suc k) x y) → Alike (LowStep v) (suc k) x y
       go (inl h) = h
       go (inr h) = absurd (d (targets-separated k p q b x y rq s m o h))
 
   -- Of two states that the round 1 separates, just one has some low action.
-  pub letter-of-separated-one : (p q : ℕ) → Separated (LowMove v) p q 1
+  pub letter-of-separated-one : (p q : ℕ) → Separated (LowStep v) p q 1
       → (a : ℕ) × T (v .levels .low? a) × JustOne (v .Step) p q (a ∷ [])
   unfolding alike? Run
   letter-of-separated-one p q s = go (G .fails (alike? round 0) p q
-      (¬Alike→not-alike? (LowMove v) (v .states) round G 1 p q (s .not-alike)))
+      (¬Alike→not-alike? (LowStep v) (v .states) round G 1 p q (s .not-alike)))
     where
-      go : Opening (LowMove v) (alike? round 0) p q → (a : ℕ) × T (v .levels .low? a) × JustOne (v .Step) p q (a ∷ [])
+      go : Opening (LowStep v) (alike? round 0) p q → (a : ℕ) × T (v .levels .low? a) × JustOne (v .Step) p q (a ∷ [])
       go (by-first a x m f) = (a, m .0, inl ((x, (x, m .1, refl)), λ z. f (z .1 .0) (m .0, z .1 .1)))
       go (by-second a y m f) = (a, m .0, inr ((y, (y, m .1, refl)), λ z. f (z .1 .0) (m .0, z .1 .1)))
 
   -- Of two states that the round k+2 separates, some action leads to states that the round k+1 separates: an opening
   -- and its answer.
-  pub letter-of-separated : (k p q : ℕ) → Reachable v q → Separated (LowMove v) p q (suc (suc k))
-      → (a x y : ℕ) × LowMove v p a x × LowMove v q a y × Separated (LowMove v) x y (suc k)
+  pub letter-of-separated : (k p q : ℕ) → Reachable v q → Separated (LowStep v) p q (suc (suc k))
+      → (a x y : ℕ) × LowStep v p a x × LowStep v q a y × Separated (LowStep v) x y (suc k)
   unfolding Alike alike?
   letter-of-separated k p q rq s = go (G .fails (alike? round (suc k)) p q
-      (¬Alike→not-alike? (LowMove v) (v .states) round G (suc (suc k)) p q (s .not-alike)))
+      (¬Alike→not-alike? (LowStep v) (v .states) round G (suc (suc k)) p q (s .not-alike)))
     where
-      apart : (x y : ℕ) → T (not (alike? round (suc k) x y)) → ¬ (Alike (LowMove v) (suc k) x y)
-      apart x y t = not-alike?→¬Alike (LowMove v) (v .states) round G (suc k) x y t
+      apart : (x y : ℕ) → T (not (alike? round (suc k) x y)) → ¬ (Alike (LowStep v) (suc k) x y)
+      apart x y t = not-alike?→¬Alike (LowStep v) (v .states) round G (suc k) x y t
 
-      go : Opening (LowMove v) (alike? round (suc k)) p q
-          → (a x y : ℕ) × LowMove v p a x × LowMove v q a y × Separated (LowMove v) x y (suc k)
+      go : Opening (LowStep v) (alike? round (suc k)) p q
+          → (a x y : ℕ) × LowStep v p a x × LowStep v q a y × Separated (LowStep v) x y (suc k)
       go (by-first a x m f) =
           let (y, o, _) = s .alike-before 1 (omega arith) .there a x m in
           (a, x, y, m, o, targets-separated k p q a x y rq s m o (apart x y (f y o)))
@@ -133,8 +134,8 @@ module _ (v : View) (round : (ℕ → ℕ → Bool) → ℕ → ℕ → Bool)
 
   -- Where the lower action b has no targets that the round k+1 separates, no word of length k+2 that begins with b is
   -- possible from just one.
-  no-lower : (k p q b : ℕ) (u : List ℕ) → Reachable v p → Reachable v q → Separated (LowMove v) p q (suc (suc k))
-      → ((x y : ℕ) → LowMove v p b x → LowMove v q b y → ¬ (Separated (LowMove v) x y (suc k))) → T (v .levels .low? b)
+  no-lower : (k p q b : ℕ) (u : List ℕ) → Reachable v p → Reachable v q → Separated (LowStep v) p q (suc (suc k))
+      → ((x y : ℕ) → LowStep v p b x → LowStep v q b y → ¬ (Separated (LowStep v) x y (suc k))) → T (v .levels .low? b)
       → Low (v .levels) u → length u ≤ suc k → ¬ (JustOne (v .Step) p q (b ∷ u))
   unfolding Alike
   no-lower k p q b u rp rq s f lo lu c (inl o) = no-word-from v (suc k) p q b u lo lu c (λ x m.
@@ -144,12 +145,12 @@ module _ (v : View) (round : (ℕ → ℕ → Bool) → ℕ → ℕ → Bool)
       let h = s .alike-before 1 (omega arith) .back b y m in (
         h .0,
         h .1,
-        alike-sym (LowMove v) (suc k) (h .0) y
+        alike-sym (LowStep v) (suc k) (h .0) y
             (targets-alike k p q b (h .0) y rq s (h .1) m (f (h .0) y (h .1) m)),
       )) o
 
   -- The first word is as long as the rank.
-  pub first-word-length : (p q k : ℕ) (w : List ℕ) → Reachable v p → Reachable v q → Separated (LowMove v) p q k
+  pub first-word-length : (p q k : ℕ) (w : List ℕ) → Reachable v p → Reachable v q → Separated (LowStep v) p q k
       → FirstWord v p q w → length w ≡ k
   first-word-length p q k w rp rq s i =
       let x = separated→Shortest v round G det p q k rp rq s in
@@ -158,9 +159,9 @@ module _ (v : View) (round : (ℕ → ℕ → Bool) → ℕ → ℕ → Bool)
 
   -- The lowest action whose targets the round k+1 separates, then the first word of the targets.
   pub first-word-cons : (k p q a p′ q′ : ℕ) (w : List ℕ) → Reachable v p → Reachable v q
-      → Separated (LowMove v) p q (suc (suc k)) → LowMove v p a p′ → LowMove v q a q′
-      → Separated (LowMove v) p′ q′ (suc k)
-      → ((b x y : ℕ) → b < a → LowMove v p b x → LowMove v q b y → ¬ (Separated (LowMove v) x y (suc k)))
+      → Separated (LowStep v) p q (suc (suc k)) → LowStep v p a p′ → LowStep v q a q′
+      → Separated (LowStep v) p′ q′ (suc k)
+      → ((b x y : ℕ) → b < a → LowStep v p b x → LowStep v q b y → ¬ (Separated (LowStep v) x y (suc k)))
       → FirstWord v p′ q′ w → FirstWord v p q (a ∷ w)
   unfolding Low NotAfter
   first-word-cons k p q a p′ q′ w rp rq s m o t f i = record {

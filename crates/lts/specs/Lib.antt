@@ -15,6 +15,7 @@ pub mod OwnBookLaws
 pub mod View
 pub mod Run
 pub mod RunLaws
+pub mod Weak
 pub mod Noninterference
 pub mod ThinLaws
 pub mod LowLaws
@@ -24,10 +25,16 @@ pub mod WordLaws
 pub mod FirstWordLaws
 pub mod Agree
 pub mod AgreeLaws
+pub mod AgreeBookLaws
 pub mod Decided
 pub mod DecidedLaws
 pub mod DistanceLaws
 pub mod WithinLaws
+pub mod WeakTests
+pub mod WeakLaws
+pub mod WeakTestsLaws
+pub mod SingleOpenings
+pub mod SingleOpeningsLaws
 pub mod Checked
 pub mod CheckedLaws
 pub mod MovingLaws

@@ -11,13 +11,15 @@ use native.Mathlib.Omega.{arith}
 use lib.Dec.{T}
 use lib.ListN.{length}
 use Rattle.lts.specs.Alike.{Relation, Answered, Alike, Bisimulation, Bisimilar}
-use Rattle.lts.specs.AlikeLaws.{alike-sym, bisimilar→Alike}
+use Rattle.lts.specs.AlikeLaws.{alike-sym, bisimilar→Alike, bisimilar→BisimilarBy}
 use Rattle.lts.specs.Game.{Game}
 use Rattle.lts.specs.RankLaws.{bisimilar↔BisimilarBy}
 use Rattle.lts.specs.View.{View}
 use Rattle.lts.specs.Run.{Run, Allows, Reachable, onward, Deterministic, Bounded}
 use Rattle.lts.specs.RunLaws.{allows-cons, allows-uncons, reachable-lt}
-use Rattle.lts.specs.Noninterference.{Low, LowMove, SameLow}
+use Rattle.lts.specs.Noninterference.{Low, SameLow}
+use Rattle.lts.specs.Weak.{LowStep, WeakMove, NoTick, NoSilentLabel}
+use Rattle.lts.specs.WeakLaws.{weak-bisimilarBy}
 
 -- p and q are reachable and allow the same low sequences.
 pub record SameLowReachable (v : View) (p q : ℕ) : Type 0 where
@@ -26,7 +28,7 @@ pub record SameLowReachable (v : View) (p q : ℕ) : Type 0 where
   pub same : SameLow v p q
 
 module _ (v : View) where
-  alike-allows-one : (k : ℕ) (w : List ℕ) (p q : ℕ) → Low (v .levels) w → length w ≤ k → Alike (LowMove v) k p q
+  alike-allows-one : (k : ℕ) (w : List ℕ) (p q : ℕ) → Low (v .levels) w → length w ≤ k → Alike (LowStep v) k p q
       → Allows (v .Step) p w → Allows (v .Step) q w
   unfolding Alike Run Low
   alike-allows-one k [] p q l h a r = (q, refl)
@@ -37,13 +39,13 @@ module _ (v : View) where
       (alike-allows-one k w (r .0) (m .0) (l .1) (omega arith) (m .2) (e, r .2))
 
   -- k-alike states allow the same low sequences of length k and less.
-  pub alike-allows : (k : ℕ) (w : List ℕ) (p q : ℕ) → Low (v .levels) w → length w ≤ k → Alike (LowMove v) k p q
+  pub alike-allows : (k : ℕ) (w : List ℕ) (p q : ℕ) → Low (v .levels) w → length w ≤ k → Alike (LowStep v) k p q
       → Allows (v .Step) p w ↔ Allows (v .Step) q w
   alike-allows k w p q l h a =
-      (alike-allows-one k w p q l h a, alike-allows-one k w q p l h (alike-sym (LowMove v) k p q a))
+      (alike-allows-one k w p q l h a, alike-allows-one k w q p l h (alike-sym (LowStep v) k p q a))
 
   -- Where q answers p one way, inside a relation that keeps answering so, q allows what p allows.
-  pub simulation-allows : (R : Relation) → ((p q : ℕ) → R p q → Answered (LowMove v) R p q) → (w : List ℕ)
+  pub simulation-allows : (R : Relation) → ((p q : ℕ) → R p q → Answered (LowStep v) R p q) → (w : List ℕ)
       → Low (v .levels) w → (p q : ℕ) → R p q → Allows (v .Step) p w → Allows (v .Step) q w
   unfolding Run Low
   simulation-allows R f [] l p q r h = (q, refl)
@@ -51,9 +53,9 @@ module _ (v : View) where
       let m = f p q r a (h .0) (l .0, h .1) in
       allows-cons (v .Step) q a (m .0) w (m .1 .1) (simulation-allows R f w (l .1) (h .0) (m .0) (m .2) (e, h .2))
 
-  pub bisimilar→SameLow : (p q : ℕ) → Bisimilar (LowMove v) p q → SameLow v p q
+  pub bisimilar→SameLow : (p q : ℕ) → Bisimilar (LowStep v) p q → SameLow v p q
   bisimilar→SameLow p q b w l =
-      alike-allows (length w) w p q l (omega arith) (bisimilar→Alike (LowMove v) (length w) p q b)
+      alike-allows (length w) w p q l (omega arith) (bisimilar→Alike (LowStep v) (length w) p q b)
 
   pub same-low-sym : (p q : ℕ) → SameLow v p q → SameLow v q p
   same-low-sym p q f w l = (f w l .1, f w l .0)
@@ -73,8 +75,8 @@ module _ (v : View) where
     after p q a p′ q′ lo s t x w l h = allows-uncons v det q a q′ w (x .second) t
         (x .same (a ∷ w) (lo, l) .0 (allows-cons (v .Step) p a p′ w s h))
 
-    answer : (p q a p′ : ℕ) → SameLowReachable v p q → LowMove v p a p′
-        → (q′ : ℕ) × LowMove v q a q′ × SameLowReachable v p′ q′
+    answer : (p q a p′ : ℕ) → SameLowReachable v p q → LowStep v p a p′
+        → (q′ : ℕ) × LowStep v q a q′ × SameLowReachable v p′ q′
     unfolding Run Low
     answer p q a p′ x (lo, s) =
         let y = x .same (a ∷ []) (lo, tt) .0 (p′, (p′, s, refl)) in
@@ -90,7 +92,7 @@ module _ (v : View) where
         )
 
     -- Between reachable states, to allow the same low sequences is a low-view bisimulation.
-    pub same-low-bisimulation : Bisimulation (LowMove v) (SameLowReachable v)
+    pub same-low-bisimulation : Bisimulation (LowStep v) (SameLowReachable v)
     same-low-bisimulation p q x = record {
       there = λ a p′ m. answer p q a p′ x m;
       back = λ a q′ m.
@@ -98,12 +100,36 @@ module _ (v : View) where
           (y .0, y .1, flip q′ (y .0) (y .2));
     }
 
-    module _ (B : Bounded v) (round : (ℕ → ℕ → Bool) → ℕ → ℕ → Bool) (G : Game (LowMove v) (v .states) round) where
-      pub same-low→Bisimilar : (p q : ℕ) → Reachable v p → Reachable v q → SameLow v p q → Bisimilar (LowMove v) p q
+    module _ (B : Bounded v) (round : (ℕ → ℕ → Bool) → ℕ → ℕ → Bool) (G : Game (LowStep v) (v .states) round) where
+      pub same-low→Bisimilar : (p q : ℕ) → Reachable v p → Reachable v q → SameLow v p q → Bisimilar (LowStep v) p q
       same-low→Bisimilar p q rp rq f =
-          bisimilar↔BisimilarBy (LowMove v) (v .states) round G p q (reachable-lt v B p rp)
+          bisimilar↔BisimilarBy (LowStep v) (v .states) round G p q (reachable-lt v B p rp)
           (reachable-lt v B q rq) .1 (record {
             rel = SameLowReachable v;
             bisimulation = same-low-bisimulation;
             pairs = record { first = rp; second = rq; same = f };
           })
+
+-- ---- the moves that are played, where no silent step can be reached
+
+module _ (v : View) (B : Bounded v) (still : NoTick v) (labels : NoSilentLabel v) where
+  -- Reachable states that are bisimilar allow the same low sequences.
+  pub weakly-bisimilar→SameLow : (p q : ℕ) → Reachable v p → Reachable v q → Bisimilar (WeakMove v) p q → SameLow v p q
+  weakly-bisimilar→SameLow p q rp rq b w l =
+      let c = weak-bisimilarBy v still B labels p q rp rq .1 (bisimilar→BisimilarBy (WeakMove v) p q b) in (
+        simulation-allows v (c .rel) (λ x y r. c .bisimulation x y r .there) w l p q (c .pairs),
+        simulation-allows v (λ x y. c .rel y x) (λ x y r. c .bisimulation y x r .back) w l q p (c .pairs),
+      )
+
+  module _ (det : Deterministic v) (round : (ℕ → ℕ → Bool) → ℕ → ℕ → Bool)
+      (G : Game (WeakMove v) (v .states) round) where
+    -- In a deterministic model those that allow the same low sequences are bisimilar.
+    pub same-low→WeaklyBisimilar : (p q : ℕ) → Reachable v p → Reachable v q → SameLow v p q
+        → Bisimilar (WeakMove v) p q
+    same-low→WeaklyBisimilar p q rp rq f =
+        bisimilar↔BisimilarBy (WeakMove v) (v .states) round G p q (reachable-lt v B p rp) (reachable-lt v B q rq) .1
+        (weak-bisimilarBy v still B labels p q rp rq .0 (record {
+          rel = SameLowReachable v;
+          bisimulation = same-low-bisimulation v det;
+          pairs = record { first = rp; second = rq; same = f };
+        }))

@@ -20,12 +20,13 @@ use Rattle.lts.specs.AgreeLaws.{separated-agree}
 use Rattle.lts.specs.View.{View}
 use Rattle.lts.specs.Run.{Reachable, onward}
 use Rattle.lts.specs.RunLaws.{reachable-lt}
-use Rattle.lts.specs.Noninterference.{LowMove}
+use Rattle.lts.specs.Weak.{silentLabel, LowStep, WeakMove, NoTick}
+use Rattle.lts.specs.WeakLaws.{weak-rank}
 use Rattle.lts.specs.Decided.{Decided, answers?, ViewTest, DecidedView, within?}
 use Rattle.lts.specs.DecidedLaws.{decided-game, decided→Bounded}
 use Rattle.lts.specs.DistanceLaws.{Reachable→within?, within?→Reachable}
-use Rattle.lts.specs.Checked.{lowMove?}
-use Rattle.lts.specs.CheckedLaws.{decided-low}
+use Rattle.lts.specs.Checked.{lowMove?, lowRound, weakRound}
+use Rattle.lts.specs.CheckedLaws.{decided-low, low-game, weak-view-game, noSilentLabel-of-decided}
 
 -- ---- among n states
 
@@ -109,12 +110,21 @@ module _ (v : View) (tests : ViewTest) (D : DecidedView v tests) where
 
   -- No rank of two reachable states exceeds the number of reachable states with a low step.
   pub rank-le-moving-reachable : (moves? : ℕ → Bool)
-      → ((p a q : ℕ) → Reachable v p → LowMove v p a q → T (moves? p)) → (p q r : ℕ) → Reachable v p → Reachable v q
-      → Rank (LowMove v) p q r → r ≤ count (v .states) (λ x. within? v tests (v .states - 1) x && moves? x)
+      → ((p a q : ℕ) → Reachable v p → LowStep v p a q → T (moves? p)) → (p q r : ℕ) → Reachable v p → Reachable v q
+      → Rank (LowStep v) p q r → r ≤ count (v .states) (λ x. within? v tests (v .states - 1) x && moves? x)
   rank-le-moving-reachable moves? moves p q r cp cq x =
       let B = decided→Bounded v tests D in
-      rank-le-moving-among (LowMove v) (v .states) (tests .actions) (lowMove? v tests) (decided-low v tests D)
+      rank-le-moving-among (LowStep v) (v .states) (tests .actions) (lowMove? v tests) (decided-low v tests D)
       reachable?
       (λ p a q t m. Reachable→within? v tests D q (onward (reached p t) (m .1)))
       moves? (λ p a q t m. moves p a q (reached p t) m) p q r (reachable-lt v B p cp) (reachable-lt v B q cq)
       (Reachable→within? v tests D p cp) (Reachable→within? v tests D q cq) x
+
+  -- The same of the moves that are played, where no silent step can be reached.
+  pub weak-rank-le-moving : tests .actions ≤ silentLabel → NoTick v → (moves? : ℕ → Bool)
+      → ((p a q : ℕ) → Reachable v p → LowStep v p a q → T (moves? p)) → (p q r : ℕ) → Reachable v p → Reachable v q
+      → Rank (WeakMove v) p q r → r ≤ count (v .states) (λ x. within? v tests (v .states - 1) x && moves? x)
+  weak-rank-le-moving le still moves? moves p q r cp cq x =
+      rank-le-moving-reachable moves? moves p q r cp cq
+      (weak-rank v still (decided→Bounded v tests D) (noSilentLabel-of-decided v tests D le) (lowRound v tests)
+      (weakRound v tests) (low-game v tests D) (weak-view-game v tests D le) p q r cp cq .1 x)

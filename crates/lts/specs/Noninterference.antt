@@ -1,5 +1,5 @@
--- Thinned sequences, the moves that are played, and the three properties of a view: BNID, NID and INI.
--- Document 01, "The meaning"; definitions 14 and 19 to 22 of source 000. Assumes nothing.
+-- Thinned sequences, and the three properties of a view: BNID, NID and INI.
+-- Document 01, "The meaning"; definitions 19 to 22 of source 000; document 02, (vii). Assumes nothing.
 use mathlib.Core.Logic.{_↔_}
 use mathlib.Core.List.{List, [], _∷_}
 use mathlib.Core.Bool.{Bool, false, not, _&&_, _||_, cond}
@@ -8,6 +8,7 @@ use lib.Dec.{T}
 use Rattle.lts.specs.Alike.{Moves, Relation, Bisimilar}
 use Rattle.lts.specs.View.{Levels, View}
 use Rattle.lts.specs.Run.{Run, Allows, Reachable}
+use Rattle.lts.specs.Weak.{WeakMove}
 
 -- The action a is of just one level.
 pub data Levelled (L : Levels) (a : ℕ) : Type 0 where
@@ -36,17 +37,17 @@ unfoldable pub Low : Levels → List ℕ → Type 0
 Low L [] = Unit {0}
 Low L (a ∷ w) = T (L .low? a) × Low L w
 
--- The moves that are played: "release and high steps are never played" (document 01, "Alike"; definition 14).
-abbrev pub LowMove : View → Moves
-LowMove v p a q = T (v .levels .low? a) × v .Step p a q
-
 -- p and q allow the same low sequences: low-view equivalent (section 4.2 of source 000).
 abbrev pub SameLow : View → Relation
 SameLow v p q = (w : List ℕ) → Low (v .levels) w → Allows (v .Step) p w ↔ Allows (v .Step) q w
 
--- Definition 22 of source 000: the two ends of each reachable high step are bisimilar.
+-- Definition 22 of source 000, over any moves: the two ends of each reachable high step are bisimilar.
+abbrev pub BNIDOver : Moves → View → Type 0
+BNIDOver Move v = (p a q : ℕ) → Reachable v p → T (v .levels .high? a) → v .Step p a q → Bisimilar Move p q
+
+-- It is over the moves that are played: "Ranks, bisimulations, classes and books use these moves" (document 02, (vii)).
 abbrev pub BNID : View → Type 0
-BNID v = (p a q : ℕ) → Reachable v p → T (v .levels .high? a) → v .Step p a q → Bisimilar (LowMove v) p q
+BNID v = BNIDOver (WeakMove v) v
 
 -- Definition 21 of source 000: the two ends of each reachable high step allow the same low sequences.
 abbrev pub NID : View → Type 0
@@ -63,4 +64,4 @@ INI v = (s : ℕ) → v .Start s → (w : List ℕ) (e : ℕ) → Run (v .Step) 
 
 -- A run of the thinned sequence of w leads from s to a state bisimilar to e (document 02, (xii)).
 abbrev pub ThinnedBisimilar : View → ℕ → List ℕ → ℕ → Type 0
-ThinnedBisimilar v s w e = ThinnedRun v (Bisimilar (LowMove v)) s w e
+ThinnedBisimilar v s w e = ThinnedRun v (Bisimilar (WeakMove v)) s w e

@@ -5,12 +5,13 @@ use mathlib.Core.Bool.{Bool}
 use Prim.Native.Nat.{ℕ}
 use Rattle.lts.specs.Alike.{Moves}
 
--- "An action is low (L), release (D) or high (H)" (document 01, "The meaning"). Three tests and not one table: silent
--- actions or domains only change the tests.
+-- "An action is low (L), release (D) or high (H)" (document 01, "The meaning"), or silent, which "Level T [..] marks"
+-- (document 02, (vii)). Tests and not one table: the levels of a domain only change the tests.
 pub record Levels : Type 0 where
   pub low? : ℕ → Bool
   pub release? : ℕ → Bool
   pub high? : ℕ → Bool
+  pub silent? : ℕ → Bool
 
 -- The levels of a model's actions, its steps, its starts and the number of its states: `Step p a q` says that a step
 -- with the action a leads from p to q.

@@ -17,7 +17,8 @@ use Rattle.lts.specs.RankLaws.{rank-exists}
 use Rattle.lts.specs.View.{View}
 use Rattle.lts.specs.Run.{Run, Allows, Reachable, onward, Deterministic, Bounded}
 use Rattle.lts.specs.RunLaws.{allows-cons, allows-uncons, reachable-lt}
-use Rattle.lts.specs.Noninterference.{Low, LowMove}
+use Rattle.lts.specs.Noninterference.{Low}
+use Rattle.lts.specs.Weak.{LowStep}
 use Rattle.lts.specs.LowLaws.{alike-allows, bisimilar→SameLow}
 use Rattle.lts.specs.Word.{OnlyFrom, JustOne, Shortest}
 
@@ -76,26 +77,26 @@ shortest-unique v p q j k x y = eq-of-not-lt j k (not-shorter j k x y) (not-shor
         (y .none-shorter (x .word) (x .is-low) (omega (arith, x .length-is)))
 
 -- States that the round k separates allow the same low sequences shorter than k.
-pub separated-allows : (v : View) (p q k : ℕ) → Separated (LowMove v) p q k → (w : List ℕ) → Low (v .levels) w
+pub separated-allows : (v : View) (p q k : ℕ) → Separated (LowStep v) p q k → (w : List ℕ) → Low (v .levels) w
     → length w < k → Allows (v .Step) p w ↔ Allows (v .Step) q w
 separated-allows v p q k x w l h =
     alike-allows v (length w) w p q l (omega arith) (x .alike-before (length w) h)
 
 -- So a low sequence that just one of them allows is no shorter than k.
-pub separated-length-le : (v : View) (p q k : ℕ) → Separated (LowMove v) p q k → (w : List ℕ) → Low (v .levels) w
+pub separated-length-le : (v : View) (p q k : ℕ) → Separated (LowStep v) p q k → (w : List ℕ) → Low (v .levels) w
     → JustOne (v .Step) p q w → k ≤ length w
 separated-length-le v p q k x w l j =
     le-of-not-lt k (length w) (λ h. just-one-not-both (v .Step) p q w j (separated-allows v p q k x w l h))
 
 module _ (v : View) (round : (ℕ → ℕ → Bool) → ℕ → ℕ → Bool)
-    (G : Game (LowMove v) (v .states) round) (det : Deterministic v) where
+    (G : Game (LowStep v) (v .states) round) (det : Deterministic v) where
   -- Any two reachable states that are not k-alike have a low sequence of length at most k that just one allows.
   abbrev HasWord : ℕ → Type 0
   HasWord k = (p q : ℕ) → Reachable v p → Reachable v q → T (not (alike? round k p q))
       → WordWithin v k p q
 
   -- A letter that both allow, and a word of the targets.
-  word-cons : (k p q a p′ q′ : ℕ) → Reachable v p → Reachable v q → LowMove v p a p′ → LowMove v q a q′
+  word-cons : (k p q a p′ q′ : ℕ) → Reachable v p → Reachable v q → LowStep v p a p′ → LowStep v q a q′
       → WordWithin v k p′ q′ → WordWithin v (suc k) p q
   unfolding Low
   word-cons k p q a p′ q′ rp rq m o t = record {
@@ -106,7 +107,7 @@ module _ (v : View) (round : (ℕ → ℕ → Bool) → ℕ → ℕ → Bool)
   }
 
   -- A letter that just one allows.
-  word-one : (k p q : ℕ) → Opening (LowMove v) (alike? round 0) p q → WordWithin v (suc k) p q
+  word-one : (k p q : ℕ) → Opening (LowStep v) (alike? round 0) p q → WordWithin v (suc k) p q
   unfolding alike? Run Low
   word-one k p q (by-first a p′ m f) = record {
     word = a ∷ [];
@@ -128,7 +129,7 @@ module _ (v : View) (round : (ℕ → ℕ → Bool) → ℕ → ℕ → Bool)
   word-within zero p q rp rq t = absurd t
   word-within (suc k) p q rp rq t = go (T-cases (alike? round 1 p q)) (word-within k)
     where
-      next : Answers (LowMove v) (λ x y. T (alike? round 0 x y)) p q → Opening (LowMove v) (alike? round k) p q
+      next : Answers (LowStep v) (λ x y. T (alike? round 0 x y)) p q → Opening (LowStep v) (alike? round k) p q
           → HasWord k → WordWithin v (suc k) p q
       next h (by-first a p′ m f) ih =
           let o = h .there a p′ m in
@@ -143,9 +144,9 @@ module _ (v : View) (round : (ℕ → ℕ → Bool) → ℕ → ℕ → Bool)
       go (inl u) ih = next (G .passes (alike? round 0) p q u) (G .fails (alike? round k) p q t) ih
       go (inr u) ih = word-one k p q (G .fails (alike? round 0) p q u)
 
-  pub separated→Shortest : (p q k : ℕ) → Reachable v p → Reachable v q → Separated (LowMove v) p q k → Shortest v p q k
+  pub separated→Shortest : (p q k : ℕ) → Reachable v p → Reachable v q → Separated (LowStep v) p q k → Shortest v p q k
   separated→Shortest p q k rp rq x =
-      go (word-within k p q rp rq (¬Alike→not-alike? (LowMove v) (v .states) round G k p q (x .not-alike)))
+      go (word-within k p q rp rq (¬Alike→not-alike? (LowStep v) (v .states) round G k p q (x .not-alike)))
     where
       go : WordWithin v k p q → Shortest v p q k
       go t = record {
@@ -159,18 +160,18 @@ module _ (v : View) (round : (ℕ → ℕ → Bool) → ℕ → ℕ → Bool)
 
   -- The rank above 0 is the length of the shortest low sequences possible from just one of the two.
   pub rank↔Shortest : Bounded v → (p q k : ℕ) → Reachable v p → Reachable v q → 0 < k
-      → Rank (LowMove v) p q k ↔ Shortest v p q k
+      → Rank (LowStep v) p q k ↔ Shortest v p q k
   rank↔Shortest B p q k rp rq pos =
-      (λ x. separated→Shortest p q k rp rq (separated-of-rank (LowMove v) p q k pos x), λ x. back x ranked)
+      (λ x. separated→Shortest p q k rp rq (separated-of-rank (LowStep v) p q k pos x), λ x. back x ranked)
     where
-      ranked : (r : ℕ) × (r < v .states) × Rank (LowMove v) p q r
-      ranked = rank-exists (LowMove v) (v .states) round G p q (reachable-lt v B p rp)
+      ranked : (r : ℕ) × (r < v .states) × Rank (LowStep v) p q r
+      ranked = rank-exists (LowStep v) (v .states) round G p q (reachable-lt v B p rp)
           (reachable-lt v B q rq)
 
-      same : Shortest v p q k → (r : ℕ) → Rank (LowMove v) p q r → r ≡ k
+      same : Shortest v p q k → (r : ℕ) → Rank (LowStep v) p q r → r ≡ k
       same x r (bisimilar b) = absurd
           (just-one-not-both (v .Step) p q (x .word) (x .just-one) (bisimilar→SameLow v p q b (x .word) (x .is-low)))
       same x r (separated d y) = shortest-unique v p q r k (separated→Shortest p q r rp rq y) x
 
-      back : Shortest v p q k → (r : ℕ) × (r < v .states) × Rank (LowMove v) p q r → Rank (LowMove v) p q k
+      back : Shortest v p q k → (r : ℕ) × (r < v .states) × Rank (LowStep v) p q r → Rank (LowStep v) p q k
       back x (r, l, y) = rw (same x r y) at y

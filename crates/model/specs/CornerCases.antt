@@ -84,8 +84,9 @@ record Refused : Type 0 where
       ≡ faulty Digits 1
   blank : readText ((32 ∷ []) ++ head ++ low ++ high) ≡ faulty Shape 1
   four-fields : readText ((77 ∷ 44 ∷ 50 ∷ 44 ∷ 50 ∷ 44 ∷ 50 ∷ 10 ∷ []) ++ low ++ high) ≡ faulty Shape 1
-  -- A,M,a / A,L,A / A,L, / A,L, and thirteen letters
+  -- A,M,a / A,t,a / A,L,A / A,L, / A,L, and thirteen letters
   level-unknown : readText (head ++ (65 ∷ 44 ∷ 77 ∷ 44 ∷ 97 ∷ 10 ∷ []) ++ high ++ first) ≡ faulty Shape 2
+  level-small : readText (head ++ (65 ∷ 44 ∷ 116 ∷ 44 ∷ 97 ∷ 10 ∷ []) ++ high ++ first) ≡ faulty Shape 2
   name-capital : readText (head ++ (65 ∷ 44 ∷ 76 ∷ 44 ∷ 65 ∷ 10 ∷ []) ++ high ++ first) ≡ faulty Shape 2
   name-empty : readText (head ++ (65 ∷ 44 ∷ 76 ∷ 44 ∷ 10 ∷ []) ++ high ++ first) ≡ faulty Shape 2
   name-of-thirteen : readText (head ++ (65 ∷ 44 ∷ 76 ∷ 44 ∷ []) ++ replicate 13 97 ++ (10 ∷ []) ++ high ++ first)
@@ -135,6 +136,7 @@ refused = record {
   blank = refl;
   four-fields = refl;
   level-unknown = refl;
+  level-small = refl;
   name-capital = refl;
   name-empty = refl;
   name-of-thirteen = refl;

@@ -9,7 +9,7 @@ use Rattle.text.specs.declared.Head.{Head}
 use Rattle.text.specs.declared.StepLine.{StepLine}
 use Rattle.text.specs.Limits.{extraLimit, storeLength}
 use Rattle.text.specs.Split.{same?}
-use Rattle.text.specs.Model.{high, ActionLine, Model, someHigh?, aboveLast?}
+use Rattle.text.specs.Model.{lastLevel, ActionLine, Model, someHigh?, aboveLast?}
 use Rattle.text.specs.Lines.{headFits?, name?, used?, startFits?, aboveStarts?, stepFits?}
 use Rattle.model.specs.Store.{storeOf}
 use Rattle.model.specs.StoredModel.{headAt, extraCountAt, modelAt}
@@ -20,7 +20,7 @@ eachAfter? test before [] = true
 eachAfter? test before (x ∷ xs) = let rest = eachAfter? test (before ++ (x ∷ [])) xs in test before x && rest
 
 unfoldable pub actionFits? : List ActionLine → ActionLine → Bool
-actionFits? before a = leb (a .level) high && name? (a .name) && not (used? (a .name) before)
+actionFits? before a = leb (a .level) lastLevel && name? (a .name) && not (used? (a .name) before)
 
 unfoldable pub startRises? : Head → List ℕ → ℕ → Bool
 startRises? h before p = startFits? h p && aboveStarts? h before p

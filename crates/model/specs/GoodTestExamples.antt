@@ -1,5 +1,5 @@
 -- The store of a model of document 01, "Bench models", and of one with an extra start (document 02, (iii)) are good by
--- evaluation, and with one number changed they are not; document 02, (vi).
+-- evaluation, and with one number changed they are not; document 02, (vi) and (vii).
 use mathlib.Core.Bool.{true, false}
 use mathlib.Core.List.{[], _∷_}
 use mathlib.Core.Path.{_≡_, refl}
@@ -9,7 +9,7 @@ use Rattle.text.specs.Limits.{stepsEnd, storeLength, actionPlace, targetPlace, 
 use Rattle.text.specs.Bytes.{kindOf}
 use Rattle.text.specs.Numbers.{inBounds?}
 use Rattle.text.specs.Split.{same?}
-use Rattle.text.specs.Model.{low, release, high, Model, someHigh?, lastStart, above?, aboveLast?}
+use Rattle.text.specs.Model.{low, release, high, silent, Model, someHigh?, lastStart, above?, aboveLast?}
 use Rattle.text.specs.Lines.{fits?, headBounds, startBounds, stepBounds, headFits?, allOf, nameByte?, name?, used?}
 use Rattle.text.specs.Lines.{startFits?, aboveStarts?, stepFits?}
 use Rattle.model.specs.Store.{padded, actionNumbers, actionsNumbers, stepsNumbers, headRow, extraNumbers, storeOf}
@@ -58,6 +58,10 @@ record Tested : Type 0 where
   high-made-release : good? (set (storeOf two-starts) (actionPlace 0) release) ≡ false
   -- one high action more
   low-made-high : good? (set (storeOf one-state) (actionPlace 0) high) ≡ true
+  -- "Level T (store value 3) marks a silent action", which is not high; 4 is no level
+  low-made-silent : good? (set (storeOf one-state) (actionPlace 0) 3) ≡ true
+  high-made-silent : good? (set (storeOf one-state) (actionPlace 1) silent) ≡ false
+  level-unknown : good? (set (storeOf one-state) (actionPlace 0) 4) ≡ false
   -- counts as large as 16 bits allow are refused before a model of that size is read off
   counts-too-large : good? (65535 ∷ 65535 ∷ 65535 ∷ 0 ∷ []) ≡ false
   extra-count-too-large : good? (set (storeOf two-starts) extraCountPlace 65535) ≡ false
@@ -80,6 +84,9 @@ tested = record {
   high-made-low = refl;
   high-made-release = refl;
   low-made-high = refl;
+  low-made-silent = refl;
+  high-made-silent = refl;
+  level-unknown = refl;
   counts-too-large = refl;
   extra-count-too-large = refl;
 }

@@ -1,5 +1,5 @@
 -- Texts without a high action, and some with one, each refused by evaluation with its fault at its line.
--- Document 02, (vi).
+-- Document 02, (vi) and (vii).
 use mathlib.Core.List.{List, [], _∷_, _++_}
 use mathlib.Core.Path.{_≡_, refl}
 use Prim.Native.Nat.{ℕ}
@@ -21,6 +21,10 @@ use Rattle.model.specs.CornerCases.{head, low, high, first, second, end}
 abbrev release : List ℕ
 release = 65 ∷ 44 ∷ 68 ∷ 44 ∷ 98 ∷ 10 ∷ []
 
+-- A,T,b
+abbrev silent : List ℕ
+silent = 65 ∷ 44 ∷ 84 ∷ 44 ∷ 98 ∷ 10 ∷ []
+
 -- M,1,1,0,0
 abbrev headOfOne : List ℕ
 headOfOne = 77 ∷ 44 ∷ 49 ∷ 44 ∷ 49 ∷ 44 ∷ 48 ∷ 44 ∷ 48 ∷ 10 ∷ []
@@ -31,6 +35,8 @@ record RefusedHigh : Type 0 where
   no-high : readText (head ++ low ++ release ++ first ++ second ++ end) ≡ faulty NoHigh 3
   -- M,1,1,0,0 / A,L,a / E
   one-low : readText (headOfOne ++ low ++ end) ≡ faulty NoHigh 2
+  -- M,2,2,2,0 / A,L,a / A,T,b / S,0,0,0 / S,0,0,1 / E: a silent action is not high
+  silent-not-high : readText (head ++ low ++ silent ++ first ++ second ++ end) ≡ faulty NoHigh 3
   -- before a fault of the next line: it is absent, or it is A,L,a, I,9, S,x, S,9,0,0, or q without its
   -- line end
   next-absent : readText (head ++ low ++ release) ≡ faulty NoHigh 3
@@ -59,6 +65,7 @@ unfolding readText readModel readActions behindActions someHigh? startLines star
 refusedHigh = record {
   no-high = refl;
   one-low = refl;
+  silent-not-high = refl;
   next-absent = refl;
   next-an-action = refl;
   next-a-start = refl;

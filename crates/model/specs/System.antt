@@ -1,5 +1,5 @@
 -- A model as a transition system: its steps, its starts and the levels of its actions.
--- Document 01, "The meaning"; document 02, (iii).
+-- Document 01, "The meaning"; document 02, (iii) and (vii).
 use mathlib.Core.List.{List, _∷_}
 use mathlib.Core.Path.{_≡_}
 use Prim.Native.Nat.{ℕ, _<_}
@@ -8,7 +8,7 @@ use lib.ListN.{length, getD}
 use Rattle.lts.specs.View.{View}
 use Rattle.lts.specs.Run.{Reachable, Distance}
 use Rattle.text.specs.declared.StepLine.{StepLine}
-use Rattle.text.specs.Model.{low, release, high, Model, noAction, noStep}
+use Rattle.text.specs.Model.{low, release, high, silent, Model, noAction, noStep}
 
 -- What step j states. Past the last step it says nothing of the model: `Steps` counts the steps alone.
 abbrev pub step : Model → ℕ → StepLine
@@ -49,14 +49,16 @@ pub record IsStart (m : Model) (p : ℕ) : Type 0 where
   pub number-lt : number < length (starts m)
   pub start-is : getD (starts m) number 0 ≡ p
 
--- The check of a model: "An action is low (L), release (D) or high (H)"; its steps; its starts; its states. All that is
--- said of runs, ranks, BNID and INI is said of this view, and nothing else gives one.
+-- The check of a model: "An action is low (L), release (D) or high (H)", or silent, by "Level T" (document 02, (vii));
+-- its steps; its starts; its states. All that is said of runs, ranks, BNID and INI is said of this view, and nothing
+-- else gives one.
 abbrev pub view : Model → View
 view m = record {
   levels = record {
     low? = λ a. eqb (level m a) low;
     release? = λ a. eqb (level m a) release;
     high? = λ a. eqb (level m a) high;
+    silent? = λ a. eqb (level m a) silent;
   };
   Step = Steps m;
   Start = IsStart m;
@@ -81,6 +83,16 @@ pub record HighStep (m : Model) (j : ℕ) : Type 0 where
   pub number-lt : j < length (m .steps)
   pub is-high : level m (action m j) ≡ high
   pub reachable : ReachableIn m (source m j)
+
+-- Step j is a silent step that can be reached: "models without a reachable silent step" (document 02, (vii)) have none.
+pub record SilentStep (m : Model) (j : ℕ) : Type 0 where
+  pub number-lt : j < length (m .steps)
+  pub is-silent : level m (action m j) ≡ silent
+  pub reachable : ReachableIn m (source m j)
+
+-- The model is one "without a reachable silent step" (document 02, (vii)).
+abbrev pub NoSilentStep : Model → Type 0
+NoSilentStep m = (j : ℕ) → ¬ (SilentStep m j)
 
 -- "Deterministic: no reachable state has two steps of one action." For the models that texts state this is
 -- `Deterministic` of `lts`, as `deterministic↔Deterministic` shows.

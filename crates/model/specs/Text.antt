@@ -1,14 +1,14 @@
 -- The `M` text of a model.
--- Document 01, "The text"; document 02, (iii).
+-- Document 01, "The text"; document 02, (iii) and (vii).
 use mathlib.Core.Bool.{cond}
 use mathlib.Core.List.{List, [], _∷_, _++_}
 use Prim.Native.Nat.{ℕ}
 use lib.Dec.{eqb}
-use Rattle.text.specs.Bytes.{byteA, byteComma, byteD, byteE, byteH, byteI, byteL, byteLineEnd, byteM, byteS}
+use Rattle.text.specs.Bytes.{byteA, byteComma, byteD, byteE, byteH, byteI, byteL, byteLineEnd, byteM, byteS, byteT}
 use Rattle.text.specs.declared.Head.{Head}
 use Rattle.text.specs.declared.StepLine.{StepLine}
 use Rattle.text.specs.Numbers.{digits}
-use Rattle.text.specs.Model.{low, release, ActionLine, Model}
+use Rattle.text.specs.Model.{low, release, high, ActionLine, Model}
 
 -- a field after a comma
 abbrev pub field : List ℕ → List ℕ
@@ -24,9 +24,9 @@ headText h =
     ++ field (digits (h .start .0))
     ++ (byteLineEnd ∷ [])
 
--- `L`, `D` or `H`
+-- `L`, `D`, `H` or `T`
 unfoldable pub levelByte : ℕ → ℕ
-levelByte level = cond (eqb level low) byteL (cond (eqb level release) byteD byteH)
+levelByte level = cond (eqb level low) byteL (cond (eqb level release) byteD (cond (eqb level high) byteH byteT))
 
 -- `A,level,name` and the line end
 unfoldable pub actionText : ActionLine → List ℕ

@@ -1,5 +1,5 @@
 -- The models that a text can state.
--- Document 01, "The text"; document 02, (iii) and (vi).
+-- Document 01, "The text"; document 02, (iii), (vi) and (vii).
 use mathlib.Core.Bool.{not}
 use mathlib.Core.List.{List, [], _∷_, _++_}
 use mathlib.Core.Path.{_≡_}
@@ -8,7 +8,7 @@ use lib.Dec.{T}
 use lib.ListN.{length}
 use Rattle.text.specs.declared.Head.{Head}
 use Rattle.text.specs.declared.StepLine.{StepLine}
-use Rattle.text.specs.Model.{high, ActionLine, Model, someHigh?, aboveLast?}
+use Rattle.text.specs.Model.{lastLevel, ActionLine, Model, someHigh?, aboveLast?}
 use Rattle.text.specs.Lines.{headFits?, name?, used?, startFits?, aboveStarts?, stepFits?}
 
 -- P holds of each element and the list of those before it, which begins with `before`
@@ -16,9 +16,9 @@ unfoldable pub EachAfter : {A : Type 0} → (List A → A → Type 0) → List A
 EachAfter P before [] = Unit {0}
 EachAfter P before (x ∷ xs) = P before x × EachAfter P (before ++ (x ∷ [])) xs
 
--- "Level is L, D or H. A name is 1 to 12 bytes of a to z and 0 to 9, used once."
+-- "Level is L, D or H", or T (document 02, (vii)). "A name is 1 to 12 bytes of a to z and 0 to 9, used once."
 pub record ActionFits (before : List ActionLine) (a : ActionLine) : Type 0 where
-  pub level : a .level ≤ high
+  pub level : a .level ≤ lastLevel
   pub name : T (name? (a .name))
   pub fresh : T (not (used? (a .name) before))
 

@@ -20,7 +20,7 @@ use text::bytes::kind;
 use text::limits::ACTIONS_END;
 use text::limits::EXTRA_END;
 use text::limits::EXTRA_LIMIT;
-use text::limits::HIGH;
+use text::limits::LAST_LEVEL;
 use text::limits::NAME_LENGTH_COLUMN;
 use text::limits::NAME_LIMIT;
 use text::limits::STEPS_END;
@@ -137,7 +137,7 @@ fn action_good(store: &[u16], a: Action) -> bool
     requires { ⌜ (storeLength ≤ length (now store)) × (a .0 < actionLimit) ⌝ }
     ensures { λ r. ⌜ Decides r (GoodAction (now (store .entry)) (a .0)) ⌝ }
 {
-    if HIGH < level(store, a) {
+    if LAST_LEVEL < level(store, a) {
         return false;
     }
     let n = name_length(store, a);

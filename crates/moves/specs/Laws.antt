@@ -1,3 +1,5 @@
 pub mod ListingLaws
 pub mod RisingLaws
-pub mod StatesListedLaws
+pub mod ListedToLaws
+pub mod LabellingLaws
+pub mod LabelsLaws

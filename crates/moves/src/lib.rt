@@ -1,3 +1,4 @@
 // The moves that are played in a model, listed, and the table of their ranks.
+pub mod labels;
 pub mod moves;
 pub mod table;

@@ -1,25 +1,26 @@
-// The moves that are played, as lists: the low steps of each state. No other module knows what a move is.
+// The low steps of each state, as lists; and what the role of an action says of it.
 use text::Action;
 use text::State;
 use text::Step;
 use text::limits::INDEX_LENGTH;
 use text::limits::LOW;
 use text::limits::ROLES_LENGTH;
+use text::limits::SILENT;
 ghost use mathlib.Core.Path.{_≡_};
 ghost use Prim.Native.Nat.{_+_, _≤_, _<_};
 ghost use lib.ListN.{length, getD};
 ghost use Rattle.text.specs.Decides.{Decides};
 ghost use Rattle.text.specs.Limits.{actionLimit, stepLimit};
-ghost use Rattle.text.specs.Model.{low};
+ghost use Rattle.text.specs.Model.{low, silent};
 ghost use Rattle.model.specs.StoredModel.{modelAt};
 ghost use Rattle.model.specs.Inner.Stored.{Stored};
 ghost use Rattle.model.specs.Inner.Index.{Index};
 ghost use Rattle.model.specs.Inner.Roles.{Roles};
 ghost use Rattle.text.specs.Limits.{indexLength};
 ghost use Rattle.comparing.specs.MoveList.{Lists, Rising, Ordered};
-ghost use Rattle.moves.specs.Inner.Listing.{Appended, LowAmong};
+ghost use Rattle.moves.specs.Inner.Listing.{Appended, Among, LowAs};
 ghost use Rattle.model.specs.System.{view};
-ghost use Rattle.lts.specs.Noninterference.{LowMove};
+ghost use Rattle.lts.specs.Weak.{LowStep};
 
 // Whether an action is low, by its role.
 pub fn is_low(roles: &[u16], a: Action) -> bool
@@ -28,6 +29,18 @@ pub fn is_low(roles: &[u16], a: Action) -> bool
 {
     let of = a.0 as usize;
     if roles[of] != LOW {
+        return false;
+    }
+    true
+}
+
+// Whether an action is silent, by its role.
+pub fn is_silent(roles: &[u16], a: Action) -> bool
+    requires { ⌜ a .0 < length (now roles) ⌝ }
+    ensures { λ r. ⌜ Decides r (getD (now (roles .entry)) (a .0) 0 ≡ silent) ⌝ }
+{
+    let of = a.0 as usize;
+    if roles[of] != SILENT {
         return false;
     }
     true
@@ -47,7 +60,7 @@ fn list_step(
         × Roles (view (modelAt (now store)) .levels) (modelAt (now store) .head .actions) (now roles) ⌝ }
     requires { ⌜ (j .0 < length (modelAt (now store) .steps)) × (at < stepLimit) ⌝ }
     requires { ⌜ (stepLimit ≤ length (now actions)) × (stepLimit ≤ length (now targets)) ⌝ }
-    ensures { λ r. ⌜ Appended (LowAmong (modelAt (now (store .entry))) (j .0) (j .0 + 1)) at r
+    ensures { λ r. ⌜ Appended (Among (LowAs (modelAt (now (store .entry)))) (j .0) (j .0 + 1)) at r
         (now (actions .entry)) (now (targets .entry)) (now (actions .exit)) (now (targets .exit)) ⌝ }
     ensures { λ r. ⌜ r ≤ at + 1 ⌝ }
 {
@@ -79,7 +92,7 @@ fn list_state(
         × Roles (view (modelAt (now store)) .levels) (modelAt (now store) .head .actions) (now roles) ⌝ }
     requires { ⌜ (p .0 < modelAt (now store) .head .states) × (from ≤ getD (now begins) (p .0) 0) ⌝ }
     requires { ⌜ (stepLimit ≤ length (now actions)) × (stepLimit ≤ length (now targets)) ⌝ }
-    ensures { λ r. ⌜ Appended (LowMove (view (modelAt (now (store .entry)))) (p .0)) from r
+    ensures { λ r. ⌜ Appended (LowStep (view (modelAt (now (store .entry)))) (p .0)) from r
         (now (actions .entry)) (now (targets .entry)) (now (actions .exit)) (now (targets .exit)) ⌝ }
     ensures { λ r. ⌜ r ≤ getD (now (begins .entry)) (p .0 + 1) 0 ⌝ }
     ensures { λ r. ⌜ Rising from r (now (actions .exit)) (now (targets .exit)) ⌝ }
@@ -111,7 +124,7 @@ pub fn list_moves(
         × Roles (view (modelAt (now store)) .levels) (modelAt (now store) .head .actions) (now roles) ⌝ }
     requires { ⌜ (indexLength ≤ length (now first)) × (stepLimit ≤ length (now actions))
         × (stepLimit ≤ length (now targets)) ⌝ }
-    ensures { λ _. ⌜ Lists (LowMove (view (modelAt (now (store .entry))))) (modelAt (now (store .entry)) .head .states)
+    ensures { λ _. ⌜ Lists (LowStep (view (modelAt (now (store .entry))))) (modelAt (now (store .entry)) .head .states)
         (now (first .exit)) (now (actions .exit)) (now (targets .exit)) ⌝ }
     ensures { λ _. ⌜ Ordered (modelAt (now (store .entry)) .head .states) (now (first .exit)) (now (actions .exit))
         (now (targets .exit)) ⌝ }
@@ -131,7 +144,7 @@ pub fn list_store_moves(store: &[u16], first: &mut [u16], actions: &mut [u16], t
     requires { ⌜ Stored (now store) (modelAt (now store)) ⌝ }
     requires { ⌜ (indexLength ≤ length (now first)) × (stepLimit ≤ length (now actions))
         × (stepLimit ≤ length (now targets)) ⌝ }
-    ensures { λ _. ⌜ Lists (LowMove (view (modelAt (now (store .entry))))) (modelAt (now (store .entry)) .head .states)
+    ensures { λ _. ⌜ Lists (LowStep (view (modelAt (now (store .entry))))) (modelAt (now (store .entry)) .head .states)
         (now (first .exit)) (now (actions .exit)) (now (targets .exit)) ⌝ }
     ensures { λ _. ⌜ Ordered (modelAt (now (store .entry)) .head .states) (now (first .exit)) (now (actions .exit))
         (now (targets .exit)) ⌝ }

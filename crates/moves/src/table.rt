@@ -1,9 +1,12 @@
 // The table of ranks of a model.
+use crate::labels::list_labels;
+use crate::labels::some_silent;
 use ranking::rounds::rank_moves;
+use silent::LABELS_LENGTH;
 use text::limits::INDEX_LENGTH;
 use text::limits::MOVES_LENGTH;
-use text::limits::ROW;
-ghost use Prim.Native.Nat.{_≤_, _<_};
+use weak_ranks::rounds::rank_labels;
+ghost use Prim.Native.Nat.{_≤_};
 ghost use lib.ListN.{length};
 ghost use Rattle.text.specs.Limits.{actionLimit};
 ghost use Rattle.model.specs.StoredModel.{modelAt};
@@ -12,45 +15,44 @@ ghost use Rattle.model.specs.Inner.Stored.{Stored};
 ghost use Rattle.model.specs.Inner.Index.{Index};
 ghost use Rattle.model.specs.Inner.Roles.{Roles};
 ghost use Rattle.text.specs.Limits.{indexLength};
-ghost use Rattle.comparing.specs.MoveList.{Listed, MoveList, OwnRows};
 ghost use Rattle.ranking.specs.Table.{Ranked};
 ghost use Rattle.model.specs.System.{view};
-ghost use Rattle.lts.specs.Noninterference.{LowMove};
+ghost use Rattle.lts.specs.Weak.{LowStep, WeakMove};
 
-// Makes the row of each of n states hold that state alone.
-fn own_rows(n: u16, begins: &mut [u16], rows: &mut [u16])
-    requires { ⌜ (n < length (now begins)) × (n ≤ length (now rows)) ⌝ }
-    ensures { λ _. ⌜ OwnRows n (now (begins .exit)) (now (rows .exit)) ⌝ }
-{
-    let mut p = 0;
-    while p < n {
-        let at = p as usize;
-        begins[at] = p;
-        rows[at] = p;
-        p += 1;
-    }
-    let end = n as usize;
-    begins[end] = n;
-}
-
-// Fills the table with the ranks of n states whose moves are the listed steps, and yields the last round that separated
-// two of them.
-pub fn rank_steps(
-    n: u16,
-    first: &[u16; INDEX_LENGTH],
-    actions: &[u16; MOVES_LENGTH],
-    targets: &[u16; MOVES_LENGTH],
-    table: &mut [u8],
-) -> u8
-    requires { ⌜ MoveList n (now first) (now actions) (now targets) ⌝ }
+// Fills the table by the low steps, which are the moves that are played but for staying where no step is silent.
+fn fill_plain_table(store: &[u16], begins: &[u16], roles: &[u16], table: &mut [u8]) -> u8
+    requires { ⌜ Stored (now store) (modelAt (now store)) ⌝ }
+    requires { ⌜ (indexLength ≤ length (now begins))
+        × Index (modelAt (now store)) (modelAt (now store) .head .states) (now begins) ⌝ }
+    requires { ⌜ (actionLimit ≤ length (now roles))
+        × Roles (view (modelAt (now store)) .levels) (modelAt (now store) .head .actions) (now roles) ⌝ }
     requires { ⌜ tableLength ≤ length (now table) ⌝ }
-    ensures { λ r. ⌜ Ranked (Listed n (now (first .entry)) (now (actions .entry)) (now (targets .entry))) n
+    ensures { λ r. ⌜ Ranked (LowStep (view (modelAt (now (store .entry))))) (modelAt (now (store .entry)) .head .states)
         (now (table .entry)) (now (table .exit)) r ⌝ }
 {
-    let mut begins = [0u16; INDEX_LENGTH];
-    let mut rows = [0u16; ROW];
-    own_rows(n, &mut begins, &mut rows);
-    rank_moves(n, first, actions, targets, &begins, &rows, table)
+    let mut first = [0u16; INDEX_LENGTH];
+    let mut actions = [0u16; MOVES_LENGTH];
+    let mut targets = [0u16; MOVES_LENGTH];
+    crate::moves::list_moves(store, begins, roles, &mut first, &mut actions, &mut targets);
+    let n = model::store::states(store);
+    rank_moves(n, &first, &actions, &targets, table)
+}
+
+// Fills the table by the lists by label, whatever steps are silent.
+fn fill_label_table(store: &[u16], roles: &[u16], table: &mut [u8]) -> u8
+    requires { ⌜ Stored (now store) (modelAt (now store)) ⌝ }
+    requires { ⌜ (actionLimit ≤ length (now roles))
+        × Roles (view (modelAt (now store)) .levels) (modelAt (now store) .head .actions) (now roles) ⌝ }
+    requires { ⌜ tableLength ≤ length (now table) ⌝ }
+    ensures { λ r. ⌜ Ranked (WeakMove (view (modelAt (now (store .entry))))) (modelAt (now (store .entry)) .head .states)
+        (now (table .entry)) (now (table .exit)) r ⌝ }
+{
+    let mut from = [0u16; LABELS_LENGTH];
+    let mut sources = [0u16; MOVES_LENGTH];
+    let mut targets = [0u16; MOVES_LENGTH];
+    list_labels(store, roles, &mut from, &mut sources, &mut targets);
+    let n = model::store::states(store);
+    rank_labels(n, &from, &sources, &targets, table)
 }
 
 // Fills the table with the ranks of a good store's states, and yields the last round that separated two of them. The
@@ -62,13 +64,11 @@ pub fn fill_table(store: &[u16], begins: &[u16], roles: &[u16], table: &mut [u8]
     requires { ⌜ (actionLimit ≤ length (now roles))
         × Roles (view (modelAt (now store)) .levels) (modelAt (now store) .head .actions) (now roles) ⌝ }
     requires { ⌜ tableLength ≤ length (now table) ⌝ }
-    ensures { λ r. ⌜ Ranked (LowMove (view (modelAt (now (store .entry))))) (modelAt (now (store .entry)) .head .states)
+    ensures { λ r. ⌜ Ranked (WeakMove (view (modelAt (now (store .entry))))) (modelAt (now (store .entry)) .head .states)
         (now (table .entry)) (now (table .exit)) r ⌝ }
 {
-    let mut first = [0u16; INDEX_LENGTH];
-    let mut actions = [0u16; MOVES_LENGTH];
-    let mut targets = [0u16; MOVES_LENGTH];
-    crate::moves::list_moves(store, begins, roles, &mut first, &mut actions, &mut targets);
-    let n = model::store::states(store);
-    rank_steps(n, &first, &actions, &targets, table)
+    if some_silent(store, roles) {
+        return fill_label_table(store, roles, table);
+    }
+    fill_plain_table(store, begins, roles, table)
 }

@@ -9,7 +9,7 @@ use lib.ListN.{take}
 use Rattle.text.specs.Bytes.{byteV}
 use Rattle.text.specs.Faults.{Outcome, answers}
 use Rattle.text.specs.Model.{Model}
-use Rattle.model.specs.System.{DeterministicModel}
+use Rattle.model.specs.System.{DeterministicModel, NoSilentStep}
 use Rattle.tell.specs.Claim.{States}
 use Rattle.lines.specs.declared.lines.Form.{Form}
 use Rattle.lines.specs.declared.lines.Form.the-variants.{Page, Roll}
@@ -26,6 +26,7 @@ pub record PrintClaim (form : Form) (text : List ℕ) (outcome : Outcome) (word 
   -- "Take every text that is read (each without a fault listed for Read is)": what is printed then begins with `V`
   pub read-iff : (n : ℕ) → outcome ≡ answers (n ∷ []) → (take 1 (take n out) ≡ byteV ∷ [])
       ↔ ((m : Model) × States text m)
-  -- "and in which no reachable state has two steps of one action"
-  pub tells : (n : ℕ) → outcome ≡ answers (n ∷ []) → (m : Model) → States text m → DeterministicModel m
+  -- "and in which no reachable state has two steps of one action"; it "is kept for models without a reachable silent
+  -- step" (document 02, (vii))
+  pub tells : (n : ℕ) → outcome ≡ answers (n ∷ []) → (m : Model) → States text m → DeterministicModel m → NoSilentStep m
       → FormTells form m (take n out) word

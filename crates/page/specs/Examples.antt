@@ -15,7 +15,7 @@ use Rattle.tell.specs.BenchModels.{workedText, scannedOnceText, releasedText, c
 use Rattle.tell.specs.BenchModels.{printLoopText, unreachedPrintText, wokenPrintText}
 use Rattle.columns.specs.Rows.{rowsBytes}
 use Rattle.lines.specs.Examples.{workedPage, workedRoll}
-use Rattle.lines.specs.PageLines.{PageLine, verdict-line, state-line, word-line, allows-line, branch-line, last-line}
+use Rattle.lines.specs.PageLines.{PageLine, verdict-line, state-line, word-line, allows-line, no-word-line, last-line}
 use Rattle.lines.specs.PageLines.{pageBytes}
 use Rattle.lines.specs.declared.lines.Form.{Form}
 use Rattle.lines.specs.declared.lines.Form.the-variants.{Page, Roll}
@@ -76,7 +76,7 @@ branchingLines =
     ∷ state-line 1 (some 1) 1
     ∷ state-line 2 (some 1) 2
     ∷ state-line 3 (some 1) 3
-    ∷ branch-line
+    ∷ no-word-line
     ∷ last-line
     ∷ []
 

@@ -18,3 +18,4 @@ pub mod PrintsTextLaws
 pub mod RollPrintsLaws
 pub mod StateLinesTestLaws
 pub mod ExamplesLaws
+pub mod TickExamplesLaws

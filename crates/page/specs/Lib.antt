@@ -9,3 +9,4 @@ pub mod PageCalls
 pub mod Prints
 pub mod PrintsText
 pub mod Examples
+pub mod TickExamples

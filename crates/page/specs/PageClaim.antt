@@ -22,7 +22,7 @@ use Rattle.tell.specs.Claim.{ShowsLeak}
 use Rattle.lines.specs.PageLines.{PageLine, verdict-line, run-line, allows-line, last-line, passText, refuseText}
 use Rattle.lines.specs.PageLines.{lineText, pageBytes}
 use Rattle.lines.specs.Page.{StateLines, nameLine}
-use Rattle.lts.specs.Noninterference.{LowMove}
+use Rattle.lts.specs.Weak.{WeakMove}
 
 -- The page, or the roll, begins with `V,pass,`, or with `V,refuse,`.
 abbrev pub SaysPass : List ℕ → Type 0
@@ -55,7 +55,7 @@ pub record RefuseFields (texts : List (List ℕ)) (step depth : ℕ) : Type 0 wh
 -- Of a passed model: the greatest rank.
 pub record PassTexts (m : Model) (texts : List (List ℕ)) (rank : ℕ) : Type 0 where
   pub verdict-fields : PassFields texts rank
-  pub greatest : Greatest (LowMove (view m)) (IsState m) rank
+  pub greatest : Greatest (WeakMove (view m)) (IsState m) rank
 
 -- Of a refused deterministic model, line by line. `states` are its lines between the `V` line and the `R` lines, and
 -- `word` is the list that Page or Roll filled.

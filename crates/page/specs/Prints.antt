@@ -8,7 +8,7 @@ use Rattle.text.specs.Faults.{refuses}
 use Rattle.text.specs.Model.{Model}
 use Rattle.read_write.specs.ReadPromise.{readingOutcome}
 use Rattle.model.specs.Reading.{done, readText}
-use Rattle.model.specs.System.{DeterministicModel}
+use Rattle.model.specs.System.{DeterministicModel, NoSilentStep}
 use Rattle.tell.specs.Claim.{States}
 use Rattle.lines.specs.declared.lines.Form.{Form}
 use Rattle.lines.specs.PageLines.{PageLine, faultBytes}
@@ -31,5 +31,6 @@ pub record Prints (form : Form) (text bytes : List ℕ) : Type 0 where
   pub unread : (number place : ℕ) → readingOutcome (readText text) ≡ refuses number place
       → bytes ≡ faultBytes number place
   pub read : (m : Model) → readText text ≡ done m → PageBytesOf form m bytes
-  -- demand 3, on these bytes
-  pub tells : (m : Model) → States text m → DeterministicModel m → (word : List ℕ) × FormTells form m bytes word
+  -- demand 3, on these bytes, "kept for models without a reachable silent step" (document 02, (vii))
+  pub tells : (m : Model) → States text m → DeterministicModel m → NoSilentStep m
+      → (word : List ℕ) × FormTells form m bytes word

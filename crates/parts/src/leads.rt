@@ -14,7 +14,7 @@ ghost use mathlib.Core.Path.{_≡_};
 ghost use Prim.Native.Nat.{_+_, _≤_, _<_};
 ghost use lib.ListN.{length};
 ghost use Rattle.text.specs.Limits.{stateLimit};
-ghost use Rattle.comparing.specs.MoveList.{MoveList, RowList, Played};
+ghost use Rattle.comparing.specs.MoveList.{Listed, MoveList};
 ghost use Rattle.comparing.specs.Inner.Marks.{Reaches, Unmarked, MarkedIn, MarkedJust};
 ghost use Rattle.touching.specs.Inner.StateSets.{StateSet};
 ghost use Rattle.parts.specs.Inner.Reps.{Reps, OutReps};
@@ -26,15 +26,13 @@ pub enum Lead {
     New,
 }
 
-// The representative of p's class, or the lead of that class at place `last` or before it, that answers p. The moves of
+// The representative of p's class, or the lead of that class at place `last` or before it, that answers p. The steps of
 // p are marked.
 fn find_lead(
     n: u16,
     first: &[u16; INDEX_LENGTH],
     actions: &[u16; MOVES_LENGTH],
     targets: &[u16; MOVES_LENGTH],
-    begins: &[u16; INDEX_LENGTH],
-    rows: &[u16],
     class: &[u16; ROW],
     reps: &[u16; ROW],
     leads: &[u16; INDEX_LENGTH],
@@ -44,28 +42,26 @@ fn find_lead(
     marks: &mut [u8; MARKS_LENGTH],
 ) -> Lead
     requires { ⌜ MoveList n (now first) (now actions) (now targets) ⌝ }
-    requires { ⌜ RowList n (now begins) (now rows) ⌝ }
     requires { ⌜ Reps n (now class) (now reps) ⌝ }
     requires { ⌜ (p .0 < n) × LeadChain n (now class) (now leads) (now link) last (p .0) ⌝ }
     requires { ⌜ MarkedJust
-        (Reaches (Played n (now first) (now actions) (now targets) (now begins) (now rows)) (now class) (p .0))
-        (now marks) ⌝ }
+        (Reaches (Listed n (now first) (now actions) (now targets)) (now class) (p .0)) (now marks) ⌝ }
     ensures { λ r. ⌜ LeadFor
-        (Played n (now (first .entry)) (now (actions .entry)) (now (targets .entry)) (now (begins .entry))
-        (now (rows .entry))) n (now (class .entry)) (now (reps .entry)) (now (leads .entry)) last (p .0) r ⌝ }
+        (Listed n (now (first .entry)) (now (actions .entry)) (now (targets .entry))) n (now (class .entry))
+        (now (reps .entry)) (now (leads .entry)) last (p .0) r ⌝ }
     ensures { λ r. ⌜ MarkedIn
-        (Reaches (Played n (now (first .entry)) (now (actions .entry)) (now (targets .entry)) (now (begins .entry))
-        (now (rows .entry))) (now (class .entry)) (p .0)) (now (marks .exit)) ⌝ }
+        (Reaches (Listed n (now (first .entry)) (now (actions .entry)) (now (targets .entry))) (now (class .entry))
+        (p .0)) (now (marks .exit)) ⌝ }
 {
     let r = rep_of(class, reps, p);
-    if answers(n, first, actions, targets, begins, rows, class, p, r, marks) {
+    if answers(n, first, actions, targets, class, p, r, marks) {
         return Lead::Found(r);
     }
     let mut j = last;
     while 0 < j {
         let place = j as usize;
         let f = State(leads[place]);
-        if answers(n, first, actions, targets, begins, rows, class, p, f, marks) {
+        if answers(n, first, actions, targets, class, p, f, marks) {
             return Lead::Found(f);
         }
         j = link[place];
@@ -79,8 +75,6 @@ fn join(
     first: &[u16; INDEX_LENGTH],
     actions: &[u16; MOVES_LENGTH],
     targets: &[u16; MOVES_LENGTH],
-    begins: &[u16; INDEX_LENGTH],
-    rows: &[u16],
     class: &[u16; ROW],
     reps: &[u16; ROW],
     touched: &[u16; ROW],
@@ -93,16 +87,15 @@ fn join(
     marks: &mut [u8; MARKS_LENGTH],
 ) -> u16
     requires { ⌜ MoveList n (now first) (now actions) (now targets) ⌝ }
-    requires { ⌜ RowList n (now begins) (now rows) ⌝ }
     requires { ⌜ Reps n (now class) (now reps) ⌝ }
     requires { ⌜ (i < stateLimit) × Distinct n (now touched) (i + 1) × (stateLimit ≤ length (now lead)) ⌝ }
-    requires { ⌜ LeadsUpTo (Played n (now first) (now actions) (now targets) (now begins) (now rows)) n (now class)
-        (now reps) (now touched) (now lead) (now leads) (now link) (now top) i end ⌝ }
+    requires { ⌜ LeadsUpTo (Listed n (now first) (now actions) (now targets)) (now class) (now reps) (now touched)
+        (now lead) (now leads) (now link) (now top) i end ⌝ }
     requires { ⌜ Unmarked (now marks) ⌝ }
     ensures { λ r. ⌜ LeadsUpTo
-        (Played n (now (first .entry)) (now (actions .entry)) (now (targets .entry)) (now (begins .entry))
-        (now (rows .entry))) n (now (class .entry)) (now (reps .entry)) (now (touched .entry)) (now (lead .exit))
-        (now (leads .exit)) (now (link .exit)) (now (top .exit)) (i + 1) r ⌝ }
+        (Listed n (now (first .entry)) (now (actions .entry)) (now (targets .entry))) (now (class .entry))
+        (now (reps .entry)) (now (touched .entry)) (now (lead .exit)) (now (leads .exit)) (now (link .exit))
+        (now (top .exit)) (i + 1) r ⌝ }
     ensures { λ r. ⌜ Unmarked (now (marks .exit)) ⌝ }
 {
     let at = i as usize;
@@ -116,14 +109,12 @@ fn join(
     let c = class_at(class, p);
     let key = c.0 as usize;
     let last = top[key];
-    mark(n, first, actions, targets, begins, rows, class, p, 1, marks);
+    mark(n, first, actions, targets, class, p, 1, marks);
     let found = find_lead(
         n,
         first,
         actions,
         targets,
-        begins,
-        rows,
         class,
         reps,
         leads,
@@ -132,7 +123,7 @@ fn join(
         p,
         marks,
     );
-    mark(n, first, actions, targets, begins, rows, class, p, 0, marks);
+    mark(n, first, actions, targets, class, p, 0, marks);
     match found {
         Lead::Found(f) => {
             lead[of] = f.0;
@@ -155,8 +146,6 @@ pub fn find_leads(
     first: &[u16; INDEX_LENGTH],
     actions: &[u16; MOVES_LENGTH],
     targets: &[u16; MOVES_LENGTH],
-    begins: &[u16; INDEX_LENGTH],
-    rows: &[u16],
     class: &[u16; ROW],
     reps: &[u16; ROW],
     flags: &[u8; ROW],
@@ -166,15 +155,14 @@ pub fn find_leads(
     marks: &mut [u8; MARKS_LENGTH],
 ) -> bool
     requires { ⌜ MoveList n (now first) (now actions) (now targets) ⌝ }
-    requires { ⌜ RowList n (now begins) (now rows) ⌝ }
     requires { ⌜ Reps n (now class) (now reps) ⌝ }
     requires { ⌜ OutReps n (now class) (now flags) (now reps) ⌝ }
     requires { ⌜ StateSet n (now flags) (now touched) count ⌝ }
     requires { ⌜ Unmarked (now marks) ⌝ }
     ensures { λ r. ⌜ LeadsFound n (now (class .entry)) (now (flags .entry)) (now (reps .entry)) (now (lead .exit)) ⌝ }
     ensures { λ r. ⌜ Led
-        (Played n (now (first .entry)) (now (actions .entry)) (now (targets .entry)) (now (begins .entry))
-        (now (rows .entry))) n (now (class .entry)) (now (flags .entry)) (now (reps .entry)) (now (lead .exit)) ⌝ }
+        (Listed n (now (first .entry)) (now (actions .entry)) (now (targets .entry))) n (now (class .entry))
+        (now (flags .entry)) (now (reps .entry)) (now (lead .exit)) ⌝ }
     ensures { λ r. ⌜ Unmarked (now (marks .exit)) ⌝ }
     ensures { λ r. ⌜ (r ≡ false → RepsLead n (now (class .entry)) (now (flags .entry)) (now (reps .entry))
         (now (lead .exit))) ⌝ }
@@ -190,8 +178,6 @@ pub fn find_leads(
             first,
             actions,
             targets,
-            begins,
-            rows,
             class,
             reps,
             touched,

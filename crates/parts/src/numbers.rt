@@ -5,7 +5,6 @@ use text::State;
 use text::limits::ROW;
 use touching::sets::has;
 use touching::stores::put;
-use touching::stores::put_flag;
 ghost use mathlib.Core.Path.{_≡_};
 ghost use Prim.Native.Nat.{ℕ, _≤_, _<_};
 ghost use lib.ListN.{getD};
@@ -131,7 +130,7 @@ fn number_leads(
     requires { ⌜ n ≤ stateLimit ⌝ }
     requires { ⌜ StateSet n (now flags) (now list) count ⌝ }
     requires { ⌜ Counted n classes (now class) (now reps) ⌝ }
-    ensures { λ r. ⌜ NumberedUpTo n (now (class .entry)) (now (lead .entry)) (now (list .entry)) (now (reps .entry))
+    ensures { λ r. ⌜ NumberedUpTo (now (class .entry)) (now (lead .entry)) (now (list .entry)) (now (reps .entry))
         (now (reps .exit)) (now (numbers .exit)) count classes r ⌝ }
     ensures { λ r. ⌜ r ≤ n ⌝ }
 {
@@ -150,8 +149,7 @@ fn number_leads(
     next
 }
 
-// Numbers the touched states anew by their leads, and makes those whose class changed the set of `changed` and
-// `listed`. Yields how many there are.
+// Numbers the touched states anew by their leads, and lists those whose class changed. Yields how many there are.
 fn renumber(
     n: u16,
     class: &[u16; ROW],
@@ -162,20 +160,17 @@ fn renumber(
     numbers: &[u16; ROW],
     reps: &[u16; ROW],
     next: &mut [u16; ROW],
-    changed: &mut [u8; ROW],
-    listed: &mut [u16; ROW],
+    changed: &mut [u16; ROW],
 ) -> u16
     requires { ⌜ n ≤ stateLimit ⌝ }
     requires { ⌜ StateSet n (now flags) (now list) count ⌝ }
     requires { ⌜ Renumberable n (now class) (now flags) (now lead) (now numbers) (now reps) ⌝ }
     ensures { λ _. ⌜ NextFound n (now (class .entry)) (now (flags .entry)) (now (lead .entry)) (now (numbers .entry))
         (now (reps .entry)) (now (next .exit)) ⌝ }
-    ensures { λ r. ⌜ Changed n (now (class .entry)) (now (next .exit)) (now (changed .exit)) (now (listed .exit))
-        r ⌝ }
+    ensures { λ r. ⌜ Changed n (now (class .entry)) (now (next .exit)) (now (changed .exit)) r ⌝ }
 {
     *next = *class;
-    *changed = [0u8; ROW];
-    let mut members = 0;
+    let mut changes = 0;
     let mut i = 0;
     while i < count {
         let place = i as usize;
@@ -186,23 +181,22 @@ fn renumber(
         if r.0 != f {
             let led = f as usize;
             put(next, of, numbers[led]);
-            put_flag(changed, of);
-            put(listed, members as usize, p.0);
-            members += 1;
+            put(changed, changes as usize, p.0);
+            changes += 1;
         }
         i += 1;
     }
-    members
+    changes
 }
 
 // How many classes there are after the round, and how many states changed theirs.
 pub struct Parts {
     pub classes: u16,
-    pub changed: u16,
+    pub changes: u16,
 }
 
 // Numbers the parts whose leads were found: `next` has the classes after the round, `reps` their representatives, and
-// `changed` and `listed` are the set of the states whose class changed.
+// `changed` the states whose class changed.
 pub fn number_parts(
     n: u16,
     class: &[u16; ROW],
@@ -213,8 +207,7 @@ pub fn number_parts(
     classes: u16,
     reps: &mut [u16; ROW],
     next: &mut [u16; ROW],
-    changed: &mut [u8; ROW],
-    listed: &mut [u16; ROW],
+    changed: &mut [u16; ROW],
 ) -> Parts
     requires { ⌜ n ≤ stateLimit ⌝ }
     requires { ⌜ StateSet n (now flags) (now list) count ⌝ }
@@ -223,8 +216,7 @@ pub fn number_parts(
     requires { ⌜ LeadsFound n (now class) (now flags) (now reps) (now lead) ⌝ }
     ensures { λ r. ⌜ Renumbered n (now (class .entry)) (now (flags .entry)) (now (reps .entry)) (now (lead .entry))
         (now (reps .exit)) (now (next .exit)) (r .classes) ⌝ }
-    ensures { λ r. ⌜ Changed n (now (class .entry)) (now (next .exit)) (now (changed .exit)) (now (listed .exit))
-        (r .changed) ⌝ }
+    ensures { λ r. ⌜ Changed n (now (class .entry)) (now (next .exit)) (now (changed .exit)) (r .changes) ⌝ }
     ensures { λ r. ⌜ NumbersKept classes (r .classes) (now (class .entry)) (now (reps .exit)) ⌝ }
     ensures { λ r. ⌜ r .classes ≤ n ⌝ }
 {
@@ -243,7 +235,7 @@ pub fn number_parts(
         reps,
         classes,
     );
-    let moved = renumber(
+    let changes = renumber(
         n,
         class,
         flags,
@@ -254,10 +246,9 @@ pub fn number_parts(
         reps,
         next,
         changed,
-        listed,
     );
     Parts {
         classes: new,
-        changed: moved,
+        changes,
     }
 }

@@ -12,17 +12,16 @@ use text::limits::ROW;
 use text::limits::TABLE_LENGTH;
 use touching::converse::CHAIN_LENGTH;
 use touching::converse::chain_steps;
-use touching::converse::list_wide;
 use touching::sets::add_all;
 use touching::touched::touch;
 ghost use mathlib.Core.Path.{_≡_};
 ghost use Prim.Native.Nat.{_+_, _≤_, _<_};
 ghost use lib.ListN.{length, getD};
 ghost use Rattle.text.specs.Limits.{tableLength};
-ghost use Rattle.comparing.specs.MoveList.{MoveList, RowList, Played};
+ghost use Rattle.comparing.specs.MoveList.{Listed, MoveList};
 ghost use Rattle.comparing.specs.Inner.Marks.{Unmarked};
 ghost use Rattle.touching.specs.Inner.StateSets.{StateSet};
-ghost use Rattle.touching.specs.Inner.Touched.{Converse, Wide, Together};
+ghost use Rattle.touching.specs.Inner.Touched.{Converse, Together};
 ghost use Rattle.parts.specs.Inner.Reps.{Counted};
 ghost use Rattle.parts.specs.Inner.Numbering.{NumbersKept, Changed};
 ghost use Rattle.ranking.specs.Table.{Ranked};
@@ -30,14 +29,12 @@ ghost use Rattle.ranking.specs.Inner.ClassList.{Refined, Ready, Divided,
 ghost use Rattle.ranking.specs.Inner.TableWrites.{Outside, RanksUpTo, Finished};
 
 // The classes one round later, in `next`. The states that `flags` and `list` have are the touched ones; those whose
-// class changes become the set `changed`.
+// class changes are listed in `changed`.
 fn refine(
     n: u16,
     first: &[u16; INDEX_LENGTH],
     actions: &[u16; MOVES_LENGTH],
     targets: &[u16; MOVES_LENGTH],
-    begins: &[u16; INDEX_LENGTH],
-    rows: &[u16],
     class: &[u16; ROW],
     classes: u16,
     flags: &[u8; ROW],
@@ -45,24 +42,19 @@ fn refine(
     count: u16,
     reps: &mut [u16; ROW],
     next: &mut [u16; ROW],
-    changed: &mut [u8; ROW],
-    moved: &mut [u16; ROW],
+    changed: &mut [u16; ROW],
     marks: &mut [u8; MARKS_LENGTH],
 ) -> Parts
     requires { ⌜ MoveList n (now first) (now actions) (now targets) ⌝ }
-    requires { ⌜ RowList n (now begins) (now rows) ⌝ }
     requires { ⌜ Counted n classes (now class) (now reps) ⌝ }
     requires { ⌜ StateSet n (now flags) (now list) count ⌝ }
-    requires { ⌜ Together (Played n (now first) (now actions) (now targets) (now begins) (now rows)) n (now class)
-        (now flags) ⌝ }
+    requires { ⌜ Together (Listed n (now first) (now actions) (now targets)) n (now class) (now flags) ⌝ }
     requires { ⌜ Unmarked (now marks) ⌝ }
-    ensures { λ r. ⌜ Refined
-        (Played n (now (first .entry)) (now (actions .entry)) (now (targets .entry)) (now (begins .entry))
-        (now (rows .entry))) n (now (class .entry)) (now (next .exit)) ⌝ }
+    ensures { λ r. ⌜ Refined (Listed n (now (first .entry)) (now (actions .entry)) (now (targets .entry))) n
+        (now (class .entry)) (now (next .exit)) ⌝ }
     ensures { λ r. ⌜ Counted n (r .classes) (now (next .exit)) (now (reps .exit)) ⌝ }
     ensures { λ r. ⌜ NumbersKept classes (r .classes) (now (class .entry)) (now (reps .exit)) ⌝ }
-    ensures { λ r. ⌜ Changed n (now (class .entry)) (now (next .exit)) (now (changed .exit)) (now (moved .exit))
-        (r .changed) ⌝ }
+    ensures { λ r. ⌜ Changed n (now (class .entry)) (now (next .exit)) (now (changed .exit)) (r .changes) ⌝ }
     ensures { λ r. ⌜ Unmarked (now (marks .exit)) ⌝ }
 {
     let mut lead = [0u16; ROW];
@@ -72,8 +64,6 @@ fn refine(
         first,
         actions,
         targets,
-        begins,
-        rows,
         class,
         reps,
         flags,
@@ -83,10 +73,9 @@ fn refine(
         marks,
     ) {
         *next = *class;
-        *changed = [0u8; ROW];
         return Parts {
             classes,
-            changed: 0,
+            changes: 0,
         };
     }
     number_parts(
@@ -100,19 +89,16 @@ fn refine(
         reps,
         next,
         changed,
-        moved,
     )
 }
 
 // One round after k of them: divides the classes, and writes its number for each two states that it separates. The
-// states whose class changes become the set `changed`; where there is none, it separates none.
+// states whose class changes are listed in `changed`; where there is none, it separates none.
 pub fn round(
     n: u16,
     first: &[u16; INDEX_LENGTH],
     actions: &[u16; MOVES_LENGTH],
     targets: &[u16; MOVES_LENGTH],
-    begins: &[u16; INDEX_LENGTH],
-    rows: &[u16],
     k: u8,
     flags: &[u8; ROW],
     list: &[u16; ROW],
@@ -120,29 +106,23 @@ pub fn round(
     classes: u16,
     class: &mut [u16; ROW],
     reps: &mut [u16; ROW],
-    changed: &mut [u8; ROW],
-    moved: &mut [u16; ROW],
+    changed: &mut [u16; ROW],
     marks: &mut [u8; MARKS_LENGTH],
     table: &mut [u8],
 ) -> Parts
     requires { ⌜ MoveList n (now first) (now actions) (now targets) ⌝ }
-    requires { ⌜ RowList n (now begins) (now rows) ⌝ }
-    requires { ⌜ (k < n) × Ready (Played n (now first) (now actions) (now targets) (now begins) (now rows)) n k
-        (now class) classes (now reps) (now flags) (now list) count (now marks) ⌝ }
+    requires { ⌜ (k < n) × Ready (Listed n (now first) (now actions) (now targets)) n k (now class) classes (now reps)
+        (now flags) (now list) count (now marks) ⌝ }
     requires { ⌜ tableLength ≤ length (now table) ⌝ }
-    requires { ⌜ RanksUpTo (Played n (now first) (now actions) (now targets) (now begins) (now rows)) n k
-        (now table) ⌝ }
-    ensures { λ r. ⌜ Divided
-        (Played n (now (first .entry)) (now (actions .entry)) (now (targets .entry)) (now (begins .entry))
-        (now (rows .entry))) n k (now (class .entry)) (now (class .exit)) (r .classes) (now (reps .exit))
-        (now (changed .exit)) (now (moved .exit)) (r .changed) (now (marks .exit)) ⌝ }
-    ensures { λ r. ⌜ RanksUpTo
-        (Played n (now (first .entry)) (now (actions .entry)) (now (targets .entry)) (now (begins .entry))
-        (now (rows .entry))) n (k + 1) (now (table .exit)) ⌝ }
+    requires { ⌜ RanksUpTo (Listed n (now first) (now actions) (now targets)) n k (now table) ⌝ }
+    ensures { λ r. ⌜ Divided (Listed n (now (first .entry)) (now (actions .entry)) (now (targets .entry))) n k
+        (now (class .entry)) (now (class .exit)) (r .classes) (now (reps .exit)) (now (changed .exit)) (r .changes)
+        (now (marks .exit)) ⌝ }
+    ensures { λ r. ⌜ RanksUpTo (Listed n (now (first .entry)) (now (actions .entry)) (now (targets .entry))) n (k + 1)
+        (now (table .exit)) ⌝ }
     ensures { λ r. ⌜ Outside n (now (table .entry)) (now (table .exit)) ⌝ }
-    ensures { λ r. ⌜ RoundSeparates
-        (Played n (now (first .entry)) (now (actions .entry)) (now (targets .entry)) (now (begins .entry))
-        (now (rows .entry))) n k (r .changed) ⌝ }
+    ensures { λ r. ⌜ RoundSeparates (Listed n (now (first .entry)) (now (actions .entry)) (now (targets .entry))) n k
+        (r .changes) ⌝ }
 {
     let mut next = [0u16; ROW];
     let parts = refine(
@@ -150,8 +130,6 @@ pub fn round(
         first,
         actions,
         targets,
-        begins,
-        rows,
         class,
         classes,
         flags,
@@ -160,10 +138,9 @@ pub fn round(
         reps,
         &mut next,
         changed,
-        moved,
         marks,
     );
-    write_rows(table, class, &next, k + 1, n, moved, parts.changed);
+    write_rows(table, class, &next, k + 1, n, changed, parts.changes);
     *class = next;
     parts
 }
@@ -197,28 +174,19 @@ fn rounds(
     first: &[u16; INDEX_LENGTH],
     actions: &[u16; MOVES_LENGTH],
     targets: &[u16; MOVES_LENGTH],
-    begins: &[u16; INDEX_LENGTH],
-    rows: &[u16],
-    wide: &[u16; ROW],
-    wides: u16,
     table: &mut [u8],
 ) -> u8
     requires { ⌜ MoveList n (now first) (now actions) (now targets) ⌝ }
-    requires { ⌜ RowList n (now begins) (now rows) ⌝ }
-    requires { ⌜ (wides ≤ n) × Wide n (now begins) (now wide) wides ⌝ }
     requires { ⌜ tableLength ≤ length (now table) ⌝ }
-    requires { ⌜ RanksUpTo (Played n (now first) (now actions) (now targets) (now begins) (now rows)) n 0
-        (now table) ⌝ }
-    ensures { λ r. ⌜ Finished
-        (Played n (now (first .entry)) (now (actions .entry)) (now (targets .entry)) (now (begins .entry))
-        (now (rows .entry))) n r (now (table .entry)) (now (table .exit)) ⌝ }
+    requires { ⌜ RanksUpTo (Listed n (now first) (now actions) (now targets)) n 0 (now table) ⌝ }
+    ensures { λ r. ⌜ Finished (Listed n (now (first .entry)) (now (actions .entry)) (now (targets .entry))) n r
+        (now (table .entry)) (now (table .exit)) ⌝ }
 {
     let mut class = [0u16; ROW];
     let mut reps = [0u16; ROW];
     let mut flags = [0u8; ROW];
     let mut list = [0u16; ROW];
-    let mut changed = [0u8; ROW];
-    let mut moved = [0u16; ROW];
+    let mut changed = [0u16; ROW];
     let mut marks = [0u8; MARKS_LENGTH];
     let mut top = [0u16; ROW];
     let mut link = [0u16; CHAIN_LENGTH];
@@ -233,8 +201,6 @@ fn rounds(
             first,
             actions,
             targets,
-            begins,
-            rows,
             k,
             &flags,
             &list,
@@ -243,11 +209,10 @@ fn rounds(
             &mut class,
             &mut reps,
             &mut changed,
-            &mut moved,
             &mut marks,
             table,
         );
-        if parts.changed == 0 {
+        if parts.changes == 0 {
             break k;
         }
         chain_once(
@@ -265,16 +230,11 @@ fn rounds(
             first,
             actions,
             targets,
-            begins,
-            rows,
             &top,
             &link,
             &sources,
-            wide,
-            wides,
-            &mut changed,
-            &mut moved,
-            parts.changed,
+            &changed,
+            parts.changes,
             &mut flags,
             &mut list,
         );
@@ -284,35 +244,19 @@ fn rounds(
     last
 }
 
-// Fills the table with the ranks of n states, and answers the last round that separated two of them.
+// Fills the table with the ranks of n states by their listed steps, and answers the last round that separated two of them.
 pub fn rank_moves(
     n: u16,
     first: &[u16; INDEX_LENGTH],
     actions: &[u16; MOVES_LENGTH],
     targets: &[u16; MOVES_LENGTH],
-    begins: &[u16; INDEX_LENGTH],
-    rows: &[u16],
     table: &mut [u8],
 ) -> u8
     requires { ⌜ MoveList n (now first) (now actions) (now targets) ⌝ }
-    requires { ⌜ RowList n (now begins) (now rows) ⌝ }
     requires { ⌜ tableLength ≤ length (now table) ⌝ }
-    ensures { λ r. ⌜ Ranked
-        (Played n (now (first .entry)) (now (actions .entry)) (now (targets .entry)) (now (begins .entry))
-        (now (rows .entry))) n (now (table .entry)) (now (table .exit)) r ⌝ }
+    ensures { λ r. ⌜ Ranked (Listed n (now (first .entry)) (now (actions .entry)) (now (targets .entry))) n
+        (now (table .entry)) (now (table .exit)) r ⌝ }
 {
-    let mut wide = [0u16; ROW];
-    let wides = list_wide(n, begins, &mut wide);
     clear(table, TABLE_LENGTH);
-    rounds(
-        n,
-        first,
-        actions,
-        targets,
-        begins,
-        rows,
-        &wide,
-        wides,
-        table,
-    )
+    rounds(n, first, actions, targets, table)
 }

@@ -10,12 +10,16 @@ pub use Rattle.model.specs.Examples.{worked, workedText}
 
 -- ---- lines of the texts; each number has one digit
 
--- M,states,3,steps,0
+-- M,states,actions,steps,0
+abbrev pub headLineOf : ℕ → ℕ → ℕ → List ℕ
+headLineOf actions states steps =
+    77 ∷ 44 ∷ (48 + states) ∷ 44 ∷ (48 + actions) ∷ 44 ∷ (48 + steps) ∷ 44 ∷ 48 ∷ 10 ∷ []
+
 abbrev headLine : ℕ → ℕ → List ℕ
-headLine states steps = 77 ∷ 44 ∷ (48 + states) ∷ 44 ∷ 51 ∷ 44 ∷ (48 + steps) ∷ 44 ∷ 48 ∷ 10 ∷ []
+headLine = headLineOf 3
 
 -- A,L,scan / A,H,print / A,D,close
-abbrev actionLines : List ℕ
+abbrev pub actionLines : List ℕ
 actionLines =
     65 ∷ 44 ∷ 76 ∷ 44 ∷ 115 ∷ 99 ∷ 97 ∷ 110 ∷ 10
     ∷ 65 ∷ 44 ∷ 72 ∷ 44 ∷ 112 ∷ 114 ∷ 105 ∷ 110 ∷ 116 ∷ 10
@@ -31,11 +35,11 @@ actionLinesCloseLow =
     ∷ []
 
 -- S,source,action,target
-abbrev stepLine : ℕ → ℕ → ℕ → List ℕ
+abbrev pub stepLine : ℕ → ℕ → ℕ → List ℕ
 stepLine p a q = 83 ∷ 44 ∷ (48 + p) ∷ 44 ∷ (48 + a) ∷ 44 ∷ (48 + q) ∷ 10 ∷ []
 
 -- E
-abbrev endLine : List ℕ
+abbrev pub endLine : List ℕ
 endLine = 69 ∷ 10 ∷ []
 
 -- ---- models
@@ -50,7 +54,7 @@ print = 1
 abbrev pub close : ℕ
 close = 2
 
-abbrev arrow : ℕ → ℕ → ℕ → StepLine
+abbrev pub arrow : ℕ → ℕ → ℕ → StepLine
 arrow p a q = record { source = record { 0 = p }; action = record { 0 = a }; target = record { 0 = q } }
 
 -- The model with so many states and steps, start 0, scan low, print high, and close of the given level, with these extra

@@ -6,8 +6,8 @@
 -- (`step-told`), a depth made up (`depth-is`), a Word that says 24 without having judged (`no-word-iff`,
 -- `passed-no-word`), one that names the other end (`possible`), shows a word one too long (`shortest`), the last by
 -- action numbers (`first`) or one with a release in it (`low`), or a word of a model that it calls branching
--- (`not-branching`).
--- Document 01, "Demand 3 is one claim [..]"; DEMANDS, 3; document 02, (iii). Assumes nothing.
+-- (`not-branching`) or says to have a reachable silent step (`not-silent`).
+-- Document 01, "Demand 3 is one claim [..]"; DEMANDS, 3; document 02, (iii) and (vii). Assumes nothing.
 use mathlib.Core.List.{List, [], _∷_}
 use mathlib.Core.Logic.{_⊎_, _↔_}
 use mathlib.Core.Path.{_≡_}
@@ -18,7 +18,7 @@ use Rattle.lts.specs.Run.{Allows}
 use Rattle.lts.specs.Word.{JustOne, FirstWord}
 use Rattle.text.specs.Faults.{Outcome, answers, refuses}
 use Rattle.text.specs.Model.{Model}
-use Rattle.model.specs.System.{source, target, HighStep, DeterministicModel, view}
+use Rattle.model.specs.System.{source, target, HighStep, DeterministicModel, NoSilentStep, view}
 pub use Rattle.model.specs.StatedText.{States}
 use Rattle.verdicts.specs.declared.judging.Verdict.the-variants.{Passed, Refused}
 use Rattle.judge.specs.JudgePromise.{verdictOutcome}
@@ -72,9 +72,10 @@ pub record Sequence (m : Model) (j depth : ℕ) (word : Outcome) (list : List �
   pub filled : take (length sequence) list ≡ sequence
   pub shows : ShowsLeak m j depth sequence end
 
--- What Word tells of a deterministic model: never 23, and 24 exactly when every sequence passes the test above.
+-- What Word tells of a deterministic model: never 23 nor 36, and 24 exactly when every sequence passes the test above.
 pub record WordTells (m : Model) (word : Outcome) : Type 0 where
   pub not-branching : (j : ℕ) → ¬ (word ≡ refuses 23 j)
+  pub not-silent : (j : ℕ) → ¬ (word ≡ refuses 36 j)
   pub no-word-iff : (word ≡ refuses 24 0) ↔ INI (view m)
 
 -- What the two tell together: 24 exactly when passed, else the sequence of Judge's step.
@@ -86,10 +87,11 @@ pub record BothTell (m : Model) (judge word : Outcome) (list : List ℕ) : Type 
 pub record Claim (text : List ℕ) (read judge word : Outcome) (list : List ℕ) : Type 0 where
   -- "Take every text that is read (each without a fault listed for Read is)"
   pub read-iff : NotShort read → (read ≡ answers []) ↔ ((m : Model) × States text m)
-  -- "and in which no reachable state has two steps of one action"
-  pub judge-tells : read ≡ answers [] → (m : Model) → States text m → DeterministicModel m → NotShort judge
-      → JudgeTells m judge
-  pub word-tells : read ≡ answers [] → (m : Model) → States text m → DeterministicModel m → NotShort word
-      → WordTells m word
-  pub both-tell : read ≡ answers [] → (m : Model) → States text m → DeterministicModel m → NotShort judge
-      → NotShort word → BothTell m judge word list
+  -- "and in which no reachable state has two steps of one action". "Demand 3, the equality with thinned sequences and
+  -- the sequence shown alike, is kept for models without a reachable silent step." (document 02, (vii))
+  pub judge-tells : read ≡ answers [] → (m : Model) → States text m → DeterministicModel m → NoSilentStep m
+      → NotShort judge → JudgeTells m judge
+  pub word-tells : read ≡ answers [] → (m : Model) → States text m → DeterministicModel m → NoSilentStep m
+      → NotShort word → WordTells m word
+  pub both-tell : read ≡ answers [] → (m : Model) → States text m → DeterministicModel m → NoSilentStep m
+      → NotShort judge → NotShort word → BothTell m judge word list

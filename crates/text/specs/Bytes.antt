@@ -57,6 +57,10 @@ byteD = 68
 abbrev pub byteH : ℕ
 byteH = 72
 
+-- "Level T [..] marks a silent action" (document 02, (vii))
+abbrev pub byteT : ℕ
+byteT = 84
+
 -- the letters of a page's other lines: `V`, `C`, `R`, `W`, `B`, `N`, `F`; "distance `-` if unreachable"
 abbrev pub byteV : ℕ
 byteV = 86

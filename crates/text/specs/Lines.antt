@@ -16,12 +16,12 @@ use Rattle.text.specs.declared.number.Number.{Number}
 use Rattle.text.specs.declared.number.Number.the-variants.{Value, BadDigits, Outside}
 use Rattle.text.specs.declared.row.Row.{Row}
 use Rattle.text.specs.declared.row.Row.the-variants.{HeadRow, StartRow, StepRow}
-use Rattle.text.specs.Bytes.{byteM, byteA, byteI, byteS, byteL, byteD, byteH}
+use Rattle.text.specs.Bytes.{byteM, byteA, byteI, byteS, byteL, byteD, byteH, byteT}
 use Rattle.text.specs.Bytes.{digit, smallLetter, comma, between?, kindOf}
 use Rattle.text.specs.Numbers.{fromTo, below, inBounds?, numberIn}
 use Rattle.text.specs.Split.{split, same?}
 use Rattle.text.specs.Limits.{stateLimit, actionLimit, stepLimit, nameLimit}
-use Rattle.text.specs.Model.{low, release, high, ActionLine, aboveLast?, lastStart}
+use Rattle.text.specs.Model.{low, release, high, silent, ActionLine, aboveLast?, lastStart}
 
 -- what a line, or a part of it, states; or its fault
 pub data Line (A : Type 0) : Type 0 where
@@ -137,12 +137,13 @@ headOf line = headFrom (rowOf HeadRow line)
 
 -- ---- `A,level,name`
 
--- "Level is L, D or H"
+-- "Level is L, D or H", or T, which "marks a silent action" (document 02, (vii))
 unfoldable pub levelOf : List ℕ → Line ℕ
 levelOf f =
     cond (same? f (byteL ∷ [])) (good low)
     (cond (same? f (byteD ∷ [])) (good release)
-    (cond (same? f (byteH ∷ [])) (good high) (bad Shape)))
+    (cond (same? f (byteH ∷ [])) (good high)
+    (cond (same? f (byteT ∷ [])) (good silent) (bad Shape))))
 
 unfoldable pub allOf : (ℕ → Bool) → List ℕ → Bool
 allOf test [] = true

@@ -1,5 +1,5 @@
 -- A model as its text states it: the numbers of line 1, then what each `A`, `I` and `S` line states.
--- Document 01, "The text"; document 02, (iii) and (vi).
+-- Document 01, "The text"; document 02, (iii), (vi) and (vii).
 use mathlib.Core.Bool.{Bool, true, false, _&&_, _||_}
 use mathlib.Core.List.{List, [], _∷_, _++_}
 use Prim.Native.Nat.{ℕ}
@@ -16,6 +16,14 @@ release = 1
 
 abbrev pub high : ℕ
 high = 2
+
+-- "Level T (store value 3) marks a silent action" (document 02, (vii))
+abbrev pub silent : ℕ
+silent = 3
+
+-- every number up to this one is a level, and none above it
+abbrev pub lastLevel : ℕ
+lastLevel = silent
 
 -- `A,level,name`
 pub record ActionLine : Type 0 where
@@ -39,7 +47,7 @@ noAction = record { level = noLevel; name = [] }
 abbrev pub noStep : StepLine
 noStep = record { source = record { 0 = 0 }; action = record { 0 = 0 }; target = record { 0 = 0 } }
 
--- some action is high: "A text without an H action is refused"
+-- some action is high: "A text without an H action is refused"; a silent action is not high
 unfoldable pub someHigh? : List ActionLine → Bool
 someHigh? [] = false
 someHigh? (a ∷ rest) = eqb (a .level) high || someHigh? rest

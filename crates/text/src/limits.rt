@@ -63,12 +63,16 @@ pub const EXTRA_END: usize = EXTRA_BEGIN + EXTRA_LIMIT as usize;
 
 pub const STORE_LENGTH: usize = EXTRA_END;
 
-// Levels of actions in the store.
+// Levels of actions in the store, and the greatest of them.
 pub const LOW: u16 = 0;
 
 pub const RELEASE: u16 = 1;
 
 pub const HIGH: u16 = 2;
+
+pub const SILENT: u16 = 3;
+
+pub const LAST_LEVEL: u16 = SILENT;
 
 // One place for each state.
 pub const DISTANCES_LENGTH: usize = STATE_LIMIT as usize;

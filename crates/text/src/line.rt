@@ -11,6 +11,7 @@ use crate::limits::HIGH;
 use crate::limits::LOW;
 use crate::limits::NAME_LIMIT;
 use crate::limits::RELEASE;
+use crate::limits::SILENT;
 ghost use mathlib.Core.List.{[], _∷_};
 ghost use mathlib.Core.Path.{_≡_};
 ghost use Prim.Native.Nat.{_+_, _≤_, _<_};
@@ -117,6 +118,9 @@ fn level_of(b: u8) -> LevelRead
     }
     if b == b'H' {
         return LevelRead::Level(HIGH);
+    }
+    if b == b'T' {
+        return LevelRead::Level(SILENT);
     }
     LevelRead::NoLevel
 }

@@ -4,7 +4,7 @@ use mathlib.Core.List.{List}
 use mathlib.Core.Path.{_≡_}
 use Prim.Native.Nat.{ℕ}
 use lib.ListN.{length}
-use Rattle.lts.specs.Noninterference.{LowMove}
+use Rattle.lts.specs.Weak.{WeakMove}
 use Rattle.lts.specs.Book.{OwnBook}
 use Rattle.text.specs.Limits.{stateLimit, bookLength}
 use Rattle.text.specs.Model.{Model}
@@ -15,7 +15,7 @@ use Rattle.page.specs.PrintsText.{PrintsText}
 -- The bytes are those of the model's own book: "Of 65,536 bytes, four belong to each ordered pair of states".
 pub record BookBytesOf (m : Model) (bytes : List ℕ) : Type 0 where
   pub length-is : length bytes ≡ bookLength
-  pub own : OwnBook (LowMove (view m)) (m .head .states) stateLimit (bookOf bytes)
+  pub own : OwnBook (WeakMove (view m)) (m .head .states) stateLimit (bookOf bytes)
 
 abbrev pub PrintsBook : List ℕ → List ℕ → Type 0
 PrintsBook text bytes = PrintsText BookBytesOf text bytes

@@ -209,6 +209,7 @@ fn shown_answer(shown: Shown) -> TillAnswer
     match shown {
         Shown::Word(length, end) => letters_answer(length, end),
         Shown::NotDeterministic(step) => refusal(23, step.0 as usize),
+        Shown::Silent(step) => refusal(36, step.0 as usize),
         Shown::NoLeak => refusal(24, 0),
     }
 }

@@ -4,7 +4,7 @@
 use mathlib.Core.List.{List, []}
 use mathlib.Core.Path.{_≡_}
 use Prim.Native.Nat.{ℕ}
-use Rattle.lts.specs.Noninterference.{LowMove}
+use Rattle.lts.specs.Weak.{WeakMove}
 use Rattle.text.specs.Faults.{Outcome, answers, refuses}
 use Rattle.text.specs.Model.{Model}
 use Rattle.model.specs.System.{view}
@@ -20,7 +20,7 @@ outcomeBytes (refuses number place) = faultBytes number place
 -- The bytes tell what Check answers of the book.
 pub record CheckBytesOf (book : List ℕ) (m : Model) (bytes : List ℕ) : Type 0 where
   pub outcome : Outcome
-  pub checked : CheckDone (LowMove (view m)) book outcome
+  pub checked : CheckDone (WeakMove (view m)) book outcome
   pub bytes-are : bytes ≡ outcomeBytes outcome
 
 abbrev pub PrintsCheck : List ℕ → List ℕ → List ℕ → Type 0

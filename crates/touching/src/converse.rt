@@ -5,13 +5,10 @@ use text::State;
 use text::limits::INDEX_LENGTH;
 use text::limits::MOVES_LENGTH;
 use text::limits::ROW;
-ghost use mathlib.Core.Path.{_≡_};
-ghost use Prim.Native.Nat.{_+_, _≤_, _<_};
+ghost use Prim.Native.Nat.{_+_, _<_};
 ghost use lib.ListN.{getD};
-ghost use Rattle.text.specs.Decides.{Decides};
-ghost use Rattle.text.specs.Limits.{stateLimit};
-ghost use Rattle.comparing.specs.MoveList.{MoveList, RowList};
-ghost use Rattle.touching.specs.Inner.Touched.{Converse, Wide};
+ghost use Rattle.comparing.specs.MoveList.{MoveList};
+ghost use Rattle.touching.specs.Inner.Touched.{Converse};
 
 // Steps are chained from place 1 on.
 pub const CHAIN_LENGTH: usize = MOVES_LENGTH + 1;
@@ -67,32 +64,4 @@ pub fn chain_steps(
         chain_state(n, first, actions, targets, State(p), top, link, sources);
         p += 1;
     }
-}
-
-// Whether `to` is the place after `from`.
-fn is_next(from: u16, to: u16) -> bool
-    ensures { λ r. ⌜ Decides r (to ≡ from + 1) ⌝ }
-{
-    if to as usize == from as usize + 1 {
-        return true;
-    }
-    false
-}
-
-// Lists the states whose row holds more than the state itself, and yields how many there are.
-pub fn list_wide(n: u16, begins: &[u16; INDEX_LENGTH], list: &mut [u16; ROW]) -> u16
-    requires { ⌜ n ≤ stateLimit ⌝ }
-    ensures { λ r. ⌜ (r ≤ n) × Wide n (now (begins .entry)) (now (list .exit)) r ⌝ }
-{
-    let mut count = 0;
-    let mut p = 0;
-    while p < n {
-        let of = p as usize;
-        if !is_next(begins[of], begins[of + 1]) {
-            put(list, count as usize, p);
-            count += 1;
-        }
-        p += 1;
-    }
-    count
 }

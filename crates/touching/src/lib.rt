@@ -1,4 +1,4 @@
-// Which states a round must look at again: those with a move to a state whose class changed in the round before.
+// Which states a round must look at again: those with a step to a state whose class changed in the round before.
 pub mod converse;
 pub mod sets;
 pub mod stores;

@@ -8,10 +8,10 @@ use Rattle.text.specs.Model.{Model}
 use Rattle.ranking.specs.Table.{Ranks}
 use Rattle.distances.specs.Distances.{Distances}
 use Rattle.model.specs.System.{view}
-use Rattle.lts.specs.Noninterference.{LowMove}
+use Rattle.lts.specs.Weak.{WeakMove}
 
 -- The lists as Judge leaves them: "Fills both as 2 and 3 do."
 pub record JudgeFilled (m : Model) (distances table distances′ table′ : List ℕ) : Type 0 where
   pub distances-filled : Distances m distances distances′
-  pub ranks : Ranks (LowMove (view m)) (m .head .states) table′
+  pub ranks : Ranks (WeakMove (view m)) (m .head .states) table′
   pub table-past : Past tableLength table table′

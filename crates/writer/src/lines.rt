@@ -6,6 +6,7 @@ use text::Head;
 use text::State;
 use text::Step;
 use text::StepLine;
+use text::limits::HIGH;
 use text::limits::LOW;
 use text::limits::RELEASE;
 ghost use mathlib.Core.Path.{_≡_};
@@ -18,7 +19,7 @@ ghost use Rattle.model.specs.Text.{stepText, stepsText, modelText};
 ghost use Rattle.writer.specs.Inner.Writable.{Writable};
 ghost use Rattle.writer.specs.Wrote.{Wrote};
 
-// `L`, `D` or `H`.
+// `L`, `D`, `H` or `T`.
 fn level_letter(level: u16) -> u8
     ensures { λ r. ⌜ r ≡ levelByte level ⌝ }
 {
@@ -28,7 +29,10 @@ fn level_letter(level: u16) -> u8
     if level == RELEASE {
         return b'D';
     }
-    b'H'
+    if level == HIGH {
+        return b'H';
+    }
+    b'T'
 }
 
 // Each line asks for room for just its own bytes, and each loop for room for all of its lines.

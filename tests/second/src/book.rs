@@ -1,5 +1,6 @@
 //! Book: how the scanner tells two states apart (request (v) of document 02).
 
+use crate::moves::{single, states_of, States, Targets};
 use crate::rank::fill_table;
 use crate::store::{good, Model, BOOK, MOST_STATES, STORE, TABLE};
 use crate::{lent, read, Refusal};
@@ -104,8 +105,8 @@ impl Side {
     }
 }
 
-/// The moves of each state, as action and target, rising. All that follows is
-/// said of any such moves.
+/// The moves of each state, as action and target, rising. What is said of them
+/// is said of any such moves.
 pub type Moves = [Vec<(u16, u16)>];
 
 /// The moves of a number, which has none if it is no state.
@@ -122,9 +123,12 @@ pub fn answers(
     (action, target): (u16, u16),
 ) -> Vec<(usize, usize)> {
     let (_, other) = side.turned(pair);
-    let same_action = moves_of(moves, other)
+    let moves = moves_of(moves, other);
+    // A state may have thousands of moves, which rise.
+    let first = moves.partition_point(|&(taken, _)| taken < action);
+    let same_action = moves[first..]
         .iter()
-        .filter(|&&(taken, _)| taken == action);
+        .take_while(|&&(taken, _)| taken == action);
     same_action
         .map(|&(_, answer)| side.turned((usize::from(target), usize::from(answer))))
         .collect()
@@ -151,28 +155,50 @@ pub fn book_of(model: &Model) -> Vec<u8> {
 /// Fills the book, given the table of ranks.
 fn fill_book(model: &Model, table: &[u8], book: &mut [u8]) {
     book[..BOOK].fill(0);
-    let moves = model.low_steps();
-    for p in 0..usize::from(model.states) {
-        for q in 0..usize::from(model.states) {
-            let depth = table[entry_number(p, q)];
-            if depth > 0 {
-                let (side, step) = first_opening(&moves, table, (p, q))
-                    .expect("some step is answered by no two states that are alike for so long");
-                Entry::new(side.byte(), step, depth).put(book, entry_number(p, q));
-            }
+    let moves = Targets::new(model);
+    let greatest = *table[..TABLE].iter().max().expect("a table");
+    for depth in 1..=greatest {
+        let lower = lower_ranks(table, depth);
+        for number in (0..TABLE).filter(|&number| table[number] == depth) {
+            let pair = (number / MOST_STATES, number % MOST_STATES);
+            let (side, opening) = first_opening(&moves, &lower, pair)
+                .expect("some move is answered by no two states that are alike for so long");
+            Entry::new(side.byte(), opening, depth).put(book, number);
         }
     }
 }
 
+/// For each number those of a rank to it above 0 and below this one. Ranks are
+/// the same both ways round.
+fn lower_ranks(table: &[u8], depth: u8) -> Vec<States> {
+    let mut lower = vec![0; MOST_STATES];
+    for (number, &rank) in table[..TABLE].iter().enumerate() {
+        if 0 < rank && rank < depth {
+            lower[number / MOST_STATES] |= single((number % MOST_STATES) as u16);
+        }
+    }
+    lower
+}
+
 /// The first opening of a pair by which its entry can have the rank as depth:
-/// each answer leads to a pair of a rank above 0 and below this one.
-fn first_opening(moves: &Moves, table: &[u8], pair: (usize, usize)) -> Option<(Side, (u16, u16))> {
-    let rank = |(p, q): (usize, usize)| table[entry_number(p, q)];
-    let allows = |&(side, step): &(Side, (u16, u16))| {
-        let mut answers = answers(moves, pair, side, step).into_iter();
-        answers.all(|next| 0 < rank(next) && rank(next) < rank(pair))
-    };
-    openings(moves, pair).into_iter().find(allows)
+/// each answer leads to a pair of a rank above 0 and below this one. First side,
+/// then lowest action, then lowest target.
+fn first_opening(
+    moves: &Targets,
+    lower: &[States],
+    pair: (usize, usize),
+) -> Option<(Side, (u16, u16))> {
+    for side in Side::ALL {
+        let (opener, other) = side.turned(pair);
+        for &(action, targets) in moves.of(opener) {
+            let answers = moves.after(other, action);
+            let allows = |&target: &u16| answers & !lower[usize::from(target)] == 0;
+            if let Some(target) = states_of(targets).find(allows) {
+                return Some((side, (action, target)));
+            }
+        }
+    }
+    None
 }
 
 /// What the program writes for a text: its book, or the `F` line.

@@ -9,7 +9,7 @@ use crate::{lent, read, Refusal};
 pub fn check(store: &[u16], book: &[u8]) -> Result<(), Refusal> {
     lent(&[(store.len(), STORE), (book.len(), BOOK)])?;
     let model = good(store)?;
-    match bad_entries(&model.low_steps(), book).first() {
+    match bad_entries(&model.moves(), book).first() {
         Some(&number) => Err(Refusal::new(34, number as u64)),
         None => Ok(()),
     }
@@ -42,7 +42,9 @@ fn holds(moves: &Moves, book: &[u8], pair: (usize, usize), entry: Entry) -> bool
         let next = Entry::of(book, entry_number(p, q));
         !next.is_absent() && next.depth < entry.depth
     };
-    moves_of(moves, opener).contains(&entry.opening())
+    moves_of(moves, opener)
+        .binary_search(&entry.opening())
+        .is_ok()
         && answers(moves, pair, side, entry.opening())
             .iter()
             .all(told_apart)

@@ -13,11 +13,13 @@ mod rng;
 mod starts;
 mod stores;
 mod texts;
+mod ticks;
 mod variants;
 mod wide;
 
 mod cases;
 
+pub use books::with_silent_entries;
 pub use books::{bad_books, bad_store_books, BadBook, BadStoreBook};
 pub use books::{cut_book, mutated_book, scrap_book, sound_book, sound_books};
 pub use cases::{
@@ -33,8 +35,14 @@ pub use models::{
 pub use rng::Rng;
 pub use starts::with_all_starts;
 pub use stores::{bad_stores, mutated_store, no_high_store, scrap_store};
+pub use stores::{mutated_tick_store, no_high_tick_store};
 pub use texts::{bad_lines, faults, mutated_text, no_high_text, scrap_text};
+pub use texts::{mutated_tick_text, no_high_tick_text};
 pub use texts::{BadLine, Fault, Kind};
+pub use ticks::{
+    deterministic_tick_model, silenced, tick_limit_models, tick_model, with_delays,
+    with_random_ticks, with_tick_ring, with_ticks, with_unreachable_ticks,
+};
 pub use variants::{shuffle, with_twin, with_unreachable};
 pub use wide::{greatest_roll, wide_model};
 

@@ -11,6 +11,7 @@ pub mod check;
 pub mod gen;
 pub mod judge;
 pub mod meaning;
+pub mod moves;
 pub mod page;
 pub mod rank;
 pub mod reach;

@@ -4,7 +4,7 @@ use crate::judge::{judge_model, Verdict};
 use crate::reach::UNREACHABLE;
 use crate::run::fill_run;
 use crate::store::{good, Model, DISTANCES, MOST_STATES, PAGE, RUN, STORE, TABLE, WORD};
-use crate::word::{fill_word, first_double, End};
+use crate::word::{fill_word, shows_word, End};
 use crate::{lent, read, Refusal};
 
 /// Writes the page of a model, and answers its length.
@@ -94,7 +94,7 @@ fn page_lines(model: &Model, lists: &mut Lists) -> Vec<Line> {
         let length = fill_run(model, lists.distances, lists.run, source);
         let steps = lists.run[..length].iter();
         lines.extend(steps.map(|number| Line::Other(format!("R,{number}"))));
-        if first_double(model, lists.distances).is_none() {
+        if shows_word(model, lists.distances) {
             let (length, end) = fill_word(model, step, lists.word);
             let word = word_lines(model, &lists.word[..length], end);
             lines.extend(word.into_iter().map(Line::Other));

@@ -1,5 +1,8 @@
 //! Rank.
 
+use std::collections::HashMap;
+
+use crate::moves::{single, states_of, States, Targets};
 use crate::store::{good, Model, MOST_STATES, STORE, TABLE};
 use crate::{lent, Refusal};
 
@@ -23,22 +26,22 @@ pub(crate) fn fill_table(model: &Model, table: &mut [u8]) -> u16 {
 
 /// The rank of each pair of states, and the last round that separated a pair.
 ///
-/// Round k works out which pairs are k-alike from those that are (k-1)-alike.
-/// A round that separates no further pair leaves a low-view bisimulation.
+/// Round k works out which states are k-alike from those that are (k-1)-alike,
+/// over the moves of both. A round that separates no further pair leaves a
+/// low-view bisimulation.
 pub fn ranks_of(model: &Model) -> (Vec<Vec<u8>>, u16) {
-    let states = usize::from(model.states);
-    let low = model.low_steps();
-    let mut alike = vec![vec![true; states]; states];
+    let moves = Targets::new(model);
+    let states = moves.states();
+    // States of one class are alike. Any two are 0-alike.
+    let mut classes = vec![0; states];
     let mut ranks = vec![vec![0; states]; states];
     let mut round = 0;
     loop {
-        let mut next = vec![vec![true; states]; states];
+        let next = next_classes(&moves, &classes);
         let mut separated = false;
         for p in 0..states {
             for q in 0..states {
-                next[p][q] =
-                    answered(&low[p], &low[q], &alike) && answered(&low[q], &low[p], &alike);
-                if alike[p][q] && !next[p][q] {
+                if classes[p] == classes[q] && next[p] != next[q] {
                     ranks[p][q] = round + 1;
                     separated = true;
                 }
@@ -48,15 +51,28 @@ pub fn ranks_of(model: &Model) -> (Vec<Vec<u8>>, u16) {
             return (ranks, u16::from(round));
         }
         round += 1;
-        alike = next;
+        classes = next;
     }
 }
 
-/// Whether each of these low steps is answered by one of those.
-fn answered(these: &[(u16, u16)], those: &[(u16, u16)], alike: &[Vec<bool>]) -> bool {
-    these.iter().all(|&(action, target)| {
-        those.iter().any(|&(other_action, other_target)| {
-            action == other_action && alike[usize::from(target)][usize::from(other_target)]
-        })
-    })
+/// The classes of (k+1)-alike states, given those of k-alike ones.
+///
+/// Each move of either of two states is answered by a move of the other with the
+/// same action and a k-alike target just if their moves lead to the same classes
+/// with each action. So each state gets the list of those, and states with equal
+/// lists get one number.
+fn next_classes(moves: &Targets, classes: &[u16]) -> Vec<u16> {
+    let mut numbers: HashMap<Vec<(u16, States)>, u16> = HashMap::new();
+    let led_to = |targets: States| {
+        let classes = states_of(targets).map(|target| classes[usize::from(target)]);
+        classes.fold(0, |led_to, class| led_to | single(class))
+    };
+    let mut next = Vec::new();
+    for state in 0..moves.states() {
+        let moves = moves.of(state).iter();
+        let list = moves.map(|&(action, targets)| (action, led_to(targets)));
+        let unused = numbers.len() as u16;
+        next.push(*numbers.entry(list.collect()).or_insert(unused));
+    }
+    next
 }

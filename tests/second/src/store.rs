@@ -2,6 +2,7 @@
 
 use std::collections::BTreeSet;
 
+use crate::moves::Targets;
 use crate::text::{parse, read, spell};
 use crate::Refusal;
 
@@ -59,15 +60,21 @@ pub enum Level {
     Low,
     Release,
     High,
+    /// Timer ticks nobody sees (request (vii) of document 02).
+    Silent,
 }
 
 impl Level {
+    /// All levels, in the order of their numbers.
+    pub const ALL: [Level; 4] = [Level::Low, Level::Release, Level::High, Level::Silent];
+
     /// The letter of the level in a text.
     pub fn letter(self) -> u8 {
         match self {
             Level::Low => b'L',
             Level::Release => b'D',
             Level::High => b'H',
+            Level::Silent => b'T',
         }
     }
 
@@ -77,6 +84,7 @@ impl Level {
             Level::Low => 0,
             Level::Release => 1,
             Level::High => 2,
+            Level::Silent => 3,
         }
     }
 }
@@ -175,6 +183,12 @@ impl Model {
         self.actions.iter().any(is_high)
     }
 
+    /// Whether some action is silent, with steps or without.
+    pub fn has_silent(&self) -> bool {
+        let is_silent = |action: &Action| action.level == Level::Silent;
+        self.actions.iter().any(is_silent)
+    }
+
     pub fn level(&self, action: u16) -> Level {
         self.actions[usize::from(action)].level
     }
@@ -193,6 +207,12 @@ impl Model {
             }
         }
         lists
+    }
+
+    /// Action and target of each move, listed by state: what is played on both
+    /// sides. A silent move has an action that comes after all others.
+    pub fn moves(&self) -> Vec<Vec<(u16, u16)>> {
+        Targets::new(self).lists()
     }
 }
 

@@ -165,11 +165,9 @@ fn head(lines: &mut Lines) -> Result<(Model, usize, usize), Refused> {
 /// The next action, given the model so far.
 fn action(lines: &mut Lines, model: &Model) -> Result<Action, Refused> {
     let fields = lines.next(b'A', 2)?;
-    let level = match fields[0] {
-        b"L" => Level::Low,
-        b"D" => Level::Release,
-        b"H" => Level::High,
-        _ => return Err(lines.refused(Cause::Level)),
+    let has_letter = |level: &Level| fields[0] == [level.letter()];
+    let Some(level) = Level::ALL.into_iter().find(has_letter) else {
+        return Err(lines.refused(Cause::Level));
     };
     let name = fields[1].to_vec();
     if !is_name(&name) {
@@ -286,6 +284,7 @@ pub fn spell(store: &[u16]) -> Vec<u8> {
             0 => b'L',
             1 => b'D',
             2 => b'H',
+            3 => b'T',
             _ => b'?',
         });
         text.push(COMMA);

@@ -60,6 +60,9 @@ fn every_model_has_a_high_action() {
     models.extend((0..4_000).map(|_| gen::any_model(&mut rng)));
     models.extend((0..400).map(|round| gen::wide_model(&mut rng, round % 2 == 0)));
     models.extend((0..400).map(|round| gen::one_high_model(&mut rng, round % 2 == 0)));
+    models.extend((0..400).map(|_| gen::tick_model(&mut rng)));
+    let limits = gen::tick_limit_models(&mut rng).into_iter();
+    models.extend(limits.map(|(_, model)| model));
     for model in models {
         let _case = gen::model_case(&model);
         assert!(!high(&model).is_empty() && model.has_high());

@@ -101,7 +101,10 @@ fn steps_and_names() {
 /// missing (request (vi) of document 02).
 #[test]
 fn levels_that_are_missing() {
-    for levels in ["L", "D", "H", "LD", "LH", "DH", "LDH"] {
+    for levels in [
+        "L", "D", "H", "LD", "LH", "DH", "LDH", "T", "LT", "DT", "HT", "TH", "LDT", "LHT", "DHT",
+        "LDHT",
+    ] {
         let mut text = format!("M,1,{},0,0\n", levels.len());
         for (index, level) in levels.chars().enumerate() {
             text += &format!("A,{level},a{index}\n");
@@ -388,7 +391,7 @@ fn answers_agree(store: &[u16], state: u16) {
             assert!(shown.is_ok());
             match told {
                 Ok((length, _)) => assert_eq!(length, usize::from(depth)),
-                Err(refusal) => assert_eq!(refusal.number, 23),
+                Err(refusal) => assert!([23, 36].contains(&refusal.number)),
             }
         }
     }

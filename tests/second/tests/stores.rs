@@ -37,7 +37,7 @@ fn actions_follow(store: &[u16]) -> bool {
             return unused(entry);
         }
         let length = usize::from(entry[1]);
-        if entry[0] > 2 || length == 0 || length > 12 {
+        if entry[0] > 3 || length == 0 || length > 12 {
             return false;
         }
         let (name, rest) = entry[2..].split_at(length);
@@ -194,6 +194,46 @@ fn stores_without_a_high_action() {
             assert!(good(&high).is_ok());
         }
     }
+}
+
+/// Levels of silent actions are good, and greater numbers are none (request (vii)
+/// of document 02). A silent action is not high.
+#[test]
+fn stores_with_silent_actions() {
+    let mut rng = gen::seeded("second::stores::stores_with_silent_actions", 107);
+    let (mut count, mut silent, mut no_high) = ([0, 0], 0, 0);
+    for round in 0..6_000 {
+        let model = match round % 2 {
+            0 => gen::tick_model(&mut rng),
+            _ => gen::small_model(&mut rng, false),
+        };
+        let store = match round % 4 {
+            0 | 1 => gen::mutated_tick_store(&mut rng, &model),
+            2 => gen::mutated_store(&mut rng, &model),
+            _ => gen::no_high_tick_store(&mut rng, &model),
+        };
+        let _case = gen::case(|| gen::shown_store(&model, &store));
+        let is_good = good(&store).is_ok();
+        assert_eq!(is_good, follows_the_rules(&store));
+        assert!(round % 4 != 3 || !is_good);
+        count[usize::from(is_good)] += 1;
+        silent += usize::from(good(&store).is_ok_and(|model| model.has_silent()));
+        no_high += usize::from(!is_good && follows_the_other_rules(&store));
+    }
+    for _ in 0..20 {
+        let model = gen::tick_model(&mut rng);
+        round_trip(&model);
+        for (what, store) in gen::bad_stores(&model) {
+            let _case = gen::case(|| gen::shown_store(&model, &store));
+            assert!(!follows_the_rules(&store), "{what}");
+            assert_eq!(good(&store), Err(Refusal::new(22, 0)), "{what}");
+        }
+    }
+    for (_, model) in gen::tick_limit_models(&mut rng) {
+        round_trip(&model);
+    }
+    assert!(count[0] > 1_000 && count[1] > 1_000, "{count:?}");
+    assert!(silent > 1_000 && no_high > 1_000, "{silent} {no_high}");
 }
 
 #[test]

@@ -162,6 +162,14 @@ pub fn examples() -> Vec<(PathBuf, Vec<u8>, Vec<u8>)> {
     files("txt", 28).into_iter().map(with_page).collect()
 }
 
+/// The text and the page of an example.
+pub fn example(name: &str) -> (Vec<u8>, Vec<u8>) {
+    let mut examples = examples().into_iter();
+    let found = examples.find(|(file, _, _)| file.file_stem().is_some_and(|stem| stem == name));
+    let (_, text, page) = found.expect("an example");
+    (text, page)
+}
+
 /// The file, the text and what the roll's program prints of each example that has a roll, and of each that is not read:
 /// there it is the line of the page.
 pub fn rolls() -> Vec<(PathBuf, Vec<u8>, Vec<u8>)> {

@@ -11,3 +11,4 @@ pub mod program;
 pub mod script;
 pub mod stores;
 pub mod texts;
+pub mod ticks;

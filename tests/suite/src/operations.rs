@@ -126,6 +126,13 @@ impl<A: Answer> Operation<A> {
         self.compared(&input.into(), before)
     }
 
+    /// The archive answers so and leaves the lists so.
+    pub fn fills(&self, input: impl Into<Input>, before: &Lists, answer: A, after: &Lists) {
+        let (mut lists, name) = (before.clone(), self.name);
+        assert_eq!(self.told(input, &mut lists), Ok(answer), "{name}");
+        assert!(lists == *after, "{name}: {}", lists.difference(after));
+    }
+
     fn compared(&self, input: &Input, before: &Lists) -> (Result<A, Refusal>, Lists) {
         let _case = gen::case(|| {
             let (name, read) = (self.name, (self.shown)(input));

@@ -12,6 +12,7 @@ use crate::lists::Lent;
 pub const LOW: u16 = 0;
 pub const RELEASE: u16 = 1;
 pub const HIGH: u16 = 2;
+pub const SILENT: u16 = 3;
 
 /// A store to lend, the model that it was made of, and what is wrong with it for sure.
 #[derive(Clone, Default, PartialEq)]

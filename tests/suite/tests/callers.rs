@@ -172,9 +172,9 @@ fn printed(name: &str, calls: &str) -> Vec<u8> {
     printed.stdout
 }
 
-/// In C: the worked text, every list, and a function for each operation that calls it.
-fn calls() -> String {
-    let text: Vec<String> = WORKED.iter().map(u8::to_string).collect();
+/// In C: a text, every list, and a function for each operation that calls it.
+fn calls(text: &[u8]) -> String {
+    let text: Vec<String> = text.iter().map(u8::to_string).collect();
     let text = text.join(", ");
     let functions = ALL.iter().map(|operation| {
         let (name, call) = (operation.function(), operation.called());
@@ -233,7 +233,15 @@ fn the_needs() {
     let sizes: Vec<usize> = sizes.map_while(|size| size.parse().ok()).collect();
     let most = read_only_kilobytes() * KB;
     assert!(0 < sizes[0] && sizes[0] < most, "{sizes:?}");
-    let stack = String::from_utf8(printed("stack", &calls())).expect("lines");
+    let ticks = include_bytes!("../../../examples/tick_betrays.txt");
+    for text in [&WORKED[..], ticks] {
+        the_stack(text);
+    }
+}
+
+/// The stack that each operation takes on a text.
+fn the_stack(text: &[u8]) {
+    let stack = String::from_utf8(printed("stack", &calls(text))).expect("lines");
     let mut measured = Vec::new();
     for line in stack.lines() {
         let (name, bytes) = line.split_once(' ').expect("a name and a number");
@@ -241,7 +249,7 @@ fn the_needs() {
         let most = match name {
             "till_reach" | "till_run" | "till_write" => KB,
             "till_read" => 9 * KB,
-            "till_book" => 40 * KB,
+            "till_book" => 44 * KB,
             _ => 24 * KB,
         };
         let bytes: usize = bytes.parse().expect("a number");

@@ -33,6 +33,7 @@ fn lost() -> String {
 const LAST: &[(&str, u16)] = &[
     ("A,L,close", 35),
     ("A,D,close", 35),
+    ("A,T,close", 35),
     // wrong letter, field count, level or name
     ("", 2),
     ("X,D,close", 2),
@@ -47,6 +48,7 @@ const LAST: &[(&str, u16)] = &[
     ("A,,close", 2),
     ("A,X,close", 2),
     ("A,h,close", 2),
+    ("A,t,close", 2),
     ("A,HH,close", 2),
     ("A,D,", 2),
     ("A,D,Close", 2),
@@ -124,6 +126,7 @@ const EARLIER: &[(usize, &str, u16)] = &[
 const COUNTED: &[(&str, u16, u64)] = &[
     ("M,1,1,0,0\nA,L,print\nE\n", 35, 2),
     ("M,1,1,0,0\nA,D,print\nE\n", 35, 2),
+    ("M,1,1,0,0\nA,T,print\nE\n", 35, 2),
     ("M,1,1,1,0\nA,L,print\nS,0,0,0\nE\n", 35, 2),
     // the high one is not counted
     ("M,1,1,0,0\nA,L,scan\nA,H,print\nE\n", 35, 2),
@@ -253,9 +256,10 @@ fn read_and_written(rng: &mut Rng, text: &[u8]) -> Store {
 #[test]
 fn every_choice_of_levels() {
     let mut rng = gen::seeded("high::every_choice_of_levels", SEED + 1);
-    let levels = ['L', 'D', 'H'];
+    let levels = ['L', 'D', 'H', 'T'];
+    let chosen = |i: usize| (levels[i / 16], levels[i / 4 % 4], levels[i % 4]);
     let mut refused = 0;
-    for (scan, print, close) in (0..27).map(|i| (levels[i / 9], levels[i / 3 % 3], levels[i % 3])) {
+    for (scan, print, close) in (0..64).map(chosen) {
         let [scan, print, close] = [(scan, "scan"), (print, "print"), (close, "close")]
             .map(|(level, name)| format!("A,{level},{name}"));
         let text = worked_with(&scan, &print, &close);
@@ -267,7 +271,7 @@ fn every_choice_of_levels() {
             refused += 1;
         }
     }
-    assert_eq!(refused, 8);
+    assert_eq!(refused, 27);
 }
 
 /// The only high one of 64 actions first, last and at each place between.

@@ -214,13 +214,17 @@ fn of_levels(rng: &mut Rng, levels: &[Level]) -> Model {
 /// Models whose actions have some of the levels only, H among them.
 #[test]
 fn levels_that_are_missing() {
-    use Level::{High, Low, Release};
+    use Level::{High, Low, Release, Silent};
     let mut rng = gen::seeded("pages::levels_that_are_missing", SEED + 10);
-    let choices: [&[Level]; 4] = [
+    let choices: [&[Level]; 8] = [
         &[High],
         &[Low, High],
         &[Release, High],
         &[Low, Release, High],
+        &[High, Silent],
+        &[Low, High, Silent],
+        &[Release, High, Silent],
+        &[Low, Release, High, Silent],
     ];
     for levels in choices {
         let mut passed = 0;
@@ -239,9 +243,15 @@ fn levels_that_are_missing() {
 /// Without H there is no page: nothing is to be kept out of sight.
 #[test]
 fn no_level_is_high() {
-    use Level::{Low, Release};
+    use Level::{Low, Release, Silent};
     let mut rng = gen::seeded("pages::no_level_is_high", SEED + 11);
-    for levels in [&[Low][..], &[Release], &[Low, Release]] {
+    for levels in [
+        &[Low][..],
+        &[Release],
+        &[Low, Release],
+        &[Silent],
+        &[Low, Release, Silent],
+    ] {
         for _ in 0..100 {
             let model = of_levels(&mut rng, levels);
             let before = Lists::enough(&mut rng);

@@ -10,7 +10,7 @@ use suite::books::Book;
 use suite::input::Input;
 use suite::lists::{every_length, with_length, Lengths, List, Lists, LEAST};
 use suite::operations::{on_stores, AnyOperation, CHECK, PRINT, READ, RUN, TELL, WORD};
-use suite::stores::{self, Store, HIGH, LOW, RELEASE};
+use suite::stores::{self, Store, HIGH, LOW, RELEASE, SILENT};
 
 const SEED: u64 = 7_600;
 
@@ -85,7 +85,7 @@ const NO_STATE: u16 = 128;
 
 /// A damaged store of a model: its first action has a level that is none.
 fn damaged(model: &Model) -> Store {
-    Store::of(model).damaged("no such level", &[(action_place(0), 3)])
+    Store::of(model).damaged("no such level", &[(action_place(0), 4)])
 }
 
 /// 21 before all else, at the first list that is too short.
@@ -254,16 +254,17 @@ const PRINTING: usize = 18;
 const CLOSE: usize = 32;
 const UNUSED: usize = 46;
 
-/// 22 from every operation where the only high action was made low or release, whatever the state and the book are; 21
-/// comes before it, for each list, and no list changes.
+/// 22 from every operation where the only high action was made low, release or silent, whatever the state and the book
+/// are; 21 comes before it, for each list, and no list changes.
 #[test]
 fn stores_without_a_high_action() {
     let mut rng = gen::seeded("refusals::stores_without_a_high_action", SEED + 11);
     let worked = store_of(WORKED);
     let lists = Lists::enough(&mut rng);
-    let choices: [&[(usize, u16)]; 6] = [
+    let choices: [&[(usize, u16)]; 7] = [
         &[(PRINTING, LOW)],
         &[(PRINTING, RELEASE)],
+        &[(PRINTING, SILENT)],
         &[(SCAN, RELEASE), (PRINTING, RELEASE)],
         &[(PRINTING, LOW), (CLOSE, LOW)],
         // a high level where no action is
@@ -293,8 +294,8 @@ fn stores_without_a_high_action() {
     }
 }
 
-/// The only high action of 64 made low or release, wherever it stands. With two of them one is left, and the store is
-/// good.
+/// The only high action of 64 made low, release or silent, wherever it stands. With two of them one is left, and the
+/// store is good.
 #[test]
 fn one_level_of_a_store() {
     let mut rng = gen::seeded("refusals::one_level_of_a_store", SEED + 12);
@@ -307,7 +308,7 @@ fn one_level_of_a_store() {
     for high in [0, 1, 31, 62, 63] {
         let (one, two) = (of_levels(&[high]), of_levels(&[high, (high + 7) % 64]));
         let place = action_place(high);
-        for level in [LOW, RELEASE] {
+        for level in [LOW, RELEASE, SILENT] {
             let lost = one.damaged("no high action", &[(place, level)]);
             let mut kept = two.clone();
             kept.numbers[place] = level;

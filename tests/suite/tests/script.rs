@@ -120,7 +120,7 @@ fn no_text() {
     fails_on(&folder.0.join("none"), "no such file");
     let secret = folder.0.join("secret");
     fs::write(&secret, &passed).expect("a file");
-    fs::set_permissions(&secret, fs::Permissions::from_mode(0)).expect("a file");
+    fs::set_permissions(&secret, fs::Permissions::from_mode(0o0)).expect("a file");
     // Root may read it.
     if File::open(&secret).is_err() {
         fails_on(&secret, "no permission");

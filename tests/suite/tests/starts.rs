@@ -7,12 +7,12 @@ use second::gen::{self, Rng};
 use second::meaning::{self, Deterministic};
 use second::store::{DISTANCES, STORE, TABLE};
 use second::{End, Model, Refusal, Verdict};
-use suite::archive::{Answer, Told};
+use suite::archive::Told;
 use suite::bench::{root, store_of, waking_text, WordTold, ACTIONS, TWO_STARTS, TWO_STARTS_PAGE};
 use suite::books::Book;
 use suite::input::Input;
 use suite::lists::Lists;
-use suite::operations::{Operation, ALL, JUDGE, PAGE, PRINT, RANK, REACH, READ, ROLL, RUN};
+use suite::operations::{ALL, JUDGE, PAGE, PRINT, RANK, REACH, READ, ROLL, RUN};
 use suite::operations::{TELL, WORD};
 use suite::stores::Store;
 
@@ -66,20 +66,6 @@ fn two_starts_roll() -> String {
     lines.map(|line| format!("{line:<42}\n")).concat()
 }
 
-/// The archive answers so and leaves the lists so.
-fn fills<A: Answer>(
-    operation: &Operation<A>,
-    input: impl Into<Input>,
-    before: &Lists,
-    answer: A,
-    after: &Lists,
-) {
-    let mut lists = before.clone();
-    let name = operation.name;
-    assert_eq!(operation.told(input, &mut lists), Ok(answer), "{name}");
-    assert!(lists == *after, "{name}: {}", lists.difference(after));
-}
-
 /// State 3 is three steps from 0 and one from 4. From 4 alone a step leads to 5 and on to its print, step 9.
 #[test]
 fn two_starts_in_full() {
@@ -88,32 +74,32 @@ fn two_starts_in_full() {
     let mut reached = before.clone();
     reached.distances[..DISTANCES].fill(65_535);
     reached.distances[..8].copy_from_slice(&[0, 1, 2, 1, 0, 1, 2, 3]);
-    fills(&REACH, &store, &before, (), &reached);
+    REACH.fills(&store, &before, (), &reached);
     let runs: [&[u16]; 8] = [&[], &[0], &[0, 1], &[7], &[], &[6], &[6, 9], &[6, 9, 10]];
     for (state, run) in (0..).zip(runs) {
         let mut after = reached.clone();
         after.run[..run.len()].copy_from_slice(run);
-        fills(&RUN, (&store, state), &before, run.len(), &after);
+        RUN.fills((&store, state), &before, run.len(), &after);
     }
 
     let mut judged = reached.clone();
     judged.table[..TABLE].copy_from_slice(&two_starts_table());
     let mut ranked = judged.clone();
     ranked.distances = before.distances.clone();
-    fills(&RANK, &store, &before, 2, &ranked);
-    fills(&JUDGE, &store, &before, refused(9, 2), &judged);
+    RANK.fills(&store, &before, 2, &ranked);
+    JUDGE.fills(&store, &before, refused(9, 2), &judged);
     let mut shown = judged.clone();
     shown.word[..2].copy_from_slice(&[SCAN, SCAN]);
-    fills(&WORD, &store, &before, (2, End::Source), &shown);
+    WORD.fills(&store, &before, (2, End::Source), &shown);
 
     shown.run[0] = 6;
     let (page, roll) = (TWO_STARTS_PAGE, two_starts_roll());
     let mut paged = shown.clone();
     paged.page[..page.len()].copy_from_slice(page);
-    fills(&PAGE, &store, &before, page.len(), &paged);
+    PAGE.fills(&store, &before, page.len(), &paged);
     let mut rolled = shown;
     rolled.roll[..roll.len()].copy_from_slice(roll.as_bytes());
-    fills(&ROLL, &store, &before, roll.len(), &rolled);
+    ROLL.fills(&store, &before, roll.len(), &rolled);
 }
 
 /// The same from the text; and the examples are what is worked out here.
@@ -123,7 +109,7 @@ fn two_starts_from_the_text() {
     let before = Lists::enough(&mut rng);
     let mut read = before.clone();
     read.store[..STORE].copy_from_slice(&store_of(TWO_STARTS));
-    fills(&READ, TWO_STARTS, &before, (), &read);
+    READ.fills(TWO_STARTS, &before, (), &read);
     let (length, after) = PRINT.same(TWO_STARTS, &before);
     assert_eq!(length, Ok(TWO_STARTS_PAGE.len()));
     assert!(after.page.starts_with(TWO_STARTS_PAGE));

@@ -1,5 +1,6 @@
-/* The worked example, and texts that are refused, through the operations as a C program calls them. It prints the
-   page. The numbers are the documents'; the first that differs is told, and the program then ends with 1. */
+/* The worked example, tills with further starts and with ticks, and texts that are refused, through the operations as a
+   C program calls them. It prints the worked example's page. The numbers are the documents'; the first that differs is
+   told, and the program then ends with 1. */
 #include <stdio.h>
 #include <stdlib.h>
 #include <string.h>
@@ -28,6 +29,8 @@ _Static_assert(TILL_TOO_LONG == 1 && TILL_FORM == 2 && TILL_RANGE == 3, "refusal
 _Static_assert(TILL_REPEATED == 4 && TILL_ORDER == 5, "refusals of a text");
 _Static_assert(TILL_DIGITS == 31 && TILL_ABSENT == 32 && TILL_START_ORDER == 33, "refusals of a text");
 _Static_assert(TILL_NO_HIGH == 35, "refusals of a text");
+_Static_assert(TILL_LOW == 0 && TILL_RELEASE == 1 && TILL_HIGH == 2 && TILL_SILENT == 3, "levels");
+_Static_assert(TILL_SILENT_STEP == 36 && TILL_SILENT_MOVE == 255, "silent steps");
 
 static const char text[] = "M,4,3,4,0\nA,L,scan\nA,H,print\nA,D,close\n"
                            "S,0,0,1\nS,0,1,2\nS,1,0,1\nS,2,0,3\nE\n";
@@ -275,6 +278,47 @@ static void wakes(void) {
     refuses("Write", till_write(store, TILL_STORE, out, 14420), TILL_SHORT_LIST, 2);
 }
 
+/* After the print the timer may switch the scanner off: state 2 comes to 3 silently. State 0 can only stay. */
+static void ticks(void) {
+    static const char ticking[] = "M,4,4,6,0\nA,L,scan\nA,H,print\nA,D,close\nA,T,tick\n"
+                                  "S,0,0,1\nS,0,1,2\nS,1,2,0\nS,2,0,1\nS,2,3,3\nS,3,2,0\nE\n";
+    static const char ticking_page[] = "V,refuse,1,2\nC,0,0,0\nC,1,1,1\nC,2,1,2\nC,3,2,1\nN\nE\n";
+    static const uint8_t ranks[4][4] = {{0, 1, 2, 1}, {1, 0, 1, 0}, {2, 1, 0, 1}, {1, 0, 1, 0}};
+    memset(store, 7, sizeof store);
+    answers("Read", till_read((const uint8_t *)ticking, sizeof ticking - 1, store, TILL_STORE), 0, 0, 0);
+    expect("the level of tick", store[TILL_ACTION_LEVEL(3)], TILL_SILENT);
+    forget();
+    answers("Write", till_write(store, TILL_STORE, out, TILL_WRITTEN), 1, sizeof ticking - 1, 0);
+    expect_out(ticking, sizeof ticking - 1);
+    forget();
+    refuses("Word", till_word(store, TILL_STORE, distances, TILL_DISTANCES, table, TILL_TABLE, word, TILL_WORD),
+            TILL_SILENT_STEP, 4);
+    expect_distances();
+    for (size_t p = 0; p < 4; p++)
+        for (size_t q = 0; q < 4; q++) expect("a rank", table[TILL_PAIR(p, q)], ranks[p][q]);
+    expect_letters(0);
+    answers("Judge", till_judge(store, TILL_STORE, distances, TILL_DISTANCES, table, TILL_TABLE), 2, 1, 2);
+    forget();
+    answers("Page",
+            till_page(store, TILL_STORE, distances, TILL_DISTANCES, table, TILL_TABLE, run, TILL_RUN, word, TILL_WORD,
+                      out, TILL_PAGE),
+            1, sizeof ticking_page - 1, 0);
+    expect_out(ticking_page, sizeof ticking_page - 1);
+    expect_letters(0);
+    answers("Book", till_book(store, TILL_STORE, table, TILL_TABLE, book, TILL_BOOK), 0, 0, 0);
+    expect("a side", book[TILL_ENTRY_SIDE(0, 2)], TILL_SECOND);
+    expect("an action", book[TILL_ENTRY_ACTION(0, 2)], TILL_SILENT_MOVE);
+    expect("a target", book[TILL_ENTRY_TARGET(0, 2)], 3);
+    expect("a depth", book[TILL_ENTRY_DEPTH(0, 2)], 2);
+    answers("Check", till_check(store, TILL_STORE, book, TILL_BOOK), 0, 0, 0);
+    /* The number of the silent action is no opening. */
+    book[TILL_ENTRY_ACTION(0, 2)] = 3;
+    refuses("Check", till_check(store, TILL_STORE, book, TILL_BOOK), TILL_NOT_SOUND, TILL_PAIR(0, 2));
+    /* A number past the levels is none. */
+    store[TILL_ACTION_LEVEL(3)] = TILL_SILENT + 1;
+    refuses("Judge", till_judge(store, TILL_STORE, distances, TILL_DISTANCES, table, TILL_TABLE), TILL_NOT_GOOD, 0);
+}
+
 /* No operation takes the store, and each list is as it was. */
 static void expect_not_good(void) {
     forget();
@@ -307,9 +351,9 @@ static void expect_not_good(void) {
 
 /* A store that was kept, and that has no high action. */
 static void lacks_high(void) {
-    static const uint16_t levels[2] = {TILL_LOW, TILL_RELEASE};
+    static const uint16_t levels[3] = {TILL_LOW, TILL_RELEASE, TILL_SILENT};
     reads();
-    for (size_t i = 0; i < 2; i++) {
+    for (size_t i = 0; i < 3; i++) {
         store[TILL_ACTION_LEVEL(1)] = levels[i];
         expect_not_good();
     }
@@ -364,6 +408,7 @@ int main(void) {
     plays();
     shows();
     wakes();
+    ticks();
     lacks_high();
     tells();
     answers("print", print(text, TEXT_LENGTH - 1), 1, 7, 0);

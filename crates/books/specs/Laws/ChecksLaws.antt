@@ -17,7 +17,7 @@ use Rattle.books.specs.Checks.{checkedOutcome, FirstBad, CheckDone, acce
 use Rattle.books.specs.Inner.Sides.{SoundBefore, SoundTo}
 
 -- Entry k is that of k / 128 and k % 128, and of no others.
-at-number : (P : ℕ → ℕ → Type 0) {k : ℕ} → P (k / stateLimit) (k % stateLimit) → (p q : ℕ) → q < stateLimit
+pub at-number : (P : ℕ → ℕ → Type 0) {k : ℕ} → P (k / stateLimit) (k % stateLimit) → (p q : ℕ) → q < stateLimit
     → pairPlace p q ≡ k → P p q
 at-number P {k} h p q lq e =
     let ep : k / stateLimit ≡ p = omega arith in

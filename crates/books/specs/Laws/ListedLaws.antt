@@ -1,15 +1,17 @@
--- Lists that have just the moves of a relation have its book, and the same books are sound. Document 02, (v). Assumes
--- nothing.
+-- Lists that have just the moves of a relation have its book, and the same books are sound. Document 02, (v) and (vii).
+-- Assumes nothing.
 use mathlib.Core.List.{List}
 use mathlib.Core.Path.{_≡_, sym, subst}
 use Prim.Native.Nat.{ℕ}
-use Rattle.lts.specs.Alike.{Moves}
+use Rattle.lts.specs.Alike.{Moves, Relation}
 use Rattle.lts.specs.OwnBookLaws.{ownBook-same}
+use Rattle.lts.specs.Weak.{Weak}
+use Rattle.lts.specs.WeakLaws.{weak-map}
 use Rattle.text.specs.Faults.{Outcome}
 use Rattle.text.specs.Limits.{stateLimit}
 use Rattle.comparing.specs.MoveList.{Listed, Lists, Ordered}
 use Rattle.books.specs.Books.{bookOf, BookFilled}
-use Rattle.books.specs.Checks.{CheckDone}
+use Rattle.books.specs.Checks.{CheckDone, StillMove}
 use Rattle.books.specs.Laws.ChecksLaws.{checkDone-same}
 
 module _ {Move : Moves} {n : ℕ} {first actions targets : List ℕ} (l : Lists Move n first actions targets) {x : ℕ}
@@ -23,8 +25,10 @@ module _ {Move : Moves} {n : ℕ} {first actions targets : List ℕ} (l : Lists 
       let f = subst (λ (y : ℕ). BookFilled (Listed y first actions targets) y entry exit) e h in
       record { own = ownBook-same (l .sound) (l .complete) n stateLimit (bookOf exit) (f .own); past = f .past }
 
-  pub checkDone-of-listed : {book : List ℕ} {outcome : Outcome}
-      → CheckDone (Listed x first actions targets) book outcome → CheckDone Move book outcome
-  checkDone-of-listed {book} {outcome} h =
-      checkDone-same (l .sound) (l .complete)
-      (subst (λ (y : ℕ). CheckDone (Listed y first actions targets) book outcome) e h)
+  -- Where the low steps are those of the relation and no step is silent.
+  pub checkDone-of-listed : {Tick : Relation} → ((p q : ℕ) → ¬ (Tick p q)) → {book : List ℕ} {outcome : Outcome}
+      → CheckDone (StillMove x first actions targets) book outcome → CheckDone (Weak Move Tick n) book outcome
+  checkDone-of-listed {Tick} still {book} {outcome} h =
+      checkDone-same {M = StillMove n first actions targets} {N = Weak Move Tick n}
+      (λ p a q m. weak-map (l .sound) (λ y z t. absurd t) m) (λ p a q m. weak-map (l .complete) still m)
+      (subst (λ (y : ℕ). CheckDone (StillMove y first actions targets) book outcome) e h)

@@ -1,9 +1,9 @@
 -- The room of the receipt roll. Each line but the last of a state has two names, each name a low step of its own, and
--- the depth is at most the number of states with a name: so no roll needs more lines than its list has.
--- Document 02, (ii): "out with at least 35,840 bytes". Assumes nothing.
+-- where a word is shown the depth is at most the number of states with a name: so no roll needs more lines than its
+-- list has. Document 02, (ii): "out with at least 35,840 bytes"; (vii). Assumes nothing.
 use mathlib.Core.Bool.{Bool, true, false, not, _&&_, _||_}
 use mathlib.Core.List.{List}
-use mathlib.Core.Logic.{_⊎_, inl, inr}
+use mathlib.Core.Logic.{_⊎_, inl, inr, ⊎-elim}
 use mathlib.Core.Path.{_≡_, sym}
 use Prim.Native.Nat.{ℕ, zero, suc, _+_, _*_, _-_, _≤_, _<_}
 use native.Mathlib.Omega.{arith}
@@ -11,8 +11,8 @@ use lib.Dec.{T, not-T, ltb, ltb→lt, lt→ltb, nltb→le}
 use lib.ListN.{length, length-map}
 use Rattle.lts.specs.CountLaws.{count-not, count-lt, countPairs-none, countPairs-le, countPairs-le-suc}
 use Rattle.lts.specs.Decided.{within?}
-use Rattle.lts.specs.MovingLaws.{rank-le-moving-reachable}
-use Rattle.lts.specs.Noninterference.{LowMove}
+use Rattle.lts.specs.MovingLaws.{weak-rank-le-moving}
+use Rattle.lts.specs.Weak.{LowStep}
 use Rattle.lts.specs.Run.{onward}
 use Rattle.lts.specs.Tests.{any, bit, count, countPairs}
 use Rattle.lts.specs.TestsLaws.{and-intro, and-left, and-right, or-cases, Some→any}
@@ -21,13 +21,17 @@ use Rattle.text.specs.Model.{Model}
 use Rattle.model.specs.Inner.StepTest.{tests}
 use Rattle.model.specs.Inner.Stored.{Stored}
 use Rattle.model.specs.Laws.Store.SystemLaws.{own-step, low-lt}
+use Rattle.model.specs.Laws.System.RankBoundLaws.{actions-le-silentLabel}
+use Rattle.model.specs.Laws.System.SilentStepLaws.{noTick-of-no-silentStep}
 use Rattle.model.specs.Laws.System.StepTestLaws.{decided-view}
-use Rattle.model.specs.System.{source, action, target, view, ReachableIn, nameOf}
+use Rattle.model.specs.System.{source, action, target, view, ReachableIn, NoSilentStep, nameOf}
 use Rattle.verdicts.specs.Verdicts.{RefusedAt}
 use Rattle.verdicts.specs.Laws.VerdictsLaws.{depth-lt}
-use Rattle.columns.specs.Inner.LineCount.{lineCount, linesBelow, NamesFit, passedRows, refusedRows}
+use Rattle.letters.specs.Laws.FirstSilentLaws.{silent-cases}
+use Rattle.columns.specs.Inner.LineCount.{lineCount, linesBelow, letterCount, NamesFit, passedRows, refusedRows}
 use Rattle.columns.specs.LowNames.{leaves?, lowFrom?, lowActions, lowNames}
 use Rattle.columns.specs.Laws.FirstLowLaws.{leaves?-intro, leaves?-source, leaves?-action}
+use Rattle.columns.specs.Laws.LetterCountLaws.{letterCount-silent, letterCount-still}
 use Rattle.columns.specs.Laws.PassingLaws.{passing-length}
 use Rattle.columns.specs.Laws.RowsLaws.{lineCount-le, lineCount-unnamed}
 
@@ -126,7 +130,7 @@ module _ (m : Model) where
 
   -- ---- states with a name
 
-  named : (p a q : ℕ) → LowMove (view m) p a q → T (named? p)
+  named : (p a q : ℕ) → LowStep (view m) p a q → T (named? p)
   named p a q (t, x) =
       let j = x .number in
       let u = Some→any k (leaves? m p a) j (x .number-lt) (leaves?-intro m p a j (x .source-is) (x .action-is)) in
@@ -160,27 +164,35 @@ module _ {s : List ℕ} {m : Model} (st : Stored s m) (short : NamesFit m) where
         let t : T (not (lowStep? m j)) = rw (h .is-high) tt in
         count-lt (k m) (lowStep? m) j (h .number-lt) t
 
-    -- the depth is a rank of reachable states, and each that has a low step has a name
-    depth-le-named : depth ≤ count states (named? m)
-    depth-le-named =
+    -- where no silent step can be reached, the depth is a rank of reachable states under low steps, and each that has a
+    -- low step has a name
+    depth-le-named : NoSilentStep m → depth ≤ count states (named? m)
+    depth-le-named still =
         let h = r .leak .high-step in
         let t : ReachableIn m (target m j) = onward (h .reachable) (own-step m j (h .number-lt)) in
-        let c = rank-le-moving-reachable (view m) (tests m) (decided-view st) (named? m) (λ p a q _. named m p a q)
+        let c = weak-rank-le-moving (view m) (tests m) (decided-view st) (actions-le-silentLabel st)
+        (noTick-of-no-silentStep m .0 still) (named? m) (λ p a q _. named m p a q)
         (source m j) (target m j) depth (h .reachable) t (r .leak .rank) in
         let d = count-le-count states (λ p. within? (view m) (tests m) (states - 1) p && named? m p) (named? m)
         (λ p _. and-right (within? (view m) (tests m) (states - 1) p) (named? m p)) in
         omega arith
 
-    -- the lines of the states, with a line for each letter of the word
-    pub rows-refused : linesBelow m (m .head .states) + depth ≤ refusedRows
-    rows-refused = omega (
+    -- the lines of the states, with a line for each letter of a word
+    rows-still : NoSilentStep m → linesBelow m (m .head .states) + depth ≤ refusedRows
+    rows-still still = omega (
       arith,
       linesBelow-bound m short states,
       names-le m states (k m),
       low-steps-lt,
       depth-lt st r,
-      depth-le-named,
+      depth-le-named still,
       count-not states (named? m),
       st .steps-le,
       st .states-le,
     )
+
+    -- the same with the letters that are shown: none where a silent step can be reached
+    pub rows-refused : linesBelow m (m .head .states) + letterCount m depth ≤ refusedRows
+    rows-refused = ⊎-elim
+        (λ x. omega (arith, rows-passed, letterCount-silent st (x .0) (x .1 .holds) depth))
+        (λ still. omega (arith, rows-still still, letterCount-still st still depth)) (silent-cases st)

@@ -1,5 +1,5 @@
--- Marks: one place for each label and class of states, by which two states are compared in about the number of their
--- moves. Only the contracts of inner functions cite it.
+-- Marks: one place for each action and class of states, by which two states are compared in about the number of their
+-- steps. Only the contracts of inner functions cite it.
 use mathlib.Core.List.{List}
 use mathlib.Core.Logic.{_⊎_}
 use mathlib.Core.Path.{_≡_}
@@ -7,40 +7,21 @@ use Prim.Native.Nat.{ℕ, _+_, _*_, _≤_, _<_}
 use lib.ListN.{getD}
 use Rattle.lts.specs.Alike.{Moves}
 use Rattle.text.specs.Limits.{stateLimit, actionLimit}
-use Rattle.comparing.specs.MoveList.{Listed, InRow, silentLabel}
 
--- A place for each label and class: the actions, and that of silent moves.
+-- A place for each action and class.
 abbrev pub marksLength : ℕ
-marksLength = (actionLimit + 1) * stateLimit
+marksLength = actionLimit * stateLimit
 
--- The place of the label a and the class c.
+-- The place of the action a and the class c.
 abbrev pub markPlace : ℕ → ℕ → ℕ
 markPlace a c = stateLimit * a + c
 
 -- A move of p has the place i.
 pub record Reaches (Move : Moves) (class : List ℕ) (p i : ℕ) : Type 0 where
-  pub label : ℕ
-  pub target : ℕ
-  pub move : Move p label target
-  pub place-is : markPlace label (getD class target 0) ≡ i
-
--- The label a and a state in the row of p have the place i.
-pub record RowReaches (n : ℕ) (begins rows class : List ℕ) (a p i : ℕ) : Type 0 where
-  pub target : ℕ
-  pub in-row : InRow n begins rows p target
-  pub place-is : markPlace a (getD class target 0) ≡ i
-
--- A step of p and a state in the row of its target have the place i.
-pub record StepReaches (n : ℕ) (first actions targets begins rows class : List ℕ) (p i : ℕ) : Type 0 where
   pub action : ℕ
-  pub to : ℕ
-  pub step : Listed n first actions targets p action to
-  pub row : RowReaches n begins rows class action to i
-
--- Where each row holds its own state alone: a step of p, or the silent move that stays in p, has the place i.
-abbrev pub OwnReaches : ℕ → List ℕ → List ℕ → List ℕ → List ℕ → ℕ → ℕ → Type 0
-OwnReaches n first actions targets class p i =
-    Reaches (Listed n first actions targets) class p i ⊎ (markPlace silentLabel (getD class p 0) ≡ i)
+  pub target : ℕ
+  pub move : Move p action target
+  pub place-is : markPlace action (getD class target 0) ≡ i
 
 -- Q holds of i with some number from `from` up to `to`.
 pub record Among (Q : ℕ → ℕ → Type 0) (from to i : ℕ) : Type 0 where
@@ -52,20 +33,6 @@ pub record Among (Q : ℕ → ℕ → Type 0) (from to i : ℕ) : Type 0 where
 -- Step j has the place i.
 abbrev pub ListedPlace : List ℕ → List ℕ → List ℕ → ℕ → ℕ → Type 0
 ListedPlace actions targets class j i = markPlace (getD actions j 0) (getD class (getD targets j 0) 0) ≡ i
-
--- Entry j of the rows and the label a have the place i.
-abbrev pub RowPlace : List ℕ → List ℕ → ℕ → ℕ → ℕ → Type 0
-RowPlace rows class a j i = markPlace a (getD class (getD rows j 0) 0) ≡ i
-
--- Step j and a state in the row of its target have the place i.
-abbrev pub StepPlace : ℕ → List ℕ → List ℕ → List ℕ → List ℕ → List ℕ → ℕ → ℕ → Type 0
-StepPlace n actions targets begins rows class j =
-    RowReaches n begins rows class (getD actions j 0) (getD targets j 0)
-
--- A step of entry j of the rows and a state in the row of its target have the place i.
-abbrev pub LowPlace : ℕ → List ℕ → List ℕ → List ℕ → List ℕ → List ℕ → List ℕ → ℕ → ℕ → Type 0
-LowPlace n first actions targets begins rows class j =
-    StepReaches n first actions targets begins rows class (getD rows j 0)
 
 -- The places that P holds of were given the value, and no others.
 pub record Marked (P : ℕ → Type 0) (value : ℕ) (entry exit : List ℕ) : Type 0 where

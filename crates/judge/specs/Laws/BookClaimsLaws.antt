@@ -7,7 +7,8 @@ use mathlib.Core.Path.{_≡_, ap}
 use Prim.Native.Nat.{ℕ, zero, suc, _<_}
 use native.Mathlib.Omega.{arith}
 use lib.ListN.{length}
-use Rattle.lts.specs.Noninterference.{LowMove}
+use Rattle.lts.specs.Weak.{WeakMove}
+use Rattle.lts.specs.WeakLaws.{weak-target-lt}
 use Rattle.lts.specs.Book.{Entry, Sound}
 use Rattle.lts.specs.TestsLaws.{lt-or-le}
 use Rattle.lts.specs.BookLaws.{sound-not-paired, sound-rank-zero}
@@ -22,8 +23,7 @@ use Rattle.model.specs.Store.{Good}
 use Rattle.model.specs.System.{view, IsState}
 use Rattle.model.specs.Laws.OnStoreLaws.{onStore-answered}
 use Rattle.model.specs.Laws.System.GoodStoredLaws.{good-stored}
-use Rattle.model.specs.Laws.System.StepTestLaws.{decided-view}
-use Rattle.model.specs.Laws.System.RankBoundLaws.{low-step-game}
+use Rattle.model.specs.Laws.System.RankBoundLaws.{weak-move-game}
 use Rattle.books.specs.Books.{bookOf}
 use Rattle.books.specs.Checks.{CheckDone, accepted, refused}
 use Rattle.judge.specs.BookPromise.{bookLists}
@@ -35,11 +35,11 @@ module _ {store : List ℕ} (g : Good store) where
   abbrev m : Model
   m = g .model
 
-  -- A low step leads to a state, and there are at most as many as numbers of a pair.
-  stays : (p a q : ℕ) → p < stateLimit → LowMove (view m) p a q → q < stateLimit
+  -- A move leads to a state, and there are at most as many as numbers of a pair.
+  stays : (p a q : ℕ) → p < stateLimit → WeakMove (view m) p a q → q < stateLimit
   stays p a q l x =
       let st = good-stored store g in
-      omega (arith, decided-view st .steps .target-lt p a q (x .1), st .states-le)
+      omega (arith, weak-target-lt x, st .states-le)
 
   state-lt : {p : ℕ} → IsState m p → p < stateLimit
   state-lt l = omega (arith, l, good-stored store g .states-le)
@@ -48,11 +48,11 @@ module _ {store : List ℕ} (g : Good store) where
 
 -- What is accepted is sound, whichever text the store is good by: it shows one model.
 sound-of-accepted : {store book : List ℕ} → Accepts store book → (g : Good store)
-    → Sound (LowMove (view (g .model))) stateLimit (bookOf book)
+    → Sound (WeakMove (view (g .model))) stateLimit (bookOf book)
 sound-of-accepted {store} {book} x g = go (x .good (onStore-answered x .0) g)
   where
-    go : CheckDone (LowMove (view (g .model))) book (answers [])
-        → Sound (LowMove (view (g .model))) stateLimit (bookOf book)
+    go : CheckDone (WeakMove (view (g .model))) book (answers [])
+        → Sound (WeakMove (view (g .model))) stateLimit (bookOf book)
     go (accepted s e) = s
     go (refused p q b e) = absurd (answers-not-refuses e)
 
@@ -63,19 +63,19 @@ accepts-exactly = record {
 }
   where
     go : (store book : List ℕ) {outcome : Outcome} (g : Good store)
-        → Sound (LowMove (view (g .model))) stateLimit (bookOf book)
-        → CheckDone (LowMove (view (g .model))) book outcome → outcome ≡ answers []
+        → Sound (WeakMove (view (g .model))) stateLimit (bookOf book)
+        → CheckDone (WeakMove (view (g .model))) book outcome → outcome ≡ answers []
     go store book g s (accepted t e) = e
     go store book g s (refused p q b e) = absurd (b .bad (s p q (b .first-lt) (b .second-lt)))
 
 pub accepted-not-paired : AcceptedNotPaired
 accepted-not-paired store book x g R b p q lp lq =
-    sound-not-paired (LowMove (view (g .model))) stateLimit (stays g) (bookOf book) (sound-of-accepted x g) R b p q
+    sound-not-paired (WeakMove (view (g .model))) stateLimit (stays g) (bookOf book) (sound-of-accepted x g) R b p q
     (state-lt g lp) (state-lt g lq)
 
 pub rank-zero-absent : RankZeroAbsent
 rank-zero-absent store book x g p q lp lq =
-    sound-rank-zero (LowMove (view (g .model))) stateLimit (stays g) (bookOf book) (sound-of-accepted x g) p q
+    sound-rank-zero (WeakMove (view (g .model))) stateLimit (stays g) (bookOf book) (sound-of-accepted x g) p q
     (state-lt g lp) (state-lt g lq)
 
 -- ---- our own book
@@ -98,9 +98,9 @@ own-entries store table book table′ book′ x g p q zero lp lq y =
     )
 own-entries store table book table′ book′ x g p q (suc r) lp lq y =
     let filled = x .good (onStore-answered x .0) g .1 .book-filled in
-    let move = LowMove (view (g .model)) in
+    let move = WeakMove (view (g .model)) in
     let l : 0 < suc r = omega arith in
-    let game = low-step-game (good-stored store g) in (
+    let game = weak-move-game (good-stored store g) in (
       (λ h. l, λ k. own-present move (g .model .head .states) _ game (filled .own) p q (suc r) lp lq y l),
       filled .own .apart p q (suc r) lp lq y l .depth-is,
     )
@@ -111,6 +111,6 @@ own-accepted store table book table′ book′ outcome x y =
     let g = answered .1 .0 in
     let filled = answered .1 .1 .1 .book-filled in
     let long = check-lists store table book book′ (answered .0) (filled .past .same-length) in
-    let game = low-step-game (good-stored store g) in
+    let game = weak-move-game (good-stored store g) in
     accepts-exactly .each-sound store book′ outcome long g
-    (own-sound (LowMove (view (g .model))) (g .model .head .states) _ game (filled .own)) y
+    (own-sound (WeakMove (view (g .model))) (g .model .head .states) _ game (filled .own)) y

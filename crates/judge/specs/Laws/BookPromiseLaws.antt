@@ -7,8 +7,8 @@ use Rattle.text.specs.Faults.{Outcome}
 use Rattle.model.specs.System.{view}
 use Rattle.model.specs.Laws.OnStoreLaws.{onStore-unique}
 use Rattle.model.specs.Laws.System.GoodStoredLaws.{good-stored}
-use Rattle.model.specs.Laws.System.RankBoundLaws.{low-step-game}
-use Rattle.lts.specs.Noninterference.{LowMove}
+use Rattle.model.specs.Laws.System.RankBoundLaws.{weak-move-game}
+use Rattle.lts.specs.Weak.{WeakMove}
 use Rattle.ranking.specs.Laws.RankedLaws.{ranks-unique}
 use Rattle.books.specs.Laws.BytesLaws.{bookFilled-unique}
 use Rattle.judge.specs.BookPromise.{BookPromise}
@@ -23,9 +23,9 @@ bookPromise-unique store table book outcome outcome′ t b t′ b′ =
     let v = y .1 in (
       x .0 ∙ sym (y .0),
       (
-        ranks-unique (LowMove (view m)) (m .head .states) table t t′ (u .ranks) (u .table-past) (v .ranks)
+        ranks-unique (WeakMove (view m)) (m .head .states) table t t′ (u .ranks) (u .table-past) (v .ranks)
             (v .table-past),
-        bookFilled-unique (LowMove (view m)) (m .head .states) _ (low-step-game (good-stored store g)) b b′
+        bookFilled-unique (WeakMove (view m)) (m .head .states) _ (weak-move-game (good-stored store g)) b b′
             (u .book-filled .own) (v .book-filled .own) book (u .book-filled .past) (v .book-filled .past),
       ),
     ))

@@ -11,7 +11,7 @@ use Rattle.model.specs.Laws.OnStoreLaws.{onStore-unique}
 use Rattle.verdicts.specs.Laws.JudgeFilledLaws.{filled-unique}
 use Rattle.model.specs.Laws.System.GoodStoredLaws.{good-stored}
 use Rattle.letters.specs.declared.word.Shown.{Shown}
-use Rattle.letters.specs.declared.word.Shown.the-variants.{Word, NotDeterministic, NoLeak}
+use Rattle.letters.specs.declared.word.Shown.the-variants.{Word, NotDeterministic, Silent, NoLeak}
 use Rattle.letters.specs.WordDone.{shownOutcome}
 use Rattle.letters.specs.Laws.WordDoneLaws.{shownBack, shownBack-is, wordDone-unique}
 use Rattle.judge.specs.declared.word.WordAnswer.{WordAnswer}
@@ -28,6 +28,7 @@ wordBack-shown : (s : Shown) → wordBack (shownOutcome s) ≡ word.Shown (shown
 unfolding shownOutcome wordBack
 wordBack-shown (Word length end) = refl
 wordBack-shown (NotDeterministic j) = refl
+wordBack-shown (Silent j) = refl
 wordBack-shown NoLeak = refl
 
 wordBack-is : (a : WordAnswer) → wordBack (wordOutcome a) ≡ a

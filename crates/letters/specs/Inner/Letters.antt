@@ -4,15 +4,14 @@ use mathlib.Core.List.{List}
 use mathlib.Core.Path.{_≡_}
 use Prim.Native.Nat.{ℕ, _≤_, _<_}
 use lib.Dec.{T}
-use lib.ListN.{length}
-use Rattle.lts.specs.Alike.{Separated}
+use lib.ListN.{length, getD}
+use Rattle.lts.specs.Alike.{Separated, Rank}
 use Rattle.text.specs.Limits.{actionLimit}
-use Rattle.text.specs.Limits.{tableLength, wordLength}
+use Rattle.text.specs.Limits.{tableLength, wordLength, pairPlace}
 use Rattle.text.specs.First.{First}
 use Rattle.text.specs.Model.{Model}
 use Rattle.model.specs.System.{source, action, target, ReachableIn, DeterministicModel, view}
 use Rattle.text.specs.Limits.{indexLength}
-use Rattle.ranking.specs.Table.{Ranks}
 use Rattle.verdicts.specs.declared.judging.Verdict.{Verdict}
 use Rattle.verdicts.specs.Verdicts.{Judged}
 use Rattle.model.specs.Inner.Index.{Index}
@@ -21,7 +20,7 @@ use Rattle.model.specs.Inner.Roles.{Roles}
 use Rattle.model.specs.Inner.Stored.{Stored}
 use Rattle.letters.specs.declared.branch.Found.{Found}
 use Rattle.letters.specs.declared.branch.Found.the-variants.{At, Nothing}
-use Rattle.lts.specs.Noninterference.{LowMove}
+use Rattle.lts.specs.Weak.{LowStep}
 
 -- ---- what is found
 
@@ -51,7 +50,7 @@ pub record Alone (m : Model) (p q j : ℕ) : Type 0 where
 pub record Answer (m : Model) (q k j i : ℕ) : Type 0 where
   pub is-low : T (view m .levels .low? (action m j))
   pub step-of : StepOf m q (action m j) i
-  pub targets : Separated (LowMove (view m)) (target m j) (target m i) k
+  pub targets : Separated (LowStep (view m)) (target m j) (target m i) k
 
 -- Step j of p has such an answer.
 pub record HasAnswer (m : Model) (p q k j : ℕ) : Type 0 where
@@ -65,8 +64,8 @@ pub record FirstLetter (m : Model) (p q k j i : ℕ) : Type 0 where
   pub number-lt : j < length (m .steps)
   pub source-is : source m j ≡ p
   pub answer : Answer m q k j i
-  pub first : (b x y : ℕ) → b < action m j → LowMove (view m) p b x → LowMove (view m) q b y
-      → ¬ (Separated (LowMove (view m)) x y k)
+  pub first : (b x y : ℕ) → b < action m j → LowStep (view m) p b x → LowStep (view m) q b y
+      → ¬ (Separated (LowStep (view m)) x y k)
 
 -- ---- what is taken
 
@@ -78,18 +77,19 @@ pub record StepLists (m : Model) (store begins roles : List ℕ) : Type 0 where
   pub roles-length : actionLimit ≤ length roles
   pub roles-are : Roles (view m .levels) (m .head .actions) roles
 
--- The same with the ranks of its states.
+-- The same with the ranks of its reachable states, where no silent step can be reached: those under low steps.
 pub record WordLists (m : Model) (store begins roles table : List ℕ) : Type 0 where
   pub step-lists : StepLists m store begins roles
   pub table-length : tableLength ≤ length table
-  pub ranks : Ranks (LowMove (view m)) (m .head .states) table
+  pub ranks : (p q : ℕ) → ReachableIn m p → ReachableIn m q
+      → Rank (LowStep (view m)) p q (getD table (pairPlace p q) 0)
 
 -- Two reachable states of a deterministic model, which the round k separates.
 pub record SeparatedPair (m : Model) (p q k : ℕ) : Type 0 where
   pub deterministic : DeterministicModel m
   pub first-reachable : ReachableIn m p
   pub second-reachable : ReachableIn m q
-  pub separated : Separated (LowMove (view m)) p q k
+  pub separated : Separated (LowStep (view m)) p q k
 
 -- A good store, judged, with the lists made from it and room for a word.
 pub record Showable (m : Model) (v : Verdict) (store begins roles distances table word : List ℕ) : Type 0 where

@@ -11,13 +11,14 @@ use lib.ListN.{length, getD}
 use Rattle.lts.specs.Alike.{Separated, Rank}
 use Rattle.lts.specs.AlikeLaws.{rank-unique, rank-of-separated, separated-of-rank}
 use Rattle.lts.specs.FirstWordLaws.{letter-of-separated}
+use Rattle.lts.specs.Run.{onward}
 use Rattle.lts.specs.TestsLaws.{lt-or-le}
 use Rattle.text.specs.declared.Step.{Step}
 use Rattle.text.specs.First.{First}
 use Rattle.text.specs.Limits.{pairPlace}
 use Rattle.text.specs.Model.{Model, low}
 use Rattle.model.specs.System.{source, action, target, ReachableIn, DeterministicModel, view}
-use Rattle.model.specs.Laws.Store.SystemLaws.{deterministicModel→Deterministic}
+use Rattle.model.specs.Laws.Store.SystemLaws.{own-step, deterministicModel→Deterministic}
 use Rattle.model.specs.Inner.Index.{Index}
 use Rattle.model.specs.Inner.Stored.{Stored}
 use Rattle.model.specs.Laws.System.RolesLaws.{low-of-role, role-of-low}
@@ -27,7 +28,7 @@ use Rattle.letters.specs.declared.branch.Found.{Found}
 use Rattle.letters.specs.declared.branch.Found.the-variants.{At, Nothing}
 use Rattle.letters.specs.Inner.Letters.{FoundFirst, StepOf, Unanswered, Answer, HasAnswer}
 use Rattle.letters.specs.Inner.Letters.{FirstLetter, StepLists, WordLists, SeparatedPair}
-use Rattle.lts.specs.Noninterference.{LowMove}
+use Rattle.lts.specs.Weak.{LowStep}
 
 -- ---- the first step
 
@@ -88,43 +89,45 @@ module _ {m : Model} {store begins roles : List ℕ} (L : StepLists m store begi
     none = λ i x. none i (stepOf-at (sym e) x);
   }
 
--- ---- the entry of two targets x and y
+-- ---- the entry of two targets x and y, of step j and of q's step i
 
-module _ {m : Model} {store begins roles table : List ℕ} (L : WordLists m store begins roles table) {j i : ℕ}
-    (l : j < length (m .steps)) (n : i < length (m .steps)) {x y : ℕ} (e : x ≡ target m j) (f : y ≡ target m i) where
-  target-rank : Rank (LowMove (view m)) (target m j) (target m i) (getD table (pairPlace x y) 0)
+module _ {m : Model} {store begins roles table : List ℕ} (L : WordLists m store begins roles table) {j i q a : ℕ}
+    (l : j < length (m .steps)) (r : ReachableIn m (source m j)) (t : ReachableIn m q) (s : StepOf m q a i) {x y : ℕ}
+    (e : x ≡ target m j) (f : y ≡ target m i) where
+  target-rank : Rank (LowStep (view m)) (target m j) (target m i) (getD table (pairPlace x y) 0)
   target-rank =
-      let st = L .step-lists .stored in
       let same : getD table (pairPlace (target m j) (target m i)) 0 ≡ getD table (pairPlace x y) 0 =
       (λ t. getD table (pairPlace (sym e t) (sym f t)) 0) in
-      subst (Rank (LowMove (view m)) (target m j) (target m i)) same
-      (L .ranks .ranks (target m j) (target m i) (st .target-lt j l) (st .target-lt i n))
+      subst (Rank (LowStep (view m)) (target m j) (target m i)) same
+      (L .ranks (target m j) (target m i) (onward r (own-step m j l))
+      (onward (subst (ReachableIn m) (sym (s .source-is)) t) (own-step m i (s .number-lt))))
 
   pub separated-of-entry : {k : ℕ} → 0 < k → getD table (pairPlace x y) 0 ≡ k
-      → Separated (LowMove (view m)) (target m j) (target m i) k
-  separated-of-entry {k} pos z = separated-of-rank (LowMove (view m)) (target m j) (target m i) k pos
-      (subst (Rank (LowMove (view m)) (target m j) (target m i)) z target-rank)
+      → Separated (LowStep (view m)) (target m j) (target m i) k
+  separated-of-entry {k} pos z = separated-of-rank (LowStep (view m)) (target m j) (target m i) k pos
+      (subst (Rank (LowStep (view m)) (target m j) (target m i)) z target-rank)
 
-  pub target-entry-of-separated : {k : ℕ} → Separated (LowMove (view m)) (target m j) (target m i) k
+  pub target-entry-of-separated : {k : ℕ} → Separated (LowStep (view m)) (target m j) (target m i) k
       → getD table (pairPlace x y) 0 ≡ k
-  target-entry-of-separated {k} s =
-      rank-unique (LowMove (view m)) (target m j) (target m i) (getD table (pairPlace x y) 0) k
-      target-rank (rank-of-separated (LowMove (view m)) (target m j) (target m i) k s)
+  target-entry-of-separated {k} z =
+      rank-unique (LowStep (view m)) (target m j) (target m i) (getD table (pairPlace x y) 0) k
+      target-rank (rank-of-separated (LowStep (view m)) (target m j) (target m i) k z)
 
   -- Step i is the one step of q with that action.
-  pub not-answer : {q a k : ℕ} → DeterministicModel m → ReachableIn m q → a ≡ action m j → StepOf m q a i
-      → ¬ (getD table (pairPlace x y) 0 ≡ k) → (o : ℕ) → ¬ (Answer m q k j o)
-  not-answer {q} {a} {k} d r g s z o h =
-      let t = h .step-of in
-      let same : o ≡ i = d .one-step o i (t .number-lt) n (subst (ReachableIn m) (sym (t .source-is)) r)
-      (t .source-is ∙ sym (s .source-is)) (t .action-is ∙ sym g ∙ sym (s .action-is)) in
+  pub not-answer : {k : ℕ} → DeterministicModel m → a ≡ action m j → ¬ (getD table (pairPlace x y) 0 ≡ k) → (o : ℕ)
+      → ¬ (Answer m q k j o)
+  not-answer {k} d g z o h =
+      let u = h .step-of in
+      let same : o ≡ i = d .one-step o i (u .number-lt) (s .number-lt)
+      (subst (ReachableIn m) (sym (u .source-is)) t) (u .source-is ∙ sym (s .source-is))
+      (u .action-is ∙ sym g ∙ sym (s .action-is)) in
       z (target-entry-of-separated
-      (subst (λ (u : ℕ). Separated (LowMove (view m)) (target m j) (target m u) k) same (h .targets)))
+      (subst (λ (v : ℕ). Separated (LowStep (view m)) (target m j) (target m v) k) same (h .targets)))
 
 -- ---- the first letter
 
 module _ {m : Model} {p q k b x y : ℕ} where
-  pub has-answer-of : (u : LowMove (view m) p b x) → LowMove (view m) q b y → Separated (LowMove (view m)) x y k
+  pub has-answer-of : (u : LowStep (view m) p b x) → LowStep (view m) q b y → Separated (LowStep (view m)) x y k
       → HasAnswer m p q k (u .1 .number)
   has-answer-of u v s = record {
     number-lt = u .1 .number-lt;
@@ -137,8 +140,8 @@ module _ {m : Model} {p q k b x y : ℕ} where
         source-is = v .1 .source-is;
         action-is = v .1 .action-is ∙ sym (u .1 .action-is);
       };
-      targets = subst (λ (w : ℕ). Separated (LowMove (view m)) w (target m (v .1 .number)) k) (sym (u .1 .target-is))
-          (subst (λ (w : ℕ). Separated (LowMove (view m)) x w k) (sym (v .1 .target-is)) s);
+      targets = subst (λ (w : ℕ). Separated (LowStep (view m)) w (target m (v .1 .number)) k) (sym (u .1 .target-is))
+          (subst (λ (w : ℕ). Separated (LowStep (view m)) x w k) (sym (v .1 .target-is)) s);
     };
   }
 
@@ -149,7 +152,7 @@ module _ {s : List ℕ} {m : Model} (st : Stored s m) where
   has-answer-some p q (suc k) pos x =
       let (a, y, z, u, v, w) = letter-of-separated (view m) _ (low-step-game st)
       (deterministicModel→Deterministic m (x .deterministic)) k p q (x .second-reachable)
-      (subst (Separated (LowMove (view m)) p q) (add-one (suc k)) (x .separated)) in
+      (subst (Separated (LowStep (view m)) p q) (add-one (suc k)) (x .separated)) in
       (u .1 .number, has-answer-of u v w)
 
   -- Steps rise by action, so the first step that has an answer has the lowest action.

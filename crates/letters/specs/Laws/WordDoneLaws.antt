@@ -1,5 +1,5 @@
 -- What Word does on a good store pins its answer and its list.
--- Document 01, operation 6. Assumes nothing.
+-- Document 01, operation 6; document 02, (vii). Assumes nothing.
 use mathlib.Core.Bool.{cond}
 use mathlib.Core.List.{List, [], _∷_, _++_}
 use mathlib.Core.Logic.{_⊎_, inl, inr, ⊎-elim}
@@ -15,7 +15,7 @@ use Rattle.lts.specs.WordLaws.{only-from-unique}
 use Rattle.text.specs.Faults.{Outcome, answers, refuses}
 use Rattle.text.specs.Laws.FirstLaws.{first-cases}
 use Rattle.text.specs.Model.{Model}
-use Rattle.model.specs.System.{source, action, target, ReachableIn, DeterministicModel, view}
+use Rattle.model.specs.System.{source, action, target, ReachableIn, DeterministicModel, NoSilentStep, view}
 use Rattle.verdicts.specs.declared.judging.Verdict.{Verdict}
 use Rattle.verdicts.specs.declared.judging.Verdict.the-variants.{Passed, Refused}
 use Rattle.model.specs.Inner.Stored.{Stored}
@@ -26,9 +26,11 @@ use Rattle.verdicts.specs.Laws.VerdictTestLaws.{verdictOf-judged}
 use Rattle.letters.specs.declared.word.End.{End}
 use Rattle.letters.specs.declared.word.End.the-variants.{Source, Target}
 use Rattle.letters.specs.declared.word.Shown.{Shown}
-use Rattle.letters.specs.declared.word.Shown.the-variants.{Word, NotDeterministic, NoLeak}
-use Rattle.letters.specs.Words.{Branches, FirstBranch, endNumber, endState, otherState, WordOf, WordShown}
+use Rattle.letters.specs.declared.word.Shown.the-variants.{Word, NotDeterministic, Silent, NoLeak}
+use Rattle.letters.specs.Words.{Branches, FirstBranch, FirstSilent, endNumber, endState, otherState}
+use Rattle.letters.specs.Words.{WordOf, WordShown}
 use Rattle.letters.specs.WordDone.{shownOutcome, WordDone}
+use Rattle.letters.specs.Laws.FirstSilentLaws.{silent-cases}
 use Rattle.letters.specs.Laws.WordsLaws.{branches-source, branches-action, branches-of}
 use Rattle.letters.specs.Laws.WordsLaws.{deterministic-of-no-branch}
 
@@ -40,7 +42,8 @@ endOf (suc n) = Target
 
 pub shownBack : Outcome → Shown
 shownBack (answers values) = Word (getD values 0 0) (endOf (getD values 1 0))
-shownBack (refuses number place) = cond (eqb number 23) (NotDeterministic (record { 0 = place })) NoLeak
+shownBack (refuses number place) = cond (eqb number 23) (NotDeterministic (record { 0 = place }))
+    (cond (eqb number 36) (Silent (record { 0 = place })) NoLeak)
 
 endOf-endNumber : (e : End) → endOf (endNumber e) ≡ e
 unfolding endNumber endOf
@@ -51,6 +54,7 @@ pub shownBack-is : (r : Shown) → shownBack (shownOutcome r) ≡ r
 unfolding shownOutcome shownBack
 shownBack-is (Word n e) = ap (Word n) (endOf-endNumber e)
 shownBack-is (NotDeterministic j) = refl
+shownBack-is (Silent j) = refl
 shownBack-is NoLeak = refl
 
 pub endNumber-injective : (d e : End) → endNumber d ≡ endNumber e → d ≡ e
@@ -113,16 +117,23 @@ module _ {s : List ℕ} {m : Model} (st : Stored s m) {t u : Outcome} {word word
   pub wordDone-unique : WordDone m t word word′ → WordDone m u word word″ → (t ≡ u) × (word′ ≡ word″)
   wordDone-unique x y = go (branch-cases st)
     where
-      judged : DeterministicModel m → (v : Verdict) → Judged m v → (t ≡ u) × (word′ ≡ word″)
-      judged d (Passed top) v =
-          let a = x .passed d (v .bnid) in
-          let b = y .passed d (v .bnid) in
+      judged : DeterministicModel m → NoSilentStep m → (v : Verdict) → Judged m v → (t ≡ u) × (word′ ≡ word″)
+      judged d n (Passed top) v =
+          let a = x .passed d n (v .bnid) in
+          let b = y .passed d n (v .bnid) in
           (a .0 ∙ sym (b .0), a .1 ∙ sym (b .1))
-      judged d (Refused j depth) v = wordShown-unique (x .refused d (j .0) depth v) (y .refused d (j .0) depth v)
+      judged d n (Refused j depth) v = wordShown-unique (x .refused d n (j .0) depth v) (y .refused d n (j .0) depth v)
+
+      silent : DeterministicModel m → ((j : ℕ) × FirstSilent m j) ⊎ NoSilentStep m → (t ≡ u) × (word′ ≡ word″)
+      silent d (inl (j, h)) =
+          let a = x .silent d j h in
+          let b = y .silent d j h in
+          (a .0 ∙ sym (b .0), a .1 ∙ sym (b .1))
+      silent d (inr n) = judged d n (verdictOf m) (verdictOf-judged st)
 
       go : ((j : ℕ) × FirstBranch m j) ⊎ DeterministicModel m → (t ≡ u) × (word′ ≡ word″)
       go (inl (j, h)) =
           let a = x .branching j h in
           let b = y .branching j h in
           (a .0 ∙ sym (b .0), a .1 ∙ sym (b .1))
-      go (inr d) = judged d (verdictOf m) (verdictOf-judged st)
+      go (inr d) = silent d (silent-cases st)

@@ -24,12 +24,12 @@ use Rattle.letters.specs.declared.word.End.the-variants.{Source, Target}
 use Rattle.letters.specs.Inner.Letters.{FirstLetter, SeparatedPair}
 use Rattle.letters.specs.Inner.WordHead.{OnlyFromEnd, WordFrom, WordWritten, WordHead}
 use Rattle.model.specs.Laws.System.RankBoundLaws.{low-step-game}
-use Rattle.lts.specs.Noninterference.{LowMove}
+use Rattle.lts.specs.Weak.{LowStep}
 
 -- ---- a letter
 
 module _ {m : Model} {p q k j i : ℕ} (x : FirstLetter m p q k j i) where
-  from-step : LowMove (view m) p (action m j) (target m j)
+  from-step : LowStep (view m) p (action m j) (target m j)
   from-step = (
     x .answer .is-low,
     record {
@@ -41,7 +41,7 @@ module _ {m : Model} {p q k j i : ℕ} (x : FirstLetter m p q k j i) where
     },
   )
 
-  to-step : LowMove (view m) q (action m j) (target m i)
+  to-step : LowStep (view m) q (action m j) (target m i)
   to-step = (
     x .answer .is-low,
     record {
@@ -58,8 +58,8 @@ module _ {m : Model} {p q k j i : ℕ} (x : FirstLetter m p q k j i) where
     deterministic = w .deterministic;
     first-reachable = subst (ReachableIn m) (sym e) (onward (w .first-reachable) (from-step .1));
     second-reachable = subst (ReachableIn m) (sym f) (onward (w .second-reachable) (to-step .1));
-    separated = subst (λ (u : ℕ). Separated (LowMove (view m)) u z k) (sym e)
-        (subst (λ (u : ℕ). Separated (LowMove (view m)) (target m j) u k) (sym f) (x .answer .targets));
+    separated = subst (λ (u : ℕ). Separated (LowStep (view m)) u z k) (sym e)
+        (subst (λ (u : ℕ). Separated (LowStep (view m)) (target m j) u k) (sym f) (x .answer .targets));
   }
 
 pub pair-at : {m : Model} {p q n k : ℕ} → n ≡ k → SeparatedPair m p q n → SeparatedPair m p q k
@@ -68,9 +68,9 @@ pair-at {m} {p} {q} e x = subst (SeparatedPair m p q) e x
 module _ {s : List ℕ} {m : Model} (st : Stored s m) where
   -- "No rank exceeds states minus 1."
   pub pair-lt : {p q k : ℕ} → SeparatedPair m p q k → k < m .head .states
-  pair-lt {p} {q} {k} x = rank-lt (LowMove (view m)) (m .head .states) _ (low-step-game st) p q k
+  pair-lt {p} {q} {k} x = rank-lt (LowStep (view m)) (m .head .states) _ (low-step-game st) p q k
       (reachable-state st (x .first-reachable)) (reachable-state st (x .second-reachable))
-      (rank-of-separated (LowMove (view m)) p q k (x .separated))
+      (rank-of-separated (LowStep (view m)) p q k (x .separated))
 
   -- The first word goes on after its first letter.
   first-word-next : {p q j i : ℕ} (k : ℕ) → 0 < k → SeparatedPair m p q (k + 1) → FirstLetter m p q k j i → (w : List ℕ)
@@ -80,7 +80,7 @@ module _ {s : List ℕ} {m : Model} (st : Stored s m) where
   first-word-next {p} {q} {j} {i} (suc k) pos pair x w y = first-word-cons (view m) _
       (low-step-game st) (deterministicModel→Deterministic m (pair .deterministic)) k p q
       (action m j) (target m j) (target m i) w (pair .first-reachable) (pair .second-reachable)
-      (subst (Separated (LowMove (view m)) p q) (add-one (suc k)) (pair .separated)) (from-step x) (to-step x)
+      (subst (Separated (LowStep (view m)) p q) (add-one (suc k)) (pair .separated)) (from-step x) (to-step x)
       (x .answer .targets) (x .first) y
 
   only-from-next : {p q k n j i : ℕ} → SeparatedPair m p q n → FirstLetter m p q k j i → (w : List ℕ) (end : End)

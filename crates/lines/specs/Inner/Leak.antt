@@ -7,9 +7,9 @@ use Rattle.text.specs.Model.{Model}
 use Rattle.model.specs.Store.{Good}
 use Rattle.verdicts.specs.declared.judging.Verdict.{Verdict}
 use Rattle.letters.specs.declared.word.Shown.{Shown}
-use Rattle.letters.specs.declared.word.Shown.the-variants.{Word, NotDeterministic, NoLeak}
+use Rattle.letters.specs.declared.word.Shown.the-variants.{Word, NotDeterministic, Silent, NoLeak}
 use Rattle.letters.specs.Inner.Letters.{Showable}
-use Rattle.lines.specs.PageLines.{PageLine, allows-line, branch-line}
+use Rattle.lines.specs.PageLines.{PageLine, allows-line, no-word-line}
 use Rattle.lines.specs.Page.{nameLine}
 
 -- The first n places of a list are actions of the model.
@@ -22,13 +22,15 @@ pub record Letters (m : Model) (n : ℕ) (word : List ℕ) : Type 0 where
 abbrev pub Spelled : Model → Shown → List ℕ → Type 0
 Spelled m (Word n end) word = Letters m n word
 Spelled m (NotDeterministic j) word = Unit {0}
+Spelled m (Silent j) word = Unit {0}
 Spelled m NoLeak word = Unit {0}
 
 -- The lines for what is shown.
 abbrev pub shownLines : Model → Shown → List ℕ → List PageLine
 shownLines m (Word n end) word = map (nameLine m) (take n word) ++ (allows-line end ∷ [])
-shownLines m (NotDeterministic j) word = branch-line ∷ []
-shownLines m NoLeak word = branch-line ∷ []
+shownLines m (NotDeterministic j) word = no-word-line ∷ []
+shownLines m (Silent j) word = no-word-line ∷ []
+shownLines m NoLeak word = no-word-line ∷ []
 
 -- A good store, judged, with the lists made from it and room for a run and a word.
 pub record JudgedLists (m : Model) (v : Verdict) (store begins roles distances table run word : List ℕ) : Type 0 where

@@ -3,16 +3,16 @@
 -- Document 01, "The page", for the lines, and "The text" for the widths: of up to 128 states, a state or a distance has
 -- at most 3 digits; a name has at most 12 bytes. Any other number has at most 5 digits: `digits` (text/Numbers) writes
 -- no more.
--- Document 02, (ii), for the roll: each line has 42 columns and its end.
+-- Document 02, (ii), for the roll: each line has 42 columns and its end; (vii) for models that have no word.
 use Prim.Native.Nat.{ℕ, zero, suc, _+_, _*_}
 use Rattle.text.specs.Limits.{runLength}
 use Rattle.text.specs.Model.{Model}
 use Rattle.verdicts.specs.declared.judging.Verdict.{Verdict}
 use Rattle.verdicts.specs.declared.judging.Verdict.the-variants.{Passed, Refused}
 use Rattle.letters.specs.declared.word.Shown.{Shown}
-use Rattle.letters.specs.declared.word.Shown.the-variants.{Word, NotDeterministic, NoLeak}
+use Rattle.letters.specs.declared.word.Shown.the-variants.{Word, NotDeterministic, Silent, NoLeak}
 use Rattle.columns.specs.Rows.{rollWidth}
-use Rattle.columns.specs.Inner.LineCount.{lineCount}
+use Rattle.columns.specs.Inner.LineCount.{lineCount, letterCount}
 use Rattle.lines.specs.declared.lines.Form.{Form}
 use Rattle.lines.specs.declared.lines.Form.the-variants.{Page, Roll}
 
@@ -71,10 +71,11 @@ wordRoom form n = lineRoom form nameWidth * n + lineRoom form allowsWidth
 abbrev pub shownRoom : Form → Shown → ℕ
 shownRoom form (Word n end) = wordRoom form n
 shownRoom form (NotDeterministic j) = lineRoom form letterWidth
+shownRoom form (Silent j) = lineRoom form letterWidth
 shownRoom form NoLeak = lineRoom form letterWidth
 
--- What follows the states: all steps of a run, and a word of as many letters as the depth says; nothing where the model
--- passed.
-abbrev pub leakRoom : Form → Verdict → ℕ
-leakRoom form (Passed rank) = 0
-leakRoom form (Refused j depth) = lineRoom form runWidth * runLength + wordRoom form depth
+-- What follows the states: all steps of a run, and a word of as many letters as the depth says, but of none where a
+-- silent step can be reached; nothing where the model passed.
+abbrev pub leakRoom : Form → Model → Verdict → ℕ
+leakRoom form m (Passed rank) = 0
+leakRoom form m (Refused j depth) = lineRoom form runWidth * runLength + wordRoom form (letterCount m depth)

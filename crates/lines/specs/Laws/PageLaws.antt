@@ -24,14 +24,14 @@ use Rattle.lines.specs.Laws.RoomLaws.{formRoom-le}
 pub page-room : (form : Form) {s : List ℕ} {m : Model} {long : ℕ} (v : Verdict) → Stored s m → NamesFit m → Judged m v
     → formLength form ≤ long
     → lineRoom form verdictWidth
-    + (statesRoom form m (m .head .states) + (leakRoom form v + lineRoom form letterWidth)) ≤ long
+    + (statesRoom form m (m .head .states) + (leakRoom form m v + lineRoom form letterWidth)) ≤ long
 page-room form v stored names judged h = omega (arith, h, formRoom-le form stored names v judged)
 
 pub page-written : {form : Form} {s : List ℕ} {m : Model} {run word run′ word′ : List ℕ} (v : Verdict) {a b c d : ℕ}
     {out out₁ out₂ out₃ out₄ : List ℕ} → Stored s m → NamesFit m → Judged m v
     → LinesWritten form m (_≡_ (verdict-line v ∷ [])) (lineRoom form verdictWidth) out 0 out₁ a
     → LinesWritten form m (StateLines m (m .head .states)) (statesRoom form m (m .head .states)) out₁ a out₂ b
-    → LinesWritten form m (AfterStates m v run word run′ word′) (leakRoom form v) out₂ b out₃ c
+    → LinesWritten form m (AfterStates m v run word run′ word′) (leakRoom form m v) out₂ b out₃ c
     → LinesWritten form m (_≡_ (last-line ∷ [])) (lineRoom form letterWidth) out₃ c out₄ d
     → LinesWritten form m (PageOf m run word run′ word′) (formLength form) out 0 out₄ d
 page-written {form} v stored names judged first states after last =

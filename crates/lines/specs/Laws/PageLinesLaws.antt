@@ -14,7 +14,7 @@ use Rattle.verdicts.specs.declared.judging.Verdict.{Verdict}
 use Rattle.verdicts.specs.declared.judging.Verdict.the-variants.{Passed, Refused}
 use Rattle.text.specs.declared.Step.{Step}
 use Rattle.lines.specs.PageLines.{PageLine, verdict-line, state-line, run-line, word-line, allows-line}
-use Rattle.lines.specs.PageLines.{branch-line, last-line, distanceText, endText, lineText, lineBytes}
+use Rattle.lines.specs.PageLines.{no-word-line, last-line, distanceText, endText, lineText, lineBytes}
 use Rattle.letters.specs.declared.word.End.{End}
 use Rattle.letters.specs.declared.word.End.the-variants.{Source, Target}
 use Rattle.lines.specs.PageLines.{faultText, faultBytes}
@@ -105,9 +105,9 @@ pub allows-fits : (end : End) → TextFits (allows-line end) allowsWidth
 unfolding rollRows
 allows-fits end = record { one-row = λ m. refl; text-le = allows-length end; width-le = omega arith }
 
-pub branch-fits : TextFits branch-line letterWidth
+pub no-word-fits : TextFits no-word-line letterWidth
 unfolding lineText rollRows
-branch-fits = record { one-row = λ m. refl; text-le = omega arith; width-le = omega arith }
+no-word-fits = record { one-row = λ m. refl; text-le = omega arith; width-le = omega arith }
 
 pub last-fits : TextFits last-line letterWidth
 unfolding lineText rollRows

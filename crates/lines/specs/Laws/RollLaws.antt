@@ -9,7 +9,7 @@ use Rattle.text.specs.Model.{Model}
 use Rattle.columns.specs.Laws.RowsLaws.{rowsBytes-row}
 use Rattle.columns.specs.Rows.{rollWidth, flushLeft, rowBytes, rowsBytes}
 use Rattle.lines.specs.PageLines.{PageLine, verdict-line, state-line, run-line, word-line, allows-line}
-use Rattle.lines.specs.PageLines.{branch-line, last-line, lineText}
+use Rattle.lines.specs.PageLines.{no-word-line, last-line, lineText}
 use Rattle.lines.specs.Roll.{rollRows, rollBytes}
 
 -- a line that is no state's: its text in 42 columns, and the line end
@@ -22,7 +22,7 @@ rollRows-padded m (verdict-line v) other = rowsBytes-row (lineText (verdict-line
 rollRows-padded m (run-line j) other = rowsBytes-row (lineText (run-line j))
 rollRows-padded m (word-line name) other = rowsBytes-row (lineText (word-line name))
 rollRows-padded m (allows-line end) other = rowsBytes-row (lineText (allows-line end))
-rollRows-padded m branch-line other = rowsBytes-row (lineText branch-line)
+rollRows-padded m no-word-line other = rowsBytes-row (lineText no-word-line)
 rollRows-padded m last-line other = rowsBytes-row (lineText last-line)
 
 -- ---- lines one after the other

@@ -13,6 +13,7 @@ use Rattle.verdicts.specs.declared.judging.Verdict.the-variants.{Passed, Refuse
 use Rattle.verdicts.specs.Verdicts.{Judged}
 use Rattle.columns.specs.Rows.{rollWidth}
 use Rattle.columns.specs.Inner.LineCount.{linesBelow, NamesFit}
+use Rattle.columns.specs.Laws.LetterCountLaws.{letterCount-le}
 use Rattle.columns.specs.Laws.RoomLaws.{rows-passed, rows-refused}
 use Rattle.lines.specs.declared.lines.Form.{Form}
 use Rattle.lines.specs.declared.lines.Form.the-variants.{Page, Roll}
@@ -49,13 +50,13 @@ statesRoom-roll m (suc n) = omega (arith, statesRoom-roll m n)
 
 -- on a page at most 21 bytes, 14 per state, 2,930, and 2 for `E`; on the roll at most 833 lines
 pub formRoom-le : (form : Form) {s : List ℕ} {m : Model} → Stored s m → NamesFit m → (v : Verdict) → Judged m v
-    → lineRoom form verdictWidth + statesRoom form m (m .head .states) + leakRoom form v + lineRoom form letterWidth
+    → lineRoom form verdictWidth + statesRoom form m (m .head .states) + leakRoom form m v + lineRoom form letterWidth
     ≤ formLength form
 unfolding lineRoom
 formRoom-le Page {m = m} st names (Passed rank) judged =
     omega (arith, statesRoom-page m (m .head .states), st .states-le)
 formRoom-le Page {m = m} st names (Refused j depth) judged =
-    omega (arith, statesRoom-page m (m .head .states), st .states-le, depth-lt st judged)
+    omega (arith, statesRoom-page m (m .head .states), st .states-le, letterCount-le m depth, depth-lt st judged)
 formRoom-le Roll {m = m} st names (Passed rank) judged =
     omega (arith, statesRoom-roll m (m .head .states), rows-passed st names)
 formRoom-le Roll {m = m} st names (Refused j depth) judged =

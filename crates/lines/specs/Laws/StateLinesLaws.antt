@@ -36,7 +36,7 @@ use Rattle.columns.specs.Laws.DistanceOfLaws.{distanceOf-unreachable, distanceO
 use Rattle.lines.specs.Laws.FormLaws.{formBytes-page, formBytes-roll}
 use Rattle.lines.specs.Laws.LinesWrittenLaws.{written-lines, written-append}
 use Rattle.model.specs.System.{IsState, view}
-use Rattle.lts.specs.Noninterference.{LowMove}
+use Rattle.lts.specs.Weak.{WeakMove}
 
 -- ---- the columns
 
@@ -74,14 +74,14 @@ module _ {s : List ℕ} {m : Model} {roles distances table : List ℕ} (L : Mode
   -- ---- the class
 
   pub diagonal-zero : (p : ℕ) → p < m .head .states → getD table (pairPlace p p) 0 ≡ 0
-  diagonal-zero p l = rank-unique (LowMove (view m)) p p (getD table (pairPlace p p) 0) 0 (L .ranks .ranks p p l l)
-      (bisimilar (bisimilar-refl (LowMove (view m)) p))
+  diagonal-zero p l = rank-unique (WeakMove (view m)) p p (getD table (pairPlace p p) 0) 0 (L .ranks .ranks p p l l)
+      (bisimilar (bisimilar-refl (WeakMove (view m)) p))
 
   pub class-of-zero : (p q : ℕ) → p < m .head .states → LowestZero table p q → ClassOf m p q
   class-of-zero p q l z = record {
     class-among = omega (arith, l, z .le);
-    rank-zero = subst (Rank (LowMove (view m)) p q) (z .zero) (L .ranks .ranks p q l (omega (arith, z .le)));
-    lowest = λ i k _ x. z .lowest i k (rank-unique (LowMove (view m)) p i (getD table (pairPlace p i) 0) 0
+    rank-zero = subst (Rank (WeakMove (view m)) p q) (z .zero) (L .ranks .ranks p q l (omega (arith, z .le)));
+    lowest = λ i k _ x. z .lowest i k (rank-unique (WeakMove (view m)) p i (getD table (pairPlace p i) 0) 0
         (L .ranks .ranks p i l (omega (arith, z .le))) x);
   }
 
@@ -113,13 +113,13 @@ module _ {s : List ℕ} {m : Model} {roles distances table : List ℕ} (L : Mode
 -- ---- the class of a state is the lowest number of rank 0 to it, be it a state or not
 
 module _ {m : Model} {p class : ℕ} where
-  pub classOf-lowest : ClassOf m p class → (q : ℕ) → q < class → ¬ (Rank (LowMove (view m)) p q 0)
+  pub classOf-lowest : ClassOf m p class → (q : ℕ) → q < class → ¬ (Rank (WeakMove (view m)) p q 0)
   classOf-lowest x q l = x .lowest q l (omega (arith, l, x .class-among))
 
-  pub classOf-of-lowest : IsState m p → Rank (LowMove (view m)) p class 0
-      → ((q : ℕ) → q < class → ¬ (Rank (LowMove (view m)) p q 0)) → ClassOf m p class
+  pub classOf-of-lowest : IsState m p → Rank (WeakMove (view m)) p class 0
+      → ((q : ℕ) → q < class → ¬ (Rank (WeakMove (view m)) p q 0)) → ClassOf m p class
   classOf-of-lowest l r lowest =
-      let le : class ≤ p = le-of-not-lt class p (λ k. lowest p k (bisimilar (bisimilar-refl (LowMove (view m)) p))) in
+      let le : class ≤ p = le-of-not-lt class p (λ k. lowest p k (bisimilar (bisimilar-refl (WeakMove (view m)) p))) in
       record { class-among = omega (arith, l, le); rank-zero = r; lowest = λ q k _. lowest q k }
 
 -- ---- the lines

@@ -10,7 +10,8 @@ use native.Mathlib.Omega.{arith}
 use lib.Dec.{T, eqb, eqb→eq, ltb}
 use Rattle.lts.specs.TestsLaws.{and-left, or-cases}
 use Rattle.lts.specs.Alike.{Alike, Rank, separated}
-use Rattle.lts.specs.Noninterference.{released?, thin, LowMove}
+use Rattle.lts.specs.Noninterference.{released?, thin}
+use Rattle.lts.specs.Weak.{LowStep}
 use Rattle.lts.specs.Examples.Listed.{step?, view}
 use Rattle.lts.specs.Examples.Systems.{scan, print, close, usual, closeLow, pageSystem, releaseSystem}
 
@@ -47,7 +48,7 @@ pub page-scan-scan : (x y : ℕ) → T (step? pageSystem 2 scan x) → ¬ (T (st
 page-scan-scan x y s t = subst (λ (z : ℕ). T (step? pageSystem z scan y)) (sym (page-scan-target x s)) t
 
 -- scan leads from 0 to 1, which answers another, and from 2 to 3, which does not: depth 1 would not tell.
-page-not-alike : ¬ (Alike (LowMove (view usual pageSystem)) 2 0 2)
+page-not-alike : ¬ (Alike (LowStep (view usual pageSystem)) 2 0 2)
 unfolding Alike
 page-not-alike h =
     let r = h .there scan 1 (tt, tt) in
@@ -55,22 +56,22 @@ page-not-alike h =
     page-scan-scan (r .0) (u .0) (r .1 .1) (u .1 .1)
 
 -- With close low 0 has no move and 1 has close: the second state's moves are played too.
-close-low-not-alike : ¬ (Alike (LowMove (view closeLow releaseSystem)) 1 0 1)
+close-low-not-alike : ¬ (Alike (LowStep (view closeLow releaseSystem)) 1 0 1)
 unfolding Alike
 close-low-not-alike h = h .back close 2 (tt, tt) .1 .1
 
 -- Its rank is 1, neither 0 nor 2.
-close-low-rank : Rank (LowMove (view closeLow releaseSystem)) 0 1 1
+close-low-rank : Rank (LowStep (view closeLow releaseSystem)) 0 1 1
 unfolding Alike
 close-low-rank = separated (λ b. b .bisimulation 0 1 (b .pairs) .back close 2 (tt, tt) .1 .1)
     (record { not-alike = close-low-not-alike; alike-before = before })
   where
-    before : (j : ℕ) → j < 1 → Alike (LowMove (view closeLow releaseSystem)) j 0 1
+    before : (j : ℕ) → j < 1 → Alike (LowStep (view closeLow releaseSystem)) j 0 1
     before zero l = tt
     before (suc j) l = absurd (omega arith)
 
 -- With close a release neither has a low move: release steps are never played.
-release-alike : Alike (LowMove (view usual releaseSystem)) 1 0 1
+release-alike : Alike (LowStep (view usual releaseSystem)) 1 0 1
 unfolding Alike
 release-alike = record {
   there = λ a x (t, s). absurd (subst (λ (b : ℕ). T (step? releaseSystem 0 b x)) (sym (eqb→eq scan a t)) s);

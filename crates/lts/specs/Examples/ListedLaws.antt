@@ -2,16 +2,19 @@
 use mathlib.Core.Path.{_≡_}
 use mathlib.Core.Bool.{true, false, _&&_}
 use Prim.Native.Nat.{ℕ, _<_}
+use native.Mathlib.Omega.{arith}
 use lib.Dec.{T, ltb, ltb→lt}
 use Rattle.lts.specs.TestsLaws.{and-left, and-right}
 use Rattle.lts.specs.Alike.{Rank}
 use Rattle.lts.specs.Game.{Game}
 use Rattle.lts.specs.View.{Levels}
 use Rattle.lts.specs.Run.{Deterministic}
-use Rattle.lts.specs.Noninterference.{LowMove, BNID}
+use Rattle.lts.specs.Noninterference.{BNID}
+use Rattle.lts.specs.Weak.{LowStep, WeakMove, NoSilentLabel}
 use Rattle.lts.specs.Decided.{DecidedView}
-use Rattle.lts.specs.Checked.{lowRound, lowRank, bnid?, deterministic?}
+use Rattle.lts.specs.Checked.{lowRound, lowRank, weakRound, weakRank, bnid?, deterministic?}
 use Rattle.lts.specs.CheckedLaws.{low-game, lowRank→Rank, bnid?→BNID, BNID→bnid?}
+use Rattle.lts.specs.CheckedLaws.{weak-view-game, weakRank→Rank, noSilentLabel-of-decided}
 use Rattle.lts.specs.CheckedLaws.{deterministic?→Deterministic}
 use Rattle.lts.specs.Examples.Listed.{System, has, leads, step?, view, tests}
 
@@ -44,15 +47,26 @@ module _ (M : System) where
     pub listed-deterministic : T (deterministic? (view L M) (tests M)) → Deterministic (view L M)
     listed-deterministic t = deterministic?→Deterministic (view L M) (tests M) (decided L) t
 
-    pub listed-game : Game (LowMove (view L M)) (M .states) (lowRound (view L M) (tests M))
+    pub listed-game : Game (LowStep (view L M)) (M .states) (lowRound (view L M) (tests M))
     listed-game = low-game (view L M) (tests M) (decided L)
 
     pub listed-rank : (p q r : ℕ) → p < M .states → q < M .states → lowRank (view L M) (tests M) p q ≡ r
-        → Rank (LowMove (view L M)) p q r
+        → Rank (LowStep (view L M)) p q r
     listed-rank p q r lp lq e = rw e at (lowRank→Rank (view L M) (tests M) (decided L) p q lp lq)
 
+    pub listed-weak-game : Game (WeakMove (view L M)) (M .states) (weakRound (view L M) (tests M))
+    listed-weak-game = weak-view-game (view L M) (tests M) (decided L) (omega arith)
+
+    pub listed-weak-rank : (p q r : ℕ) → p < M .states → q < M .states → weakRank (view L M) (tests M) p q ≡ r
+        → Rank (WeakMove (view L M)) p q r
+    listed-weak-rank p q r lp lq e =
+        rw e at (weakRank→Rank (view L M) (tests M) (decided L) (omega arith) p q lp lq)
+
+    pub listed-labels : NoSilentLabel (view L M)
+    listed-labels = noSilentLabel-of-decided (view L M) (tests M) (decided L) (omega arith)
+
     pub listed-passed : bnid? (view L M) (tests M) ≡ true → BNID (view L M)
-    listed-passed e = bnid?→BNID (view L M) (tests M) (decided L) (rw e tt)
+    listed-passed e = bnid?→BNID (view L M) (tests M) (decided L) (omega arith) (rw e tt)
 
     pub listed-refused : bnid? (view L M) (tests M) ≡ false → ¬ (BNID (view L M))
-    listed-refused e b = rw e at (BNID→bnid? (view L M) (tests M) (decided L) b)
+    listed-refused e b = rw e at (BNID→bnid? (view L M) (tests M) (decided L) (omega arith) b)

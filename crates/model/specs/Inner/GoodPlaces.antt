@@ -8,7 +8,7 @@ use lib.ListN.{getD}
 use Rattle.text.specs.declared.Head.{Head}
 use Rattle.text.specs.Limits.{nameLimit, extraLimit, actionsEnd, stepsEnd, extraEnd}
 use Rattle.text.specs.Limits.{actionPlace, nameLengthPlace, namePlace, stepPlace, extraPlace}
-use Rattle.text.specs.Model.{high, someHigh?, above?}
+use Rattle.text.specs.Model.{lastLevel, someHigh?, above?}
 use Rattle.text.specs.Lines.{headFits?, nameByte?, startFits?, stepFits?}
 use Rattle.model.specs.Inner.EachFrom.{EachFrom}
 use Rattle.model.specs.StoredModel.{headAt, actionAt, stepAt, extraCountAt, extraStartAt, listed}
@@ -40,8 +40,8 @@ abbrev pub OtherName : List ℕ → ℕ → ℕ → Type 0
 OtherName s i h = ¬ (SameName s h i)
 
 pub record GoodAction (s : List ℕ) (i : ℕ) : Type 0 where
-  -- "level (0 L, 1 D, 2 H)"
-  pub level : getD s (actionPlace i) 0 ≤ high
+  -- "level (0 L, 1 D, 2 H)", "Level T (store value 3)"
+  pub level : getD s (actionPlace i) 0 ≤ lastLevel
   -- "A name is 1 to 12 bytes of a to z and 0 to 9, used once."
   pub some : 1 ≤ nameLengthAt s i
   pub fits : nameLengthAt s i ≤ nameLimit

@@ -6,7 +6,7 @@ use mathlib.Core.Path.{_≡_}
 use Prim.Native.Nat.{ℕ, _≤_, _<_}
 use lib.ListN.{length, getD}
 use Rattle.text.specs.Limits.{stateLimit, actionLimit, stepLimit, extraLimit, storeLength}
-use Rattle.text.specs.Model.{high, Model}
+use Rattle.text.specs.Model.{lastLevel, Model}
 use Rattle.model.specs.StoredModel.{headAt, actionAt, stepAt, extraCountAt, extraStartAt}
 use Rattle.model.specs.System.{step, source, action, target, level, IsStart}
 
@@ -27,7 +27,7 @@ pub record Stored (s : List ℕ) (m : Model) : Type 0 where
   pub action-lt : (j : ℕ) → j < length (m .steps) → action m j < m .head .actions
   pub target-lt : (j : ℕ) → j < length (m .steps) → target m j < m .head .states
   pub level-is : (a : ℕ) → a < m .head .actions → actionAt s a .level ≡ level m a
-  pub level-le : (a : ℕ) → a < m .head .actions → level m a ≤ high
+  pub level-le : (a : ℕ) → a < m .head .actions → level m a ≤ lastLevel
   -- steps rise by source, then action, then target
   pub source-le : (i j : ℕ) → i ≤ j → j < length (m .steps) → source m i ≤ source m j
   pub action-le : (i j : ℕ) → i ≤ j → j < length (m .steps) → source m i ≡ source m j → action m i ≤ action m j

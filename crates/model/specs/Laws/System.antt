@@ -4,3 +4,4 @@ pub mod IndexLaws
 pub mod RolesLaws
 pub mod StepTestLaws
 pub mod RankBoundLaws
+pub mod SilentStepLaws

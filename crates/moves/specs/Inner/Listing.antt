@@ -1,39 +1,44 @@
--- Moves on their way into the lists, step by step and state by state. Only the contracts of inner functions cite it.
+-- Steps on their way into the lists: one step after the other, and the steps of one state, or of one label, behind those
+-- of the one before. Only the contracts of inner functions cite it.
 use mathlib.Core.List.{List}
 use mathlib.Core.Path.{_≡_}
 use Prim.Native.Nat.{ℕ, _+_, _≤_, _<_}
 use lib.Dec.{T}
 use lib.ListN.{getD}
-use Rattle.lts.specs.Alike.{Moves}
 use Rattle.text.specs.Model.{Model}
 use Rattle.model.specs.System.{action, target, view}
-use Rattle.comparing.specs.MoveList.{Listed, Ordered}
+use Rattle.comparing.specs.MoveList.{Listed}
 
--- From place `from` up to place `to` the lists have the actions and targets of Out, each of them; the places before are
--- as they were.
-pub record Appended (Out : ℕ → ℕ → Type 0) (from to : ℕ) (actions targets actions′ targets′ : List ℕ) : Type 0 where
+-- From place `from` up to place `to` the two lists have the pairs of Out, each of them; the places before are as they
+-- were.
+pub record Appended (Out : ℕ → ℕ → Type 0) (from to : ℕ) (left right left′ right′ : List ℕ) : Type 0 where
   pub from-le : from ≤ to
-  pub sound : (i : ℕ) → from ≤ i → i < to → Out (getD actions′ i 0) (getD targets′ i 0)
-  pub complete : (a q : ℕ) → Out a q
-      → (i : ℕ) × (from ≤ i) × (i < to) × (getD actions′ i 0 ≡ a) × (getD targets′ i 0 ≡ q)
-  pub actions-kept : (i : ℕ) → i < from → getD actions′ i 0 ≡ getD actions i 0
-  pub targets-kept : (i : ℕ) → i < from → getD targets′ i 0 ≡ getD targets i 0
+  pub sound : (i : ℕ) → from ≤ i → i < to → Out (getD left′ i 0) (getD right′ i 0)
+  pub complete : (x y : ℕ) → Out x y
+      → (i : ℕ) × (from ≤ i) × (i < to) × (getD left′ i 0 ≡ x) × (getD right′ i 0 ≡ y)
+  pub left-kept : (i : ℕ) → i < from → getD left′ i 0 ≡ getD left i 0
+  pub right-kept : (i : ℕ) → i < from → getD right′ i 0 ≡ getD right i 0
 
--- A low step with a number from `from` up to `to` has the action a and the target q.
-pub record LowAmong (m : Model) (from to a q : ℕ) : Type 0 where
+-- `Has k x y` says that step k is one to be listed, as x and y: some step with a number from `from` up to `to` is.
+pub record Among (Has : ℕ → ℕ → ℕ → Type 0) (from to x y : ℕ) : Type 0 where
   pub number : ℕ
   pub from-le : from ≤ number
   pub to-lt : number < to
-  pub is-low : T (view m .levels .low? a)
-  pub action-is : action m number ≡ a
-  pub target-is : target m number ≡ q
+  pub holds : Has number x y
 
--- The lists have the moves of the states below n, up to place `to`.
-pub record StatesListed (Move : Moves) (n to : ℕ) (first actions targets : List ℕ) : Type 0 where
+-- Step k is low, and has the action a and the target q.
+pub record LowAs (m : Model) (k a q : ℕ) : Type 0 where
+  pub is-low : T (view m .levels .low? a)
+  pub action-is : action m k ≡ a
+  pub target-is : target m k ≡ q
+
+-- Up to place `to` the lists have, for each number below n, its pairs of Out: where those of each begin stands in
+-- `first`. The number is a state, and the pairs are actions and targets; or it is a label, and they are sources and
+-- targets.
+pub record ListedTo (Out : ℕ → ℕ → ℕ → Type 0) (n to : ℕ) (first left right : List ℕ) : Type 0 where
   pub end-is : getD first n 0 ≡ to
   pub first-le : (p : ℕ) → p ≤ n → getD first p 0 ≤ to
   pub rising : (p : ℕ) → p < n → getD first p 0 ≤ getD first (p + 1) 0
-  pub each : (i : ℕ) → i < to → (p : ℕ) × Move p (getD actions i 0) (getD targets i 0)
-  pub sound : (p a q : ℕ) → Listed n first actions targets p a q → Move p a q
-  pub complete : (p a q : ℕ) → p < n → Move p a q → Listed n first actions targets p a q
-  pub ordered : Ordered n first actions targets
+  pub each : (i : ℕ) → i < to → (p : ℕ) × Out p (getD left i 0) (getD right i 0)
+  pub sound : (p x y : ℕ) → Listed n first left right p x y → Out p x y
+  pub complete : (p x y : ℕ) → p < n → Out p x y → Listed n first left right p x y

@@ -11,7 +11,7 @@ use Rattle.model.specs.System.{source, action}
 use Rattle.model.specs.Inner.Stored.{Stored}
 use Rattle.model.specs.Inner.Index.{Begins}
 use Rattle.comparing.specs.MoveList.{Rising}
-use Rattle.moves.specs.Inner.Listing.{Appended, LowAmong}
+use Rattle.moves.specs.Inner.Listing.{Appended, Among, LowAs}
 
 pub rising-nil : {at : ℕ} {actions targets : List ℕ} → Rising at at actions targets
 rising-nil = record {
@@ -49,18 +49,18 @@ module _ {s : List ℕ} {m : Model} (st : Stored s m) {p start end : ℕ} (b : B
   -- The steps from `start` up to j are listed, and then step j if it is low.
   module _ {j from mid to : ℕ} {actions targets actions′ targets′ actions″ targets″ : List ℕ} (start-le : start ≤ j)
       (end-lt : j < end) (to-le : to ≤ mid + 1)
-      (x : Appended (LowAmong m start j) from mid actions targets actions′ targets′)
-      (y : Appended (LowAmong m j (j + 1)) mid to actions′ targets′ actions″ targets″)
+      (x : Appended (Among (LowAs m) start j) from mid actions targets actions′ targets′)
+      (y : Appended (Among (LowAs m) j (j + 1)) mid to actions′ targets′ actions″ targets″)
       (r : Rising from mid actions′ targets′) where
     -- a place before that of step j, and that of step j
     module _ (i k : ℕ) (l : from ≤ i) (h : i < k) (g : k < to) (z : mid ≤ k) where
       below-mid : i < mid
       below-mid = omega arith
 
-      abbrev before : LowAmong m start j (getD actions′ i 0) (getD targets′ i 0)
+      abbrev before : Among (LowAs m) start j (getD actions′ i 0) (getD targets′ i 0)
       before = x .sound i l below-mid
 
-      abbrev last : LowAmong m j (j + 1) (getD actions″ k 0) (getD targets″ k 0)
+      abbrev last : Among (LowAs m) j (j + 1) (getD actions″ k 0) (getD targets″ k 0)
       last = y .sound k z g
 
       number-lt : before .number < last .number
@@ -78,21 +78,21 @@ module _ {s : List ℕ} {m : Model} (st : Stored s m) {p start end : ℕ} (b : B
       action-last = omega (
         arith,
         st .action-le (before .number) (last .number) (omega (arith, number-lt)) last-lt same-source,
-        before .action-is,
-        last .action-is,
-        y .actions-kept i below-mid,
+        before .holds .action-is,
+        last .holds .action-is,
+        y .left-kept i below-mid,
       )
 
       target-last : getD actions″ i 0 ≡ getD actions″ k 0 → getD targets″ i 0 < getD targets″ k 0
       target-last d =
           let f : action m (before .number) ≡ action m (last .number) =
-          omega (arith, before .action-is, last .action-is, y .actions-kept i below-mid, d) in
+          omega (arith, before .holds .action-is, last .holds .action-is, y .left-kept i below-mid, d) in
           omega (
             arith,
             st .target-lt-target (before .number) (last .number) number-lt last-lt same-source f,
-            before .target-is,
-            last .target-is,
-            y .targets-kept i below-mid,
+            before .holds .target-is,
+            last .holds .target-is,
+            y .right-kept i below-mid,
           )
 
     pub rising-suc : Rising from to actions″ targets″
@@ -108,4 +108,4 @@ module _ {s : List ℕ} {m : Model} (st : Stored s m) {p start end : ℕ} (b : B
     }
       where
         kept : Rising from mid actions″ targets″
-        kept = rising-kept refl refl (λ i k. y .actions-kept i k) (λ i k. y .targets-kept i k) r
+        kept = rising-kept refl refl (λ i k. y .left-kept i k) (λ i k. y .right-kept i k) r

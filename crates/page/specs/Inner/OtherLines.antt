@@ -9,7 +9,7 @@ use Rattle.text.specs.Bytes.{other, lineEnd}
 use Rattle.text.specs.Join.{Without}
 use Rattle.text.specs.Model.{Model}
 use Rattle.columns.specs.Rows.{rollWidth, flushLeft}
-use Rattle.lines.specs.PageLines.{PageLine, verdict-line, state-line, run-line, word-line, allows-line, branch-line}
+use Rattle.lines.specs.PageLines.{PageLine, verdict-line, state-line, run-line, word-line, allows-line, no-word-line}
 use Rattle.lines.specs.PageLines.{last-line, lineText}
 use Rattle.lines.specs.Roll.{rollRows}
 use Rattle.lines.specs.Inner.FormLines.{TextFits}
@@ -22,7 +22,7 @@ unlessState (verdict-line v) = verdict-line v ∷ []
 unlessState (run-line j) = run-line j ∷ []
 unlessState (word-line name) = word-line name ∷ []
 unlessState (allows-line end) = allows-line end ∷ []
-unlessState branch-line = branch-line ∷ []
+unlessState no-word-line = no-word-line ∷ []
 unlessState last-line = last-line ∷ []
 
 -- The lines that are no state's.

@@ -8,7 +8,7 @@ use native.Mathlib.Omega.{arith}
 use lib.ListN.{length, getD}
 use Rattle.text.specs.All.{All}
 use Rattle.text.specs.Model.{Model}
-use Rattle.model.specs.System.{DeterministicModel}
+use Rattle.model.specs.System.{DeterministicModel, NoSilentStep}
 use Rattle.text.specs.Laws.ListsLaws.{take-filled}
 use Rattle.text.specs.Laws.AllLaws.{all-of-all}
 use Rattle.verdicts.specs.declared.judging.Verdict.{Verdict}
@@ -21,7 +21,7 @@ use Rattle.distances.specs.Laws.RunsLaws.{runTo-all}
 use Rattle.verdicts.specs.Laws.VerdictsLaws.{no-leak-of-bnid}
 use Rattle.tell.specs.Laws.ClaimLaws.{shows-of-wordOf}
 use Rattle.letters.specs.Laws.LeastLeakLaws.{bnid↔INI}
-use Rattle.lines.specs.Page.{nameLine, LeakShown, by-word, by-branch, LeakLines}
+use Rattle.lines.specs.Page.{nameLine, LeakShown, by-word, by-branch, by-silent, LeakLines}
 use Rattle.lines.specs.PageLines.{PageLine, verdict-line, run-line, allows-line, last-line, lineText}
 use Rattle.verdicts.specs.Laws.VerdictsLaws.{depth-lt}
 use Rattle.page.specs.PageClaim.{SaysPass, SaysRefuse, PassTexts, LeakTexts, BytesTell}
@@ -46,11 +46,12 @@ module _ {s : List ℕ} {m : Model} (st : Stored s m) (texts more : List (List �
         greatest = passed .greatest;
       }
 
-  pub leak-texts : DeterministicModel m → (run word run′ word′ : List ℕ) (j depth : ℕ) (states after : List PageLine)
+  pub leak-texts : DeterministicModel m → NoSilentStep m → (run word run′ word′ : List ℕ) (j depth : ℕ)
+      (states after : List PageLine)
       → RefusedAt m j depth → LeakLines m j depth run word run′ word′ after
       → lines ≡ (verdict-line (Refused (record { 0 = j }) depth) ∷ []) ++ states ++ after ++ (last-line ∷ [])
       → LeakTexts m texts states lines word′
-  leak-texts det run word run′ word′ j depth states after refused x e = go (x .rest) (x .shown) (x .lines-are)
+  leak-texts det still run word run′ word′ j depth states after refused x e = go (x .rest) (x .shown) (x .lines-are)
     where
       head : List PageLine
       head = (verdict-line (Refused (record { 0 = j }) depth) ∷ []) ++ states
@@ -58,7 +59,8 @@ module _ {s : List ℕ} {m : Model} (st : Stored s m) (texts more : List (List �
       go : (rest : List PageLine) → LeakShown m j depth word word′ rest → after ≡ map run-line (x .steps) ++ rest
           → LeakTexts m texts states lines word′
       go _ (by-branch n k) f = absurd (n det)
-      go _ (by-word {w = w} {end = end} d y l k) f =
+      go _ (by-silent i t k) f = absurd (still i t)
+      go _ (by-word {w = w} {end = end} d n y l k) f =
           let rest = map (nameLine m) w ++ (allows-line end ∷ []) in
           let lines-are = e ∙ ap (λ (z : List PageLine). head ++ z ++ (last-line ∷ [])) f in
           record {
@@ -76,7 +78,7 @@ module _ {s : List ℕ} {m : Model} (st : Stored s m) (texts more : List (List �
                 (omega arith) (small-run st (x .run-to));
             sequence = w;
             end = end;
-            shown = shows-of-wordOf st refused y l;
+            shown = shows-of-wordOf st still refused y l;
             filled = take-filled w _ k (length w) refl;
             lines-are = lines-are;
           }
@@ -107,12 +109,12 @@ abbrev pub ByVerdict : Verdict → Type 0 → Type 0 → Type 0
 ByVerdict (Passed rank) Pass Leak = Pass
 ByVerdict (Refused j depth) Pass Leak = Leak
 
-module _ {s : List ℕ} {m : Model} (st : Stored s m) (det : DeterministicModel m) (bytes : List ℕ)
-    {Pass Leak : Type 0} where
+module _ {s : List ℕ} {m : Model} (st : Stored s m) (det : DeterministicModel m) (still : NoSilentStep m)
+    (bytes : List ℕ) {Pass Leak : Type 0} where
   pub bytes-tell : (v : Verdict) → Judged m v → Says v bytes → ByVerdict v Pass Leak → BytesTell m bytes Pass Leak
   bytes-tell (Passed rank) judged says told = record {
     verdict = inl says;
-    pass-iff = (λ _. bnid↔INI st det .0 (judged .bnid), λ _. says);
+    pass-iff = (λ _. bnid↔INI st still det .0 (judged .bnid), λ _. says);
     pass = λ _. told;
     leak = λ r. absurd (pass-not-refuse bytes says r);
   }
@@ -120,7 +122,7 @@ module _ {s : List ℕ} {m : Model} (st : Stored s m) (det : DeterministicModel 
     verdict = inr says;
     pass-iff = (
       λ p. absurd (pass-not-refuse bytes p says),
-      λ ini. absurd (no-leak-of-bnid m (bnid↔INI st det .1 ini) (j .0) depth (judged .leak)),
+      λ ini. absurd (no-leak-of-bnid m (bnid↔INI st still det .1 ini) (j .0) depth (judged .leak)),
     );
     pass = λ p. absurd (pass-not-refuse bytes p says);
     leak = λ _. told;

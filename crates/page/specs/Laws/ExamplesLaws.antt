@@ -10,10 +10,11 @@ use lib.Seq.{take-append-seam, drop-append-seam}
 use Rattle.lts.specs.Tests.{all, any}
 use Rattle.lts.specs.Game.{alike?, rankBelow}
 use Rattle.lts.specs.Decided.{answered?, answers?, within?}
+use Rattle.lts.specs.WeakTests.{silentMove?, playedLow?, weakAnswers?}
 use Rattle.text.specs.Faults.{answers}
 use Rattle.text.specs.Model.{Model}
 use Rattle.model.specs.Laws.Text.ReadingLaws.{readText-well-formed}
-use Rattle.model.specs.System.{DeterministicModel, source, view}
+use Rattle.model.specs.System.{SilentStep, NoSilentStep, DeterministicModel, source, view}
 use Rattle.model.specs.Inner.StepTest.{step?, start?}
 use Rattle.model.specs.Laws.Store.SystemLaws.{head-start, extra-start}
 use Rattle.model.specs.Laws.System.GoodStoredLaws.{well-formed-stored}
@@ -35,8 +36,8 @@ use Rattle.text.specs.Numbers.{digits, digitsUpTo}
 use Rattle.text.specs.Split.{consFirst, split}
 use Rattle.lines.specs.Examples.{workedLines, worked-bytes, worked-roll}
 use Rattle.page.specs.Laws.PagePromiseLaws.{pagePrinted-unique}
-use Rattle.lines.specs.Page.{nameLine, by-word, by-branch, AfterStates}
-use Rattle.lines.specs.PageLines.{PageLine, verdict-line, allows-line, branch-line, last-line, lineText}
+use Rattle.lines.specs.Page.{nameLine, LeakShown, by-word, by-branch, by-silent, AfterStates}
+use Rattle.lines.specs.PageLines.{PageLine, verdict-line, allows-line, no-word-line, last-line, lineText}
 use Rattle.lines.specs.declared.lines.Form.{Form}
 use Rattle.lines.specs.declared.lines.Form.the-variants.{Page, Roll}
 use Rattle.lines.specs.Roll.{rollRows, rollBytes, formBytes}
@@ -51,7 +52,7 @@ use Rattle.page.specs.Laws.StateLinesTestLaws.{stateLinesOf-lines}
 -- ---- what evaluation finds
 
 -- The page of a verdict, with these lines after those of the states.
-abbrev pageWith : Model → Verdict → List PageLine → List PageLine
+abbrev pub pageWith : Model → Verdict → List PageLine → List PageLine
 pageWith m v after = (verdict-line v ∷ []) ++ stateLinesOf m (m .head .states) ++ after ++ (last-line ∷ [])
 
 -- The lines of a word.
@@ -63,15 +64,16 @@ record Computed : Type 0 where
   scanned-once : pageWith scannedOnce (Passed 1) [] ≡ scannedOnceLines
   released : pageWith released (Passed 1) [] ≡ releasedLines
   close-low : pageWith closeLow (refusedAt 0 1) (wordLines closeLow (2 ∷ []) Target) ≡ closeLowLines
-  branching : pageWith branching (refusedAt 2 2) (branch-line ∷ []) ≡ branchingLines
+  branching : pageWith branching (refusedAt 2 2) (no-word-line ∷ []) ≡ branchingLines
   no-steps : pageWith noSteps (Passed 0) [] ≡ oneStateLines
   print-loop : pageWith printLoop (Passed 0) [] ≡ oneStateLines
   unreached-print : pageWith unreachedPrint (Passed 1) [] ≡ unreachedPrintLines
   woken-print : pageWith wokenPrint (refusedAt 0 1) (wordLines wokenPrint (0 ∷ []) Target) ≡ wokenPrintLines
 
 computed : Computed
-unfolding stateLinesOf leastPassing step? start? rankBelow alike? answers? answered? within? all any workedLines
-    scannedOnceLines releasedLines closeLowLines branchingLines oneStateLines unreachedPrintLines wokenPrintLines
+unfolding stateLinesOf leastPassing step? start? rankBelow alike? weakAnswers? playedLow? silentMove? answers? answered?
+    within? all any workedLines scannedOnceLines releasedLines closeLowLines branchingLines oneStateLines
+    unreachedPrintLines wokenPrintLines
 computed = record {
   worked = refl;
   scanned-once = refl;
@@ -123,7 +125,7 @@ module _ (form : Form) {text : List ℕ} {m : Model} {v : Verdict} (x : ReadsAnd
   }
 
 module _ (form : Form) {text : List ℕ} {m : Model} where
-  prints-passed : {top : ℕ} {lines : List PageLine} → ReadsAndJudged text m (Passed top)
+  pub prints-passed : {top : ℕ} {lines : List PageLine} → ReadsAndJudged text m (Passed top)
       → pageWith m (Passed top) [] ≡ lines → PrintsBytes form text (formBytes form m lines)
   prints-passed x e =
       prints-lines form x [] e (λ word. word)
@@ -131,46 +133,57 @@ module _ (form : Form) {text : List ℕ} {m : Model} where
 
   -- the step leaves a start, so that the run to its source is empty
   module _ {j depth : ℕ} (x : ReadsAndJudged text m (refusedAt j depth)) (s : view m .Start (source m j)) where
-    prints-word : {w : List ℕ} {end : End} {lines : List PageLine} → DeterministicModel m → WordOf m j w end
-        → length w ≡ depth → pageWith m (refusedAt j depth) (wordLines m w end) ≡ lines
+    prints-word : {w : List ℕ} {end : End} {lines : List PageLine} → DeterministicModel m → NoSilentStep m
+        → WordOf m j w end → length w ≡ depth → pageWith m (refusedAt j depth) (wordLines m w end) ≡ lines
         → PrintsBytes form text (formBytes form m lines)
-    prints-word {w} {end} d y l e =
+    prints-word {w} {end} d n y l e =
         prints-lines form x (wordLines m w end) e (λ word. w ++ drop (length w) word) (λ run word. record {
           steps = [];
           run-to = at-start s;
           run-list = refl;
           rest = wordLines m w end;
-          shown = by-word d y l refl;
+          shown = by-word d n y l refl;
           lines-are = refl;
         })
 
-    prints-branch : {lines : List PageLine} → ¬ (DeterministicModel m)
-        → pageWith m (refusedAt j depth) (branch-line ∷ []) ≡ lines → PrintsBytes form text (formBytes form m lines)
-    prints-branch n e = prints-lines form x (branch-line ∷ []) e (λ word. word) (λ run word. record {
+    prints-no-word : {lines : List PageLine} → ((word : List ℕ) → LeakShown m j depth word word (no-word-line ∷ []))
+        → pageWith m (refusedAt j depth) (no-word-line ∷ []) ≡ lines → PrintsBytes form text (formBytes form m lines)
+    prints-no-word shown e = prints-lines form x (no-word-line ∷ []) e (λ word. word) (λ run word. record {
       steps = [];
       run-to = at-start s;
       run-list = refl;
-      rest = branch-line ∷ [];
-      shown = by-branch n refl;
+      rest = no-word-line ∷ [];
+      shown = shown word;
       lines-are = refl;
     })
+
+    prints-branch : {lines : List PageLine} → ¬ (DeterministicModel m)
+        → pageWith m (refusedAt j depth) (no-word-line ∷ []) ≡ lines → PrintsBytes form text (formBytes form m lines)
+    prints-branch n = prints-no-word (λ word. by-branch n refl)
+
+    pub prints-silent : {lines : List PageLine} (i : ℕ) → SilentStep m i
+        → pageWith m (refusedAt j depth) (no-word-line ∷ []) ≡ lines → PrintsBytes form text (formBytes form m lines)
+    prints-silent i silent = prints-no-word (λ word. by-silent i silent refl)
 
 pub pages-printed : PagesPrinted
 unfolding formBytes
 pages-printed = record {
   worked = subst (PrintsBytes Page workedText) worked-bytes (prints-word Page (joint-fact .worked-refused)
-      (head-start worked) (joint-fact .worked-deterministic) (joint-fact .worked-word) refl (computed .worked));
+      (head-start worked) (joint-fact .worked-deterministic) (joint-fact .worked-still) (joint-fact .worked-word) refl
+      (computed .worked));
   scanned-once = prints-passed Page (joint-fact .scanned-once-passed) (computed .scanned-once);
   released = prints-passed Page (joint-fact .released-passed) (computed .released);
   close-low = prints-word Page (joint-fact .close-low-refused) (head-start closeLow)
-      (joint-fact .close-low-deterministic) (joint-fact .close-low-word) refl (computed .close-low);
+      (joint-fact .close-low-deterministic) (joint-fact .close-low-still) (joint-fact .close-low-word) refl
+      (computed .close-low);
   branching = prints-branch Page (joint-fact .branching-refused) (head-start branching)
       (joint-fact .branching-not-deterministic) (computed .branching);
   no-steps = prints-passed Page (joint-fact .no-steps-passed) (computed .no-steps);
   print-loop = prints-passed Page (joint-fact .print-loop-passed) (computed .print-loop);
   unreached-print = prints-passed Page (joint-fact .unreached-print-passed) (computed .unreached-print);
   woken-print = prints-word Page (second-start .woken-refused) (extra-start wokenPrint 0 (omega arith))
-      (second-start .woken-deterministic) (second-start .woken-word) refl (computed .woken-print);
+      (second-start .woken-deterministic) (second-start .woken-still) (second-start .woken-word) refl
+      (computed .woken-print);
 }
 
 -- ---- on the roll
@@ -184,7 +197,8 @@ pub rolls-printed : RollsPrinted
 unfolding split consFirst kindOf others lettered? unpadded consUnlessPadding rowsBytes flushLeft unreachedPrintRows
 rolls-printed = record {
   worked = subst (PrintsBytes Roll workedText) worked-roll (prints-word Roll (joint-fact .worked-refused)
-      (head-start worked) (joint-fact .worked-deterministic) (joint-fact .worked-word) refl (computed .worked));
+      (head-start worked) (joint-fact .worked-deterministic) (joint-fact .worked-still) (joint-fact .worked-word) refl
+      (computed .worked));
   unreached-print = subst (PrintsBytes Roll unreachedPrintText) unreached-print-rows (prints-passed Roll
       (joint-fact .unreached-print-passed) (computed .unreached-print));
   unreached-print-others = refl;

@@ -30,12 +30,12 @@ use Rattle.verdicts.specs.declared.judging.Verdict.{Verdict}
 use Rattle.verdicts.specs.declared.judging.Verdict.the-variants.{Passed, Refused}
 use Rattle.letters.specs.declared.word.End.{End}
 use Rattle.letters.specs.declared.word.End.the-variants.{Source, Target}
-use Rattle.lines.specs.PageLines.{PageLine, verdict-line, state-line, run-line, word-line, allows-line, branch-line}
+use Rattle.lines.specs.PageLines.{PageLine, verdict-line, state-line, run-line, word-line, allows-line, no-word-line}
 use Rattle.lines.specs.PageLines.{last-line, passText, refuseText, endText, lineText}
-use Rattle.lines.specs.Page.{StateLines, no-state, next-state, nameLine, LeakShown, by-word, by-branch}
+use Rattle.lines.specs.Page.{StateLines, no-state, next-state, nameLine, LeakShown, by-word, by-branch, by-silent}
 use Rattle.lines.specs.Page.{AfterStates, PageOf}
 use Rattle.lines.specs.Inner.FormLines.{TextFits}
-use Rattle.lines.specs.Laws.PageLinesLaws.{verdict-fits, run-fits, word-fits, allows-fits, branch-fits, last-fits}
+use Rattle.lines.specs.Laws.PageLinesLaws.{verdict-fits, run-fits, word-fits, allows-fits, no-word-fits, last-fits}
 use Rattle.model.specs.System.{view, nameOf}
 use Rattle.page.specs.RollClaim.{lettered?}
 use Rattle.page.specs.Inner.OtherLines.{unlessState, withoutStates, NoBlanks, OtherLine, AnyLine, of-state}
@@ -101,9 +101,9 @@ allows-other Source =
 allows-other Target =
     other-line (allows-fits Target) refl refl (noBlanks-test ((byteB ∷ []) ++ field (endText Target)) tt tt)
 
-branch-other : OtherLine branch-line
+no-word-other : OtherLine no-word-line
 unfolding lineText unlessState lettered? without? kindOf
-branch-other = other-line branch-fits refl refl (noBlanks-test (byteN ∷ []) tt tt)
+no-word-other = other-line no-word-fits refl refl (noBlanks-test (byteN ∷ []) tt tt)
 
 last-other : OtherLine last-line
 unfolding lineText unlessState lettered? without? kindOf
@@ -182,10 +182,11 @@ module _ {m : Model} (w : WellFormed m) where
 
   leak-other : {j depth : ℕ} {word word′ : List ℕ} {lines : List PageLine} → LeakShown m j depth word word′ lines
       → All OtherLine lines
-  leak-other (by-word {w = word} {end = end} det x l e) =
+  leak-other (by-word {w = word} {end = end} det still x l e) =
       all-append OtherLine (map (nameLine m) word) (allows-line end ∷ [])
       (all-map OtherLine (nameLine m) word (names-other word (x .first-word .is-low))) (allows-other end, tt)
-  leak-other (by-branch n e) = (branch-other, tt)
+  leak-other (by-branch n e) = (no-word-other, tt)
+  leak-other (by-silent i s e) = (no-word-other, tt)
 
   after-other : (v : Verdict) (run word run′ word′ : List ℕ) (lines : List PageLine)
       → AfterStates m v run word run′ word′ lines → All OtherLine lines

@@ -2,6 +2,7 @@
 -- tell what Judge and Word answer.
 -- Document 01, "Demand 3 is one claim [..]"; document 02, (ii); DEMANDS, 3. Assumes nothing.
 use mathlib.Core.List.{List, [], _∷_, _++_, map}
+use mathlib.Core.Logic.{⊎-elim}
 use mathlib.Core.Path.{_≡_, refl, sym, ap, _∙_}
 use Prim.Native.Nat.{ℕ}
 use lib.ListN.{length, take, drop}
@@ -11,20 +12,22 @@ use Rattle.text.specs.Laws.OutcomeLaws.{answers-not-refuses}
 use Rattle.text.specs.Model.{Model}
 use Rattle.read_write.specs.ReadPromise.{ReadPromise}
 use Rattle.model.specs.Store.{Good}
+use Rattle.model.specs.Laws.System.GoodStoredLaws.{good-stored}
 use Rattle.model.specs.Laws.Text.ReadingLaws.{readText-well-formed}
-use Rattle.model.specs.System.{DeterministicModel}
+use Rattle.model.specs.System.{DeterministicModel, NoSilentStep}
 use Rattle.verdicts.specs.declared.judging.Verdict.{Verdict}
 use Rattle.verdicts.specs.declared.judging.Verdict.the-variants.{Passed, Refused}
 use Rattle.verdicts.specs.Laws.VerdictsLaws.{judged-unique}
 use Rattle.judge.specs.JudgePromise.{verdictOutcome, judgeLists, JudgePromise}
 use Rattle.verdicts.specs.Verdicts.{Judged}
+use Rattle.letters.specs.Laws.FirstSilentLaws.{silent-cases}
 use Rattle.letters.specs.Laws.WordDoneLaws.{wordShown-unique}
 use Rattle.judge.specs.WordPromise.{wordLists, WordPromise}
 use Rattle.letters.specs.WordDone.{WordDone}
 use Rattle.letters.specs.Words.{endNumber, WordShown}
 use Rattle.tell.specs.Claim.{States, NotShort}
 use Rattle.tell.specs.Laws.ReadTextLaws.{lists-of-notShort, states→readText, read-holds}
-use Rattle.lines.specs.Page.{LeakShown, by-word, by-branch, AfterStates, StateLines}
+use Rattle.lines.specs.Page.{LeakShown, by-word, by-branch, by-silent, AfterStates, StateLines}
 use Rattle.lines.specs.PageLines.{PageLine, verdict-line, run-line, last-line}
 use Rattle.lines.specs.declared.lines.Form.{Form}
 use Rattle.lines.specs.declared.lines.Form.the-variants.{Page, Roll}
@@ -41,15 +44,16 @@ use Rattle.page.specs.Laws.RollPrintsLaws.{othersPadded-of-model, rollCo
 
 -- ---- the sequence and the end
 
-module _ (form : Form) {m : Model} (det : DeterministicModel m) {word : Outcome} {entry exit : List ℕ}
-    (done : WordDone m word entry exit) {bytes : List ℕ} where
+module _ (form : Form) {m : Model} (det : DeterministicModel m) (still : NoSilentStep m) {word : Outcome}
+    {entry exit : List ℕ} (done : WordDone m word entry exit) {bytes : List ℕ} where
   word-of-leak : {word₀ word₁ : List ℕ} (v : Verdict) (j depth : ℕ) (states rest run : List PageLine) (steps : List ℕ)
       → StateLines m (m .head .states) states → LeakShown m j depth word₀ word₁ rest
       → WordShown m j depth word entry exit → run ≡ map run-line steps ++ rest
       → bytes ≡ formBytes form m ((verdict-line v ∷ []) ++ states ++ run ++ (last-line ∷ []))
       → WordOnPage form m bytes word exit
   word-of-leak v j depth states _ run steps state-lines (by-branch n k) y f e = absurd (n det)
-  word-of-leak v j depth states _ run steps state-lines (by-word {w = w} {end = end} d x l k) y f e =
+  word-of-leak v j depth states _ run steps state-lines (by-silent i t k) y f e = absurd (still i t)
+  word-of-leak v j depth states _ run steps state-lines (by-word {w = w} {end = end} d n x l k) y f e =
       let told : WordShown m j depth (answers (depth ∷ endNumber end ∷ [])) entry (w ++ drop (length w) entry) =
       record { word = w; end = end; word-of = x; length-is = l; outcome-is = refl; list = refl } in
       let same = wordShown-unique y told in
@@ -73,10 +77,10 @@ module _ (form : Form) {m : Model} (det : DeterministicModel m) {word : Outcome}
       → bytes ≡ formBytes form m ((verdict-line v ∷ []) ++ states ++ after ++ (last-line ∷ []))
       → (values : List ℕ) → word ≡ answers values → WordOnPage form m bytes word exit
   word-of-verdict run₀ word₀ run₁ word₁ (Passed rank) states after state-lines judged x e values f =
-      absurd (answers-not-refuses (sym f ∙ done .passed det (judged .bnid) .0))
+      absurd (answers-not-refuses (sym f ∙ done .passed det still (judged .bnid) .0))
   word-of-verdict run₀ word₀ run₁ word₁ (Refused j depth) states after state-lines judged x e values f =
       word-of-leak (Refused j depth) (j .0) depth states (x .rest) after (x .steps) state-lines (x .shown)
-      (done .refused det (j .0) depth judged) (x .lines-are) e
+      (done .refused det still (j .0) depth judged) (x .lines-are) e
 
 -- ---- on a good store
 
@@ -109,15 +113,20 @@ module _ {form : Form} {store distances table run word out distances′ table′
         bytes-are = bytes-are;
       }
 
-  -- Word shows the sequence of the `W` lines and names the end of the `B` line; on a passed model it shows none
+  -- Word shows the sequence of the `W` lines and names the end of the `B` line; on a passed model, or on one with a
+  -- reachable silent step, it shows none
   pub word-on-page : {d t w d′ t′ w′ : List ℕ} {outcome : Outcome} → WordPromise store d t w outcome d′ t′ w′
       → DeterministicModel (g .model) → (values : List ℕ) → outcome ≡ answers values
       → WordOnPage form (g .model) (take n out′) outcome w′
   word-on-page {d} {t} {w} words det values f =
       let lists = lists-of-notShort (wordLists store d t w) (λ k h. words .short k h .0)
       (λ k h. answers-not-refuses (sym f ∙ h)) in
+      let done = words .good lists g .1 in
+      let still : NoSilentStep (g .model) =
+      ⊎-elim (λ (j, h). absurd (answers-not-refuses (sym f ∙ done .silent det j h .0))) (λ none. none)
+      (silent-cases (good-stored store g)) in
       let p = printed .page in
-      word-of-verdict form det (words .good lists g .1) run word run′ word′ (p .verdict) (p .states) (p .after)
+      word-of-verdict form det still done run word run′ word′ (p .verdict) (p .states) (p .after)
       (p .state-lines) (p .judged) (p .after-states) bytes-are values f
 
 -- ---- the roll beside the page, of one good store
@@ -140,7 +149,7 @@ module _ {store : List ℕ} (g : Good store) {d t r w out d′ t′ r′ w′ ou
 -- ---- after a successful Read
 
 module _ {text store₀ store : List ℕ} (reads : ReadPromise text store₀ (answers []) store) (m : Model)
-    (s : States text m) (det : DeterministicModel m) where
+    (s : States text m) (det : DeterministicModel m) (still : NoSilentStep m) where
   -- the store that Read leaves is good, and its model is the text's
   abbrev good-of-read : Good store
   good-of-read = record { text = text; model = m; reads = states→readText s; stored = read-holds reads m s .stored }
@@ -150,7 +159,7 @@ module _ {text store₀ store : List ℕ} (reads : ReadPromise text store₀ (an
     form-tells-of-read : (form : Form)
         → FormPromise form store distances table run word out page distances′ table′ run′ word′ out′
         → (n : ℕ) → page ≡ answers (n ∷ []) → FormTells form m (take n out′) word′
-    form-tells-of-read form pages n e = form-tells form (s .well-formed) det n e (printed pages n e good-of-read)
+    form-tells-of-read form pages n e = form-tells form (s .well-formed) det still n e (printed pages n e good-of-read)
 
     -- on the page
     pub page-tells-of-read : PagePromise store distances table run word out page distances′ table′ run′ word′ out′

@@ -9,7 +9,7 @@ use Rattle.text.specs.Bytes.{lineEnd}
 use Rattle.text.specs.Model.{Model}
 use Rattle.text.specs.Numbers.{numberOf}
 use Rattle.text.specs.Split.{split}
-use Rattle.model.specs.System.{DeterministicModel}
+use Rattle.model.specs.System.{DeterministicModel, NoSilentStep}
 use Rattle.model.specs.WellFormed.{WellFormed}
 use Rattle.model.specs.Laws.System.GoodStoredLaws.{well-formed-stored}
 use Rattle.verdicts.specs.declared.judging.Verdict.{Verdict}
@@ -28,8 +28,8 @@ unfolding pageBytes lineText
 page-says (Passed rank) rest = refl
 page-says (Refused j depth) rest = refl
 
-module _ {m : Model} (w : WellFormed m) (det : DeterministicModel m) {run word run′ word′ : List ℕ}
-    {lines : List PageLine} (x : PageOf m run word run′ word′ lines) where
+module _ {m : Model} (w : WellFormed m) (det : DeterministicModel m) (still : NoSilentStep m)
+    {run word run′ word′ : List ℕ} {lines : List PageLine} (x : PageOf m run word run′ word′ lines) where
   page-told : (v : Verdict) (states after : List PageLine) → StateLines m (m .head .states) states → Judged m v
       → AfterStates m v run word run′ word′ after
       → lines ≡ (verdict-line v ∷ []) ++ states ++ after ++ (last-line ∷ [])
@@ -43,15 +43,15 @@ module _ {m : Model} (w : WellFormed m) (det : DeterministicModel m) {run word r
     state-lines = state-lines;
     lines = lines;
     texts =
-        leak-texts (well-formed-stored w) _ _ lines (split-page w x) det run word run′ word′ (j .0) depth states after
-        judged y e;
+        leak-texts (well-formed-stored w) _ _ lines (split-page w x) det still run word run′ word′ (j .0) depth states
+        after judged y e;
     bytes-are = refl;
     parted = split-page w x;
   }
 
   pub page-tells : PageTells m (pageBytes lines) word′
   page-tells =
-      bytes-tell (well-formed-stored w) det (pageBytes lines) (x .verdict) (x .judged)
+      bytes-tell (well-formed-stored w) det still (pageBytes lines) (x .verdict) (x .judged)
       (subst (λ (z : List PageLine). Says (x .verdict) (pageBytes z)) (sym (x .lines-are)) (page-says (x .verdict) _))
       (page-told (x .verdict) (x .states) (x .after) (x .state-lines) (x .judged) (x .after-states) (x .lines-are))
 

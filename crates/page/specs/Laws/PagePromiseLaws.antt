@@ -24,7 +24,7 @@ use Rattle.letters.specs.declared.word.End.{End}
 use Rattle.letters.specs.Laws.WordDoneLaws.{wordOf-unique}
 use Rattle.lines.specs.PageLines.{PageLine, verdict-line, run-line, allows-line, last-line}
 use Rattle.lines.specs.Page.{DistanceField, unreached, reached, ClassOf, StateLines, no-state, next-state}
-use Rattle.lines.specs.Page.{nameLine, LeakShown, by-word, by-branch, AfterStates, PageOf}
+use Rattle.lines.specs.Page.{nameLine, LeakShown, by-word, by-branch, by-silent, AfterStates, PageOf}
 use Rattle.page.specs.declared.page.PageAnswer.{PageAnswer}
 use Rattle.page.specs.declared.page.PageAnswer.the-variants.{Printed, ShortList, NotGood}
 use Rattle.lines.specs.declared.lines.Form.{Form}
@@ -60,15 +60,21 @@ stateLines-unique (suc n) (next-state {lines = xs} {distance = d} {class = c} x 
 
 leakShown-unique : {m : Model} {j depth : ℕ} {word word′ word″ : List ℕ} {xs ys : List PageLine}
     → LeakShown m j depth word word′ xs → LeakShown m j depth word word″ ys → (xs ≡ ys) × (word′ ≡ word″)
-leakShown-unique {m} {word = word} (by-word {w = w} {end = d} det x _ e) (by-word {w = u} {end = f} _ y _ g) =
+leakShown-unique {m} {word = word} (by-word {w = w} {end = d} det still x _ e)
+    (by-word {w = u} {end = f} _ _ y _ g) =
     let same = wordOf-unique x y in (
       ap (λ (z : List ℕ). map (nameLine m) z ++ (allows-line d ∷ [])) (same .0)
           ∙ ap (λ (z : End). map (nameLine m) u ++ (allows-line z ∷ [])) (same .1),
       e ∙ ap (λ (z : List ℕ). z ++ drop (length z) word) (same .0) ∙ sym g,
     )
-leakShown-unique (by-word det x _ e) (by-branch n g) = absurd (n det)
-leakShown-unique (by-branch n e) (by-word det y _ g) = absurd (n det)
+leakShown-unique (by-word det still x _ e) (by-branch n g) = absurd (n det)
+leakShown-unique (by-word det still x _ e) (by-silent i s g) = absurd (still i s)
+leakShown-unique (by-branch n e) (by-word det still y _ g) = absurd (n det)
 leakShown-unique (by-branch n e) (by-branch k g) = (refl, e ∙ sym g)
+leakShown-unique (by-branch n e) (by-silent i s g) = (refl, e ∙ sym g)
+leakShown-unique (by-silent i s e) (by-word det still y _ g) = absurd (still i s)
+leakShown-unique (by-silent i s e) (by-branch k g) = (refl, e ∙ sym g)
+leakShown-unique (by-silent i s e) (by-silent k u g) = (refl, e ∙ sym g)
 
 afterStates-unique : (m : Model) (v : Verdict) (run word : List ℕ) {run′ word′ run″ word″ : List ℕ}
     {xs ys : List PageLine}

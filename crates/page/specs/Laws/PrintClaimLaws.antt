@@ -12,7 +12,7 @@ use Rattle.text.specs.Laws.OutcomeLaws.{answers-not-refuses}
 use Rattle.text.specs.Model.{Model}
 use Rattle.read_write.specs.ReadPromise.{readingOutcome}
 use Rattle.model.specs.Reading.{Reading, done, tooLong, faulty, readText}
-use Rattle.model.specs.System.{DeterministicModel}
+use Rattle.model.specs.System.{DeterministicModel, NoSilentStep}
 use Rattle.model.specs.WellFormed.{WellFormed}
 use Rattle.text.specs.Laws.ListsLaws.{take-filled}
 use Rattle.verdicts.specs.declared.judging.Verdict.{Verdict}
@@ -43,17 +43,17 @@ pub printed-bytes : {form : Form} {m : Model} {outcome : Outcome} {run word out 
 printed-bytes {form} {m} n e x =
     take-filled (formBytes form m (x .lines)) _ (x .list) n (same-number (sym e ∙ x .outcome-is))
 
-lines-tell : (form : Form) {m : Model} → WellFormed m → DeterministicModel m → {run word run′ word′ : List ℕ}
-    {lines : List PageLine} → PageOf m run word run′ word′ lines → FormTells form m (formBytes form m lines) word′
+lines-tell : (form : Form) {m : Model} → WellFormed m → DeterministicModel m → NoSilentStep m
+    → {run word run′ word′ : List ℕ} {lines : List PageLine} → PageOf m run word run′ word′ lines → FormTells form m (formBytes form m lines) word′
 unfolding formBytes
-lines-tell Page w det x = page-tells w det x
-lines-tell Roll w det x = roll-tells w det x
+lines-tell Page w det still x = page-tells w det still x
+lines-tell Roll w det still x = roll-tells w det still x
 
-pub form-tells : (form : Form) {m : Model} → WellFormed m → DeterministicModel m → {outcome : Outcome}
+pub form-tells : (form : Form) {m : Model} → WellFormed m → DeterministicModel m → NoSilentStep m → {outcome : Outcome}
     {run word out run′ word′ out′ : List ℕ} (n : ℕ) → outcome ≡ answers (n ∷ [])
     → PagePrinted form m outcome run word out run′ word′ out′ → FormTells form m (take n out′) word′
-form-tells form {m} w det {word′ = word′} n e x =
-    subst (λ (z : List ℕ). FormTells form m z word′) (sym (printed-bytes n e x)) (lines-tell form w det (x .page))
+form-tells form {m} w det still {word′ = word′} n e x =
+    subst (λ (z : List ℕ). FormTells form m z word′) (sym (printed-bytes n e x)) (lines-tell form w det still (x .page))
 
 -- ---- the claim
 
@@ -100,7 +100,7 @@ module _ {form : Form} {text store distances table run word out : List ℕ} {out
       λ (m, s).
           printed-begins n e (p .read (lists-none n e) m (states→readText s) .printed),
     );
-    tells = λ n e m s det. form-tells form (s .well-formed) det n e
+    tells = λ n e m s det still. form-tells form (s .well-formed) det still n e
         (p .read (lists-none n e) m (states→readText s) .printed);
   }
     where

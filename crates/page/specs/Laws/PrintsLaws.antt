@@ -85,8 +85,8 @@ module _ {form : Form} {text store distances table run word out : List ℕ} (n :
         let x = p .unread long number place e .1 in
         take-filled (faultBytes number place) _ (x .list) n (same-number (x .outcome-is));
     read = λ m e. pageBytesOf-printed n refl (p .read long m e .printed);
-    tells = λ m s det.
-        (word′, form-tells form (s .well-formed) det n refl (p .read long m (states→readText s) .printed));
+    tells = λ m s det still.
+        (word′, form-tells form (s .well-formed) det still n refl (p .read long m (states→readText s) .printed));
   }
 
   printed-front : Front n out out′

@@ -11,7 +11,7 @@ use Rattle.model.specs.Reading.{Reading, done, tooLong, faulty, readText}
 use Rattle.verdicts.specs.declared.judging.Verdict.{Verdict}
 use Rattle.verdicts.specs.declared.judging.Verdict.the-variants.{Passed, Refused}
 use Rattle.page.specs.Laws.PagePromiseLaws.{pageOf-unique}
-use Rattle.lines.specs.Page.{LeakShown, by-word, by-branch, AfterStates, PageOf}
+use Rattle.lines.specs.Page.{LeakShown, by-word, by-branch, by-silent, AfterStates, PageOf}
 use Rattle.lines.specs.PageLines.{PageLine}
 use Rattle.lines.specs.declared.lines.Form.{Form}
 use Rattle.lines.specs.Roll.{formBytes}
@@ -22,8 +22,9 @@ use Rattle.page.specs.Prints.{PageBytesOf, Prints}
 module _ (m : Model) (run word : List ℕ) where
   leakShown-any : {j depth : ℕ} {word₀ word₁ : List ℕ} {lines : List PageLine} → LeakShown m j depth word₀ word₁ lines
       → (word′ : List ℕ) × LeakShown m j depth word word′ lines
-  leakShown-any (by-word {w = w} det x l e) = (w ++ drop (length w) word, by-word det x l refl)
+  leakShown-any (by-word {w = w} det still x l e) = (w ++ drop (length w) word, by-word det still x l refl)
   leakShown-any (by-branch n e) = (word, by-branch n refl)
+  leakShown-any (by-silent i s e) = (word, by-silent i s refl)
 
   afterStates-any : (v : Verdict) (run₀ word₀ run₁ word₁ : List ℕ) (lines : List PageLine)
       → AfterStates m v run₀ word₀ run₁ word₁ lines

@@ -4,7 +4,7 @@ use mathlib.Core.List.{List, [], _∷_, _++_, map, append-nil}
 use mathlib.Core.Path.{_≡_, refl, sym, ap, subst, _∙_}
 use Prim.Native.Nat.{ℕ}
 use Rattle.text.specs.Model.{Model}
-use Rattle.model.specs.System.{DeterministicModel}
+use Rattle.model.specs.System.{DeterministicModel, NoSilentStep}
 use Rattle.model.specs.WellFormed.{WellFormed}
 use Rattle.model.specs.Laws.System.GoodStoredLaws.{well-formed-stored}
 use Rattle.verdicts.specs.declared.judging.Verdict.{Verdict}
@@ -26,8 +26,8 @@ unfolding rollBytes rollRows rowsBytes flushLeft lineText
 roll-says m (Passed rank) rest = refl
 roll-says m (Refused j depth) rest = refl
 
-module _ {m : Model} (w : WellFormed m) (det : DeterministicModel m) {run word run′ word′ : List ℕ}
-    {lines : List PageLine} (x : PageOf m run word run′ word′ lines) where
+module _ {m : Model} (w : WellFormed m) (det : DeterministicModel m) (still : NoSilentStep m)
+    {run word run′ word′ : List ℕ} {lines : List PageLine} (x : PageOf m run word run′ word′ lines) where
   -- with nothing after them
   parted : otherTexts (rollBytes m lines) ≡ map lineText (withoutStates lines) ++ []
   parted = otherTexts-roll w x ∙ sym (append-nil (map lineText (withoutStates lines)))
@@ -46,14 +46,14 @@ module _ {m : Model} (w : WellFormed m) (det : DeterministicModel m) {run word r
   roll-told (Refused j depth) after judged y e = record {
     lines = withoutStates lines;
     texts =
-        leak-texts (well-formed-stored w) _ _ (withoutStates lines) parted det run word run′ word′ (j .0) depth [] after
-        judged y e;
+        leak-texts (well-formed-stored w) _ _ (withoutStates lines) parted det still run word run′ word′ (j .0) depth []
+        after judged y e;
     parted = otherTexts-roll w x;
   }
 
   pub roll-tells : RollTells m (rollBytes m lines) word′
   roll-tells =
-      bytes-tell (well-formed-stored w) det (rollBytes m lines) (x .verdict) (x .judged)
+      bytes-tell (well-formed-stored w) det still (rollBytes m lines) (x .verdict) (x .judged)
       (subst (λ (z : List PageLine). Says (x .verdict) (rollBytes m z)) (sym (x .lines-are))
       (roll-says m (x .verdict) _))
       (roll-told (x .verdict) (x .after) (x .judged) (x .after-states) (withoutStates-page w x))

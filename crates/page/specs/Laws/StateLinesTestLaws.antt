@@ -23,7 +23,7 @@ use Rattle.verdicts.specs.Laws.VerdictTestLaws.{rankIn→Rank, Reachable→reac
 use Rattle.lines.specs.Page.{DistanceField, unreached, reached, ClassOf, StateLines, no-state, next-state}
 use Rattle.page.specs.Inner.StateLinesTest.{leastPassing, near?, rankZero?, stateLinesOf}
 use Rattle.model.specs.System.{view}
-use Rattle.lts.specs.Noninterference.{LowMove}
+use Rattle.lts.specs.Weak.{WeakMove}
 
 -- ---- the least number that passes
 
@@ -59,20 +59,20 @@ module _ {s : List ℕ} {m : Model} (st : Stored s m) where
       (Reachable→reachable? st p r)))
 
   not-rankZero?→not-Rank : (p q : ℕ) → p < m .head .states → q < m .head .states → T (not (rankZero? m p q))
-      → ¬ (Rank (LowMove (view m)) p q 0)
+      → ¬ (Rank (WeakMove (view m)) p q 0)
   not-rankZero?→not-Rank p q lp lq t r = T-not (rankZero? m p q) t
-      (T-eqb (rank-unique (LowMove (view m)) p q (rankIn m p q) 0 (rankIn→Rank st p q lp lq) r))
+      (T-eqb (rank-unique (WeakMove (view m)) p q (rankIn m p q) 0 (rankIn→Rank st p q lp lq) r))
 
   classOf-of-least : (p c : ℕ) → p < m .head .states → LeastUpTo p (rankZero? m p) c → ClassOf m p c
   classOf-of-least p c lp (found l x) = record {
     class-among = omega arith;
-    rank-zero = subst (Rank (LowMove (view m)) p c) (eqb→eq (rankIn m p c) 0 (x .passes))
+    rank-zero = subst (Rank (WeakMove (view m)) p c) (eqb→eq (rankIn m p c) 0 (x .passes))
         (rankIn→Rank st p c lp (omega arith));
     lowest = λ q k _. not-rankZero?→not-Rank p q lp (omega arith) (x .none-below q k);
   }
   classOf-of-least p _ lp (nowhere x) = record {
     class-among = lp;
-    rank-zero = bisimilar (bisimilar-refl (LowMove (view m)) p);
+    rank-zero = bisimilar (bisimilar-refl (WeakMove (view m)) p);
     lowest = λ q k _. not-rankZero?→not-Rank p q lp (omega arith) (x q k);
   }
 

@@ -110,7 +110,7 @@ pub record LeadRooms (leads link top : List ℕ) : Type 0 where
   pub top-length : length top ≡ stateLimit
 
 -- The first i states of the list `touched` have their leads; those of them that are new stand from place 1 up to `end`.
-pub record LeadsUpTo (Move : Moves) (n : ℕ) (class reps touched lead leads link top : List ℕ) (i end : ℕ) : Type 0 where
+pub record LeadsUpTo (Move : Moves) (class reps touched lead leads link top : List ℕ) (i end : ℕ) : Type 0 where
   pub some-end : 0 < end
   pub end-le : end ≤ i + 1
   pub rooms : LeadRooms leads link top

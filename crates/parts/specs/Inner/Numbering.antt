@@ -6,7 +6,7 @@ use mathlib.Core.Path.{_≡_}
 use Prim.Native.Nat.{ℕ, _≤_, _<_}
 use lib.ListN.{getD}
 use Rattle.text.specs.Limits.{stateLimit}
-use Rattle.touching.specs.Inner.StateSets.{In, Out, StateSet}
+use Rattle.touching.specs.Inner.StateSets.{In, Out}
 use Rattle.parts.specs.Inner.Reps.{repOf, Counted}
 use Rattle.parts.specs.Inner.Leads.{LeadIs}
 
@@ -28,7 +28,7 @@ pub record NewLead (class reps lead : List ℕ) (p : ℕ) : Type 0 where
   pub not-rep : ¬ (repOf class reps p ≡ p)
 
 -- The new leads among the first i states of the list have the numbers from `old` up to `classes`, and represent them.
-pub record NumberedUpTo (n : ℕ) (class lead list reps reps′ numbers : List ℕ) (i old classes : ℕ) : Type 0 where
+pub record NumberedUpTo (class lead list reps reps′ numbers : List ℕ) (i old classes : ℕ) : Type 0 where
   pub old-le : old ≤ classes
   pub old-kept : (c : ℕ) → c < old → getD reps′ c 0 ≡ getD reps c 0
   pub number : (k : ℕ) → k < i → NewLead class reps lead (getD list k 0)
@@ -71,8 +71,10 @@ pub record NumbersKept (classes classes′ : ℕ) (class reps′ : List ℕ) : T
   pub classes-le : classes ≤ classes′
   pub rep-class : (c : ℕ) → c < classes → getD class (getD reps′ c 0) 0 ≡ c
 
--- The set has just those of n states whose class changed.
-pub record Changed (n : ℕ) (class next flags list : List ℕ) (count : ℕ) : Type 0 where
-  pub states : StateSet n flags list count
-  pub changed : (p : ℕ) → p < n → In flags p → ¬ (getD class p 0 ≡ getD next p 0)
-  pub unchanged : (p : ℕ) → p < n → Out flags p → getD class p 0 ≡ getD next p 0
+-- The first `changes` places of the list have just those of n states whose class changed, each once.
+pub record Changed (n : ℕ) (class next changed : List ℕ) (changes : ℕ) : Type 0 where
+  pub listed-lt : (i : ℕ) → i < changes → getD changed i 0 < n
+  pub differs : (i : ℕ) → i < changes → ¬ (getD class (getD changed i 0) 0 ≡ getD next (getD changed i 0) 0)
+  pub complete : (p : ℕ) → p < n → ¬ (getD class p 0 ≡ getD next p 0)
+      → (i : ℕ) × (i < changes) × (getD changed i 0 ≡ p)
+  pub distinct : (i j : ℕ) → i < changes → j < changes → getD changed i 0 ≡ getD changed j 0 → i ≡ j

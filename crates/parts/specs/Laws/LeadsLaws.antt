@@ -62,16 +62,16 @@ module _ {Move : Moves} {class reps : List ℕ} where
   }
 
   -- The state at place i of the list is the next: it has its lead, and what was added to the leads is that state.
-  leadsUpTo-suc : {n : ℕ} {touched lead lead′ leads leads′ link link′ top top′ : List ℕ} {i end end′ : ℕ}
-      → LeadsUpTo Move n class reps touched lead leads link top i end → end ≤ end′ → end′ ≤ end + 1
+  leadsUpTo-suc : {touched lead lead′ leads leads′ link link′ top top′ : List ℕ} {i end end′ : ℕ}
+      → LeadsUpTo Move class reps touched lead leads link top i end → end ≤ end′ → end′ ≤ end + 1
       → LeadRooms leads′ link′ top′ → SameBelow end leads leads′
       → ((k : ℕ) → k < i → getD lead (getD touched k 0) 0 ≡ getD lead′ (getD touched k 0) 0)
       → Chained stateLimit (leadClass class leads′) 0 end′ top′ link′
       → ((j : ℕ) → end ≤ j → j < end′
       → (getD touched i 0 ≡ getD leads′ j 0) × LeadAt Move class reps lead′ leads′ j)
       → HasLead Move class reps lead′ leads′ end′ (getD touched i 0)
-      → LeadsUpTo Move n class reps touched lead′ leads′ link′ top′ (i + 1) end′
-  leadsUpTo-suc {n} {touched} {lead} {lead′} {leads} {leads′} {link} {link′} {top} {top′} {i} {end} {end′} U l m r e d C
+      → LeadsUpTo Move class reps touched lead′ leads′ link′ top′ (i + 1) end′
+  leadsUpTo-suc {touched} {lead} {lead′} {leads} {leads′} {link} {link′} {top} {top′} {i} {end} {end′} U l m r e d C
       added here = record {
         some-end = omega (arith, U .some-end);
         end-le = omega (arith, U .end-le);
@@ -102,9 +102,9 @@ module _ {Move : Moves} {class reps : List ℕ} where
 
 -- ---- the state p at place i: it has an earlier lead, or itself
 
-pub leadsUpTo-zero : {Move : Moves} {n : ℕ} {class reps touched lead leads link top : List ℕ}
+pub leadsUpTo-zero : {Move : Moves} {class reps touched lead leads link top : List ℕ}
     → LeadRooms leads link top → ((k : ℕ) → getD top k 0 ≡ 0)
-    → LeadsUpTo Move n class reps touched lead leads link top 0 1
+    → LeadsUpTo Move class reps touched lead leads link top 0 1
 leadsUpTo-zero r z = record {
   some-end = omega arith;
   end-le = omega arith;
@@ -115,14 +115,14 @@ leadsUpTo-zero r z = record {
   has-lead = λ k a. absurd (omega arith);
 }
 
-module _ {Move : Moves} {n : ℕ} {class reps touched lead leads link top : List ℕ} {i end key : ℕ}
-    (U : LeadsUpTo Move n class reps touched lead leads link top i end) (lk : key < stateLimit) where
+module _ {Move : Moves} {class reps touched lead leads link top : List ℕ} {i end key : ℕ}
+    (U : LeadsUpTo Move class reps touched lead leads link top i end) (lk : key < stateLimit) where
   pub top-lt : getD top key 0 < end
   top-lt = last-lt (U .some-end) (U .chained .last key lk)
 
-  pub leadChain-of-leads : {p : ℕ} → i < stateLimit → Distinct n touched (i + 1) → key ≡ getD class p 0
+  pub leadChain-of-leads : {n p : ℕ} → i < stateLimit → Distinct n touched (i + 1) → key ≡ getD class p 0
       → LeadChain n class leads link (getD top key 0) p
-  leadChain-of-leads l D e = record {
+  leadChain-of-leads {n} l D e = record {
     last-le = omega (arith, top-lt, U .end-le);
     class-is = λ z. U .chained .last key lk .key-is z ∙ e;
     lead-lt = λ j a b.
@@ -132,14 +132,14 @@ module _ {Move : Moves} {n : ℕ} {class reps touched lead leads link top : List
   }
 
 module _ {Move : Moves} {n : ℕ} {class reps touched lead leads link top : List ℕ} {i end p : ℕ}
-    (U : LeadsUpTo Move n class reps touched lead leads link top i end) (D : Distinct n touched (i + 1))
+    (U : LeadsUpTo Move class reps touched lead leads link top i end) (D : Distinct n touched (i + 1))
     (here : getD touched i 0 ≡ p) (room : p < length lead) where
   kept : (f k : ℕ) → k < i → getD lead (getD touched k 0) 0 ≡ getD (set lead p f) (getD touched k 0) 0
   kept f k l = sym (getD-set-other lead p (getD touched k 0) f 0
       (λ e. omega (arith, D .distinct k i (omega arith) (omega arith) (e ∙ sym here))))
 
   pub leadsUpTo-found : {f m : ℕ} → m ≤ end → FoundLead Move class reps leads m p f → (repOf class reps p ≡ p → f ≡ p)
-      → LeadsUpTo Move n class reps touched (set lead p f) leads link top (i + 1) end
+      → LeadsUpTo Move class reps touched (set lead p f) leads link top (i + 1) end
   leadsUpTo-found {f} {m} l F own = leadsUpTo-suc U (omega arith) (omega arith) (U .rooms) (λ j a b. refl) (kept f)
       (U .chained) (λ j a b. absurd (omega arith))
       (subst (HasLead Move class reps (set lead p f) leads end) (sym here) (record {
@@ -151,13 +151,13 @@ module _ {Move : Moves} {n : ℕ} {class reps touched lead leads link top : List
       stored = getD-set-same lead p f 0 room
 
   pub leadsUpTo-rep : repOf class reps p ≡ p
-      → LeadsUpTo Move n class reps touched (set lead p p) leads link top (i + 1) end
+      → LeadsUpTo Move class reps touched (set lead p p) leads link top (i + 1) end
   leadsUpTo-rep e = leadsUpTo-found {m = end} (omega arith)
       (record { answers = answers-refl Move class p; among = inl (sym e) }) (λ d. refl)
 
   pub leadsUpTo-new : {key : ℕ} → key ≡ getD class p 0 → key < stateLimit → end ≤ stateLimit
       → NoLead Move class reps leads (getD top key 0) p
-      → LeadsUpTo Move n class reps touched (set lead p p) (set leads end p) (set link end (getD top key 0))
+      → LeadsUpTo Move class reps touched (set lead p p) (set leads end p) (set link end (getD top key 0))
       (set top key end) (i + 1) (end + 1)
   leadsUpTo-new {key} of-class lk le N =
       leadsUpTo-suc U (omega arith) (omega arith) rooms same (kept p)

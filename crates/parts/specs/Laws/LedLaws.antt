@@ -24,7 +24,7 @@ distinct-of-stateSet l S = record {
 
 module _ {Move : Moves} {n count i end : ℕ} {class reps flags touched lead leads link top : List ℕ}
     (R : Reps n class reps) (S : StateSet n flags touched count) (all : i ≡ count)
-    (U : LeadsUpTo Move n class reps touched lead leads link top i end) where
+    (U : LeadsUpTo Move class reps touched lead leads link top i end) where
   -- ---- the leads
 
   same-rep : {a b : ℕ} → a ≡ b → getD reps a 0 ≡ getD reps b 0

@@ -1,16 +1,16 @@
--- The touched states are numbered one after the other by their leads, and those whose class changed are those that
--- were put into the set. Assumes nothing.
-use mathlib.Core.Path.{_≡_, refl, sym, _∙_, ap, subst}
+-- The touched states are numbered one after the other by their leads, and those whose class changed are
+-- listed. Assumes nothing.
+use mathlib.Core.Path.{_≡_, refl, sym, _∙_, subst}
 use mathlib.Core.Logic.{_⊎_, inl, inr}
 use mathlib.Core.List.{List}
-use Prim.Native.Nat.{ℕ, _+_, _<_}
+use Prim.Native.Nat.{ℕ, _+_, _≤_, _<_}
 use native.Mathlib.Omega.{arith}
 use lib.ListN.{length, getD, set}
 use lib.Seq.{getD-set-same, getD-set-other}
 use borrow.Author.Count.{below-more}
 use Rattle.lts.specs.TestsLaws.{eq-or-not}
-use Rattle.touching.specs.Inner.StateSets.{In, Out, StateSet}
-use Rattle.touching.specs.Laws.StateSetsLaws.{in-set-same, out-of-not-in, stateSet-none, stateSet-add, stateSet-room}
+use Rattle.touching.specs.Inner.StateSets.{Out, StateSet}
+use Rattle.touching.specs.Laws.StateSetsLaws.{listed-count-le, listed-room, listed-add, listed-last, listed-still, distinct-add}
 use Rattle.parts.specs.Inner.Reps.{repOf}
 use Rattle.parts.specs.Inner.Numbering.{NextIs, NextUpTo, NextFound, Changed}
 
@@ -73,43 +73,44 @@ module _ {class lead list numbers reps : List ℕ} where
 
 -- ---- the states whose class changed
 
-pub changed-none : {n : ℕ} {class flags list : List ℕ} → ((p : ℕ) → Out flags p) → Changed n class class flags list 0
-changed-none z = record {
-  states = stateSet-none z;
-  changed = λ p l h. absurd (h (z p));
-  unchanged = λ p l h. refl;
+pub changed-none : {n : ℕ} {class changed : List ℕ} → Changed n class class changed 0
+changed-none = record {
+  listed-lt = λ i l. absurd (omega arith);
+  differs = λ i l. absurd (omega arith);
+  complete = λ p l d. absurd (d refl);
+  distinct = λ i j l. absurd (omega arith);
 }
 
-module _ {n : ℕ} {class next flags list : List ℕ} {count p : ℕ} (lp : p < n)
-    (same : getD next p 0 ≡ getD class p 0) (H : Changed n class next flags list count) where
-  -- A state that is still in its class is no member, and there is room for it.
-  changed-out : Out flags p
-  changed-out = out-of-not-in flags p (λ h. H .changed p lp h (sym same))
+pub changed-count-le : {n : ℕ} {class next changed : List ℕ} {changes : ℕ} → Changed n class next changed changes
+    → changes ≤ n
+changed-count-le {changed = changed} H = listed-count-le changed (H .listed-lt) (H .distinct)
 
-  pub changed-room : count < n
-  changed-room = stateSet-room (H .states) lp changed-out
+module _ {n : ℕ} {class next changed : List ℕ} {changes p : ℕ} (lp : p < n)
+    (same : getD next p 0 ≡ getD class p 0) (H : Changed n class next changed changes) where
+  -- A state that is still in its class is not listed, and there is room for it.
+  not-listed : (i : ℕ) → i < changes → ¬ (getD changed i 0 ≡ p)
+  not-listed i l e =
+      H .differs i l (subst (λ (x : ℕ). getD class x 0 ≡ getD next x 0) (sym e) (sym same))
+
+  pub changed-room : changes < n
+  changed-room = listed-room changed (H .listed-lt) (H .distinct) lp not-listed
 
   -- It leaves its class.
-  pub changed-add : {x : ℕ} → p < length flags → p < length next → count < length list → ¬ (getD class p 0 ≡ x)
-      → Changed n class (set next p x) (set flags p 1) (set list count p) (count + 1)
-  changed-add {x} lf ln ll d = record {
-    states = stateSet-add lp lf ll changed-out (H .states);
-    changed = λ q lq. changed q lq (eq-or-not q p);
-    unchanged = λ q lq. unchanged q lq (eq-or-not q p);
+  pub changed-add : {x : ℕ} → p < length next → changes < length changed → ¬ (getD class p 0 ≡ x)
+      → Changed n class (set next p x) (set changed changes p) (changes + 1)
+  changed-add {x} ln ll d = record {
+    listed-lt = listed-add changed p ll (λ q. q < n) lp (H .listed-lt);
+    differs = listed-add changed p ll (λ q. ¬ (getD class q 0 ≡ getD (set next p x) q 0))
+        (λ e. d (e ∙ getD-set-same next p x 0 ln))
+        (λ i l e. H .differs i l (e ∙ getD-set-other next p (getD changed i 0) x 0 (not-listed i l)));
+    complete = λ q lq h. complete q lq h (eq-or-not q p);
+    distinct = distinct-add changed p ll not-listed (H .distinct);
   }
     where
-      at : {q : ℕ} → q ≡ p → getD (set next p x) q 0 ≡ x
-      at e = ap (λ (y : ℕ). getD (set next p x) y 0) e ∙ getD-set-same next p x 0 ln
-
-      changed : (q : ℕ) → q < n → (q ≡ p) ⊎ ¬ (q ≡ p) → In (set flags p 1) q
-          → ¬ (getD class q 0 ≡ getD (set next p x) q 0)
-      changed q lq (inl e) h z = d (ap (λ (y : ℕ). getD class y 0) (sym e) ∙ z ∙ at e)
-      changed q lq (inr e) h z = H .changed q lq (λ o. h (getD-set-other flags p q 1 0 e ∙ o))
-          (z ∙ getD-set-other next p q x 0 e)
-
-      unchanged : (q : ℕ) → q < n → (q ≡ p) ⊎ ¬ (q ≡ p) → Out (set flags p 1) q
-          → getD class q 0 ≡ getD (set next p x) q 0
-      unchanged q lq (inl e) z =
-          absurd (in-set-same flags p lf (subst (λ (y : ℕ). Out (set flags p 1) y) e z))
-      unchanged q lq (inr e) z = H .unchanged q lq (sym (getD-set-other flags p q 1 0 e) ∙ z)
-          ∙ sym (getD-set-other next p q x 0 e)
+      complete : (q : ℕ) → q < n → ¬ (getD class q 0 ≡ getD (set next p x) q 0) → (q ≡ p) ⊎ ¬ (q ≡ p)
+          → (i : ℕ) × (i < changes + 1) × (getD (set changed changes p) i 0 ≡ q)
+      complete q lq h (inl e) =
+          subst (λ (y : ℕ). (i : ℕ) × (i < changes + 1) × (getD (set changed changes p) i 0 ≡ y)) (sym e)
+          (listed-last changed p ll)
+      complete q lq h (inr z) =
+          listed-still changed p ll (H .complete q lq (λ e. h (e ∙ sym (getD-set-other next p q x 0 z))))

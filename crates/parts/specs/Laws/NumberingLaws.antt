@@ -20,8 +20,8 @@ pub newLead-map : {class lead reps reps′ : List ℕ} {p : ℕ} → repOf class
     → NewLead class reps lead p → NewLead class reps′ lead p
 newLead-map e N = record { leads-itself = N .leads-itself; not-rep = λ h. N .not-rep (e ∙ h) }
 
-module _ {n : ℕ} {class lead list reps : List ℕ} where
-  pub numbered-zero : {numbers : List ℕ} (old : ℕ) → NumberedUpTo n class lead list reps reps numbers 0 old old
+module _ {class lead list reps : List ℕ} where
+  pub numbered-zero : {numbers : List ℕ} (old : ℕ) → NumberedUpTo class lead list reps reps numbers 0 old old
   numbered-zero old = record {
     old-le = omega arith;
     old-kept = λ c l. refl;
@@ -30,10 +30,10 @@ module _ {n : ℕ} {class lead list reps : List ℕ} where
   }
 
   module _ {reps′ numbers : List ℕ} {i old classes : ℕ}
-      (U : NumberedUpTo n class lead list reps reps′ numbers i old classes) where
+      (U : NumberedUpTo class lead list reps reps′ numbers i old classes) where
     -- A state that is no new lead gets no number.
     pub numbered-skip : ¬ (NewLead class reps lead (getD list i 0))
-        → NumberedUpTo n class lead list reps reps′ numbers (i + 1) old classes
+        → NumberedUpTo class lead list reps reps′ numbers (i + 1) old classes
     numbered-skip h = record {
       old-le = U .old-le;
       old-kept = U .old-kept;
@@ -44,7 +44,7 @@ module _ {n : ℕ} {class lead list reps : List ℕ} where
     -- A new lead gets the next number.
     pub numbered-add : NewLead class reps lead (getD list i 0) → getD list i 0 < length numbers
         → classes < length reps′ → ((k : ℕ) → k < i → ¬ (getD list k 0 ≡ getD list i 0))
-        → NumberedUpTo n class lead list reps (set reps′ classes (getD list i 0))
+        → NumberedUpTo class lead list reps (set reps′ classes (getD list i 0))
         (set numbers (getD list i 0) classes) (i + 1) old (classes + 1)
     numbered-add N ln lr other = record {
       old-le = omega (arith, U .old-le);
@@ -91,7 +91,7 @@ module _ {n : ℕ} {class lead list reps : List ℕ} where
 
     -- ---- there is room
 
-    module _ {flags : List ℕ} {count : ℕ} (S : StateSet n flags list count) (C : Counted n old class reps)
+    module _ {flags : List ℕ} {n count : ℕ} (S : StateSet n flags list count) (C : Counted n old class reps)
         (le : i ≤ count) where
       pub numbered-lt : (c : ℕ) → c < classes → getD reps′ c 0 < n
       numbered-lt c l = go (lt-or-le c old)
@@ -152,7 +152,7 @@ module _ {n : ℕ} {class lead list reps : List ℕ} where
 
 -- The classes before the round keep their numbers, and new ones stand behind them.
 pub numbersKept-of-numbered : {n : ℕ} {class lead list reps reps′ numbers : List ℕ} {i old classes : ℕ}
-    → Counted n old class reps → NumberedUpTo n class lead list reps reps′ numbers i old classes
+    → Counted n old class reps → NumberedUpTo class lead list reps reps′ numbers i old classes
     → NumbersKept old classes class reps′
 numbersKept-of-numbered {class = class} A N = record {
   classes-le = N .old-le;

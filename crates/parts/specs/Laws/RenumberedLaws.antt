@@ -22,7 +22,7 @@ use Rattle.parts.specs.Laws.KeepersLaws.{repsKept-of-keepers, keepers-ou
 module _ {n old classes count : ℕ} {class flags list lead reps keep reps′ numbers : List ℕ}
     (S : StateSet n flags list count) (C : Counted n old class reps) (L : LeadsFound n class flags reps lead)
     (K : Keepers n class flags lead reps keep)
-    (N : NumberedUpTo n class lead list keep reps′ numbers count old classes) where
+    (N : NumberedUpTo class lead list keep reps′ numbers count old classes) where
   counted : Counted n old class keep
   counted = counted-kept C (repsKept-of-keepers K)
 

@@ -35,15 +35,15 @@ pub record Ready (Move : Moves) (n k : ℕ) (class : List ℕ) (classes : ℕ) (
 
 -- What the round after k of them leaves: the classes one round later, their representatives, the states that changed
 -- theirs, and no marks.
-pub record Divided (Move : Moves) (n k : ℕ) (class next : List ℕ) (classes : ℕ) (reps changed moved : List ℕ)
+pub record Divided (Move : Moves) (n k : ℕ) (class next : List ℕ) (classes : ℕ) (reps changed : List ℕ)
     (changes : ℕ) (marks : List ℕ) : Type 0 where
   pub are-classes : Classes Move n (k + 1) next
   pub refined : Refined Move n class next
   pub counted : Counted n classes next reps
-  pub changes-are : Changed n class next changed moved changes
+  pub changes-are : Changed n class next changed changes
   pub unmarked : Unmarked marks
 
 -- The round after k of them separates a pair exactly if a state changes its class.
-pub record RoundSeparates (Move : Moves) (n k changed : ℕ) : Type 0 where
-  pub settled : changed ≡ 0 → Settled Move n k
-  pub separates : 0 < changed → Separates Move n k
+pub record RoundSeparates (Move : Moves) (n k changes : ℕ) : Type 0 where
+  pub settled : changes ≡ 0 → Settled Move n k
+  pub separates : 0 < changes → Separates Move n k

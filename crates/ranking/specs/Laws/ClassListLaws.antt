@@ -14,10 +14,9 @@ use Rattle.lts.specs.TestsLaws.{eq-or-not}
 use Rattle.comparing.specs.Inner.Numbered.{Same}
 use Rattle.comparing.specs.Laws.AnswersLaws.{answers-sym, answers-trans}
 use Rattle.touching.specs.Inner.Touched.{Together}
-use Rattle.touching.specs.Laws.StateSetsLaws.{stateSet-none}
 use Rattle.parts.specs.Inner.Reps.{repOf, Reps, OutReps, Counted}
 use Rattle.parts.specs.Inner.Leads.{LeadIs, LeadsItself, LeadsFound, RepsLead, Led}
-use Rattle.parts.specs.Inner.Numbering.{NumbersKept, Renumbered, Changed}
+use Rattle.parts.specs.Inner.Numbering.{NumbersKept, Renumbered}
 use Rattle.parts.specs.Laws.RenumberedLaws.{renumbered-same}
 use Rattle.ranking.specs.Inner.ClassList.{Classes, Refined}
 
@@ -162,14 +161,6 @@ module _ {Move : Moves} {n : ℕ} {class flags reps lead : List ℕ} (T : Togeth
         (answers-sym Move class (to-rep q lq)));
     same-of-answers = λ p q lp lq s h. s;
   }
-
-pub changed-none : {n : ℕ} {class list : List ℕ} (flags : List ℕ) → ((p : ℕ) → getD flags p 0 ≡ 0)
-    → Changed n class class flags list 0
-changed-none flags z = record {
-  states = stateSet-none z;
-  changed = λ p lp i. absurd (i (z p));
-  unchanged = λ p lp o. refl;
-}
 
 pub numbersKept-refl : {n classes : ℕ} {class reps : List ℕ} → Counted n classes class reps
     → NumbersKept classes classes class reps

@@ -10,15 +10,13 @@ use lib.ListN.{getD}
 use lib.Seq.{ext-getD}
 use Rattle.lts.specs.Alike.{Moves, Separated, Rank}
 use Rattle.lts.specs.AlikeLaws.{rank-unique}
-use Rattle.lts.specs.AgreeLaws.{separated-same, rank-same, separated-agree, rank-agree}
+use Rattle.lts.specs.AgreeLaws.{separated-same, rank-same}
 use Rattle.lts.specs.TestsLaws.{lt-or-le}
 use Rattle.text.specs.Limits.{stateLimit}
 use Rattle.text.specs.Limits.{tableLength, pairPlace}
 use Rattle.text.specs.Lists.{Past}
 use Rattle.text.specs.Laws.ListsLaws.{past-getD}
-use Rattle.comparing.specs.MoveList.{Listed, MoveList, Lists, OwnRows, Played, silentLabel}
-use Rattle.comparing.specs.Laws.MoveListLaws.{listed-game, played-game}
-use Rattle.comparing.specs.Laws.OwnRowsLaws.{ownRows-rowList, own-agree}
+use Rattle.comparing.specs.MoveList.{Listed, MoveList, Lists}
 use Rattle.ranking.specs.Table.{Below, SomePair, Ranks, LastRound, Greatest, Ranked}
 
 -- ---- one table, one answer
@@ -87,7 +85,7 @@ somePair-map f x = record {
   holds = f (x .one) (x .other) (x .one-among) (x .other-among) (x .holds);
 }
 
-ranked-map : {M N : Moves} {n : ℕ} → ((p q k : ℕ) → p < n → q < n → Rank M p q k ↔ Rank N p q k)
+pub ranked-map : {M N : Moves} {n : ℕ} → ((p q k : ℕ) → p < n → q < n → Rank M p q k ↔ Rank N p q k)
     → ((p q k : ℕ) → p < n → q < n → Separated M p q k ↔ Separated N p q k) → {entry exit : List ℕ} {last : ℕ}
     → Ranked M n entry exit last → Ranked N n entry exit last
 ranked-map f g {last = last} r = record {
@@ -106,28 +104,6 @@ ranked-map f g {last = last} r = record {
     bound = λ p q k lp lq x. r .greatest .bound p q k lp lq (f p q k lp lq .1 x);
   };
 }
-
--- Where each row holds its own state alone, the moves that are played are the steps, silent moves of no steps apart,
--- and these change no rank.
-module _ {n : ℕ} {first actions targets begins rows : List ℕ} (L : MoveList n first actions targets)
-    (O : OwnRows n begins rows) where
-  pub ranked-of-own : {entry exit : List ℕ} {last : ℕ}
-      → Ranked (Played n first actions targets begins rows) n entry exit last
-      → Ranked (Listed n first actions targets) n entry exit last
-  ranked-of-own =
-      ranked-map (λ p q k lp lq. (rank p q k lp lq .1, rank p q k lp lq .0))
-      (λ p q k lp lq. (separated p q k lp lq .1, separated p q k lp lq .0))
-    where
-      rank : (p q k : ℕ) → p < n → q < n
-          → Rank (Listed n first actions targets) p q k ↔ Rank (Played n first actions targets begins rows) p q k
-      rank p q k lp lq = rank-agree (λ x. x < n) (λ a. a ≡ silentLabel) (Listed n first actions targets)
-          (Played n first actions targets begins rows) (own-agree O L) n _ _ (listed-game L)
-          (played-game L (ownRows-rowList O)) p q k lp lq lp lq
-
-      separated : (p q k : ℕ) → p < n → q < n → Separated (Listed n first actions targets) p q k
-          ↔ Separated (Played n first actions targets begins rows) p q k
-      separated p q k lp lq = separated-agree (λ x. x < n) (λ a. a ≡ silentLabel) (Listed n first actions targets)
-          (Played n first actions targets begins rows) (own-agree O L) p q k lp lq
 
 -- ---- the lists and the relation
 

@@ -5,7 +5,7 @@ use mathlib.Core.List.{List}
 use Prim.Native.Nat.{ℕ, _+_, _<_}
 use native.Mathlib.Omega.{arith}
 use lib.ListN.{getD}
-use Rattle.comparing.specs.MoveList.{MoveList, RowList, Played}
+use Rattle.comparing.specs.MoveList.{Listed, MoveList}
 use Rattle.comparing.specs.Inner.Marks.{Unmarked}
 use Rattle.touching.specs.Inner.StateSets.{StateSet}
 use Rattle.touching.specs.Laws.StateSetsLaws.{stateSet-room}
@@ -14,11 +14,10 @@ use Rattle.touching.specs.Laws.TogetherLaws.{together}
 use Rattle.ranking.specs.Inner.ClassList.{Ready, Divided}
 use Rattle.ranking.specs.Laws.ClassListLaws.{classes-zero}
 
-module _ {n : ℕ} {first actions targets begins rows : List ℕ} (L : MoveList n first actions targets)
-    (R : RowList n begins rows) where
+module _ {n : ℕ} {first actions targets : List ℕ} (L : MoveList n first actions targets) where
   pub ready-zero : {class reps flags list marks : List ℕ} → ((p : ℕ) → getD class p 0 ≡ 0)
       → ((c : ℕ) → getD reps c 0 ≡ 0) → StateSet n flags list n → Unmarked marks
-      → Ready (Played n first actions targets begins rows) n 0 class 1 reps flags list n marks
+      → Ready (Listed n first actions targets) n 0 class 1 reps flags list n marks
   ready-zero {class} {reps} z r S u = record {
     are-classes = classes-zero z;
     counted = record {
@@ -34,17 +33,15 @@ module _ {n : ℕ} {first actions targets begins rows : List ℕ} (L : MoveList 
       zero-of-lt : {c : ℕ} → c < 1 → c ≡ 0
       zero-of-lt l = omega arith
 
-  pub ready-of-divided : {k : ℕ} {class next : List ℕ} {classes : ℕ} {reps changed moved : List ℕ} {changes : ℕ}
+  pub ready-of-divided : {k : ℕ} {class next : List ℕ} {classes : ℕ} {reps changed : List ℕ} {changes : ℕ}
       {marks flags list : List ℕ} {count : ℕ}
-      → Divided (Played n first actions targets begins rows) n k class next classes reps changed moved changes marks
-      → StateSet n flags list count → Untouched n first actions targets begins rows changed flags
-      → Ready (Played n first actions targets begins rows) n (k + 1) next classes reps flags list count marks
+      → Divided (Listed n first actions targets) n k class next classes reps changed changes marks
+      → StateSet n flags list count → Untouched n first actions targets changed changes flags
+      → Ready (Listed n first actions targets) n (k + 1) next classes reps flags list count marks
   ready-of-divided {class = class} {next} D S U = record {
     are-classes = D .are-classes;
     counted = D .counted;
     touched = S;
-    together = together class next L R
-        (λ p q lp lq s. (D .refined .same-before p q lp lq s, D .refined .answers-of-same p q lp lq s))
-        (D .changes-are .unchanged) U;
+    together = together class next L (D .refined .answers-of-same) (D .changes-are .complete) U;
     unmarked = D .unmarked;
   }

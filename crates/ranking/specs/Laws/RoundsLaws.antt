@@ -44,27 +44,24 @@ module _ {Move : Moves} {n : ℕ} (target-lt : (p a q : ℕ) → p < n → Move 
   pub round-classes : Classes Move n (k + 1) next
   round-classes = subst (λ (j : ℕ). Classes Move n j next) (sym (add-one k)) D
 
-  module _ {flags list : List ℕ} {count : ℕ} (H : Changed n class next flags list count) where
-    pub round-ranks : {t u : List ℕ} → Written n class next (k + 1) t u → RowsWritten class next (k + 1) u list count n
+  module _ {changed : List ℕ} {changes : ℕ} (H : Changed n class next changed changes) where
+    pub round-ranks : {t u : List ℕ} → Written n class next (k + 1) t u → RowsWritten class next (k + 1) u changed changes n
         → RanksUpTo Move n k t → RanksUpTo Move n (k + 1) u
     round-ranks {t} {u} W rows U = subst (λ (j : ℕ). RanksUpTo Move n j u) (sym (add-one k))
         (ranksUpTo-suc C D H (subst (λ (j : ℕ). Written n class next j t u) (add-one k) W)
-        (subst (λ (j : ℕ). RowsWritten class next j u list count n) (add-one k) rows) U)
+        (subst (λ (j : ℕ). RowsWritten class next j u changed changes n) (add-one k) rows) U)
 
     pub round-separates : {classes classes′ : ℕ} {reps reps′ : List ℕ} → Counted n classes class reps
-        → Counted n classes′ next reps′ → NumbersKept classes classes′ class reps′ → RoundSeparates Move n k count
+        → Counted n classes′ next reps′ → NumbersKept classes classes′ class reps′ → RoundSeparates Move n k changes
     round-separates A B K = record {
-      settled = λ e. settled-of-unchanged C D (λ p lp. none e p lp (eq-or-not (getD flags p 0) 0));
-      separates = λ l.
-          let p = getD list 0 0 in
-          let lp = H .states .listed-lt 0 l in
-          separates-of-changed C D A B K p lp (H .changed p lp (H .states .listed-in 0 l));
+      settled = λ e. settled-of-unchanged C D (λ p lp. none e p lp (eq-or-not (getD class p 0) (getD next p 0)));
+      separates = λ l. separates-of-changed C D A B K (getD changed 0 0) (H .listed-lt 0 l) (H .differs 0 l);
     }
       where
-        none : count ≡ 0 → (p : ℕ) → p < n → (getD flags p 0 ≡ 0) ⊎ ¬ (getD flags p 0 ≡ 0)
+        none : changes ≡ 0 → (p : ℕ) → p < n → (getD class p 0 ≡ getD next p 0) ⊎ ¬ (getD class p 0 ≡ getD next p 0)
             → getD class p 0 ≡ getD next p 0
-        none e p lp (inl o) = H .unchanged p lp o
-        none e p lp (inr i) = absurd (omega (arith, H .states .complete p lp i .1))
+        none e p lp (inl same) = same
+        none e p lp (inr d) = absurd (omega (arith, H .complete p lp d .1))
 
 -- ---- after the last round
 

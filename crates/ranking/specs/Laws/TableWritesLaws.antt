@@ -159,27 +159,26 @@ module _ {class next t : List ℕ} {round : ℕ} where
 
 -- Every pair that the round separates stands in the row of one of the two: if neither changed, they are of one class
 -- still.
-entry-of-separated : {class next t flags list : List ℕ} {round n count : ℕ} → Changed n class next flags list count
-    → RowsWritten class next round t list count n → (p q : ℕ) → p < n → q < n → SeparatedBy class next p q
+entry-of-separated : {class next t changed : List ℕ} {round n changes : ℕ} → Changed n class next changed changes
+    → RowsWritten class next round t changed changes n → (p q : ℕ) → p < n → q < n → SeparatedBy class next p q
     → entryOf t p q ≡ round
-entry-of-separated {class} {next} {t} {flags} {list} {round} {n} {count} C r p q lp lq h =
-    go (eq-or-not (getD flags p 0) 0) (eq-or-not (getD flags q 0) 0)
+entry-of-separated {class} {next} {t} {changed} {round} {n} C r p q lp lq h =
+    go (eq-or-not (getD class p 0) (getD next p 0)) (eq-or-not (getD class q 0) (getD next q 0))
   where
-    row-of : (x : ℕ) → x < n → ¬ (getD flags x 0 ≡ 0) → RowWritten class next round t x n
-    row-of x lx i =
-        let l = C .states .complete x lx i in
+    row-of : (x : ℕ) → x < n → ¬ (getD class x 0 ≡ getD next x 0) → RowWritten class next round t x n
+    row-of x lx d =
+        let l = C .complete x lx d in
         subst (λ (y : ℕ). RowWritten class next round t y n) (l .2) (r .row (l .0) (l .1))
 
-    go : (getD flags p 0 ≡ 0) ⊎ ¬ (getD flags p 0 ≡ 0) → (getD flags q 0 ≡ 0) ⊎ ¬ (getD flags q 0 ≡ 0)
-        → entryOf t p q ≡ round
-    go (inr i) d = row-of p lp i .pair q lq .both h .0
-    go (inl o) (inr i) = row-of q lq i .pair p lp .both (separatedBy-sym h) .1
-    go (inl o) (inl u) = absurd (h .not-same-after
-        (sym (C .unchanged p lp o) ∙ h .same-before ∙ C .unchanged q lq u))
+    go : (getD class p 0 ≡ getD next p 0) ⊎ ¬ (getD class p 0 ≡ getD next p 0)
+        → (getD class q 0 ≡ getD next q 0) ⊎ ¬ (getD class q 0 ≡ getD next q 0) → entryOf t p q ≡ round
+    go (inr d) _ = row-of p lp d .pair q lq .both h .0
+    go (inl e) (inr d) = row-of q lq d .pair p lp .both (separatedBy-sym h) .1
+    go (inl e) (inl u) = absurd (h .not-same-after (sym e ∙ h .same-before ∙ u))
 
-module _ {Move : Moves} {n k : ℕ} {class next t u flags list : List ℕ} {count : ℕ} (C : Classes Move n k class)
-    (D : Classes Move n (suc k) next) (H : Changed n class next flags list count) (W : Written n class next (suc k) t u)
-    (R : RowsWritten class next (suc k) u list count n) where
+module _ {Move : Moves} {n k : ℕ} {class next t u changed : List ℕ} {changes : ℕ} (C : Classes Move n k class)
+    (D : Classes Move n (suc k) next) (H : Changed n class next changed changes) (W : Written n class next (suc k) t u)
+    (R : RowsWritten class next (suc k) u changed changes n) where
   kept-of-not : (p q : ℕ) → p < n → q < n → ¬ (SeparatedBy class next p q) → entryOf u p q ≡ entryOf t p q
   kept-of-not p q lp lq d = go (W .inside p q lp lq)
     where

@@ -1,14 +1,16 @@
--- The test of a word of few actions, over all words up to its length. Only the laws on the bench models cite it.
--- Document 01, operation 6, "Deterministic" and "Possible".
+-- The test of a word of few actions, over all words up to its length, and of silent steps. Only the laws on the bench
+-- models cite it.
+-- Document 01, operation 6, "Deterministic" and "Possible"; document 02, (vii).
 use mathlib.Core.Bool.{Bool, true, false, not, _&&_, _||_}
 use mathlib.Core.List.{List, [], _∷_}
 use Prim.Native.Nat.{ℕ, zero, suc}
 use lib.Dec.{eqb, ltb}
 use lib.ListN.{length}
 use Rattle.lts.specs.Tests.{all, any}
-use Rattle.text.specs.Model.{Model}
-use Rattle.model.specs.System.{source, action, target, view}
+use Rattle.text.specs.Model.{silent, Model}
+use Rattle.model.specs.System.{source, action, target, level, view}
 use Rattle.model.specs.Inner.StepTest.{step?}
+use Rattle.verdicts.specs.Inner.VerdictTest.{reachable?}
 use Rattle.letters.specs.declared.word.End.{End}
 use Rattle.letters.specs.Words.{endState, otherState}
 
@@ -19,6 +21,14 @@ onlyStep? m i j = not (eqb (source m i) (source m j) && eqb (action m i) (action
 -- No state has two steps of one action, whether it is reachable or not.
 unfoldable pub unbranched? : Model → Bool
 unbranched? m = all (length (m .steps)) (λ i. all (length (m .steps)) (onlyStep? m i))
+
+-- No step below n is silent, whether it is reachable or not.
+unfoldable pub still? : Model → ℕ → Bool
+still? m n = all n (λ j. not (eqb (level m (action m j)) silent))
+
+-- Step j is silent and can be reached, and no lower one is silent.
+unfoldable pub firstSilent? : Model → ℕ → Bool
+firstSilent? m j = let r = reachable? m (source m j) in eqb (level m (action m j)) silent && (r && still? m j)
 
 -- The test of `Low`.
 unfoldable pub low? : Model → List ℕ → Bool

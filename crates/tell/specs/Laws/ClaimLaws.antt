@@ -14,7 +14,7 @@ use Rattle.text.specs.Laws.ListsLaws.{take-filled}
 use Rattle.read_write.specs.ReadPromise.{ReadPromise}
 use Rattle.model.specs.Store.{Good}
 use Rattle.model.specs.StoredModel.{Holds}
-use Rattle.model.specs.System.{HighStep, DeterministicModel}
+use Rattle.model.specs.System.{HighStep, DeterministicModel, NoSilentStep}
 use Rattle.verdicts.specs.declared.judging.Verdict.{Verdict}
 use Rattle.verdicts.specs.declared.judging.Verdict.the-variants.{Passed, Refused}
 use Rattle.verdicts.specs.Verdicts.{RefusedAt, Judged}
@@ -45,7 +45,7 @@ says-same i j d e x y = refused-same (record { 0 = i }) (record { 0 = j }) d e (
 
 -- ---- the sequence
 
-module _ {s : List ℕ} {m : Model} (st : Stored s m) where
+module _ {s : List ℕ} {m : Model} (st : Stored s m) (still : NoSilentStep m) where
   pub shows-of-wordOf : {j depth : ℕ} {word : List ℕ} {end : End} → RefusedAt m j depth → WordOf m j word end
       → length word ≡ depth → ShowsLeak m j depth word end
   shows-of-wordOf refused x e = record {
@@ -53,7 +53,7 @@ module _ {s : List ℕ} {m : Model} (st : Stored s m) where
     possible = x .only-from-end .0;
     not-possible = x .only-from-end .1;
     first = x .first-word;
-    shortest = λ i h v l one. subst (λ (n : ℕ). n ≤ length v) (sym e) (depth-le st refused i h v l one);
+    shortest = λ i h v l one. subst (λ (n : ℕ). n ≤ length v) (sym e) (depth-le st still refused i h v l one);
     depth-is = sym e;
   }
 
@@ -73,18 +73,20 @@ module _ {s : List ℕ} {m : Model} (st : Stored s m) where
     pub word-tells : {word : Outcome} {entry exit : List ℕ} (v : Verdict) → Judged m v → WordDone m word entry exit
         → WordTells m word
     word-tells (Passed top) x w =
-        let none = w .passed det (x .bnid) .0 in
+        let none = w .passed det still (x .bnid) .0 in
         record {
           not-branching = λ j h. let z : _≡_ {A = ℕ} 23 24 = cc in omega arith;
-          no-word-iff = (λ _. bnid↔INI st det .0 (x .bnid), λ _. none);
+          not-silent = λ j h. let z : _≡_ {A = ℕ} 36 24 = cc in omega arith;
+          no-word-iff = (λ _. bnid↔INI st still det .0 (x .bnid), λ _. none);
         }
     word-tells (Refused j depth) x w =
-        let answer = w .refused det (j .0) depth x .outcome-is in
+        let answer = w .refused det still (j .0) depth x .outcome-is in
         record {
           not-branching = λ i h. answers-not-refuses (sym answer ∙ h);
+          not-silent = λ i h. answers-not-refuses (sym answer ∙ h);
           no-word-iff = (
             λ h. absurd (answers-not-refuses (sym answer ∙ h)),
-            λ ini. absurd (no-leak-of-bnid m (bnid↔INI st det .1 ini) (j .0) depth (x .leak)),
+            λ ini. absurd (no-leak-of-bnid m (bnid↔INI st still det .1 ini) (j .0) depth (x .leak)),
           );
         }
 
@@ -94,14 +96,14 @@ module _ {s : List ℕ} {m : Model} (st : Stored s m) where
     pub judge-tells : (v : Verdict) → judge ≡ verdictOutcome v → Judged m v → JudgeTells m judge
     judge-tells (Passed top) e x = record {
       answered = inl (top, e);
-      passed-iff = (λ _. bnid↔INI st det .0 (x .bnid), λ _. (top, e));
+      passed-iff = (λ _. bnid↔INI st still det .0 (x .bnid), λ _. (top, e));
       step-told = λ j depth h. absurd (says-one j depth (top, e) h);
     }
     judge-tells (Refused j depth) e x = record {
       answered = inr (j .0, depth, e);
       passed-iff = (
         λ p. absurd (says-one (j .0) depth p e),
-        λ ini. absurd (no-leak-of-bnid m (bnid↔INI st det .1 ini) (j .0) depth (x .leak)),
+        λ ini. absurd (no-leak-of-bnid m (bnid↔INI st still det .1 ini) (j .0) depth (x .leak)),
       );
       step-told = λ i d h. subst (HighStep m) (says-same (j .0) i depth d e h .0) (x .leak .high-step);
     }
@@ -111,11 +113,11 @@ module _ {s : List ℕ} {m : Model} (st : Stored s m) where
     pub both-tell : {word : Outcome} {entry exit : List ℕ} (v : Verdict) → judge ≡ verdictOutcome v → Judged m v
         → WordDone m word entry exit → BothTell m judge word exit
     both-tell (Passed top) e x w = record {
-      passed-no-word = (λ _. w .passed det (x .bnid) .0, λ _. (top, e));
+      passed-no-word = (λ _. w .passed det still (x .bnid) .0, λ _. (top, e));
       shown = λ j depth h. absurd (says-one j depth (top, e) h);
     }
     both-tell {word} {exit = exit} (Refused j depth) e x w =
-        let shown = w .refused det (j .0) depth x in
+        let shown = w .refused det still (j .0) depth x in
         let sequence = sequence-of-shown x shown in
         let answer = shown .outcome-is in
         record {
@@ -159,14 +161,14 @@ module _ {text store₀ store distances table distances′ table′ : List ℕ} 
       → Claim text read judge word w′
   claim-holds {d} {t} {w} {w′ = w′} {word} words = record {
     read-iff = read↔States reads;
-    judge-tells = λ e m s det told.
+    judge-tells = λ e m s det still told.
         let x = verdict e m s told in
-        judge-tells (stored e m s) det (x .0) (x .1) (x .2);
-    word-tells = λ e m s det shown.
-        word-tells (stored e m s) det (verdictOf m) (verdictOf-judged (stored e m s)) (done e m s shown);
-    both-tell = λ e m s det told shown.
+        judge-tells (stored e m s) still det (x .0) (x .1) (x .2);
+    word-tells = λ e m s det still shown.
+        word-tells (stored e m s) still det (verdictOf m) (verdictOf-judged (stored e m s)) (done e m s shown);
+    both-tell = λ e m s det still told shown.
         let x = verdict e m s told in
-        both-tell (stored e m s) det (x .0) (x .1) (x .2) (done e m s shown);
+        both-tell (stored e m s) still det (x .0) (x .1) (x .2) (done e m s shown);
   }
     where
       done : (e : read ≡ answers []) (m : Model) (s : States text m) → NotShort word → WordDone m word w w′

@@ -1,5 +1,6 @@
--- A word that passes the test is the word; where no state has two steps of one action the model is deterministic.
--- Document 01, operation 6, "Deterministic" and "Possible". Assumes nothing.
+-- A word that passes the test is the word; where no state has two steps of one action the model is deterministic;
+-- and so for silent steps. Document 01, operation 6, "Deterministic" and "Possible"; document 02, (vii). Assumes
+-- nothing.
 use mathlib.Core.Bool.{Bool, not, _&&_}
 use mathlib.Core.List.{List, [], _∷_}
 use mathlib.Core.Logic.{_⊎_, inl, inr}
@@ -16,16 +17,18 @@ use Rattle.lts.specs.Noninterference.{Low}
 use Rattle.lts.specs.Run.{Run, Allows}
 use Rattle.lts.specs.RunLaws.{allows-cons}
 use Rattle.lts.specs.Word.{OnlyFrom, JustOne, NotAfter}
-use Rattle.text.specs.Model.{Model}
-use Rattle.model.specs.System.{source, action, target, DeterministicModel, view}
+use Rattle.text.specs.Model.{silent, Model}
+use Rattle.model.specs.System.{source, action, target, level, SilentStep, NoSilentStep, DeterministicModel, view}
 use Rattle.model.specs.Inner.Stored.{Stored}
 use Rattle.model.specs.Inner.StepTest.{step?}
 use Rattle.model.specs.Laws.System.StepTestLaws.{decided-view}
 use Rattle.letters.specs.declared.word.End.{End}
 use Rattle.letters.specs.declared.word.End.the-variants.{Source, Target}
-use Rattle.letters.specs.Words.{endState, otherState, WordOf}
-use Rattle.tell.specs.Inner.WordTest.{onlyStep?, unbranched?, low?, allows?, onlyFrom?, justOne?, notAfter?}
-use Rattle.tell.specs.Inner.WordTest.{eachWord?, later?, wordOf?}
+use Rattle.letters.specs.Words.{endState, otherState, FirstSilent, WordOf}
+use Rattle.verdicts.specs.Inner.VerdictTest.{reachable?}
+use Rattle.verdicts.specs.Laws.VerdictTestLaws.{reachable?→Reachable}
+use Rattle.tell.specs.Inner.WordTest.{onlyStep?, unbranched?, still?, firstSilent?, low?, allows?, onlyFrom?}
+use Rattle.tell.specs.Inner.WordTest.{justOne?, notAfter?, eachWord?, later?, wordOf?}
 
 pub unbranched?→DeterministicModel : (m : Model) → T (unbranched? m) → DeterministicModel m
 unfolding unbranched?
@@ -36,6 +39,37 @@ unbranched?→DeterministicModel m t = record {
       eqb→eq i j (implies-elim (eqb (source m i) (source m j) && eqb (action m i) (action m j)) (eqb i j) u
       (and-intro (eqb (source m i) (source m j)) (eqb (action m i) (action m j)) (T-eqb s) (T-eqb a)));
 }
+
+-- ---- silent steps
+
+still?→not-silent : (m : Model) (n : ℕ) → T (still? m n) → (j : ℕ) → j < n → ¬ (SilentStep m j)
+unfolding still?
+still?→not-silent m n t j l x =
+    T-not (eqb (level m (action m j)) silent) (all→Each n (λ j. not (eqb (level m (action m j)) silent)) t j l)
+    (T-eqb (x .is-silent))
+
+pub still?→NoSilentStep : (m : Model) → T (still? m (length (m .steps))) → NoSilentStep m
+still?→NoSilentStep m t j x = still?→not-silent m (length (m .steps)) t j (x .number-lt) x
+
+pub firstSilent?→FirstSilent : {s : List ℕ} {m : Model} → Stored s m → (j : ℕ) → j < length (m .steps)
+    → T (firstSilent? m j) → FirstSilent m j
+unfolding firstSilent?
+firstSilent?→FirstSilent {m = m} st j l t =
+    let is = eqb (level m (action m j)) silent in
+    let r = reachable? m (source m j) in
+    let u = and-right is (r && still? m j) t in
+    record {
+      holds = record {
+        number-lt = l;
+        is-silent = eqb→eq (level m (action m j)) silent (and-left is (r && still? m j) t);
+        reachable = reachable?→Reachable st (source m j) (and-left r (still? m j) u);
+      };
+      first = λ i x. go i x (and-right r (still? m j) u) (lt-or-le i j);
+    }
+  where
+    go : (i : ℕ) → SilentStep m i → T (still? m j) → (i < j) ⊎ (j ≤ i) → j ≤ i
+    go i x u (inl k) = absurd (still?→not-silent m j u i k x)
+    go i x u (inr k) = k
 
 -- ---- low sequences and their order
 

@@ -1,5 +1,6 @@
 -- The line of an action by its parts: level, name, and the test of a name byte by byte.
--- Document 01, "The text": "Level is L, D or H. A name is 1 to 12 bytes of a to z and 0 to 9". Assumes nothing.
+-- Document 01, "The text": "Level is L, D or H. A name is 1 to 12 bytes of a to z and 0 to 9"; document 02, (vii).
+-- Assumes nothing.
 use mathlib.Core.Bool.{Bool, true, false, cond, _&&_}
 use mathlib.Core.List.{List, [], _∷_}
 use mathlib.Core.Logic.{_⊎_, inl, inr}
@@ -10,10 +11,10 @@ use lib.Dec.{leb, eqb}
 use lib.ListN.{length, drop, getD}
 use borrow.Author.Tests.{eq-eqb, ne-eqb, le-leb, lt-leb}
 use Rattle.text.specs.declared.Fault.the-variants.{Shape}
-use Rattle.text.specs.Bytes.{byteA, byteL, byteD, byteH, digit, smallLetter, capital, comma, kindOf}
+use Rattle.text.specs.Bytes.{byteA, byteL, byteD, byteH, byteT, digit, smallLetter, capital, comma, kindOf}
 use Rattle.text.specs.Split.{split, indexOf, same?}
 use Rattle.text.specs.Limits.{nameLimit}
-use Rattle.text.specs.Model.{low, release, high, ActionLine}
+use Rattle.text.specs.Model.{low, release, high, silent, ActionLine}
 use Rattle.text.specs.Lines.{Line, good, bad, checked, fieldsOf, levelOf, allOf, nameByte?, name?, nameFrom}
 use Rattle.text.specs.Lines.{actionFields}
 use Rattle.text.specs.Inner.PartAnswers.{Fields}
@@ -22,18 +23,22 @@ use Rattle.text.specs.Laws.FieldsLaws.{split-one, byte-field, not-byte-f
 -- ---- levels
 
 -- a level by its byte: the tests stand in the order of `levelOf`
-pub levelOf-byte : (b : ℕ) {l d h : Bool} → eqb b byteL ≡ l → eqb b byteD ≡ d → eqb b byteH ≡ h
-    → levelOf (b ∷ []) ≡ cond l (good low) (cond d (good release) (cond h (good high) (bad Shape)))
+pub levelOf-byte : (b : ℕ) {l d h t : Bool}
+    → eqb b byteL ≡ l → eqb b byteD ≡ d → eqb b byteH ≡ h → eqb b byteT ≡ t
+    → levelOf (b ∷ [])
+    ≡ cond l (good low) (cond d (good release) (cond h (good high) (cond t (good silent) (bad Shape))))
 unfolding levelOf same?
-levelOf-byte b {l} {d} {h} e f g = rw (e, f, g) (go l d h)
+levelOf-byte b {l} {d} {h} {t} e f g k = rw (e, f, g, k) (go l d h t)
   where
-    go : (l d h : Bool)
-        → cond (l && true) (good low) (cond (d && true) (good release) (cond (h && true) (good high) (bad Shape)))
-        ≡ cond l (good low) (cond d (good release) (cond h (good high) (bad Shape)))
-    go true d h = refl
-    go false true h = refl
-    go false false true = refl
-    go false false false = refl
+    go : (l d h t : Bool)
+        → cond (l && true) (good low) (cond (d && true) (good release)
+        (cond (h && true) (good high) (cond (t && true) (good silent) (bad Shape))))
+        ≡ cond l (good low) (cond d (good release) (cond h (good high) (cond t (good silent) (bad Shape))))
+    go true d h t = refl
+    go false true h t = refl
+    go false false true t = refl
+    go false false false true = refl
+    go false false false false = refl
 
 -- the letters of levels are capitals
 pub levelOf-other : (b : ℕ) → (kindOf b ≡ capital → ⊥) → levelOf (b ∷ []) ≡ bad Shape
@@ -43,11 +48,12 @@ levelOf-other b h =
     (ne-eqb b byteL (λ e. h (ap kindOf e)))
     (ne-eqb b byteD (λ e. h (ap kindOf e)))
     (ne-eqb b byteH (λ e. h (ap kindOf e)))
+    (ne-eqb b byteT (λ e. h (ap kindOf e)))
 
 -- a field that is not one byte long is no level
 pub levelOf-long : (f : List ℕ) → ((x : ℕ) → same? f (x ∷ []) ≡ false) → levelOf f ≡ bad Shape
 unfolding levelOf
-levelOf-long f h = rw (h byteL, h byteD, h byteH)
+levelOf-long f h = rw (h byteL, h byteD, h byteH, h byteT)
 
 -- ---- names
 

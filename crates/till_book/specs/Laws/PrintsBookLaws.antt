@@ -5,14 +5,14 @@ use mathlib.Core.Path.{_≡_, sym, _∙_}
 use Prim.Native.Nat.{ℕ, _≤_, min}
 use native.Mathlib.Omega.{arith}
 use lib.ListN.{length, take, length-take}
-use Rattle.lts.specs.Noninterference.{LowMove}
+use Rattle.lts.specs.Weak.{WeakMove}
 use Rattle.text.specs.Limits.{bookLength}
 use Rattle.text.specs.Model.{Model}
 use Rattle.model.specs.System.{view}
 use Rattle.model.specs.Inner.Stored.{Stored}
 use Rattle.model.specs.WellFormed.{WellFormed}
 use Rattle.model.specs.Laws.System.GoodStoredLaws.{well-formed-stored}
-use Rattle.model.specs.Laws.System.RankBoundLaws.{low-step-game}
+use Rattle.model.specs.Laws.System.RankBoundLaws.{weak-move-game}
 use Rattle.books.specs.Books.{BookFilled}
 use Rattle.books.specs.Laws.BytesLaws.{ownBook-unique, ownBook-take}
 use Rattle.page.specs.Laws.PrintsTextLaws.{printsText-unique}
@@ -20,14 +20,14 @@ use Rattle.till_book.specs.PrintsBook.{BookBytesOf, PrintsBook}
 
 bookBytesOf-unique : {m : Model} {a b : List ℕ} → WellFormed m → BookBytesOf m a → BookBytesOf m b → a ≡ b
 bookBytesOf-unique {m} {a} {b} w x y =
-    ownBook-unique (LowMove (view m)) (m .head .states) _ (low-step-game (well-formed-stored w)) a b (x .own) (y .own)
+    ownBook-unique (WeakMove (view m)) (m .head .states) _ (weak-move-game (well-formed-stored w)) a b (x .own) (y .own)
     (x .length-is ∙ sym (y .length-is)) (omega (arith, x .length-is))
 
 pub printsBook-unique : {text a b : List ℕ} → PrintsBook text a → PrintsBook text b → a ≡ b
 printsBook-unique = printsText-unique BookBytesOf (λ m w x y. bookBytesOf-unique w x y)
 
 module _ {store : List ℕ} {m : Model} (stored : Stored store m) {out out′ : List ℕ} (long : bookLength ≤ length out)
-    (filled : BookFilled (LowMove (view m)) (m .head .states) out out′) where
+    (filled : BookFilled (WeakMove (view m)) (m .head .states) out out′) where
   book-le : bookLength ≤ length out′
   book-le = omega (arith, filled .past .same-length, long)
 

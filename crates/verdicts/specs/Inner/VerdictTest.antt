@@ -5,7 +5,7 @@ use Prim.Native.Nat.{ℕ, zero, suc, _-_}
 use lib.Dec.{eqb, ltb}
 use lib.ListN.{length}
 use Rattle.lts.specs.Decided.{within?}
-use Rattle.lts.specs.Checked.{lowRank}
+use Rattle.lts.specs.Checked.{weakRank}
 use Rattle.text.specs.Model.{high, Model}
 use Rattle.model.specs.System.{source, action, target, level, view}
 use Rattle.verdicts.specs.declared.judging.Verdict.{Verdict}
@@ -14,7 +14,7 @@ use Rattle.model.specs.Inner.StepTest.{tests}
 
 -- The rank of p and q.
 abbrev pub rankIn : Model → ℕ → ℕ → ℕ
-rankIn m p q = lowRank (view m) (tests m) p q
+rankIn m p q = weakRank (view m) (tests m) p q
 
 -- Some run leads from a start to p: one of fewer steps than there are states.
 abbrev pub reachable? : Model → ℕ → Bool

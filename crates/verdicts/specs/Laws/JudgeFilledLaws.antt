@@ -9,11 +9,11 @@ use Rattle.ranking.specs.Laws.RankedLaws.{ranks-unique}
 use Rattle.distances.specs.Laws.DistancesLaws.{distances-unique}
 use Rattle.verdicts.specs.JudgeFilled.{JudgeFilled}
 use Rattle.model.specs.System.{view}
-use Rattle.lts.specs.Noninterference.{LowMove}
+use Rattle.lts.specs.Weak.{WeakMove}
 
 pub filled-unique : {s : List ℕ} {m : Model} → Stored s m → (distances table u v x y : List ℕ)
     → JudgeFilled m distances table u v → JudgeFilled m distances table x y → (u ≡ x) × (v ≡ y)
 filled-unique {m = m} st distances table u v x y f g = (
   distances-unique st (f .distances-filled) (g .distances-filled),
-  ranks-unique (LowMove (view m)) (m .head .states) table v y (f .ranks) (f .table-past) (g .ranks) (g .table-past),
+  ranks-unique (WeakMove (view m)) (m .head .states) table v y (f .ranks) (f .table-past) (g .ranks) (g .table-past),
 )

@@ -13,13 +13,14 @@ use borrow.Author.Tests.{lt-ltb, le-ltb}
 use Rattle.lts.specs.Alike.{Rank}
 use Rattle.lts.specs.AlikeLaws.{rank-unique}
 use Rattle.lts.specs.TestsLaws.{T-cases, T→true, and-intro, and-left, and-right, not-T→false, lt-suc-cases, lt-or-le}
-use Rattle.lts.specs.CheckedLaws.{lowRank→Rank}
+use Rattle.lts.specs.CheckedLaws.{weakRank→Rank}
 use Rattle.lts.specs.DistanceLaws.{Reachable→within?, within?→Reachable}
 use Rattle.text.specs.Model.{high, Model}
 use Rattle.model.specs.System.{source, action, target, level, ReachableIn, IsState, view}
 use Rattle.model.specs.Inner.Stored.{Stored}
 use Rattle.lts.specs.TestsLaws.{T-eqb}
 use Rattle.model.specs.Inner.StepTest.{tests}
+use Rattle.model.specs.Laws.System.RankBoundLaws.{actions-le-silentLabel}
 use Rattle.model.specs.Laws.System.StepTestLaws.{decided-view}
 use Rattle.ranking.specs.Table.{Greatest}
 use Rattle.verdicts.specs.Verdicts.{Leak, Judged}
@@ -30,7 +31,7 @@ use Rattle.verdicts.specs.Laws.LeakSearchLaws.{refused-of-found, no-leak
 use Rattle.verdicts.specs.Inner.VerdictTest.{rankIn, reachable?, greatestBelow, greatestRank, highStep?}
 use Rattle.verdicts.specs.Inner.VerdictTest.{depthAt, LeastDepth}
 use Rattle.verdicts.specs.Inner.VerdictTest.{lookAt, leastBelow, verdictFrom, verdictOf}
-use Rattle.lts.specs.Noninterference.{LowMove}
+use Rattle.lts.specs.Weak.{WeakMove}
 
 not-eqb : (i j : ℕ) → T (not (eqb i j)) → ¬ (i ≡ j)
 not-eqb i j t e = T-not (eqb i j) t (T-eqb e)
@@ -74,10 +75,10 @@ attained zero f l = absurd (omega arith)
 attained (suc n) f l = greatestBelow-attained n f
 
 module _ {s : List ℕ} {m : Model} (st : Stored s m) where
-  pub rankIn→Rank : (p q : ℕ) → p < m .head .states → q < m .head .states → Rank (LowMove (view m)) p q (rankIn m p q)
-  rankIn→Rank = lowRank→Rank (view m) (tests m) (decided-view st)
+  pub rankIn→Rank : (p q : ℕ) → p < m .head .states → q < m .head .states → Rank (WeakMove (view m)) p q (rankIn m p q)
+  rankIn→Rank = weakRank→Rank (view m) (tests m) (decided-view st) (actions-le-silentLabel st)
 
-  pub greatestRank-greatest : Greatest (LowMove (view m)) (IsState m) (greatestRank m)
+  pub greatestRank-greatest : Greatest (WeakMove (view m)) (IsState m) (greatestRank m)
   greatestRank-greatest =
       let n = m .head .states in
       let x = attained n (λ p. greatestBelow n (rankIn m p)) (st .states-pos) in
@@ -88,10 +89,11 @@ module _ {s : List ℕ} {m : Model} (st : Stored s m) where
           other = y .0;
           one-among = x .1;
           other-among = y .1;
-          holds = subst (Rank (LowMove (view m)) (x .0) (y .0)) (y .2 ∙ x .2) (rankIn→Rank (x .0) (y .0) (x .1) (y .1));
+          holds = subst (Rank (WeakMove (view m)) (x .0) (y .0)) (y .2 ∙ x .2)
+              (rankIn→Rank (x .0) (y .0) (x .1) (y .1));
         };
         bound = λ p q k lp lq r.
-            let e = rank-unique (LowMove (view m)) p q k (rankIn m p q) r (rankIn→Rank p q lp lq) in
+            let e = rank-unique (WeakMove (view m)) p q k (rankIn m p q) r (rankIn→Rank p q lp lq) in
             omega (
               arith,
               e,
@@ -118,13 +120,13 @@ module _ {s : List ℕ} {m : Model} (st : Stored s m) where
       r : ℕ
       r = rankIn m (source m j) (target m j)
 
-      rank : Rank (LowMove (view m)) (source m j) (target m j) r
+      rank : Rank (WeakMove (view m)) (source m j) (target m j) r
       rank = rankIn→Rank (source m j) (target m j) (st .source-lt j l) (st .target-lt j l)
 
       at-high : T (highStep? m j) → DepthAt m j r
       at-high t = record {
         none = λ z d x.
-            let e = rank-unique (LowMove (view m)) (source m j) (target m j) r d rank (x .rank) in
+            let e = rank-unique (WeakMove (view m)) (source m j) (target m j) r d rank (x .rank) in
             omega (arith, x .above-zero);
         some = λ z. record {
           high-step = record {

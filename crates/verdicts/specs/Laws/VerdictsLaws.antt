@@ -10,8 +10,8 @@ use Rattle.lts.specs.Alike.{Rank, bisimilar, Bisimilar}
 use Rattle.lts.specs.AlikeLaws.{rank-unique, bisimilar-of-rank}
 use Rattle.lts.specs.TestsLaws.{lt-or-le}
 use Rattle.lts.specs.Noninterference.{BNID}
-use Rattle.lts.specs.Checked.{lowRank}
-use Rattle.lts.specs.CheckedLaws.{lowRank→Rank}
+use Rattle.lts.specs.Checked.{weakRank}
+use Rattle.lts.specs.CheckedLaws.{weakRank→Rank}
 use Rattle.text.specs.Model.{high, Model}
 use Rattle.model.specs.System.{source, action, target, level, HighStep, ReachableIn, IsState, view}
 use Rattle.model.specs.Laws.Store.SystemLaws.{own-step}
@@ -19,13 +19,13 @@ use Rattle.verdicts.specs.declared.judging.Verdict.{Verdict}
 use Rattle.verdicts.specs.declared.judging.Verdict.the-variants.{Passed, Refused}
 use Rattle.model.specs.Inner.Stored.{Stored}
 use Rattle.lts.specs.TestsLaws.{T-eqb}
-use Rattle.model.specs.Laws.System.RankBoundLaws.{stored-rank-lt}
+use Rattle.model.specs.Laws.System.RankBoundLaws.{actions-le-silentLabel, stored-rank-lt}
 use Rattle.model.specs.Laws.System.StepTestLaws.{decided-view}
 use Rattle.ranking.specs.Table.{Greatest}
 use Rattle.ranking.specs.Laws.RankedLaws.{greatest-unique}
 use Rattle.verdicts.specs.Verdicts.{Leak, PassedWith, RefusedAt, Judged}
 use Rattle.model.specs.Inner.StepTest.{tests}
-use Rattle.lts.specs.Noninterference.{LowMove}
+use Rattle.lts.specs.Weak.{WeakMove}
 
 -- the verdict is passed, or refused, with whatever numbers
 abbrev pub IsPassed : Verdict → Type 0
@@ -43,21 +43,22 @@ module _ (m : Model) where
   no-leak-of-bnid b j d x =
       let pair = b (source m j) (action m j) (target m j) (x .high-step .reachable) (T-eqb (x .high-step .is-high))
       (own-step m j (x .high-step .number-lt)) in
-      let e : d ≡ 0 = rank-unique (LowMove (view m)) (source m j) (target m j) d 0 (x .rank) (bisimilar pair) in
+      let e : d ≡ 0 = rank-unique (WeakMove (view m)) (source m j) (target m j) d 0 (x .rank) (bisimilar pair) in
       omega (arith, x .above-zero)
 
   module _ {s : List ℕ} (st : Stored s m) where
     -- two states have a rank
-    pub rank-of-states : (p q : ℕ) → p < m .head .states → q < m .head .states → (r : ℕ) × Rank (LowMove (view m)) p q r
+    pub rank-of-states : (p q : ℕ) → p < m .head .states → q < m .head .states
+        → (r : ℕ) × Rank (WeakMove (view m)) p q r
     rank-of-states p q lp lq = (
-      lowRank (view m) (tests m) p q,
-      lowRank→Rank (view m) (tests m) (decided-view st) p q lp lq,
+      weakRank (view m) (tests m) p q,
+      weakRank→Rank (view m) (tests m) (decided-view st) (actions-le-silentLabel st) p q lp lq,
     )
 
     pub bnid-of-no-leak : ((j d : ℕ) → ¬ (Leak m j d)) → BNID (view m)
     bnid-of-no-leak h p a q r t x =
-        subst (λ (y : ℕ). Bisimilar (LowMove (view m)) y q) (x .source-is)
-        (subst (λ (y : ℕ). Bisimilar (LowMove (view m)) (source m j) y) (x .target-is)
+        subst (λ (y : ℕ). Bisimilar (WeakMove (view m)) y q) (x .source-is)
+        (subst (λ (y : ℕ). Bisimilar (WeakMove (view m)) (source m j) y) (x .target-is)
         (pair
         (rank-of-states (source m j) (target m j) (st .source-lt j (x .number-lt)) (st .target-lt j (x .number-lt)))))
       where
@@ -71,14 +72,14 @@ module _ (m : Model) where
           reachable = subst (ReachableIn m) (sym (x .source-is)) r;
         }
 
-        pair : ((k : ℕ) × Rank (LowMove (view m)) (source m j) (target m j) k)
-            → Bisimilar (LowMove (view m)) (source m j) (target m j)
+        pair : ((k : ℕ) × Rank (WeakMove (view m)) (source m j) (target m j) k)
+            → Bisimilar (WeakMove (view m)) (source m j) (target m j)
         pair (k, w) = ⊎-elim
             (λ l. absurd (h j k (record { high-step = high-step; rank = w; above-zero = l })))
-            (λ l. bisimilar-of-rank (LowMove (view m)) (source m j) (target m j) k (omega arith) w)
+            (λ l. bisimilar-of-rank (WeakMove (view m)) (source m j) (target m j) k (omega arith) w)
             (lt-or-le 0 k)
 
-    pub passed-of-no-leak : {top : ℕ} → ((j d : ℕ) → ¬ (Leak m j d)) → Greatest (LowMove (view m)) (IsState m) top
+    pub passed-of-no-leak : {top : ℕ} → ((j d : ℕ) → ¬ (Leak m j d)) → Greatest (WeakMove (view m)) (IsState m) top
         → PassedWith m top
     passed-of-no-leak h g = record { bnid = bnid-of-no-leak h; greatest = g }
 
@@ -98,7 +99,7 @@ module _ (m : Model) where
 
   pub judged-unique : (v w : Verdict) → Judged m v → Judged m w → v ≡ w
   judged-unique (Passed top) (Passed top′) x y =
-      ap Passed (greatest-unique (LowMove (view m)) (IsState m) top top′ (x .greatest) (y .greatest))
+      ap Passed (greatest-unique (WeakMove (view m)) (IsState m) top top′ (x .greatest) (y .greatest))
   judged-unique (Passed top) (Refused j d) x y = absurd (passed-not-refused top (j .0) d x y)
   judged-unique (Refused j d) (Passed top) x y = absurd (passed-not-refused top (j .0) d y x)
   judged-unique (Refused i d) (Refused j e) x y =

@@ -7,7 +7,7 @@ mod sound;
 
 pub use changes::{mutated_book, scrap_book};
 pub use damage::{bad_books, BadBook};
-pub use sound::{cut_book, sound_book, sound_books};
+pub use sound::{cut_book, sound_book, sound_books, with_silent_entries};
 
 use super::{bad_stores, Rng};
 use crate::book::{answers, Entry, Moves, Side};

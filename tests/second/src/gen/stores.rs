@@ -112,7 +112,7 @@ impl BadStores<'_> {
     fn action(&mut self, i: usize) {
         let place = action_place(i);
         let length = self.model.actions[i].name.len();
-        for level in [3, 4, 256, 65_535, u16::from(b'L')] {
+        for level in [4, 5, 256, 65_535, u16::from(b'L')] {
             self.add("no such level", &[(place, level)]);
         }
         for wrong in [0, 13, 14, 256 + length as u16, 65_535] {
@@ -151,7 +151,11 @@ impl BadStores<'_> {
     fn no_high(&mut self) {
         let high = of_level(&self.model.actions, Level::High);
         let places: Vec<usize> = high.into_iter().map(level_place).collect();
-        for levels in [[0, 0], [1, 1], [0, 1], [1, 0]] {
+        let mut levels = vec![[0, 0], [1, 1], [0, 1], [1, 0]];
+        if self.model.has_silent() {
+            levels.extend([[3, 3], [0, 3], [3, 1]]);
+        }
+        for levels in levels {
             let levels = levels.into_iter().cycle();
             let lost: Vec<(usize, u16)> = places.iter().copied().zip(levels).collect();
             self.add("no high action", &lost);
@@ -295,6 +299,36 @@ fn lose_high(rng: &mut Rng, model: &Model, store: &mut [u16]) {
 pub fn no_high_store(rng: &mut Rng, model: &Model) -> Vec<u16> {
     let mut store = model.to_store();
     lose_high(rng, model, &mut store);
+    store
+}
+
+/// The same, with silent actions too in place of the high ones.
+pub fn no_high_tick_store(rng: &mut Rng, model: &Model) -> Vec<u16> {
+    let mut store = model.to_store();
+    let levels = *rng.pick(&[&[3][..], &[0, 3], &[1, 3], &[0, 1, 3]]);
+    for action in of_level(&model.actions, Level::High) {
+        store[level_place(action)] = *rng.pick(levels);
+    }
+    store
+}
+
+/// A store with some levels changed, to that of a silent action or to a number
+/// that is no level, and perhaps with other changes. It may still be a good one.
+pub fn mutated_tick_store(rng: &mut Rng, model: &Model) -> Vec<u16> {
+    let mut store = match rng.percent(60) {
+        true => model.to_store(),
+        false => mutated_store(rng, model),
+    };
+    for _ in 0..rng.between(1, 3) {
+        let action = rng.below(model.actions.len()) as u16;
+        store[level_place(action)] = match rng.below(10) {
+            0..=5 => 3,
+            6 => 4,
+            7 => 2,
+            8 => rng.below(4) as u16,
+            _ => *rng.pick(&[5, 7, u16::from(b'T'), 255, 256, 259, 65_535]),
+        };
+    }
     store
 }
 

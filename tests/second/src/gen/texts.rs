@@ -8,8 +8,8 @@ mod lines;
 mod pairs;
 mod starts;
 
-pub use changes::{mutated_text, scrap_text};
-pub use high::no_high_text;
+pub use changes::{mutated_text, mutated_tick_text, scrap_text};
+pub use high::{no_high_text, no_high_tick_text};
 pub use pairs::{BadLine, Kind};
 
 use std::collections::BTreeSet;

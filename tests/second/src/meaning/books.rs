@@ -1,9 +1,9 @@
 //! Books of plays: what our own must hold, and how any book is played.
 
+use super::moves::Moves;
 use super::ranks::Alike;
-use super::sequences::is_low;
 use super::{demand, Check};
-use crate::store::{Model, Step, MOST_STATES};
+use crate::store::{Model, MOST_STATES};
 
 /// The bytes of a pair's entry.
 fn entry_of(book: &[u8], p: u16, q: u16) -> [u8; 4] {
@@ -12,19 +12,18 @@ fn entry_of(book: &[u8], p: u16, q: u16) -> [u8; 4] {
     [bytes[0], bytes[1], bytes[2], bytes[3]]
 }
 
-/// The pairs to which the answers to a step lead, where it opens for the first
-/// state of a pair (1) or for the second (2).
-fn led_to(model: &Model, p: u16, q: u16, side: u8, step: Step) -> Vec<(u16, u16)> {
+/// The pairs to which the answers to an opening lead, where it is of the first
+/// state of a pair (side 1) or of the second (side 2).
+fn led_to(moves: &Moves, p: u16, q: u16, side: u8, opening: (u16, u16)) -> Vec<(u16, u16)> {
+    let (action, target) = opening;
     let other = if side == 1 { q } else { p };
     let mut pairs = Vec::new();
-    for answer in &model.steps {
-        if answer.source == other && answer.action == step.action {
-            pairs.push(if side == 1 {
-                (step.target, answer.target)
-            } else {
-                (answer.target, step.target)
-            });
-        }
+    for &answer in moves.targets(other, action) {
+        pairs.push(if side == 1 {
+            (target, answer)
+        } else {
+            (answer, target)
+        });
     }
     pairs
 }
@@ -35,16 +34,16 @@ fn led_to(model: &Model, p: u16, q: u16, side: u8, step: Step) -> Vec<(u16, u16)
 /// An answer leads to a pair of a rank above 0 and below k just if that pair is
 /// not (k-1)-alike. So of the openings all of whose answers lead to pairs that
 /// are not (k-1)-alike, the first is in the entry: those of the first side come
-/// first, and steps rise by action and then by target.
+/// first, and moves rise by action and then by target, with silent ones last.
 pub fn book_holds(model: &Model, book: &[u8]) -> Check {
-    let mut alike = Alike::new(model);
+    let (mut alike, moves) = (Alike::new(model), Moves::new(model));
     for p in 0..MOST_STATES as u16 {
         for q in 0..MOST_STATES as u16 {
             let mut expected = [0; 4];
             if p < model.states && q < model.states {
                 let rank = alike.rank(p, q);
                 if rank > 0 {
-                    expected = first_opening(model, &mut alike, p, q, rank)?;
+                    expected = first_opening(&moves, &mut alike, p, q, rank)?;
                 }
             }
             let entry = entry_of(book, p, q);
@@ -57,7 +56,7 @@ pub fn book_holds(model: &Model, book: &[u8]) -> Check {
 }
 
 fn first_opening(
-    model: &Model,
+    moves: &Moves,
     alike: &mut Alike,
     p: u16,
     q: u16,
@@ -65,12 +64,10 @@ fn first_opening(
 ) -> Result<[u8; 4], String> {
     for side in [1, 2] {
         let opener = if side == 1 { p } else { q };
-        for &step in &model.steps {
-            if step.source == opener && is_low(model, step.action) {
-                let mut pairs = led_to(model, p, q, side, step).into_iter();
-                if pairs.all(|(p, q)| !alike.alike(p, q, rank - 1)) {
-                    return Ok([side, step.action as u8, step.target as u8, rank as u8]);
-                }
+        for (action, target) in moves.of(opener) {
+            let mut pairs = led_to(moves, p, q, side, (action, target)).into_iter();
+            if pairs.all(|(p, q)| !alike.alike(p, q, rank - 1)) {
+                return Ok([side, action as u8, target as u8, rank as u8]);
             }
         }
     }
@@ -80,22 +77,26 @@ fn first_opening(
 }
 
 /// The number of the first entry that keeps a book from being sound, by asking
-/// each entry for a fault: a side above 2, an opening that no low step of that
-/// side is, or an answer to a pair whose entry is absent or as deep.
+/// each entry for a fault: a side above 2, an opening that no move of that side
+/// is, or an answer to a pair whose entry is absent or as deep.
 pub fn first_bad_entry(model: &Model, book: &[u8]) -> Option<usize> {
+    let moves = Moves::new(model);
     let faulty = |number: &usize| {
         let (p, q) = (number / MOST_STATES, number % MOST_STATES);
         let (p, q) = (p as u16, q as u16);
         let [side, action, target, depth] = entry_of(book, p, q);
         let opener = if side == 1 { p } else { q };
-        let step = Step::new(opener, action.into(), target.into());
-        let no_opening = || !is_low(model, step.action) || !model.steps.contains(&step);
+        let opening = (action.into(), target.into());
         let not_lower = |(p, q): (u16, u16)| {
             let [side, _, _, next] = entry_of(book, p, q);
             side == 0 || next >= depth
         };
-        let unanswered = || led_to(model, p, q, side, step).into_iter().any(not_lower);
-        side > 0 && (side > 2 || no_opening() || unanswered())
+        let unanswered = || {
+            led_to(&moves, p, q, side, opening)
+                .into_iter()
+                .any(not_lower)
+        };
+        side > 0 && (side > 2 || !moves.has(opener, opening) || unanswered())
     };
     (0..MOST_STATES * MOST_STATES).find(faulty)
 }
@@ -112,15 +113,15 @@ pub struct Plays {
 impl Plays {
     /// Depths are not looked at. Found one length after the other.
     pub fn new(model: &Model, book: &[u8]) -> Plays {
+        let moves = Moves::new(model);
         let mut openings = Vec::new();
         for p in 0..MOST_STATES as u16 {
             for q in 0..MOST_STATES as u16 {
                 let [side, action, target, _] = entry_of(book, p, q);
                 let opener = if side == 1 { p } else { q };
-                let step = Step::new(opener, action.into(), target.into());
-                let opens = is_low(model, step.action) && model.steps.contains(&step);
-                if (side == 1 || side == 2) && opens {
-                    openings.push((p, q, led_to(model, p, q, side, step)));
+                let opening = (action.into(), target.into());
+                if (side == 1 || side == 2) && moves.has(opener, opening) {
+                    openings.push((p, q, led_to(&moves, p, q, side, opening)));
                 }
             }
         }

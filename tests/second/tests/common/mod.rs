@@ -111,6 +111,19 @@ pub const SCAN: u16 = 0;
 pub const PRINT: u16 = 1;
 pub const CLOSE: u16 = 2;
 
+pub const TICK: u16 = 3;
+
+/// A text with the actions scan (low), print (high), close (release) and tick
+/// (silent), and with these steps.
+pub fn ticking_till(states: u16, steps: &[(u16, u16, u16)]) -> Vec<u8> {
+    let mut text = format!("M,{states},4,{},0\n", steps.len());
+    text += "A,L,scan\nA,H,print\nA,D,close\nA,T,tick\n";
+    for (source, action, target) in steps {
+        text += &format!("S,{source},{action},{target}\n");
+    }
+    (text + "E\n").into_bytes()
+}
+
 /// The text and the page of the worked example.
 pub const EXAMPLE: &[u8] =
     b"M,4,3,4,0\nA,L,scan\nA,H,print\nA,D,close\nS,0,0,1\nS,0,1,2\nS,1,0,1\nS,2,0,3\nE\n";

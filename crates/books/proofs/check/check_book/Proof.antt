@@ -1,6 +1,7 @@
--- The groups are those of the moves, so what is found of the groups holds of the moves.
+-- The groups are those of the moves, so what is found of the groups, and of staying, holds of the moves.
 use native.Mathlib.Omega.{arith}
 use Rattle.books.specs.Laws.ChecksLaws.{checkDone-sound, checkDone-bad, checkDone-same}
+use Rattle.books.specs.Laws.StillLaws.{stillMove-of-still, still-of-stillMove}
 use borrow.Author.Needs.{needs}
 use Rattle.books.proofs.check.check_book.Statement.{statement}
 use Rattle.books.proofs.check.check_book.Tie as tie
@@ -16,13 +17,19 @@ first-bad-requires c κs = search needs
 
 returns : tie.Need-returns
 returns c =
-    let index = c .before .before .before .before .index-moves .ensures in
-    checkDone-same (index .back) (index .forth) (checkDone-bad (c .before .first-bad .ensures) (c .if1 .taken))
+    let indexed = c .before .before .before .before in
+    let index = indexed .index-moves .ensures in
+    let L = indexed .before .before .before .pre .0 in
+    checkDone-same (stillMove-of-still L index) (still-of-stillMove L index)
+    (checkDone-bad (c .before .first-bad .ensures) (c .if1 .taken))
 
 returns-2 : tie.Need-returns-2
 returns-2 c =
-    let index = c .before .before .before .before .index-moves .ensures in
-    checkDone-same (index .back) (index .forth) (checkDone-sound (c .before .first-bad .ensures) (omega arith))
+    let indexed = c .before .before .before .before in
+    let index = indexed .index-moves .ensures in
+    let L = indexed .before .before .before .pre .0 in
+    checkDone-same (stillMove-of-still L index) (still-of-stillMove L index)
+    (checkDone-sound (c .before .first-bad .ensures) (omega arith))
 
 pub check-book-spec : {M : Type 1} → statement M
 check-book-spec =

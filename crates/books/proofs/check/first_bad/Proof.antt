@@ -5,28 +5,29 @@ use Rattle.text.specs.Limits.{tableLength}
 use Rattle.text.specs.Laws.DecidesLaws.{decides-passed, decides-refused}
 use Rattle.books.specs.Inner.Groups.{Indexed}
 use Rattle.books.specs.Inner.Sides.{SoundBefore}
+use Rattle.books.specs.Inner.Still.{Still}
 use Rattle.books.specs.Laws.ChecksLaws.{soundBefore-zero, soundBefore-add-one, soundTo-bad, soundTo-all}
 use borrow.Author.Needs.{needs}
 use Rattle.books.proofs.check.first_bad.Statement.{statement}
 use Rattle.books.proofs.check.first_bad.Tie as tie
 
 abbrev Inv-loop : tie.InvT-loop
-Inv-loop groups targets book k₀ k =
-    (k ≤ tableLength) × SoundBefore (Indexed groups targets) book k
+Inv-loop n groups targets book k₀ k =
+    (k ≤ tableLength) × SoundBefore (Still (Indexed groups targets) n) book k
 
 abbrev μ-loop : tie.MeasureT-loop
-μ-loop groups targets book k₀ k = tableLength - k
+μ-loop n groups targets book k₀ k = tableLength - k
 
 loop-holds : tie.Need-loop-holds Inv-loop μ-loop
 loop-holds c =
     let a = c .before .args in
-    (omega arith, soundBefore-zero (Indexed (a .groups .now) (a .targets .now)) (a .book .now))
+    (omega arith, soundBefore-zero (Still (Indexed (a .groups .now) (a .targets .now)) (a .n)) (a .book .now))
 
-cast-t9 : tie.Need-cast-t9 Inv-loop μ-loop
-cast-t9 c = search needs
+cast-t10 : tie.Need-cast-t10 Inv-loop μ-loop
+cast-t10 c = search needs
 
-cast-t9-2 : tie.Need-cast-t9-2 Inv-loop μ-loop
-cast-t9-2 c = search needs
+cast-t10-2 : tie.Need-cast-t10-2 Inv-loop μ-loop
+cast-t10-2 c = search needs
 
 sound-at-requires : tie.Need-sound-at-requires Inv-loop μ-loop
 sound-at-requires c κs =
@@ -38,7 +39,7 @@ returns c =
     let tested = c .before .sound-at in
     let at-loop = c .before .before .before in
     let a = at-loop .before .before .args in
-    soundTo-bad (Indexed (a .groups .now) (a .targets .now)) (a .book .now) (omega arith)
+    soundTo-bad (Still (Indexed (a .groups .now) (a .targets .now)) (a .n)) (a .book .now) (omega arith)
     (decides-refused (tested .result) _ (tested .ensures) (c .if1 .taken)) (at-loop .loop .inv .1)
 
 add-k : tie.Need-add-k Inv-loop μ-loop
@@ -53,14 +54,15 @@ loop-again c =
     let at-loop = c .before .before .before in
     let a = at-loop .before .before .args in
     let here = decides-passed (tested .result) _ (tested .ensures) (c .if1 .left) in
-    let more = soundBefore-add-one (Indexed (a .groups .now) (a .targets .now)) (a .book .now) here
+    let more = soundBefore-add-one (Still (Indexed (a .groups .now) (a .targets .now)) (a .n)) (a .book .now) here
     (at-loop .loop .inv .1) in
     (omega arith, more)
 
 returns-2 : tie.Need-returns-2 Inv-loop μ-loop
 returns-2 c =
     let a = c .before .before .before .args in
-    soundTo-all (Indexed (a .groups .now) (a .targets .now)) (a .book .now) (omega arith) (c .before .loop .inv .1)
+    soundTo-all (Still (Indexed (a .groups .now) (a .targets .now)) (a .n)) (a .book .now) (omega arith)
+    (c .before .loop .inv .1)
 
 pub first-bad-spec : {M : Type 1} → statement M
 first-bad-spec =
@@ -69,8 +71,8 @@ first-bad-spec =
     Inv-loop
     μ-loop
     loop-holds
-    cast-t9
-    cast-t9-2
+    cast-t10
+    cast-t10-2
     sound-at-requires
     returns
     add-k

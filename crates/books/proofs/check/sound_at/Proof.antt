@@ -3,8 +3,9 @@ use mathlib.Core.Path.{refl}
 use native.Mathlib.Omega.{arith}
 use Rattle.books.specs.Books.{bookOf}
 use Rattle.books.specs.Inner.Groups.{Indexed}
+use Rattle.books.specs.Inner.Still.{Still}
 use Rattle.books.specs.Laws.EntryLaws.{bookOf-number, sound-absent, bad-side, sound-first, sound-second}
-use Rattle.books.specs.Laws.EntryLaws.{sound-action-lt}
+use Rattle.books.specs.Laws.StillLaws.{opens-still, sound-still}
 use borrow.Author.Needs.{needs}
 use Rattle.books.proofs.check.sound_at.Statement.{statement}
 use Rattle.books.proofs.check.sound_at.Tie as tie
@@ -23,8 +24,8 @@ returns c =
     let placed = c .before .before in
     let a = placed .before .before .args in
     let entry-is = bookOf-number (a .book .now) (a .p .0) (a .q .0) (placed .pair-place .ensures) refl refl in
-    sound-absent (Indexed (a .groups .now) (a .targets .now)) (bookOf (a .book .now)) (a .p .0) (a .q .0) _ entry-is
-    (c .if1 .taken)
+    sound-absent (Still (Indexed (a .groups .now) (a .targets .now)) (a .n)) (bookOf (a .book .now)) (a .p .0) (a .q .0)
+    _ entry-is (c .if1 .taken)
 
 add-byte-value : tie.Need-add-byte-value
 add-byte-value c = search needs
@@ -35,16 +36,6 @@ shared-slice-read-byte-value c = search needs
 byte-value-requires : tie.Need-byte-value-requires
 byte-value-requires c κs = search needs
 
-returns-2 : tie.Need-returns-2
-returns-2 c h =
-    let placed = c .before .before .before .before .before in
-    let a = placed .before .before .args in
-    let entry-is = bookOf-number (a .book .now) (a .p .0) (a .q .0) (placed .pair-place .ensures)
-    (c .before .byte-value .ensures) refl in
-    let action-lt = sound-action-lt (Indexed (a .groups .now) (a .targets .now)) (bookOf (a .book .now)) (a .p .0)
-    (a .q .0) _ entry-is (λ x b y m. m .in-group .action-lt) h (c .before .before .before .if1 .left) in
-    omega (arith, action-lt, c .if2 .taken)
-
 add-byte-value-2 : tie.Need-add-byte-value-2
 add-byte-value-2 c = search needs
 
@@ -53,6 +44,22 @@ shared-slice-read-byte-value-2 c = search needs
 
 byte-value-requires-2 : tie.Need-byte-value-requires-2
 byte-value-requires-2 c κs = search needs
+
+sound-still-requires : tie.Need-sound-still-requires
+sound-still-requires c κs = search needs
+
+returns-2 : tie.Need-returns-2
+returns-2 c =
+    let target = c .before .before in
+    let action = target .before .before in
+    let present = action .before .before in
+    let placed = present .before .before in
+    let a = placed .before .before .args in
+    let entry-is = bookOf-number (a .book .now) (a .p .0) (a .q .0) (placed .pair-place .ensures)
+    (action .byte-value .ensures) (target .byte-value2 .ensures) in
+    sound-still (Indexed (a .groups .now) (a .targets .now)) (a .n) (λ x b y m. m .in-group .action-lt)
+    (bookOf (a .book .now)) (a .p .0) (a .q .0) _ entry-is (present .if1 .left) (omega (arith, c .before .if2 .taken))
+    (c .sound-still .result) (c .sound-still .ensures)
 
 add-depth : tie.Need-add-depth
 add-depth c = search needs
@@ -65,28 +72,34 @@ opens-requires c κs = search needs
 
 returns-3 : tie.Need-returns-3
 returns-3 c =
-    let target = c .before .before .before in
-    let action = target .before .before .before in
+    let small = c .before .before .before in
+    let target = small .before in
+    let action = target .before .before in
     let placed = action .before .before .before .before in
     let a = placed .before .before .args in
     let entry-is = bookOf-number (a .book .now) (a .p .0) (a .q .0) (placed .pair-place .ensures)
     (action .byte-value .ensures) (target .byte-value2 .ensures) in
-    sound-first (Indexed (a .groups .now) (a .targets .now)) (bookOf (a .book .now)) (a .p .0) (a .q .0) _ entry-is
-    (c .before .if3 .taken) (c .opens .result) (c .opens .ensures)
+    let opened = opens-still (Indexed (a .groups .now) (a .targets .now)) (a .n) _ (a .p .0) (a .q .0) _ _
+    (omega (arith, small .if2 .left)) (c .opens .result) (c .opens .ensures) in
+    sound-first (Still (Indexed (a .groups .now) (a .targets .now)) (a .n)) (bookOf (a .book .now)) (a .p .0) (a .q .0)
+    _ entry-is (c .before .if3 .taken) (c .opens .result) opened
 
 opens-requires-2 : tie.Need-opens-requires-2
 opens-requires-2 c κs = search needs
 
 returns-4 : tie.Need-returns-4
 returns-4 c =
-    let target = c .before .before .before .before in
-    let action = target .before .before .before in
+    let small = c .before .before .before .before in
+    let target = small .before in
+    let action = target .before .before in
     let placed = action .before .before .before .before in
     let a = placed .before .before .args in
     let entry-is = bookOf-number (a .book .now) (a .p .0) (a .q .0) (placed .pair-place .ensures)
     (action .byte-value .ensures) (target .byte-value2 .ensures) in
-    sound-second (Indexed (a .groups .now) (a .targets .now)) (bookOf (a .book .now)) (a .p .0) (a .q .0) _ entry-is
-    (c .before .if4 .taken) (c .opens2 .result) (c .opens2 .ensures)
+    let opened = opens-still (Indexed (a .groups .now) (a .targets .now)) (a .n) _ (a .q .0) (a .p .0) _ _
+    (omega (arith, small .if2 .left)) (c .opens2 .result) (c .opens2 .ensures) in
+    sound-second (Still (Indexed (a .groups .now) (a .targets .now)) (a .n)) (bookOf (a .book .now)) (a .p .0) (a .q .0)
+    _ entry-is (c .before .if4 .taken) (c .opens2 .result) opened
 
 returns-5 : tie.Need-returns-5
 returns-5 c =
@@ -94,8 +107,8 @@ returns-5 c =
     let placed = present .before .before in
     let a = placed .before .before .args in
     let entry-is = bookOf-number (a .book .now) (a .p .0) (a .q .0) (placed .pair-place .ensures) refl refl in
-    bad-side (Indexed (a .groups .now) (a .targets .now)) (bookOf (a .book .now)) (a .p .0) (a .q .0) _ entry-is
-    (present .if1 .left) (c .before .if3 .left) (c .if4 .left)
+    bad-side (Still (Indexed (a .groups .now) (a .targets .now)) (a .n)) (bookOf (a .book .now)) (a .p .0) (a .q .0) _
+    entry-is (present .if1 .left) (c .before .if3 .left) (c .if4 .left)
 
 pub sound-at-spec : {M : Type 1} → statement M
 sound-at-spec =
@@ -108,10 +121,11 @@ sound-at-spec =
     add-byte-value
     shared-slice-read-byte-value
     byte-value-requires
-    returns-2
     add-byte-value-2
     shared-slice-read-byte-value-2
     byte-value-requires-2
+    sound-still-requires
+    returns-2
     add-depth
     shared-slice-read-depth
     opens-requires

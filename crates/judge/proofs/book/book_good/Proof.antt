@@ -1,51 +1,13 @@
--- The moves that are listed have the model's ranks and its book.
-use mathlib.Core.Path.{_∙_}
-use native.Mathlib.Omega.{arith}
+-- Where no action is silent, no step is.
 use borrow.Author.Needs.{needs}
-use Rattle.model.specs.Laws.System.StoredLaws.{stored-states}
-use Rattle.ranking.specs.Laws.RankedLaws.{moveList-of-lists, ranked-of-listed}
-use Rattle.books.specs.Laws.ListedLaws.{ordered-of-lists, bookFilled-of-listed}
 use Rattle.judge.proofs.book.book_good.Statement.{statement}
 use Rattle.judge.proofs.book.book_good.Tie as tie
 
-slice-aggregate-list-store-moves : tie.Need-slice-aggregate-list-store-moves
-slice-aggregate-list-store-moves c = search needs
+has-silent-requires : tie.Need-has-silent-requires
+has-silent-requires c κs = search needs
 
-slice-aggregate-list-store-moves-2 : tie.Need-slice-aggregate-list-store-moves-2
-slice-aggregate-list-store-moves-2 c = search needs
-
-slice-aggregate-list-store-moves-3 : tie.Need-slice-aggregate-list-store-moves-3
-slice-aggregate-list-store-moves-3 c = search needs
-
-list-store-moves-requires : tie.Need-list-store-moves-requires
-list-store-moves-requires c κs = search needs
-
-states-requires : tie.Need-states-requires
-states-requires c κs = search needs
-
-rank-steps-requires : tie.Need-rank-steps-requires
-rank-steps-requires c κs =
-    let counted = c .before .before .before .before in
-    let listed = counted .before .before .before .before in
-    let pre = listed .before .before .before .before .before .before .before .pre in
-    let e = counted .states .ensures ∙ stored-states (pre .0) in
-    (moveList-of-lists (listed .list-store-moves .ensures .0) e, pre .1 .0)
-
-fill-book-requires : tie.Need-fill-book-requires
-fill-book-requires c κs =
-    let ranked = c .before .before .before .before .before .before .before in
-    let counted = ranked .before .before .before .before .before in
-    let listed = counted .before .before .before .before in
-    let pre = listed .before .before .before .before .before .before .before .pre in
-    let e = counted .states .ensures ∙ stored-states (pre .0) in
-    let moves = listed .list-store-moves .ensures in
-    let ranks = ranked .rank-steps .ensures in (
-      moveList-of-lists (moves .0) e,
-      (
-        ordered-of-lists (moves .0) e (moves .1),
-        ((ranks .table, omega (arith, ranks .past .same-length, pre .1 .0)), pre .1 .1),
-      ),
-    )
+book-labels-requires : tie.Need-book-labels-requires
+book-labels-requires c κs = search needs
 
 same-length : tie.Need-same-length
 same-length c = search needs
@@ -54,31 +16,33 @@ same-length-2 : tie.Need-same-length-2
 same-length-2 c = search needs
 
 returns : tie.Need-returns
-returns c =
-    let ranked = c .before .before .before .before .before .before .before .before .before .before in
-    let counted = ranked .before .before .before .before .before in
-    let listed = counted .before .before .before .before in
-    let pre = listed .before .before .before .before .before .before .before .pre in
-    let e = counted .states .ensures ∙ stored-states (pre .0) in
-    let moves = listed .list-store-moves .ensures .0 in
-    let ranks = ranked-of-listed moves e (ranked .rank-steps .ensures) in
-    record {
-      ranks = ranks .table;
-      table-past = ranks .past;
-      book-filled = bookFilled-of-listed moves e (c .before .before .fill-book .ensures);
-    }
+returns c = search needs
+
+book-steps-requires : tie.Need-book-steps-requires
+book-steps-requires c κs =
+    let chosen = c .before .before in
+    let pre = chosen .before .before .before .before .before .pre in
+    (pre .0, (pre .1, chosen .before .has-silent .ensures (chosen .if1 .left)))
+
+same-length-3 : tie.Need-same-length-3
+same-length-3 c = search needs
+
+same-length-4 : tie.Need-same-length-4
+same-length-4 c = search needs
+
+returns-2 : tie.Need-returns-2
+returns-2 c = search needs
 
 pub book-good-spec : {M : Type 1} → statement M
 book-good-spec =
     tie.close
     (tie.spec
-    slice-aggregate-list-store-moves
-    slice-aggregate-list-store-moves-2
-    slice-aggregate-list-store-moves-3
-    list-store-moves-requires
-    states-requires
-    rank-steps-requires
-    fill-book-requires
+    has-silent-requires
+    book-labels-requires
     same-length
     same-length-2
-    returns)
+    returns
+    book-steps-requires
+    same-length-3
+    same-length-4
+    returns-2)

@@ -6,7 +6,7 @@ use Rattle.text.specs.Laws.DecidesLaws.{decides-passed, decides-refused}
 use Rattle.model.specs.Laws.OnStoreLaws.{onStore-short, onStore-not-good, onStore-model}
 use Rattle.model.specs.Laws.System.GoodStoredLaws.{passed→Stored}
 use Rattle.model.specs.System.{view}
-use Rattle.lts.specs.Noninterference.{LowMove}
+use Rattle.lts.specs.Weak.{WeakMove}
 use Rattle.books.specs.Checks.{CheckDone}
 use Rattle.judge.specs.CheckPromise.{checkOutcome}
 use Rattle.judge.proofs.check.check.Statement.{statement}
@@ -42,7 +42,7 @@ returns-4 c =
     let passed = c .before in
     let tested = passed .before .good2 in
     let long = passed .before .before in
-    onStore-model (λ m. CheckDone (LowMove (view m)) _ _)
+    onStore-model (λ m. CheckDone (WeakMove (view m)) _ _)
     (none-short-two (long .before .if1 .left) (long .if2 .left))
     (decides-passed (tested .result) _ (tested .ensures) (passed .if3 .left)) (c .check-good .ensures)
 

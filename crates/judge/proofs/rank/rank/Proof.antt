@@ -14,7 +14,7 @@ use Rattle.judge.specs.RankPromise.{rankOutcome}
 use Rattle.judge.proofs.rank.rank.Statement.{statement}
 use Rattle.judge.proofs.rank.rank.Tie as tie
 use Rattle.model.specs.System.{view}
-use Rattle.lts.specs.Noninterference.{LowMove}
+use Rattle.lts.specs.Weak.{WeakMove}
 
 returns : tie.Need-returns
 unfolding rankOutcome
@@ -85,7 +85,7 @@ returns-4 c =
     let tested = passed .before .good2 in
     let good = decides-passed (tested .result) _ (tested .ensures) (passed .if3 .left) in
     onStore-model (λ m. (last : ℕ) × (_≡_ {A = Outcome} (answers (filled .result ∷ [])) (answers (last ∷ [])))
-    × Ranked (LowMove (view m)) (m .head .states) _ _ last)
+    × Ranked (WeakMove (view m)) (m .head .states) _ _ last)
     (none-short-two (passed .before .before .before .if1 .left) (passed .before .before .if2 .left)) good
     (filled .result, refl, filled .ensures)
 

@@ -86,7 +86,7 @@ returns-2 c =
     let d = ap (λ (x : Action). x .0) (acted .action .ensures) ∙ stored-action st _ l in
     let e = ap (λ (x : State). x .0) (targets .before .target .ensures) ∙ stored-target st _ l in
     let g = ap (λ (x : State). x .0) (targets .target2 .ensures) ∙ stored-target st _ (f .holds .number-lt) in
-    not-answer (pre .0) l (f .holds .number-lt) e g (pre .1 .0 .0) (pre .1 .0 .1) d (f .holds)
+    not-answer (pre .0) l (pre .1 .1 .2) (pre .1 .0 .1) (f .holds) e g (pre .1 .0 .0) d
     (λ h. c .if2 .taken (ranked .rank-at .ensures ∙ h))
 
 returns-3 : tie.Need-returns-3
@@ -118,7 +118,7 @@ returns-4 c =
       holds = record {
         is-low = letter-low S d l z;
         step-of = stepOf-at d (f .holds);
-        targets = separated-of-entry (pre .0) l (f .holds .number-lt) e g (pre .1 .1 .0)
+        targets = separated-of-entry (pre .0) l (pre .1 .1 .2) (pre .1 .0 .1) (f .holds) e g (pre .1 .1 .0)
             (sym (ranked .rank-at .ensures) ∙ c .if2 .left);
       };
       first = λ i x. f .first i (stepOf-at (sym d) (x .step-of));

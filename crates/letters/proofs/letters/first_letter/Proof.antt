@@ -1,5 +1,5 @@
 -- No step of p below j has an answer, and some step has: steps rise by action, so the first has the lowest action.
-use mathlib.Core.Path.{_≡_, refl}
+use mathlib.Core.Path.{_≡_, refl, sym}
 use Prim.Native.Nat.{ℕ, _+_, _-_, _≤_, _<_}
 use native.Mathlib.Omega.{arith}
 use lib.ListN.{getD}
@@ -8,6 +8,7 @@ use borrow.Author.Needs.{needs}
 use Rattle.model.specs.StoredModel.{modelAt}
 use Rattle.model.specs.Laws.System.StepTestLaws.{reachable-state}
 use Rattle.letters.specs.Inner.Letters.{HasAnswer}
+use Rattle.letters.specs.Laws.FirstSilentLaws.{reachable-at}
 use Rattle.letters.specs.Laws.LettersLaws.{own-of-index, none-before, none-after, found-at, found-nothing}
 use Rattle.letters.specs.Laws.LettersLaws.{has-answer-some, first-letter-of}
 use Rattle.letters.proofs.letters.first_letter.Statement.{statement}
@@ -60,7 +61,8 @@ answer-requires c κs =
     let pair = pre .1 .1 in
     let own = own-of-index (S .index) (reachable-state (S .stored) (pair .first-reachable)) _ (inv .1)
     (omega (arith, inv .0, c .loop-test .taken)) in
-    (pre .0, ((pair .deterministic, pair .second-reachable), (pre .1 .0, own .0)))
+    let r = reachable-at (sym (own .1)) (pair .first-reachable) in
+    (pre .0, ((pair .deterministic, pair .second-reachable), (pre .1 .0, own .0, r)))
 
 enum-known-i : tie.Need-enum-known-i Inv-loop μ-loop
 enum-known-i c = search needs

@@ -1,13 +1,8 @@
--- Where no step branches the model is deterministic, and the verdict says whether there is a word to fill in.
-use mathlib.Core.Path.{ap, _∙_}
-use native.Mathlib.Omega.{arith}
+-- Where no step branches the model is deterministic, and where no silent step is found none can be reached.
 use borrow.Author.Needs.{needs}
-use Rattle.text.specs.declared.State.{State}
-use Rattle.model.specs.Laws.System.StoredLaws.{stored-source, stored-target}
 use Rattle.letters.specs.Laws.LettersLaws.{found-at, found-nothing}
 use Rattle.letters.specs.Laws.WordsLaws.{deterministic-of-no-branch}
-use Rattle.letters.proofs.ShowAnswers.{showable→WordLists, leak-pair, judged-passed, judged-refused}
-use Rattle.letters.proofs.ShowAnswers.{branching-done, passed-done, shown-done}
+use Rattle.letters.proofs.ShowAnswers.{branching-done, silent-done}
 use Rattle.letters.proofs.word.show.Statement.{statement}
 use Rattle.letters.proofs.word.show.Tie as tie
 
@@ -22,45 +17,25 @@ enum-known-j c = search needs
 enum-told : tie.Need-enum-told
 enum-told c = search needs
 
+first-silent-requires : tie.Need-first-silent-requires
+first-silent-requires c κs =
+    let L = c .before .before .before .before .before .before .before .before .before .pre .lists in
+    (L .stored, ((L .roles-length, L .roles-are), (L .distances-length, L .distances-are)))
+
+enum-known-j-2 : tie.Need-enum-known-j-2
+enum-known-j-2 c = search needs
+
 enum-told-2 : tie.Need-enum-told-2
 enum-told-2 c = search needs
 
-enum-known-verdict : tie.Need-enum-known-verdict
-enum-known-verdict c = search needs
-
-source-requires : tie.Need-source-requires
-source-requires c κs =
-    let pre = c .before .before .before .before .before .before .before .before .before .before .before .before .pre in
-    let st = pre .lists .stored in
-    let r = judged-refused (c .before .verdict .given .1) (pre .verdict) in
-    (st .length-le, omega (arith, st .steps-le, r .leak .high-step .number-lt))
-
-target-requires : tie.Need-target-requires
-target-requires c κs =
-    let chosen = c .before .before in
-    let pre = chosen .before .before .before .before .before .before .before .before .before .before .before .pre in
-    let st = pre .lists .stored in
-    let r = judged-refused (chosen .verdict .given .1) (pre .verdict) in
-    (st .length-le, omega (arith, st .steps-le, r .leak .high-step .number-lt))
-
-fill-word-requires : tie.Need-fill-word-requires
-fill-word-requires c κs =
-    let ends = c .before in
-    let chosen = ends .before .before .before in
-    let branched = chosen .before .before in
-    let pre = branched .before .before .before .before .before .before .before .before .before .pre in
-    let st = pre .lists .stored in
-    let r = judged-refused (chosen .verdict .given .1) (pre .verdict) in
-    let l = r .leak .high-step .number-lt in
-    let none = found-nothing _ (branched .enum-told .given .1) (branched .before .before .first-branch .ensures) in
-    let e = ap (λ (x : State). x .0) (ends .before .source .ensures) ∙ stored-source st _ l in
-    let f = ap (λ (x : State). x .0) (ends .target .ensures) ∙ stored-target st _ l in (
-      showable→WordLists pre,
-      (leak-pair (deterministic-of-no-branch st none) (r .leak) e f, pre .word-length),
-    )
-
-cast-length : tie.Need-cast-length
-cast-length c = search needs
+show-word-requires : tie.Need-show-word-requires
+show-word-requires c κs =
+    let silent = c .before .before .before in
+    let branched = silent .before .before .before in
+    let pre = branched .before .before .before .before .before .before .before .pre in
+    let unbranched = found-nothing _ (silent .before .enum-told .given .1) (branched .first-branch .ensures) in
+    let still = found-nothing _ (c .before .enum-told2 .given .1) (silent .first-silent .ensures) in
+    (pre, (deterministic-of-no-branch (pre .lists .stored) unbranched, still))
 
 returns : tie.Need-returns
 returns c =
@@ -69,28 +44,18 @@ returns c =
 
 returns-2 : tie.Need-returns-2
 returns-2 c =
-    let branched = c .before .before in
-    let first = branched .before .before in
-    let pre = first .before .before .before .before .before .before .before .pre in
-    let none = found-nothing _ (branched .enum-told .given .1) (first .first-branch .ensures) in
-    passed-done none _ (judged-passed (c .enum-told2 .given .1) (pre .verdict))
+    let silent = c .before .before .before in
+    let branched = silent .before .before .before in
+    let pre = branched .before .before .before .before .before .before .before .pre in
+    let unbranched = found-nothing _ (silent .before .enum-told .given .1) (branched .first-branch .ensures) in
+    silent-done _ _ (deterministic-of-no-branch (pre .lists .stored) unbranched)
+    (found-at _ (c .before .j2 .given .1) (silent .first-silent .ensures))
 
 same-length : tie.Need-same-length
 same-length c = search needs
 
 returns-3 : tie.Need-returns-3
-returns-3 c =
-    let ends = c .before .before .before .before in
-    let chosen = ends .before .before .before in
-    let branched = chosen .before .before in
-    let pre = branched .before .before .before .before .before .before .before .before .before .pre in
-    let st = pre .lists .stored in
-    let r = judged-refused (chosen .verdict .given .1) (pre .verdict) in
-    let l = r .leak .high-step .number-lt in
-    let none = found-nothing _ (branched .enum-told .given .1) (branched .before .before .first-branch .ensures) in
-    let e = ap (λ (x : State). x .0) (ends .before .source .ensures) ∙ stored-source st _ l in
-    let f = ap (λ (x : State). x .0) (ends .target .ensures) ∙ stored-target st _ l in
-    shown-done none _ r e f (c .before .before .fill-word .ensures)
+returns-3 c = c .before .before .show-word .ensures
 
 pub show-spec : {M : Type 1} → statement M
 show-spec =
@@ -99,12 +64,10 @@ show-spec =
     first-branch-requires
     enum-known-j
     enum-told
+    first-silent-requires
+    enum-known-j-2
     enum-told-2
-    enum-known-verdict
-    source-requires
-    target-requires
-    fill-word-requires
-    cast-length
+    show-word-requires
     returns
     returns-2
     same-length

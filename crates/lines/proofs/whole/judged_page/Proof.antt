@@ -38,7 +38,7 @@ abbrev end-rest : tie.Start → ℕ
 end-rest s = lineRoom (s .args .form) letterWidth
 
 abbrev leak-rest : tie.Start → ℕ
-leak-rest s = leakRoom (s .args .form) (s .args .v) + end-rest s
+leak-rest s = leakRoom (s .args .form) (modelAt (s .args .store .now)) (s .args .v) + end-rest s
 
 abbrev states-rest : tie.Start → ℕ
 states-rest s =

@@ -14,7 +14,7 @@ use Rattle.text.specs.declared.StepLine.{StepLine}
 use Rattle.text.specs.Limits.{extraLimit, storeLength}
 use Rattle.text.specs.Split.{same?}
 use Rattle.text.specs.Laws.SameLaws.{same?→eq, eq→same?}
-use Rattle.text.specs.Model.{high, ActionLine, Model, someHigh?, aboveLast?}
+use Rattle.text.specs.Model.{lastLevel, ActionLine, Model, someHigh?, aboveLast?}
 use Rattle.text.specs.Lines.{headFits?, name?, used?, startFits?, aboveStarts?, stepFits?}
 use Rattle.model.specs.Store.{storeOf, Good}
 use Rattle.model.specs.WellFormed.{EachAfter, ActionFits, StartFits, StepFits, WellFormed}
@@ -50,12 +50,12 @@ pub actionFits?→ActionFits : (before : List ActionLine) (a : ActionLine) → T
     → ActionFits before a
 unfolding actionFits?
 actionFits?→ActionFits before a t =
-    let l = leb (a .level) high in
+    let l = leb (a .level) lastLevel in
     let n = name? (a .name) in
     let f = not (used? (a .name) before) in
     let both = and-left (l && n) f t in
     record {
-      level = leb→le (a .level) high (and-left l n both);
+      level = leb→le (a .level) lastLevel (and-left l n both);
       name = and-right l n both;
       fresh = and-right (l && n) f t;
     }
@@ -64,10 +64,10 @@ pub ActionFits→actionFits? : (before : List ActionLine) (a : ActionLine) → A
     → T (actionFits? before a)
 unfolding actionFits?
 ActionFits→actionFits? before a f =
-    let l = leb (a .level) high in
+    let l = leb (a .level) lastLevel in
     let n = name? (a .name) in
     and-intro (l && n) (not (used? (a .name) before))
-    (and-intro l n (le→leb (a .level) high (f .level)) (f .name)) (f .fresh)
+    (and-intro l n (le→leb (a .level) lastLevel (f .level)) (f .name)) (f .fresh)
 
 module _ (h : Head) (before : List ℕ) (p : ℕ) where
   pub startRises?→StartFits : T (startRises? h before p) → StartFits h before p

@@ -9,7 +9,7 @@ use lib.Dec.{T}
 use lib.ListN.{length, getD, take}
 use lib.Seq.{take-suc}
 use Rattle.lts.specs.TestsLaws.{lt-suc-cases}
-use Rattle.text.specs.Model.{high, ActionLine, Model, aboveLast?}
+use Rattle.text.specs.Model.{lastLevel, ActionLine, Model, aboveLast?}
 use Rattle.model.specs.WellFormed.{ActionFits, StepFits, WellFormed}
 use Rattle.model.specs.Laws.Store.EachLaws.{each-getD}
 use Rattle.model.specs.Above.{Above}
@@ -28,8 +28,8 @@ module _ (m : Model) (w : WellFormed m) where
       → ActionFits (take i (m .actions)) (getD (m .actions) i d)
   action-fits i d l = each-getD ActionFits [] (m .actions) i d (w .actions) l
 
-  -- "An action is low (L), release (D) or high (H)."
-  pub level-le : (a : ℕ) → a < length (m .actions) → level m a ≤ high
+  -- "An action is low (L), release (D) or high (H)", or silent.
+  pub level-le : (a : ℕ) → a < length (m .actions) → level m a ≤ lastLevel
   level-le a l = action-fits a _ l .level
 
   -- ---- steps

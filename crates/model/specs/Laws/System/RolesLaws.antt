@@ -1,5 +1,5 @@
 -- The roles of actions, one more at a time.
--- Document 01, "The model store": "level (0 L, 1 D, 2 H)". Assumes nothing.
+-- Document 01, "The model store": "level (0 L, 1 D, 2 H)"; document 02, (vii). Assumes nothing.
 use mathlib.Core.List.{List}
 use mathlib.Core.Logic.{⊎-elim}
 use mathlib.Core.Path.{_≡_, sym, ap, _∙_, subst}
@@ -10,7 +10,7 @@ use lib.ListN.{length, getD, set}
 use lib.Seq.{getD-set-same, getD-set-other}
 use borrow.Author.Tests.{eq-eqb}
 use Rattle.lts.specs.TestsLaws.{lt-suc-cases}
-use Rattle.text.specs.Model.{low, release, high, Model}
+use Rattle.text.specs.Model.{low, release, high, silent, Model}
 use Rattle.model.specs.System.{level, view}
 use Rattle.model.specs.Inner.Roles.{Roles}
 use Rattle.lts.specs.View.{Levels}
@@ -22,6 +22,7 @@ roles-of-levels m n roles h = record {
   low-is = λ a l. ap (λ (x : ℕ). eqb x low) (sym (h a l));
   release-is = λ a l. ap (λ (x : ℕ). eqb x release) (sym (h a l));
   high-is = λ a l. ap (λ (x : ℕ). eqb x high) (sym (h a l));
+  silent-is = λ a l. ap (λ (x : ℕ). eqb x silent) (sym (h a l));
 }
 
 -- the level of one action more

@@ -1,5 +1,5 @@
 -- The line of an action reads back to it, and only that line does.
--- Document 01, "The text". Assumes nothing.
+-- Document 01, "The text"; document 02, (vii). Assumes nothing.
 use mathlib.Core.Bool.{Bool, true, false, cond, not}
 use mathlib.Core.List.{List, [], _∷_}
 use mathlib.Core.Logic.{_⊎_, inl, inr}
@@ -11,14 +11,14 @@ use lib.ListN.{length, getD}
 use borrow.Author.Tests.{eqb-false}
 use Rattle.lts.specs.TestsLaws.{and-left, and-right, or-cases, not-T→false}
 use Rattle.text.specs.declared.Fault.the-variants.{Shape, Repeated}
-use Rattle.text.specs.Bytes.{kindOf, between?, digit, smallLetter, capital, comma, byteA, byteD, byteH, byteL}
+use Rattle.text.specs.Bytes.{kindOf, between?, digit, smallLetter, capital, comma, byteA, byteD, byteH, byteL, byteT}
 use Rattle.text.specs.Limits.{nameLimit}
 use Rattle.text.specs.Laws.BytesLaws.{between?→le, digit-within, smallLetter-within}
 use Rattle.text.specs.Split.{same?}
 use Rattle.text.specs.Laws.SameLaws.{same?→eq}
 use Rattle.text.specs.All.{All}
 use Rattle.text.specs.Laws.AllLaws.{all-of-all}
-use Rattle.text.specs.Model.{low, release, high, ActionLine}
+use Rattle.text.specs.Model.{low, release, high, silent, lastLevel, ActionLine}
 use Rattle.text.specs.Lines.{Line, good, bad, fieldsOf, levelOf, allOf, nameByte?, name?, nameFrom, used?}
 use Rattle.text.specs.Lines.{actionFields, actionFrom, actionOf}
 use Rattle.text.specs.Laws.FieldsLaws.{good-checked}
@@ -29,27 +29,32 @@ use Rattle.model.specs.Laws.Text.JoinedFieldsLaws.{checked-good, fieldsO
 
 -- ---- levels
 
-pub levelOf-levelByte : (level : ℕ) → level ≤ high → levelOf (levelByte level ∷ []) ≡ good level
+pub levelOf-levelByte : (level : ℕ) → level ≤ lastLevel → levelOf (levelByte level ∷ []) ≡ good level
 unfolding levelOf levelByte same?
 levelOf-levelByte zero h = refl
 levelOf-levelByte (suc zero) h = refl
 levelOf-levelByte (suc (suc zero)) h = refl
-levelOf-levelByte (suc (suc (suc n))) h = absurd (omega arith)
+levelOf-levelByte (suc (suc (suc zero))) h = refl
+levelOf-levelByte (suc (suc (suc (suc n)))) h = absurd (omega arith)
 
-pub byte-of-levelOf : (f : List ℕ) (level : ℕ) → levelOf f ≡ good level → (f ≡ levelByte level ∷ []) × (level ≤ high)
+pub byte-of-levelOf : (f : List ℕ) (level : ℕ) → levelOf f ≡ good level
+    → (f ≡ levelByte level ∷ []) × (level ≤ lastLevel)
 unfolding levelOf levelByte
 byte-of-levelOf f level h =
     by-test (same? f (byteL ∷ [])) (same?→eq f (byteL ∷ [])) (same? f (byteD ∷ [])) (same?→eq f (byteD ∷ []))
-    (same? f (byteH ∷ [])) (same?→eq f (byteH ∷ [])) h
+    (same? f (byteH ∷ [])) (same?→eq f (byteH ∷ [])) (same? f (byteT ∷ [])) (same?→eq f (byteT ∷ [])) h
   where
     by-test : (s : Bool) → (T s → f ≡ byteL ∷ []) → (t : Bool) → (T t → f ≡ byteD ∷ [])
-        → (u : Bool) → (T u → f ≡ byteH ∷ [])
-        → _≡_ {A = Line ℕ} (cond s (good low) (cond t (good release) (cond u (good high) (bad Shape)))) (good level)
-        → (f ≡ levelByte level ∷ []) × (level ≤ high)
-    by-test true a t b u c q = let e : 0 ≡ level = cc in (a tt ∙ rw (← e), omega arith)
-    by-test false a true b u c q = let e : 1 ≡ level = cc in (b tt ∙ rw (← e), omega arith)
-    by-test false a false b true c q = let e : 2 ≡ level = cc in (c tt ∙ rw (← e), omega arith)
-    by-test false a false b false c q = let z : _≡_ {A = ℕ} 0 1 = cc in absurd (omega arith)
+        → (u : Bool) → (T u → f ≡ byteH ∷ []) → (v : Bool) → (T v → f ≡ byteT ∷ [])
+        → _≡_ {A = Line ℕ}
+        (cond s (good low) (cond t (good release) (cond u (good high) (cond v (good silent) (bad Shape)))))
+        (good level)
+        → (f ≡ levelByte level ∷ []) × (level ≤ lastLevel)
+    by-test true a t b u c v d q = let e : 0 ≡ level = cc in (a tt ∙ rw (← e), omega arith)
+    by-test false a true b u c v d q = let e : 1 ≡ level = cc in (b tt ∙ rw (← e), omega arith)
+    by-test false a false b true c v d q = let e : 2 ≡ level = cc in (c tt ∙ rw (← e), omega arith)
+    by-test false a false b false c true d q = let e : 3 ≡ level = cc in (d tt ∙ rw (← e), omega arith)
+    by-test false a false b false c false d q = let z : _≡_ {A = ℕ} 0 1 = cc in absurd (omega arith)
 
 -- ---- names
 
@@ -84,12 +89,13 @@ nameByte-without b (inr e) h = omega arith
 
 pub levelByte-capital : (level : ℕ) → kindOf (levelByte level) ≡ capital
 unfolding levelByte kindOf
-levelByte-capital level = by-test (eqb level low) (eqb level release)
+levelByte-capital level = by-test (eqb level low) (eqb level release) (eqb level high)
   where
-    by-test : (s t : Bool) → kindOf (cond s byteL (cond t byteD byteH)) ≡ capital
-    by-test true t = refl
-    by-test false true = refl
-    by-test false false = refl
+    by-test : (s t u : Bool) → kindOf (cond s byteL (cond t byteD (cond u byteH byteT))) ≡ capital
+    by-test true t u = refl
+    by-test false true u = refl
+    by-test false false true = refl
+    by-test false false false = refl
 
 -- ---- `A,level,name`
 

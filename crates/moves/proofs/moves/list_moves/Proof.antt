@@ -6,18 +6,19 @@ use lib.ListN.{length, getD, length-set}
 use borrow.Author.Needs.{needs}
 use Rattle.model.specs.StoredModel.{modelAt}
 use Rattle.model.specs.Laws.System.StoredLaws.{stored-states}
-use Rattle.moves.specs.Inner.Listing.{StatesListed}
-use Rattle.moves.specs.Laws.StatesListedLaws.{statesListed-zero, statesListed-suc, lists-of-statesListed}
+use Rattle.comparing.specs.MoveList.{Ordered}
+use Rattle.moves.specs.Inner.Listing.{ListedTo}
+use Rattle.moves.specs.Laws.ListedToLaws.{listedTo-zero, listedTo-suc, ordered-zero, ordered-suc, lists-of-listedTo}
 use Rattle.moves.proofs.moves.list_moves.Statement.{statement}
 use Rattle.moves.proofs.moves.list_moves.Tie as tie
 use Rattle.model.specs.System.{view}
-use Rattle.lts.specs.Noninterference.{LowMove}
+use Rattle.lts.specs.Weak.{LowStep}
 
 abbrev Inv-loop : tie.InvT-loop
 Inv-loop store begins roles first₀ actions₀ targets₀ n at₀ p₀ first actions targets at p =
     (n ≡ modelAt store .head .states) × (p ≤ n) × (at ≤ getD begins p 0)
     × (length first ≡ length first₀) × (length actions ≡ length actions₀) × (length targets ≡ length targets₀)
-    × StatesListed (LowMove (view (modelAt store))) p at first actions targets
+    × ListedTo (LowStep (view (modelAt store))) p at first actions targets × Ordered p first actions targets
 
 abbrev μ-loop : tie.MeasureT-loop
 μ-loop store begins roles first₀ actions₀ targets₀ n at₀ p₀ first actions targets at p = n - p
@@ -38,7 +39,8 @@ loop-holds c =
       refl,
       refl,
       refl,
-      statesListed-zero (at-start .args .first .now) (omega (arith, at-start .pre .1 .1 .1 .0)),
+      listedTo-zero (at-start .args .first .now) (omega (arith, at-start .pre .1 .1 .1 .0)),
+      ordered-zero,
     )
 
 list-state-requires : tie.Need-list-state-requires Inv-loop μ-loop
@@ -101,7 +103,8 @@ loop-again c =
       length-set (at-loop .loop .first) (at-loop .loop .p + 1) (f .result) ∙ inv .3,
       f .kept .1 .1 .1 .1 .1 .0 ∙ inv .4,
       f .kept .1 .1 .1 .1 .1 .1 .0 ∙ inv .5,
-      statesListed-suc k (inv .6) (f .ensures .0) (f .ensures .1 .1),
+      listedTo-suc k (inv .6) (f .ensures .0),
+      ordered-suc k (inv .6) (f .ensures .0) (inv .7) (f .ensures .1 .1),
     )
 
 same-length : tie.Need-same-length Inv-loop μ-loop
@@ -121,8 +124,8 @@ returns c =
     let pre = at-loop .before .before .before .before .before .before .before .before .pre in
     let inv = at-loop .loop .inv in
     let end = pre .1 .0 .1 .at (at-loop .loop .p) (omega (arith, inv .0, inv .1)) .from-le in
-    lists-of-statesListed (pre .0) (omega (arith, inv .0, inv .1, c .loop-test .left))
-    (omega (arith, inv .2, end, pre .0 .steps-le)) (inv .6)
+    lists-of-listedTo (pre .0) (omega (arith, inv .0, inv .1, c .loop-test .left))
+    (omega (arith, inv .2, end, pre .0 .steps-le)) (inv .6) (inv .7)
 
 pub list-moves-spec : {M : Type 1} → statement M
 list-moves-spec =

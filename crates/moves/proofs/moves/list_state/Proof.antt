@@ -5,7 +5,7 @@ use native.Mathlib.Omega.{arith}
 use lib.ListN.{length}
 use borrow.Author.Needs.{needs}
 use Rattle.model.specs.StoredModel.{modelAt}
-use Rattle.moves.specs.Inner.Listing.{Appended, LowAmong}
+use Rattle.moves.specs.Inner.Listing.{Appended, Among, LowAs}
 use Rattle.comparing.specs.MoveList.{Rising}
 use Rattle.model.specs.Laws.System.IndexLaws.{begins-le}
 use Rattle.moves.specs.Laws.ListingLaws.{appended-no-step, appended-steps, appended-state}
@@ -17,7 +17,7 @@ abbrev Inv-loop : tie.InvT-loop
 Inv-loop store begins roles from actions₀ targets₀ of end j₀ at₀ actions targets j at =
     (end ≤ length (modelAt store .steps)) × (j₀ ≤ j) × (j ≤ end) × (at ≤ j)
     × (length actions ≡ length actions₀) × (length targets ≡ length targets₀)
-    × Appended (LowAmong (modelAt store) j₀ j) from at actions₀ targets₀ actions targets
+    × Appended (Among (LowAs (modelAt store)) j₀ j) from at actions₀ targets₀ actions targets
     × Rising from at actions targets
 
 abbrev μ-loop : tie.MeasureT-loop

@@ -1,56 +1,42 @@
--- The lists have just the low steps, so their ranks are the ranks.
-use mathlib.Core.Path.{_∙_}
-use native.Mathlib.Omega.{arith}
+-- Where no action is silent no step is, and the ranks of the low steps are the ranks.
 use borrow.Author.Needs.{needs}
-use Rattle.model.specs.Laws.System.StoredLaws.{stored-states}
-use Rattle.ranking.specs.Laws.RankedLaws.{moveList-of-lists, ranked-of-listed}
+use Rattle.moves.specs.Laws.LabelsLaws.{ranked-of-steps}
 use Rattle.moves.proofs.table.fill_table.Statement.{statement}
 use Rattle.moves.proofs.table.fill_table.Tie as tie
 
-slice-aggregate-list-moves : tie.Need-slice-aggregate-list-moves
-slice-aggregate-list-moves c = search needs
+some-silent-requires : tie.Need-some-silent-requires
+some-silent-requires c κs = search needs
 
-slice-aggregate-list-moves-2 : tie.Need-slice-aggregate-list-moves-2
-slice-aggregate-list-moves-2 c = search needs
-
-slice-aggregate-list-moves-3 : tie.Need-slice-aggregate-list-moves-3
-slice-aggregate-list-moves-3 c = search needs
-
-list-moves-requires : tie.Need-list-moves-requires
-list-moves-requires c κs =
-    let pre = c .before .before .before .before .before .before .before .pre in
-    (pre .0, (pre .1 .0, (pre .1 .1 .0, (omega arith, omega arith, omega arith))))
-
-states-requires : tie.Need-states-requires
-states-requires c κs = search needs
-
-rank-steps-requires : tie.Need-rank-steps-requires
-rank-steps-requires c κs =
-    let known = c .before .before .before .before in
-    let after = known .before .before .before .before in
-    let pre = after .before .before .before .before .before .before .before .before .pre in
-    (moveList-of-lists (after .list-moves .ensures .0) (known .states .ensures ∙ stored-states (pre .0)), pre .1 .1 .1)
+fill-label-table-requires : tie.Need-fill-label-table-requires
+fill-label-table-requires c κs = search needs
 
 same-length : tie.Need-same-length
 same-length c = search needs
 
 returns : tie.Need-returns
-returns c =
-    let known = c .before .before .before .before .before .before .before in
-    let after = known .before .before .before .before in
-    let pre = after .before .before .before .before .before .before .before .before .pre in
-    ranked-of-listed (after .list-moves .ensures .0) (known .states .ensures ∙ stored-states (pre .0))
-    (c .before .before .rank-steps .ensures)
+returns c = search needs
+
+fill-plain-table-requires : tie.Need-fill-plain-table-requires
+fill-plain-table-requires c κs = search needs
+
+same-length-2 : tie.Need-same-length-2
+same-length-2 c = search needs
+
+returns-2 : tie.Need-returns-2
+returns-2 c =
+    let chosen = c .before .before .before .before in
+    let pre = chosen .before .before .before .before .before .before .pre in
+    let still = chosen .before .some-silent .ensures (chosen .if1 .left) in
+    ranked-of-steps (pre .0) still (c .before .before .fill-plain-table .ensures)
 
 pub fill-table-spec : {M : Type 1} → statement M
 fill-table-spec =
     tie.close
     (tie.spec
-    slice-aggregate-list-moves
-    slice-aggregate-list-moves-2
-    slice-aggregate-list-moves-3
-    list-moves-requires
-    states-requires
-    rank-steps-requires
+    some-silent-requires
+    fill-label-table-requires
     same-length
-    returns)
+    returns
+    fill-plain-table-requires
+    same-length-2
+    returns-2)

@@ -5,7 +5,7 @@ use native.Mathlib.Omega.{arith}
 use lib.ListN.{getD}
 use Rattle.text.specs.Limits.{stateLimit}
 use Rattle.text.specs.Laws.DecidesLaws.{decides-true, decides-false}
-use Rattle.comparing.specs.MoveList.{Played}
+use Rattle.comparing.specs.MoveList.{Listed}
 use Rattle.comparing.specs.Inner.Marks.{Reaches, MarkedJust}
 use Rattle.comparing.specs.Laws.MarksLaws.{markedIn-of-just}
 use Rattle.parts.specs.Inner.Leads.{NoneAfter}
@@ -16,41 +16,41 @@ use Rattle.parts.proofs.leads.find_lead.Statement.{statement}
 use Rattle.parts.proofs.leads.find_lead.Tie as tie
 
 abbrev Inv-loop : tie.InvT-loop
-Inv-loop n first actions targets begins rows class reps leads link last p marks₀ j₀ marks j =
-    NoneAfter (Played n first actions targets begins rows) class reps leads last (p .0) j
-    × MarkedJust (Reaches (Played n first actions targets begins rows) class (p .0)) marks
+Inv-loop n first actions targets class reps leads link last p marks₀ j₀ marks j =
+    NoneAfter (Listed n first actions targets) class reps leads last (p .0) j
+    × MarkedJust (Reaches (Listed n first actions targets) class (p .0)) marks
 
 abbrev μ-loop : tie.MeasureT-loop
-μ-loop n first actions targets begins rows class reps leads link last p marks₀ j₀ marks j = j
+μ-loop n first actions targets class reps leads link last p marks₀ j₀ marks j = j
 
 -- ---- places of the function
 
 abbrev begin : tie.At-loop Inv-loop μ-loop → tie.Start Inv-loop μ-loop
-begin c = c .before .before .before .before .before .before
+begin c = c .before .before .before .before .before
 
 place-le : (c : tie.At-loop Inv-loop μ-loop) → c .loop .j ≤ stateLimit
-place-le c = omega (arith, c .loop .inv .0 .place-le, begin c .pre .1 .1 .1 .0 .1 .last-le)
+place-le c = omega (arith, c .loop .inv .0 .place-le, begin c .pre .1 .1 .0 .1 .last-le)
 
 lead-lt : (c : tie.In-loop Inv-loop μ-loop)
     → getD (begin (c .before) .args .leads .now) (c .before .loop .j) 0 < begin (c .before) .args .n
-lead-lt c = begin (c .before) .pre .1 .1 .1 .0 .1 .lead-lt _ (c .loop-test .taken) (c .before .loop .inv .0 .place-le)
+lead-lt c = begin (c .before) .pre .1 .1 .0 .1 .lead-lt _ (c .loop-test .taken) (c .before .loop .inv .0 .place-le)
 
-rep-lt : (c : tie.After-rep-of Inv-loop μ-loop) → c .rep-of .result .0 < c .before .before .args .n
+rep-lt : (c : tie.After-rep-of Inv-loop μ-loop) → c .rep-of .result .0 < c .before .args .n
 rep-lt c =
-    let start = c .before .before in
-    omega (arith, c .rep-of .ensures, start .pre .1 .1 .0 .rep-lt (start .args .p .0) (start .pre .1 .1 .1 .0 .0))
+    let start = c .before in
+    omega (arith, c .rep-of .ensures, start .pre .1 .0 .rep-lt (start .args .p .0) (start .pre .1 .1 .0 .0))
 
 -- ---- needs
 
 rep-of-requires : tie.Need-rep-of-requires Inv-loop μ-loop
 rep-of-requires c κs =
-    let P = c .before .pre in
-    (omega (arith, P .0 .states-le), P .1 .1 .0 .class-lt _ (P .1 .1 .1 .0 .0))
+    let P = c .pre in
+    (omega (arith, P .0 .states-le), P .1 .0 .class-lt _ (P .1 .1 .0 .0))
 
 answers-requires : tie.Need-answers-requires Inv-loop μ-loop
 answers-requires c κs =
-    let P = c .before .before .before .pre in
-    (P .0, (P .1 .0, (classNumbers-of-reps (P .1 .1 .0), ((P .1 .1 .1 .0 .0, rep-lt (c .before)), P .1 .1 .1 .1))))
+    let P = c .before .before .pre in
+    (P .0, (classNumbers-of-reps (P .1 .0), ((P .1 .1 .0 .0, rep-lt (c .before)), P .1 .1 .1)))
 
 returns : tie.Need-returns Inv-loop μ-loop
 returns c =
@@ -67,7 +67,7 @@ loop-holds : tie.Need-loop-holds Inv-loop μ-loop
 loop-holds c =
     let asked = c .before .answers .ensures in
     let sought = c .before .before .before in
-    let chain = sought .before .before .pre .1 .1 .1 .0 .1 in
+    let chain = sought .before .pre .1 .1 .0 .1 in
     let no = c .if1 .left in
     (noneAfter-last chain (sought .rep-of .ensures) (decides-false _ _ (asked .0) no), asked .1 .1 no)
 
@@ -89,7 +89,7 @@ answers-requires-2 c κs =
     let turn = c .before .before in
     let P = begin (turn .before) .pre in
     let marked = turn .before .loop .inv .1 in
-    (P .0, (P .1 .0, (classNumbers-of-reps (P .1 .1 .0), ((P .1 .1 .1 .0 .0, lead-lt turn), marked))))
+    (P .0, (classNumbers-of-reps (P .1 .0), ((P .1 .1 .0 .0, lead-lt turn), marked)))
 
 returns-2 : tie.Need-returns-2 Inv-loop μ-loop
 returns-2 c =
@@ -111,12 +111,12 @@ element-copy-out-j-2 c =
 loop-less : tie.Need-loop-less Inv-loop μ-loop
 loop-less c =
     let turn = c .before .before .before .before .before in
-    link-lt (begin (turn .before) .pre .1 .1 .1 .0 .1) (turn .loop-test .taken) (turn .before .loop .inv .0 .place-le)
+    link-lt (begin (turn .before) .pre .1 .1 .0 .1) (turn .loop-test .taken) (turn .before .loop .inv .0 .place-le)
 
 loop-again : tie.Need-loop-again Inv-loop μ-loop
 loop-again c =
     let turn = c .before .before .before .before .before in
-    let chain = begin (turn .before) .pre .1 .1 .1 .0 .1 in
+    let chain = begin (turn .before) .pre .1 .1 .0 .1 in
     let asked = c .before .before .answers2 .ensures in
     let no = c .before .if2 .left in
     let differs = decides-false _ _ (asked .0) no in

@@ -17,7 +17,7 @@ use Rattle.parts.proofs.numbers.number_leads.Tie as tie
 
 abbrev Inv-loop : tie.InvT-loop
 Inv-loop n class flags list count lead numbers₀ reps₀ classes next₀ i₀ numbers reps next i =
-    (i ≤ count) × (next ≤ n) × NumberedUpTo n class lead list reps₀ reps numbers i classes next
+    (i ≤ count) × (next ≤ n) × NumberedUpTo class lead list reps₀ reps numbers i classes next
 
 abbrev μ-loop : tie.MeasureT-loop
 μ-loop n class flags list count lead numbers₀ reps₀ classes next₀ i₀ numbers reps next i = count - i
@@ -128,7 +128,7 @@ returns c =
     let a = at-loop .before .args in
     let inv = at-loop .loop .inv in
     let e : at-loop .loop .i ≡ a .count = omega arith in (
-      subst (λ (i : ℕ). NumberedUpTo (a .n) (a .class .now) (a .lead .now) (a .list .now) (a .reps .now)
+      subst (λ (i : ℕ). NumberedUpTo (a .class .now) (a .lead .now) (a .list .now) (a .reps .now)
           (at-loop .loop .reps) (at-loop .loop .numbers) i (a .classes) (at-loop .loop .next)) e (inv .2),
       inv .1,
     )

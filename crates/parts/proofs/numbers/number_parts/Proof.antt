@@ -22,7 +22,7 @@ number-leads-requires c κs =
 
 renumber-requires : tie.Need-renumber-requires
 renumber-requires c κs =
-    let numbered = c .before .before .before .before .before in
+    let numbered = c .before .before .before .before in
     let kept = numbered .before .before .before in
     let P = kept .before .before .before .before .before .pre in
     let L = P .1 .1 .1 .1 in
@@ -31,7 +31,7 @@ renumber-requires c κs =
 
 returns : tie.Need-returns
 returns c =
-    let numbered = c .before .before .before .before .before .before in
+    let numbered = c .before .before .before .before .before in
     let kept = numbered .before .before .before in
     let P = kept .before .before .before .before .before .pre in
     let L = P .1 .1 .1 .1 in

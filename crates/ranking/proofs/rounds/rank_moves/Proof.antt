@@ -1,7 +1,7 @@
 -- The cleared table is right for round 0, and what the rounds leave keeps the promise.
 use mathlib.Core.Path.{_∙_}
 use native.Mathlib.Omega.{arith}
-use Rattle.comparing.specs.Laws.MoveListLaws.{played-game}
+use Rattle.comparing.specs.Laws.MoveListLaws.{listed-game}
 use Rattle.ranking.specs.Laws.RoundsLaws.{ranksUpTo-zero, ranked-of-finished}
 use borrow.Author.Needs.{needs}
 use Rattle.ranking.proofs.rounds.rank_moves.Statement.{statement}
@@ -10,48 +10,36 @@ use Rattle.ranking.proofs.rounds.rank_moves.Tie as tie
 -- ---- places of the function
 
 abbrev begin : tie.After-clear → tie.Start
-begin c = c .before .before .before .before .before .before
+begin c = c .before .before .before
 
 -- ---- needs
-
-list-wide-requires : tie.Need-list-wide-requires
-list-wide-requires c κs = search needs
 
 clear-requires : tie.Need-clear-requires
 clear-requires c κs = search needs
 
 rounds-requires : tie.Need-rounds-requires
 rounds-requires c κs =
-    let cleared = c .before .before .before .before in
+    let cleared = c .before .before .before in
     let P = begin cleared .pre in
-    let ranks = ranksUpTo-zero _ (P .0 .states-le) (cleared .clear .ensures) in (
-      P .0,
-      (
-        P .1 .0,
-        (
-          cleared .before .before .list-wide .ensures,
-          (omega (arith, P .1 .1, cleared .clear .kept .0), ranks),
-        ),
-      ),
-    )
+    let ranks = ranksUpTo-zero _ (P .0 .states-le) (cleared .clear .ensures) in
+    (P .0, (omega (arith, P .1, cleared .clear .kept .0), ranks))
 
 same-length : tie.Need-same-length
 same-length c = search needs
 
 returns : tie.Need-returns
 returns c =
-    let cleared = c .before .before .before .before .before .before .before in
+    let cleared = c .before .before .before .before .before .before in
     let P = begin cleared .pre in
     let done = c .before .before .rounds in
-    let same = done .kept .1 .1 .1 .1 .1 .1 .1 .1 .0 ∙ cleared .clear .kept .0 in
-    ranked-of-finished (played-game (P .0) (P .1 .0)) (P .0 .some-state) (P .0 .states-le) (cleared .clear .ensures)
+    let same = done .kept .1 .1 .1 .1 .0 ∙ cleared .clear .kept .0 in
+    ranked-of-finished (listed-game (P .0)) (P .0 .some-state) (P .0 .states-le) (cleared .clear .ensures)
     (done .ensures) same
 
 pub rank-moves-spec : {M : Type 1} → statement M
 rank-moves-spec =
     tie.close
     (tie.spec
-    list-wide-requires
     clear-requires
     rounds-requires
     same-length

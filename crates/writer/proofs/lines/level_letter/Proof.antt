@@ -17,8 +17,18 @@ returns-2 c =
 returns-3 : tie.Need-returns-3
 unfolding levelByte
 returns-3 c =
-    let level = c .before .before .args .level in
-    rw (ne-eqb level 0 (c .before .if1 .left), ne-eqb level 1 (c .if2 .left))
+    let level = c .before .before .before .args .level in
+    rw (ne-eqb level 0 (c .before .before .if1 .left), ne-eqb level 1 (c .before .if2 .left), eq-eqb level 2 (c .if3 .taken))
+
+returns-4 : tie.Need-returns-4
+unfolding levelByte
+returns-4 c =
+    let level = c .before .before .before .args .level in
+    rw (
+      ne-eqb level 0 (c .before .before .if1 .left),
+      ne-eqb level 1 (c .before .if2 .left),
+      ne-eqb level 2 (c .if3 .left),
+    )
 
 pub level-letter-spec : {M : Type 1} → statement M
-level-letter-spec = tie.close (tie.spec returns returns-2 returns-3)
+level-letter-spec = tie.close (tie.spec returns returns-2 returns-3 returns-4)

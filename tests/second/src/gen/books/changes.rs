@@ -1,7 +1,7 @@
 //! Books with random changes, and books of random bytes.
 
 use super::{pair_of, present};
-use crate::book::{entry_number, Entry, ENTRY};
+use crate::book::{entry_number, openings, Entry, ENTRY};
 use crate::gen::Rng;
 use crate::store::{Model, BOOK, TABLE};
 
@@ -69,9 +69,17 @@ fn exchange(rng: &mut Rng, model: &Model, book: &mut [u8], number: usize) {
     there.put(book, number);
 }
 
-/// An opening that is some step of the model, with the depth that was there.
+/// An opening that is some step of the model, with the depth that was there. In
+/// a model with silent actions it may be a move of either side.
 fn step(rng: &mut Rng, model: &Model, book: &mut [u8], number: usize) {
-    if !model.steps.is_empty() {
+    if model.has_silent() && rng.percent(70) {
+        let openings = openings(&model.moves(), pair_of(number));
+        if !openings.is_empty() {
+            let &(side, opening) = rng.pick(&openings);
+            let depth = Entry::of(book, number).depth;
+            Entry::new(side.byte(), opening, depth).put(book, number);
+        }
+    } else if !model.steps.is_empty() {
         let step = rng.pick(&model.steps);
         let (p, q) = pair_of(number);
         let side = match usize::from(step.source) {

@@ -7,10 +7,10 @@ mod present;
 use std::collections::BTreeSet;
 
 use super::{of_states, pair_of, present, rests_on};
-use crate::book::Entry;
+use crate::book::{moves_of, Entry, Moves};
 use crate::gen::{some_of, Rng};
 use crate::rank::ranks_of;
-use crate::store::{Level, Model, Step, TABLE};
+use crate::store::{Model, TABLE};
 use crate::Refusal;
 
 /// A damaged book, what was done, and the refusal it must get.
@@ -26,6 +26,7 @@ pub struct BadBook {
 pub fn bad_books(rng: &mut Rng, model: &Model, sound: &[u8]) -> Vec<BadBook> {
     let mut list = BadBooks {
         model,
+        moves: model.moves(),
         sound,
         books: Vec::new(),
     };
@@ -37,7 +38,7 @@ pub fn bad_books(rng: &mut Rng, model: &Model, sound: &[u8]) -> Vec<BadBook> {
         list.lowered(number);
     }
     list.many(&present);
-    let resting = resting(model, sound);
+    let resting = resting(&list.moves, sound);
     let rested_on = numbers(|number| !resting[number].is_empty());
     for number in some(rng, &rested_on) {
         list.taken_away(number, &resting[number]);
@@ -73,11 +74,10 @@ fn some(rng: &mut Rng, numbers: &[usize]) -> BTreeSet<usize> {
 }
 
 /// For each entry the numbers of those that rest on it, rising.
-fn resting(model: &Model, book: &[u8]) -> Vec<Vec<usize>> {
-    let moves = model.low_steps();
+fn resting(moves: &Moves, book: &[u8]) -> Vec<Vec<usize>> {
     let mut resting = vec![Vec::new(); TABLE];
     for number in present(book) {
-        for next in rests_on(&moves, book, number) {
+        for next in rests_on(moves, book, number) {
             resting[next].push(number);
         }
     }
@@ -94,9 +94,11 @@ fn rank_0(model: &Model) -> Vec<usize> {
     })
 }
 
-/// A model, a sound book of it, and the damaged ones made of that so far.
+/// A model with its moves, a sound book of it, and the damaged ones made of that
+/// so far.
 struct BadBooks<'a> {
     model: &'a Model,
+    moves: Vec<Vec<(u16, u16)>>,
     sound: &'a [u8],
     books: Vec<BadBook>,
 }
@@ -133,8 +135,8 @@ impl BadBooks<'_> {
         Entry::of(self.sound, number)
     }
 
-    /// Whether the opening of an entry is in the model: a low step of the side
-    /// that opens.
+    /// Whether the opening of an entry is in the model: a move of the side that
+    /// opens.
     fn opens(&self, number: usize, entry: Entry) -> bool {
         let (p, q) = pair_of(number);
         let opener = match entry.side {
@@ -142,8 +144,6 @@ impl BadBooks<'_> {
             2 => q,
             _ => return false,
         };
-        let (action, target) = (u16::from(entry.action), u16::from(entry.target));
-        let step = Step::new(opener as u16, action, target);
-        self.model.steps.contains(&step) && self.model.level(action) == Level::Low
+        moves_of(&self.moves, opener).contains(&entry.opening())
     }
 }

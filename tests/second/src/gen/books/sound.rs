@@ -3,14 +3,15 @@
 use std::collections::BTreeSet;
 
 use super::{of_states, pair_of, present, rests_on};
-use crate::book::{answers, book_of, entry_number, openings, Entry, Moves};
+use crate::book::{book_of, entry_number, openings, Entry, Side};
 use crate::gen::Rng;
+use crate::moves::{single, states_of, States, Targets, SILENT};
 use crate::store::{Model, BOOK, MOST_STATES, TABLE};
 
 /// Sound books of a model, one of each kind.
 pub fn sound_books(rng: &mut Rng, model: &Model) -> Vec<(&'static str, Vec<u8>)> {
     let own = book_of(model);
-    let moves = model.low_steps();
+    let moves = Targets::new(model);
     let mut books = vec![
         ("no entry", vec![0; BOOK]),
         ("depths one less", with_depths(&own, |rank| rank - 1)),
@@ -40,7 +41,7 @@ pub fn sound_books(rng: &mut Rng, model: &Model) -> Vec<(&'static str, Vec<u8>)>
 
 /// A sound book of a model, of any kind or of several.
 pub fn sound_book(rng: &mut Rng, model: &Model) -> Vec<u8> {
-    let moves = model.low_steps();
+    let moves = Targets::new(model);
     let mut book = match rng.below(4) {
         0 => book_of(model),
         1 => plays(rng, &moves, 100),
@@ -73,7 +74,7 @@ pub fn sound_book(rng: &mut Rng, model: &Model) -> Vec<u8> {
 
 /// Of a sound book the entry of this number and all that it rests on.
 pub fn cut_book(model: &Model, book: &[u8], number: usize) -> Vec<u8> {
-    let moves = model.low_steps();
+    let moves = model.moves();
     let mut kept = BTreeSet::new();
     let mut open = vec![number];
     while let Some(number) = open.pop() {
@@ -135,9 +136,9 @@ fn turned(book: &[u8]) -> Vec<u8> {
 /// Entries for pairs in random order, each with any opening that the entries
 /// before it allow and any depth above theirs. Of the pairs that allow an
 /// entry so many in a hundred get one in each round.
-fn plays(rng: &mut Rng, moves: &Moves, chance: usize) -> Vec<u8> {
-    let states = moves.len();
-    let mut book = vec![0; BOOK];
+fn plays(rng: &mut Rng, moves: &Targets, chance: usize) -> Vec<u8> {
+    let states = moves.states();
+    let mut plays = Plays::new(moves);
     let rounds = if chance == 100 {
         MOST_STATES
     } else {
@@ -147,14 +148,13 @@ fn plays(rng: &mut Rng, moves: &Moves, chance: usize) -> Vec<u8> {
         let mut added = false;
         for index in rng.order(states * states) {
             let pair = (index / states, index % states);
-            let number = entry_number(pair.0, pair.1);
-            if Entry::of(&book, number).is_absent() && rng.percent(chance) {
-                let allowed = allowed(moves, &book, pair);
+            if plays.entry(pair).is_absent() && rng.percent(chance) {
+                let allowed = plays.allowed(pair);
                 if !allowed.is_empty() {
                     let &(entry, least) = rng.pick(&allowed);
                     let depth = least + rng.below((256 - least).min(3));
                     let depth = depth as u8;
-                    Entry { depth, ..entry }.put(&mut book, number);
+                    plays.put(pair, Entry { depth, ..entry });
                     added = true;
                 }
             }
@@ -163,25 +163,71 @@ fn plays(rng: &mut Rng, moves: &Moves, chance: usize) -> Vec<u8> {
             break;
         }
     }
-    book
+    plays.book
 }
 
-/// The entries that a pair can have beside those of a book, each with the
-/// least depth.
-fn allowed(moves: &Moves, book: &[u8], pair: (usize, usize)) -> Vec<(Entry, usize)> {
-    let mut allowed = Vec::new();
-    for (side, step) in openings(moves, pair) {
-        let next = answers(moves, pair, side, step).into_iter();
-        let next: Vec<Entry> = next
-            .map(|(p, q)| Entry::of(book, entry_number(p, q)))
-            .collect();
-        let above = next.iter().map(|entry| usize::from(entry.depth) + 1);
-        let least = above.max().unwrap_or(0);
-        if least < 256 && !next.iter().any(|entry| entry.is_absent()) {
-            allowed.push((Entry::new(side.byte(), step, 0), least));
+/// A book being filled, and for each state those with which it has an entry, as
+/// the first of the pair and as the second.
+struct Plays<'a> {
+    moves: &'a Targets,
+    book: Vec<u8>,
+    seconds: Vec<States>,
+    firsts: Vec<States>,
+}
+
+impl Plays<'_> {
+    fn new(moves: &Targets) -> Plays<'_> {
+        Plays {
+            moves,
+            book: vec![0; BOOK],
+            seconds: vec![0; MOST_STATES],
+            firsts: vec![0; MOST_STATES],
         }
     }
-    allowed
+
+    fn entry(&self, (p, q): (usize, usize)) -> Entry {
+        Entry::of(&self.book, entry_number(p, q))
+    }
+
+    fn put(&mut self, (p, q): (usize, usize), entry: Entry) {
+        entry.put(&mut self.book, entry_number(p, q));
+        self.seconds[p] |= single(q as u16);
+        self.firsts[q] |= single(p as u16);
+    }
+
+    /// The entries that a pair can have beside those of the book, each with the
+    /// least depth.
+    fn allowed(&self, pair: (usize, usize)) -> Vec<(Entry, usize)> {
+        let mut allowed = Vec::new();
+        for side in Side::ALL {
+            let (opener, other) = side.turned(pair);
+            let told_apart = match side {
+                Side::First => &self.seconds,
+                Side::Second => &self.firsts,
+            };
+            for &(action, targets) in self.moves.of(opener) {
+                let answers = self.moves.after(other, action);
+                for target in states_of(targets) {
+                    if answers & !told_apart[usize::from(target)] == 0 {
+                        let least = self.above(side, target, answers);
+                        let entry = Entry::new(side.byte(), (action, target), 0);
+                        allowed.push((entry, least));
+                    }
+                }
+            }
+        }
+        allowed.retain(|&(_, least)| least < 256);
+        allowed
+    }
+
+    /// The least depth above those of the pairs to which these answers lead.
+    fn above(&self, side: Side, target: u16, answers: States) -> usize {
+        let depth = |answer: u16| {
+            let pair = side.turned((usize::from(target), usize::from(answer)));
+            usize::from(self.entry(pair).depth) + 1
+        };
+        states_of(answers).map(depth).max().unwrap_or(0)
+    }
 }
 
 /// Random bytes after the side of absent entries, some or all.
@@ -200,8 +246,13 @@ fn with_scrap(rng: &mut Rng, book: &[u8]) -> Vec<u8> {
 /// Entries of a state that opens and a number that is no state, which has no
 /// answer: any depth will do.
 fn with_no_states(rng: &mut Rng, model: &Model, book: &[u8]) -> Vec<u8> {
+    // The silent moves of a model without silent actions are left to
+    // `with_silent_entries`.
+    let moves = match model.has_silent() {
+        true => model.moves(),
+        false => model.low_steps(),
+    };
     let mut changed = book.to_vec();
-    let moves = model.low_steps();
     let chance = *rng.pick(&[1, 10, 100]);
     for number in 0..TABLE {
         let pair = pair_of(number);
@@ -211,6 +262,30 @@ fn with_no_states(rng: &mut Rng, model: &Model, book: &[u8]) -> Vec<u8> {
                 let &(side, step) = rng.pick(&openings);
                 let depth = *rng.pick(&[0, 1, 127, 255]);
                 Entry::new(side.byte(), step, depth).put(&mut changed, number);
+            }
+        }
+    }
+    changed
+}
+
+/// A sound book with entries of a state that opens silently and a number that is
+/// no state. Zero steps are a silent move too, in every model.
+pub fn with_silent_entries(rng: &mut Rng, model: &Model, book: &[u8]) -> Vec<u8> {
+    let moves = Targets::new(model);
+    let mut changed = book.to_vec();
+    let chance = *rng.pick(&[1, 10, 100]);
+    for number in 0..TABLE {
+        let pair = pair_of(number);
+        if of_states(model, pair) || !rng.percent(chance) {
+            continue;
+        }
+        for side in Side::ALL {
+            let (opener, _) = side.turned(pair);
+            let targets: Vec<u16> = states_of(moves.after(opener, SILENT)).collect();
+            if !targets.is_empty() {
+                let opening = (SILENT, *rng.pick(&targets));
+                let depth = *rng.pick(&[0, 1, 127, 255]);
+                Entry::new(side.byte(), opening, depth).put(&mut changed, number);
             }
         }
     }

@@ -1,6 +1,6 @@
 //! Texts with random changes, and texts of random pieces.
 
-use super::{join, lines_of};
+use super::{join, lines_of, with_field};
 use crate::gen::Rng;
 
 /// A text with a few random changes. It may still be a good one.
@@ -74,6 +74,29 @@ fn with_levels_changed(rng: &mut Rng, text: &[u8]) -> Vec<u8> {
         actions[index][2] = *rng.pick(b"LDH");
     }
     join(&lines)
+}
+
+/// A text with some levels changed, to that of a silent action or to what is
+/// none, and perhaps with other changes. It may still be a good one.
+pub fn mutated_tick_text(rng: &mut Rng, text: &[u8]) -> Vec<u8> {
+    const LEVELS: &[&[u8]] = &[
+        b"T", b"T", b"T", b"T", b"T", b"T", b"H", b"L", b"t", b"TT", b"T ", b"TH", b"3", b"S", b"U",
+    ];
+    let mut lines = lines_of(text);
+    for _ in 0..rng.between(1, 3) {
+        let has_level = |line: &&mut Vec<u8>| line.starts_with(b"A,") && line.len() > 3;
+        let mut actions: Vec<&mut Vec<u8>> = lines.iter_mut().filter(has_level).collect();
+        if !actions.is_empty() {
+            let (index, level) = (rng.below(actions.len()), *rng.pick(LEVELS));
+            *actions[index] = with_field(actions[index], 1, level);
+        }
+    }
+    let changed = join(&lines);
+    if rng.percent(60) {
+        changed
+    } else {
+        mutated_text(rng, &changed)
+    }
 }
 
 /// A text with an `I` line more, one fewer, or another in place of one. Most

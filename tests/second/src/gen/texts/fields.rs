@@ -146,8 +146,9 @@ fn first_outside(model: &Model, states: u16) -> Option<usize> {
 }
 
 /// Levels that there are not.
-const WRONG_LEVELS: [&[u8]; 12] = [
-    b"l", b"d", b"h", b"M", b"A", b"0", b"LL", b"LH", b" L", b"L ", b"\0", b"\xcc",
+const WRONG_LEVELS: [&[u8]; 16] = [
+    b"l", b"d", b"h", b"t", b"M", b"A", b"0", b"3", b"LL", b"LH", b"LT", b"TT", b" L", b"L ",
+    b"\0", b"\xcc",
 ];
 
 /// Names with a byte that no name has, or with too many.

@@ -10,7 +10,7 @@ use crate::store::{Model, MOST_ACTIONS};
 use crate::text::{Cause, TEXT};
 
 pub(super) fn add(list: &mut Faults, model: &Model) {
-    for levels in [&b"L"[..], b"D", b"LD"] {
+    for levels in [&b"L"[..], b"D", b"LD", b"T", b"LT"] {
         let lines = without_high(list, levels);
         let place = list.last_action() + 1;
         list.add("no high action", join(&lines), Cause::NoHigh, place);
@@ -125,9 +125,21 @@ fn unused_name(model: &Model) -> String {
 /// Its cause and its refusal are those that it must get: 35 at the last action's
 /// line, unless the other fault comes first.
 pub fn no_high_text(rng: &mut Rng, model: &Model) -> Fault {
-    let good = lines_of(&model.to_text());
     let any: Vec<u8> = (0..MOST_ACTIONS).map(|_| *rng.pick(b"LD")).collect();
     let levels = *rng.pick(&[&b"L"[..], b"D", &any]);
+    with_levels(rng, model, levels)
+}
+
+/// The same, with silent actions too in place of the high ones.
+pub fn no_high_tick_text(rng: &mut Rng, model: &Model) -> Fault {
+    let any: Vec<u8> = (0..MOST_ACTIONS).map(|_| *rng.pick(b"LDT")).collect();
+    let levels = *rng.pick(&[&b"T"[..], b"LT", b"TD", &any]);
+    with_levels(rng, model, levels)
+}
+
+/// Such a text with these levels, in turn, in place of each H.
+fn with_levels(rng: &mut Rng, model: &Model, levels: &[u8]) -> Fault {
+    let good = lines_of(&model.to_text());
     let lines = without_high(&Faults::new(&good, model), levels);
     let mut list = Faults::new(&lines, model);
     let (last, end) = (list.last_action(), list.last);

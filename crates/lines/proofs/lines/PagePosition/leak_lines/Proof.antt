@@ -1,18 +1,18 @@
 -- The run and the word are filled where they are printed from; a passed model has no such lines. Assumes nothing.
 use mathlib.Core.Path.{refl, sym, ap, subst, _∙_}
-use Prim.Native.Nat.{_+_, _*_, _≤_}
+use Prim.Native.Nat.{_+_, _≤_}
 use native.Mathlib.Omega.{arith}
 use lib.ListN.{length}
 use borrow.Author.Needs.{needs}
 use Rattle.text.specs.declared.State.{State}
-use Rattle.text.specs.Limits.{runLength}
 use Rattle.model.specs.StoredModel.{modelAt}
 use Rattle.model.specs.System.{ReachableIn}
+use Rattle.verdicts.specs.declared.judging.Verdict.the-variants.{Refused}
 use Rattle.verdicts.specs.Verdicts.{RefusedAt}
 use Rattle.distances.specs.Laws.RunTailLaws.{runWritten-le}
 use Rattle.model.specs.Laws.System.StoredLaws.{stored-source}
 use Rattle.lines.specs.Page.{NoLeakLines}
-use Rattle.lines.specs.Inner.Room.{runWidth, lineRoom, wordRoom, shownRoom}
+use Rattle.lines.specs.Inner.Room.{shownRoom, leakRoom}
 use Rattle.lines.specs.Laws.LinesWrittenLaws.{written-nil, written-rest}
 use Rattle.lines.specs.Laws.LeakShownLaws.{run-room, refused-of, spelled-of, shownRoom-le, leak-lines-written}
 use Rattle.lines.specs.Laws.LeakShownLaws.{after-refused}
@@ -30,8 +30,8 @@ refused c =
 -- and the room that it gives
 room : (c : tie.After-v)
     → let s = c .before .before .before .before .before .before .before .before .before .before in
-    s .args .self .at .at + (lineRoom (s .args .form) runWidth * runLength
-    + wordRoom (s .args .form) (c .v .given .0 .1 .0)) ≤ length (s .args .out .now)
+    let v = Refused (c .v .given .0 .0) (c .v .given .0 .1 .0) in
+    s .args .self .at .at + leakRoom (s .args .form) (modelAt (s .args .store .now)) v ≤ length (s .args .out .now)
 room c =
     let s = c .before .before .before .before .before .before .before .before .before .before in
     rw (c .v .given .1) at (s .pre .1)

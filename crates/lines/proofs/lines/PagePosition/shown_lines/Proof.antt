@@ -12,23 +12,25 @@ use Rattle.model.specs.StoredModel.{modelAt}
 use Rattle.letters.proofs.word.Shown.{the-type}
 use Rattle.letters.specs.declared.word.End.{End}
 use Rattle.letters.specs.declared.word.Shown.{Shown}
-use Rattle.letters.specs.declared.word.Shown.the-variants.{Word, NotDeterministic, NoLeak}
+use Rattle.letters.specs.declared.word.Shown.the-variants.{Word, NotDeterministic, Silent, NoLeak}
 use Rattle.lines.specs.declared.lines.Form.{Form}
-use Rattle.lines.specs.PageLines.{branch-line}
+use Rattle.lines.specs.PageLines.{no-word-line}
 use Rattle.lines.specs.Inner.Leak.{Letters, Spelled, shownLines}
 use Rattle.lines.specs.Inner.Room.{allowsWidth, letterWidth, lineRoom, wordRoom, shownRoom}
 use Rattle.lines.specs.Laws.FormLaws.{text-room, end-room}
 use Rattle.lines.specs.Laws.LinesWrittenLaws.{written-line, written-both, written-rest}
-use Rattle.lines.specs.Laws.PageLinesLaws.{allows-fits, branch-fits}
+use Rattle.lines.specs.Laws.PageLinesLaws.{allows-fits, no-word-fits}
 use Rattle.lines.proofs.lines.PagePosition.shown_lines.Statement.{statement}
 use Rattle.lines.proofs.lines.PagePosition.shown_lines.Tie as tie
 
 -- where no word is shown
-no-word : (form : Form) (m : Model) (shown : Shown) (word : List ℕ) → OneOf (1 ∷ 2 ∷ []) (tagOf the-type shown)
-    → (shownLines m shown word ≡ branch-line ∷ []) × (shownRoom form shown ≡ lineRoom form letterWidth)
+no-word : (form : Form) (m : Model) (shown : Shown) (word : List ℕ) → OneOf (1 ∷ 2 ∷ 3 ∷ []) (tagOf the-type shown)
+    → (shownLines m shown word ≡ no-word-line ∷ []) × (shownRoom form shown ≡ lineRoom form letterWidth)
 no-word form m (Word n end) word (inl e) = absurd (omega arith)
-no-word form m (Word n end) word (inr e) = absurd (omega arith)
+no-word form m (Word n end) word (inr (inl e)) = absurd (omega arith)
+no-word form m (Word n end) word (inr (inr e)) = absurd (omega arith)
 no-word form m (NotDeterministic j) word k = (refl, refl)
+no-word form m (Silent j) word k = (refl, refl)
 no-word form m NoLeak word k = (refl, refl)
 
 -- where one is
@@ -86,20 +88,20 @@ returns c =
     (written-line (allows-fits (arm .shown .given .0 .1 .0)) refl (allows .allows-text .ensures)
     (end .line-end .ensures)))
 
-branch-text-requires : tie.Need-branch-text-requires
-branch-text-requires c κs =
+no-word-text-requires : tie.Need-no-word-text-requires
+no-word-text-requires c κs =
     let other = c .before in
     let s = other .before .before .before .before in
     let e = no-word (s .args .form) (modelAt []) (s .args .shown) [] (other .match .keys2) .1 in
-    text-room branch-fits (s .args .form) (s .args .self .at .at) (rw e at (s .pre .1 .1))
+    text-room no-word-fits (s .args .form) (s .args .self .at .at) (rw e at (s .pre .1 .1))
 
 line-end-requires-2 : tie.Need-line-end-requires-2
 line-end-requires-2 c κs =
-    let branch = c .before .before .before in
-    let other = branch .before .before in
+    let letter = c .before .before .before in
+    let other = letter .before .before in
     let s = other .before .before .before .before in
     let e = no-word (s .args .form) (modelAt []) (s .args .shown) [] (other .match .keys2) .1 in
-    end-room branch-fits (s .args .form) (rw e at (s .pre .1 .1)) (branch .branch-text .ensures)
+    end-room no-word-fits (s .args .form) (rw e at (s .pre .1 .1)) (letter .no-word-text .ensures)
 
 same-length-2 : tie.Need-same-length-2
 same-length-2 c = search needs
@@ -107,12 +109,12 @@ same-length-2 c = search needs
 returns-2 : tie.Need-returns-2
 returns-2 c =
     let end = c .before .before in
-    let branch = end .before .before .before .before in
-    let other = branch .before .before in
+    let letter = end .before .before .before .before in
+    let other = letter .before .before in
     let s = other .before .before .before .before in
     let e = no-word (s .args .form) (modelAt (s .args .store .now)) (s .args .shown) (s .args .word .now)
     (other .match .keys2) in
-    rw (e .0, e .1) (written-line branch-fits refl (branch .branch-text .ensures) (end .line-end2 .ensures))
+    rw (e .0, e .1) (written-line no-word-fits refl (letter .no-word-text .ensures) (end .line-end2 .ensures))
 
 pub shown-lines-spec : {M : Type 1} → statement M
 shown-lines-spec =
@@ -124,7 +126,7 @@ shown-lines-spec =
     line-end-requires
     same-length
     returns
-    branch-text-requires
+    no-word-text-requires
     line-end-requires-2
     same-length-2
     returns-2)

@@ -1,8 +1,11 @@
 //! Entries that ought to be absent.
 
+use std::collections::BTreeSet;
+
 use super::super::pair_of;
 use super::BadBooks;
-use crate::book::{Entry, Side};
+use crate::book::{moves_of, Entry, Side};
+use crate::moves::SILENT;
 
 impl BadBooks<'_> {
     /// A side that is none, at an entry that is there or absent.
@@ -28,32 +31,39 @@ impl BadBooks<'_> {
     /// An entry for two states of rank 0. Some answer to any opening leads to
     /// two such states, which have no entry, or to these two themselves.
     pub(super) fn alike(&mut self, number: usize) {
-        let moves = self.model.low_steps();
         for side in Side::ALL {
             let (opener, _) = side.turned(pair_of(number));
-            let steps = &moves[opener];
-            for &step in steps.first().into_iter().chain(steps.last()) {
-                let entry = Entry::new(side.byte(), step, 255);
+            for opening in ends_of_both_kinds(&self.moves[opener]) {
+                let entry = Entry::new(side.byte(), opening, 255);
                 self.own("two states of rank 0", number, entry);
             }
         }
     }
 
     /// An opener that is no state, with an opening that the other side has, or
-    /// with a target that is no state either.
+    /// with a target that is no state either. It has no move of zero steps.
     pub(super) fn no_state(&mut self, number: usize) {
-        let moves = self.model.low_steps();
         for side in Side::ALL {
             let (opener, other) = side.turned(pair_of(number));
-            if opener < moves.len() {
+            if opener < self.moves.len() {
                 continue;
             }
-            let mut steps = vec![(0, 0), (0, opener as u16)];
-            steps.extend(moves.get(other).into_iter().flatten().take(2));
-            for step in steps {
-                let entry = Entry::new(side.byte(), step, 255);
+            let itself = opener as u16;
+            let mut openings = vec![(0, 0), (0, itself), (SILENT, 0), (SILENT, itself)];
+            let others = moves_of(&self.moves, other);
+            openings.extend(others.iter().take(2).chain(others.last()));
+            for opening in openings {
+                let entry = Entry::new(side.byte(), opening, 255);
                 self.own("an opener that is no state", number, entry);
             }
         }
     }
+}
+
+/// The first and the last low move of a state, and of its silent ones.
+fn ends_of_both_kinds(moves: &[(u16, u16)]) -> BTreeSet<(u16, u16)> {
+    let low = moves.partition_point(|&(action, _)| action != SILENT);
+    let (low, silent) = moves.split_at(low);
+    let ends = [low.first(), low.last(), silent.first(), silent.last()];
+    ends.into_iter().flatten().copied().collect()
 }

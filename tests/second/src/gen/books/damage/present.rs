@@ -31,6 +31,7 @@ impl BadBooks<'_> {
             ("a low action without such a step", Level::Low),
             ("a release", Level::Release),
             ("a high action", Level::High),
+            ("the number of a silent action", Level::Silent),
         ] {
             let actions = of_level(actions, level);
             let ends = actions.first().into_iter().chain(actions.last());
@@ -65,7 +66,7 @@ impl BadBooks<'_> {
     /// A depth lowered to that of an entry that it rests on, or further.
     pub(super) fn lowered(&mut self, number: usize) {
         let entry = self.entry(number);
-        let next = rests_on(&self.model.low_steps(), self.sound, number);
+        let next = rests_on(&self.moves, self.sound, number);
         let greatest = next.iter().map(|&next| self.entry(next).depth).max();
         if let Some(greatest) = greatest {
             for (what, depth) in [

@@ -1,0 +1,159 @@
+// Sets of numbers below 128 as the bits of two words. A list has one set for each state.
+use text::State;
+use text::limits::ROW;
+ghost use mathlib.Core.Bool.{true, false};
+ghost use mathlib.Core.Path.{_≡_};
+ghost use Prim.Native.Nat.{_+_, _*_, _≤_, _<_};
+ghost use lib.ListN.{length, getD};
+ghost use Rattle.text.specs.Decides.{Decides};
+ghost use Rattle.text.specs.Limits.{stateLimit};
+ghost use Rattle.sets.specs.Inner.Sets.{wordBits, setsLength, NextBit, Member, Empty, Joined};
+ghost use Rattle.sets.specs.Inner.Sets.{SameSet, Within, NextMember};
+
+// The bits of a word.
+const WORD_BITS: u16 = 64;
+
+// Two words for each state.
+pub const SETS_LENGTH: usize = 2 * ROW;
+
+// The place of the first word of set k.
+fn word_place(k: State) -> usize
+    requires { ⌜ k .0 < stateLimit ⌝ }
+    ensures { λ r. ⌜ r ≡ 2 * k .0 ⌝ }
+{
+    2 * k.0 as usize
+}
+
+// Word h of set k.
+fn word_at(sets: &[u64; SETS_LENGTH], k: State, h: usize) -> u64
+    requires { ⌜ (k .0 < stateLimit) × (h < 2) ⌝ }
+    ensures { λ r. ⌜ r ≡ getD (now (sets .entry)) (2 * k .0 + h) 0 ⌝ }
+{
+    sets[word_place(k) + h]
+}
+
+// Whether x is a member of set k.
+pub fn has(sets: &[u64; SETS_LENGTH], k: State, x: u16) -> bool
+    requires { ⌜ (k .0 < stateLimit) × (x < stateLimit) ⌝ }
+    ensures { λ r. ⌜ Decides r (Member (now (sets .entry)) (k .0) x) ⌝ }
+{
+    let at = word_place(k) + (x / WORD_BITS) as usize;
+    let word = sets[at] >> (x % WORD_BITS);
+    if word % 2 == 1 {
+        return true;
+    }
+    false
+}
+
+// Empties all sets.
+pub fn clear_sets(sets: &mut [u64; SETS_LENGTH])
+    ensures { λ _. ⌜ Empty (now (sets .exit)) ⌝ }
+{
+    *sets = [0u64; SETS_LENGTH];
+}
+
+// Adds x to set k.
+pub fn add_member(sets: &mut [u64], k: State, x: u16)
+    requires { ⌜ setsLength ≤ length (now sets) ⌝ }
+    requires { ⌜ (k .0 < stateLimit) × (x < stateLimit) ⌝ }
+    ensures { λ _. ⌜ Joined (k .0) (λ y. y ≡ x) (now (sets .entry)) (now (sets .exit)) ⌝ }
+{
+    let at = word_place(k) + (x / WORD_BITS) as usize;
+    let bit = 1u64 << (x % WORD_BITS);
+    sets[at] |= bit;
+}
+
+// Adds the members of set j of other sets to set k.
+pub fn join(sets: &mut [u64], k: State, others: &[u64; SETS_LENGTH], j: State)
+    requires { ⌜ setsLength ≤ length (now sets) ⌝ }
+    requires { ⌜ (k .0 < stateLimit) × (j .0 < stateLimit) ⌝ }
+    ensures { λ _. ⌜ Joined (k .0) (Member (now (others .entry)) (j .0)) (now (sets .entry)) (now (sets .exit)) ⌝ }
+{
+    let at = word_place(k);
+    let of = word_place(j);
+    sets[at] |= others[of];
+    sets[at + 1] |= others[of + 1];
+}
+
+// Adds the members of set j to set k. Yields whether set k has grown.
+pub fn spread(sets: &mut [u64], k: State, j: State) -> bool
+    requires { ⌜ setsLength ≤ length (now sets) ⌝ }
+    requires { ⌜ (k .0 < stateLimit) × (j .0 < stateLimit) ⌝ }
+    ensures { λ r. ⌜ Joined (k .0) (Member (now (sets .entry)) (j .0)) (now (sets .entry)) (now (sets .exit)) ⌝ }
+    ensures { λ r. ⌜ (r ≡ false → now (sets .exit) ≡ now (sets .entry)) ⌝ }
+{
+    let at = word_place(k);
+    let of = word_place(j);
+    let old_low = sets[at];
+    let old_high = sets[at + 1];
+    let low = old_low | sets[of];
+    let high = old_high | sets[of + 1];
+    if low == old_low {
+        if high == old_high {
+            return false;
+        }
+    }
+    sets[at] = low;
+    sets[at + 1] = high;
+    true
+}
+
+// Whether sets j and k have the same members.
+pub fn is_same(sets: &[u64; SETS_LENGTH], j: State, k: State) -> bool
+    requires { ⌜ (j .0 < stateLimit) × (k .0 < stateLimit) ⌝ }
+    ensures { λ r. ⌜ Decides r (SameSet (now (sets .entry)) (j .0) (k .0)) ⌝ }
+{
+    if word_at(sets, j, 0) != word_at(sets, k, 0) {
+        return false;
+    }
+    if word_at(sets, j, 1) != word_at(sets, k, 1) {
+        return false;
+    }
+    true
+}
+
+// Whether each member of set k is one of set j of other sets.
+pub fn is_within(sets: &[u64; SETS_LENGTH], k: State, others: &[u64; SETS_LENGTH], j: State) -> bool
+    requires { ⌜ (k .0 < stateLimit) × (j .0 < stateLimit) ⌝ }
+    ensures { λ r. ⌜ Decides r (Within (now (sets .entry)) (k .0) (now (others .entry)) (j .0)) ⌝ }
+{
+    let low = word_at(others, j, 0);
+    if word_at(sets, k, 0) | low != low {
+        return false;
+    }
+    let high = word_at(others, j, 1);
+    if word_at(sets, k, 1) | high != high {
+        return false;
+    }
+    true
+}
+
+// The place of the least bit of a word from `from` on, or 64.
+fn next_bit(word: u64, from: u16) -> u16
+    requires { ⌜ from ≤ wordBits ⌝ }
+    ensures { λ r. ⌜ NextBit word from r ⌝ }
+{
+    if WORD_BITS <= from {
+        return WORD_BITS;
+    }
+    let rest = word >> from;
+    if rest == 0 {
+        return WORD_BITS;
+    }
+    from + u64::trailing_zeros(rest) as u16
+}
+
+// The least member of set k from `from` on, or 128.
+pub fn next_member(sets: &[u64; SETS_LENGTH], k: State, from: u16) -> u16
+    requires { ⌜ (k .0 < stateLimit) × (from ≤ stateLimit) ⌝ }
+    ensures { λ r. ⌜ NextMember (now (sets .entry)) (k .0) from r ⌝ }
+{
+    if WORD_BITS <= from {
+        return WORD_BITS + next_bit(word_at(sets, k, 1), from - WORD_BITS);
+    }
+    let low = next_bit(word_at(sets, k, 0), from);
+    if low < WORD_BITS {
+        return low;
+    }
+    WORD_BITS + next_bit(word_at(sets, k, 1), 0)
+}

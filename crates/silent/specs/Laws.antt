@@ -1,0 +1,5 @@
+pub mod LabelledLaws
+pub mod TowardLaws
+pub mod LoopsLaws
+pub mod ClosedLaws
+pub mod KeysLaws

@@ -1,0 +1,4 @@
+pub mod Labelled
+pub mod LabelledTests
+pub mod Inner
+pub mod Laws

@@ -1,0 +1,5 @@
+pub mod Targets
+pub mod Opened
+pub mod Turned
+pub mod Noted
+pub mod Tested

@@ -1,0 +1,9 @@
+pub mod TargetsLaws
+pub mod RankedLaws
+pub mod OpeningsLaws
+pub mod OpenedLaws
+pub mod DepthLaws
+pub mod TurnedLaws
+pub mod FilledLaws
+pub mod NotedLaws
+pub mod TestedLaws

@@ -1,0 +1,7 @@
+// Books of plays where steps are silent: the book of the moves' ranks, and the test of any book, label by label.
+pub mod book;
+pub mod check;
+pub mod openings;
+pub mod ranked;
+pub mod seconds;
+pub mod targets;

@@ -1,0 +1,116 @@
+// The openings of the first side with one label, by sets: the targets of each state, and what is lower beside each.
+use ranking::table::pair_place;
+use sets::SETS_LENGTH;
+use sets::is_within;
+use sets::next_member;
+use text::State;
+use text::limits::ENTRY_SIZE;
+use text::limits::STATE_LIMIT;
+ghost use Prim.Native.Nat.{ℕ, _≤_, _<_};
+ghost use lib.ListN.{length};
+ghost use Rattle.text.specs.Limits.{stateLimit, pairPlace, bookLength};
+ghost use Rattle.books.specs.Inner.Filling.{EntryWritten};
+ghost use Rattle.sets.specs.Inner.Sets.{Member};
+ghost use Rattle.weak_books.specs.Inner.Opened.{LowestIn, PairOpened, LabelOpened};
+
+// Writes the entry of p and q.
+pub fn put_entry(p: State, q: State, side: u8, action: u8, target: u8, depth: u8, book: &mut [u8])
+    requires { ⌜ (p .0 < stateLimit) × (q .0 < stateLimit) × (bookLength ≤ length (now book)) ⌝ }
+    ensures { λ _. ⌜ EntryWritten (pairPlace (p .0) (q .0))
+        (record { side = side; action = action; target = target; depth = depth }) (now (book .entry))
+        (now (book .exit)) ⌝ }
+{
+    let at = ENTRY_SIZE * pair_place(p, q);
+    book[at] = side;
+    book[at + 1] = action;
+    book[at + 2] = target;
+    book[at + 3] = depth;
+}
+
+// The lowest target of p beside which all targets of q are lower, or 128. No target is lower beside itself, so that
+// there is none where each target of p is one of q.
+fn lowest_opening(keys: &[u64; SETS_LENGTH], lower: &[u64; SETS_LENGTH], p: State, q: State) -> u16
+    requires { ⌜ (p .0 < stateLimit) × (q .0 < stateLimit) ⌝ }
+    requires { ⌜ ((t : ℕ) → ¬ (Member (now lower) t t)) ⌝ }
+    ensures { λ r. ⌜ LowestIn (now (keys .entry)) (now (lower .entry)) (p .0) (q .0) r ⌝ }
+{
+    if is_within(keys, p, keys, q) {
+        return STATE_LIMIT;
+    }
+    let mut t = next_member(keys, p, 0);
+    while t < STATE_LIMIT {
+        if is_within(keys, q, lower, State(t)) {
+            return t;
+        }
+        t = next_member(keys, p, t + 1);
+    }
+    t
+}
+
+// Writes the entry of p and q, if there is none and p opens with the label a.
+fn open_pair(
+    keys: &[u64; SETS_LENGTH],
+    lower: &[u64; SETS_LENGTH],
+    a: u8,
+    p: State,
+    q: State,
+    depth: u8,
+    book: &mut [u8],
+)
+    requires { ⌜ (p .0 < stateLimit) × (q .0 < stateLimit) × (bookLength ≤ length (now book)) ⌝ }
+    requires { ⌜ ((t : ℕ) → ¬ (Member (now lower) t t)) ⌝ }
+    ensures { λ _. ⌜ PairOpened (now (keys .entry)) (now (lower .entry)) depth a (p .0) (q .0) (now (book .entry))
+        (now (book .exit)) ⌝ }
+{
+    let at = ENTRY_SIZE * pair_place(p, q);
+    if book[at] != 0 {
+        return;
+    }
+    let t = lowest_opening(keys, lower, p, q);
+    if t >= STATE_LIMIT {
+        return;
+    }
+    put_entry(p, q, 1, a, t as u8, depth, book);
+}
+
+// Writes the entries of p and each state of its set.
+fn open_row(
+    keys: &[u64; SETS_LENGTH],
+    lower: &[u64; SETS_LENGTH],
+    at: &[u64; SETS_LENGTH],
+    a: u8,
+    p: State,
+    depth: u8,
+    book: &mut [u8],
+)
+    requires { ⌜ (p .0 < stateLimit) × (bookLength ≤ length (now book)) ⌝ }
+    requires { ⌜ ((t : ℕ) → ¬ (Member (now lower) t t)) ⌝ }
+    ensures { λ _. ⌜ LabelOpened (now (keys .entry)) (now (lower .entry)) (now (at .entry)) depth a
+        (pairPlace (p .0) 0) (pairPlace (p .0) stateLimit) (now (book .entry)) (now (book .exit)) ⌝ }
+{
+    let mut q = next_member(at, p, 0);
+    while q < STATE_LIMIT {
+        open_pair(keys, lower, a, p, State(q), depth, book);
+        q = next_member(at, p, q + 1);
+    }
+}
+
+// Writes the entries of each of n states and each state of its set.
+pub fn open_rows(
+    n: u16,
+    keys: &[u64; SETS_LENGTH],
+    lower: &[u64; SETS_LENGTH],
+    at: &[u64; SETS_LENGTH],
+    a: u8,
+    depth: u8,
+    book: &mut [u8],
+)
+    requires { ⌜ (n ≤ stateLimit) × (bookLength ≤ length (now book)) ⌝ }
+    requires { ⌜ ((t : ℕ) → ¬ (Member (now lower) t t)) ⌝ }
+    ensures { λ _. ⌜ LabelOpened (now (keys .entry)) (now (lower .entry)) (now (at .entry)) depth a 0 (pairPlace n 0)
+        (now (book .entry)) (now (book .exit)) ⌝ }
+{
+    for p in 0..n {
+        open_row(keys, lower, at, a, State(p), depth, book);
+    }
+}

@@ -1,0 +1,5 @@
+pub mod ChangedLaws
+pub mod DividingLaws
+pub mod LabelsLaws
+pub mod LeadLaws
+pub mod RoundLaws
