@@ -113,7 +113,7 @@ extern "C" {
 #define TILL_SHORT_LIST 21        /* a list below its least length */
 #define TILL_NOT_GOOD 22          /* no text reads to the store */
 #define TILL_NOT_DETERMINISTIC 23 /* till_word: some reachable state has two steps of one action */
-#define TILL_NO_LEAK 24           /* till_word: deterministic and passed */
+#define TILL_NO_LEAK 24           /* till_word: deterministic, without a reachable silent step, and passed */
 #define TILL_NO_STATE 25          /* till_run: the state is not below states */
 #define TILL_UNREACHABLE 26       /* till_run: no start leads to the state */
 #define TILL_NOT_SOUND 34         /* till_check: the book is not sound; the place is its first bad entry's number */

@@ -10,12 +10,12 @@ use Rattle.lts.specs.Decided.{answers?, ViewTest, within?}
 use Rattle.lts.specs.WeakTests.{weak?, weakAnswers?}
 
 -- The test of `LowStep`.
-abbrev pub lowMove? : View → ViewTest → ℕ → ℕ → ℕ → Bool
-lowMove? v t p a q = v .levels .low? a && t .step? p a q
+abbrev pub lowStep? : View → ViewTest → ℕ → ℕ → ℕ → Bool
+lowStep? v t p a q = v .levels .low? a && t .step? p a q
 
 -- One round under the low steps, inside R.
 abbrev pub lowRound : View → ViewTest → (ℕ → ℕ → Bool) → ℕ → ℕ → Bool
-lowRound v t = answers? (v .states) (t .actions) (lowMove? v t)
+lowRound v t = answers? (v .states) (t .actions) (lowStep? v t)
 
 -- The rank of p and q under the low steps, computed.
 abbrev pub lowRank : View → ViewTest → ℕ → ℕ → ℕ
@@ -27,11 +27,11 @@ tick? v t p q = any (t .actions) (λ a. let s = t .step? p a q in v .levels .sil
 
 -- The test of `WeakMove`.
 abbrev pub weakMove? : View → ViewTest → ℕ → ℕ → ℕ → Bool
-weakMove? v t = weak? (v .states) (lowMove? v t) (tick? v t)
+weakMove? v t = weak? (v .states) (lowStep? v t) (tick? v t)
 
 -- One round under the moves that are played, inside R.
 abbrev pub weakRound : View → ViewTest → (ℕ → ℕ → Bool) → ℕ → ℕ → Bool
-weakRound v t = weakAnswers? (v .states) (t .actions) (lowMove? v t) (tick? v t)
+weakRound v t = weakAnswers? (v .states) (t .actions) (lowStep? v t) (tick? v t)
 
 -- The rank of p and q under the moves that are played, computed.
 abbrev pub weakRank : View → ViewTest → ℕ → ℕ → ℕ

@@ -21,7 +21,7 @@ use Rattle.lts.specs.WeakTestsLaws.{weak-decided, weakAnswers-game}
 use Rattle.lts.specs.Decided.{Decided, ViewTest, DecidedView, within?}
 use Rattle.lts.specs.DecidedLaws.{decided-game, decided-labels}
 use Rattle.lts.specs.DistanceLaws.{Reachable→within?, within?→Reachable}
-use Rattle.lts.specs.Checked.{lowMove?, lowRound, lowRank, tick?, weakMove?, weakRound, weakRank}
+use Rattle.lts.specs.Checked.{lowStep?, lowRound, lowRank, tick?, weakMove?, weakRound, weakRank}
 use Rattle.lts.specs.Checked.{reachableStep?, harmless?, bnid?, oneTarget?, deterministic?}
 
 module _ (v : View) (tests : ViewTest) (D : DecidedView v tests) where
@@ -44,12 +44,12 @@ module _ (v : View) (tests : ViewTest) (D : DecidedView v tests) where
   -- ---- low steps
 
   -- The low steps of a decided view are decided.
-  pub decided-low : Decided (LowStep v) (v .states) (tests .actions) (lowMove? v tests)
+  pub decided-low : Decided (LowStep v) (v .states) (tests .actions) (lowStep? v tests)
   decided-low = decided-labels (v .Step) n l step? (D .steps) low?
 
   -- The game of the low steps.
   pub low-game : Game (LowStep v) (v .states) (lowRound v tests)
-  low-game = decided-game (LowStep v) (v .states) (tests .actions) (lowMove? v tests) decided-low
+  low-game = decided-game (LowStep v) (v .states) (tests .actions) (lowStep? v tests) decided-low
 
   -- The computed rank under the low steps is the rank.
   pub lowRank→Rank : (p q : ℕ) → p < v .states → q < v .states → Rank (LowStep v) p q (lowRank v tests p q)
@@ -77,12 +77,12 @@ module _ (v : View) (tests : ViewTest) (D : DecidedView v tests) where
 
   module _ (le : tests .actions ≤ silentLabel) where
     pub weak-view-decided : Decided (WeakMove v) (v .states) 256 (weakMove? v tests)
-    weak-view-decided = weak-decided (LowStep v) (Tick v) n l (lowMove? v tests) (tick? v tests) decided-low
+    weak-view-decided = weak-decided (LowStep v) (Tick v) n l (lowStep? v tests) (tick? v tests) decided-low
         decided-tick le
 
     -- The game of the moves that are played.
     pub weak-view-game : Game (WeakMove v) (v .states) (weakRound v tests)
-    weak-view-game = weakAnswers-game (LowStep v) (Tick v) n l (lowMove? v tests) (tick? v tests) decided-low
+    weak-view-game = weakAnswers-game (LowStep v) (Tick v) n l (lowStep? v tests) (tick? v tests) decided-low
         decided-tick le
 
     -- The computed rank under them is the rank.

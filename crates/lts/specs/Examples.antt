@@ -19,7 +19,7 @@ use Rattle.lts.specs.View.{Levels, View}
 use Rattle.lts.specs.Run.{Run, begin, onward, Deterministic, Distance}
 use Rattle.lts.specs.Noninterference.{Levelled, low, release, high, LevelledSteps, SameLow}
 use Rattle.lts.specs.Weak.{LowStep, WeakMove, NoTick}
-use Rattle.lts.specs.WeakTests.{silentMove?, playedLow?, weakAnswers?}
+use Rattle.lts.specs.WeakTests.{silentMove?, lowMove?, weakAnswers?}
 use Rattle.lts.specs.Noninterference.{BNID, INI}
 use Rattle.lts.specs.NoninterferenceLaws.{bnid↔INI}
 use Rattle.lts.specs.LowLaws.{simulation-allows}
@@ -28,7 +28,7 @@ use Rattle.lts.specs.FirstWordLaws.{first-word-one, first-word-cons}
 use Rattle.lts.specs.Decided.{Decided, answered?, answers?, simulation?, within?}
 use Rattle.lts.specs.DecidedLaws.{decided→Bounded, simulation?→Answered}
 use Rattle.lts.specs.DistanceLaws.{distance-suc}
-use Rattle.lts.specs.Checked.{lowMove?, lowRound, lowRank, weakRound, weakRank, bnid?, deterministic?}
+use Rattle.lts.specs.Checked.{lowStep?, lowRound, lowRank, weakRound, weakRank, bnid?, deterministic?}
 use Rattle.lts.specs.CheckedLaws.{decided-low}
 use Rattle.lts.specs.Examples.Listed.{System, view, tests}
 use Rattle.lts.specs.Examples.ListedLaws.{decided, listed-deterministic, listed-game}
@@ -74,7 +74,7 @@ record Computed : Type 0 where
   unseen-tick : bnidIn? timed unseenTickSystem ≡ true
 
 computed : Computed
-unfolding bnid? rankBelow alike? weakAnswers? playedLow? silentMove? answers? answered? within? all any
+unfolding bnid? rankBelow alike? weakAnswers? lowMove? silentMove? answers? answered? within? all any
 computed = record {
   page-low-rank = refl;
   page-low-rank-next = refl;
@@ -146,7 +146,7 @@ branching-same-low w l = (
     Moved = LowStep (view usual branchingSystem)
 
     moved? : ℕ → ℕ → ℕ → Bool
-    moved? = lowMove? (view usual branchingSystem) (tests branchingSystem)
+    moved? = lowStep? (view usual branchingSystem) (tests branchingSystem)
 
     decides : Decided Moved 4 3 moved?
     decides = decided-low (view usual branchingSystem) (tests branchingSystem) (decided branchingSystem usual)

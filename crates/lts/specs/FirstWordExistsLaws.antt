@@ -19,7 +19,7 @@ use Rattle.lts.specs.View.{View}
 use Rattle.lts.specs.Run.{Run, Allows, Reachable, onward, Deterministic}
 use Rattle.lts.specs.Weak.{LowStep}
 use Rattle.lts.specs.Decided.{ViewTest, DecidedView}
-use Rattle.lts.specs.Checked.{lowMove?, lowRound}
+use Rattle.lts.specs.Checked.{lowStep?, lowRound}
 use Rattle.lts.specs.CheckedLaws.{decided-low, low-game}
 use Rattle.lts.specs.Word.{OnlyFrom, JustOne, FirstWord}
 use Rattle.lts.specs.FirstWordLaws.{first-word-one, first-word-cons, targets-separated}
@@ -33,7 +33,7 @@ module _ (v : View) (tests : ViewTest) (D : DecidedView v tests) (det : Determin
   step? = tests .step?
 
   abbrev move? : ℕ → ℕ → ℕ → Bool
-  move? = lowMove? v tests
+  move? = lowStep? v tests
 
   abbrev round : (ℕ → ℕ → Bool) → ℕ → ℕ → Bool
   round = lowRound v tests

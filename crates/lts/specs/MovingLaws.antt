@@ -25,7 +25,7 @@ use Rattle.lts.specs.WeakLaws.{weak-rank}
 use Rattle.lts.specs.Decided.{Decided, answers?, ViewTest, DecidedView, within?}
 use Rattle.lts.specs.DecidedLaws.{decided-game, decided→Bounded}
 use Rattle.lts.specs.DistanceLaws.{Reachable→within?, within?→Reachable}
-use Rattle.lts.specs.Checked.{lowMove?, lowRound, weakRound}
+use Rattle.lts.specs.Checked.{lowStep?, lowRound, weakRound}
 use Rattle.lts.specs.CheckedLaws.{decided-low, low-game, weak-view-game, noSilentLabel-of-decided}
 
 -- ---- among n states
@@ -114,7 +114,7 @@ module _ (v : View) (tests : ViewTest) (D : DecidedView v tests) where
       → Rank (LowStep v) p q r → r ≤ count (v .states) (λ x. within? v tests (v .states - 1) x && moves? x)
   rank-le-moving-reachable moves? moves p q r cp cq x =
       let B = decided→Bounded v tests D in
-      rank-le-moving-among (LowStep v) (v .states) (tests .actions) (lowMove? v tests) (decided-low v tests D)
+      rank-le-moving-among (LowStep v) (v .states) (tests .actions) (lowStep? v tests) (decided-low v tests D)
       reachable?
       (λ p a q t m. Reachable→within? v tests D q (onward (reached p t) (m .1)))
       moves? (λ p a q t m. moves p a q (reached p t) m) p q r (reachable-lt v B p cp) (reachable-lt v B q cq)

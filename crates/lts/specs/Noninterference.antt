@@ -10,7 +10,7 @@ use Rattle.lts.specs.View.{Levels, View}
 use Rattle.lts.specs.Run.{Run, Allows, Reachable}
 use Rattle.lts.specs.Weak.{WeakMove}
 
--- The action a is of just one level.
+-- The action a is just one of low, release and high.
 pub data Levelled (L : Levels) (a : ℕ) : Type 0 where
   low : T (L .low? a) → T (not (L .release? a)) → T (not (L .high? a)) → Levelled L a
   release : T (not (L .low? a)) → T (L .release? a) → T (not (L .high? a)) → Levelled L a

@@ -1,5 +1,6 @@
 -- Weak bisimulations as source 002 has them: an opening is one low step or one silent step, an answer a low move or a
--- silent move. Definition 1 of source 002; document 02, (vii). Assumes nothing.
+-- silent move. The actions of source 002 are here the low ones and the silent one: release and high steps are never
+-- played. Definition 1 of source 002; document 02, (vii). Assumes nothing.
 use mathlib.Core.Bool.{Bool}
 use Prim.Native.Nat.{ℕ}
 use lib.Dec.{T}

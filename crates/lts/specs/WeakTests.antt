@@ -42,18 +42,18 @@ abbrev pub around? : ℕ → (ℕ → ℕ → Bool) → ℕ → ℕ → ℕ → 
 around? n tick? p x y q = let s = silentMove? n tick? y q in silentMove? n tick? p x && s
 
 -- The test of `LowMove`, where `low?` decides the low steps.
-unfoldable pub playedLow? : ℕ → (ℕ → ℕ → ℕ → Bool) → (ℕ → ℕ → Bool) → ℕ → ℕ → ℕ → Bool
-playedLow? n low? tick? p a q = any n (λ x. any n (λ y. let s = around? n tick? p x y q in low? x a y && s))
+unfoldable pub lowMove? : ℕ → (ℕ → ℕ → ℕ → Bool) → (ℕ → ℕ → Bool) → ℕ → ℕ → ℕ → Bool
+lowMove? n low? tick? p a q = any n (λ x. any n (λ y. let s = around? n tick? p x y q in low? x a y && s))
 
 -- The test of `Weak`.
 unfoldable pub weak? : ℕ → (ℕ → ℕ → ℕ → Bool) → (ℕ → ℕ → Bool) → ℕ → ℕ → ℕ → Bool
 weak? n low? tick? p a q =
     let s = (let r = silentMove? n tick? p q in eqb a silentLabel && r) in
-    playedLow? n low? tick? p a q || s
+    lowMove? n low? tick? p a q || s
 
 -- One round of the moves that are played, inside R: first the labels of low steps, below l, then the silent moves, here
 -- with the label 0. It computes less than a round of `weak?` over all labels.
 unfoldable pub weakAnswers? : ℕ → ℕ → (ℕ → ℕ → ℕ → Bool) → (ℕ → ℕ → Bool) → (ℕ → ℕ → Bool) → ℕ → ℕ → Bool
 weakAnswers? n l low? tick? R p q =
     let s = answers? n 1 (λ x a y. eqb a 0 && silentMove? n tick? x y) R p q in
-    answers? n l (playedLow? n low? tick?) R p q && s
+    answers? n l (lowMove? n low? tick?) R p q && s

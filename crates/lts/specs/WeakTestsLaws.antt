@@ -16,7 +16,7 @@ use Rattle.lts.specs.Decided.{Decided, answers?, DecidedView}
 use Rattle.lts.specs.DecidedLaws.{decided-game}
 use Rattle.lts.specs.DistanceLaws.{Reachable→within?, within?→Reachable}
 use Rattle.lts.specs.Weak.{Silent, stay, tick, LowMove, silentLabel, Weak, low, silent}
-use Rattle.lts.specs.WeakTests.{DecidedTick, silentTest, silentView, silentMove?, around?, playedLow?, weak?}
+use Rattle.lts.specs.WeakTests.{DecidedTick, silentTest, silentView, silentMove?, around?, lowMove?, weak?}
 use Rattle.lts.specs.WeakTests.{weakAnswers?}
 use Rattle.lts.specs.WeakLaws.{silent-lt, silent-source-lt, silent-trans, silent-one, weak-target-lt}
 
@@ -77,9 +77,9 @@ module _ (Low : Moves) (Tick : Relation) (n l : ℕ) (low? : ℕ → ℕ → ℕ
   abbrev via? : ℕ → ℕ → ℕ → ℕ → ℕ → Bool
   via? p a q x y = low? x a y && around? n tick? p x y q
 
-  playedLow?→LowMove : (p a q : ℕ) → T (playedLow? n low? tick? p a q) → LowMove Low Tick n p a q
-  unfolding playedLow?
-  playedLow?→LowMove p a q t =
+  lowMove?→LowMove : (p a q : ℕ) → T (lowMove? n low? tick? p a q) → LowMove Low Tick n p a q
+  unfolding lowMove?
+  lowMove?→LowMove p a q t =
       let i = any→Some n (λ x. any n (via? p a q x)) t in
       let x = i .0 in
       let j = any→Some n (via? p a q x) (i .2) in
@@ -93,9 +93,9 @@ module _ (Low : Moves) (Tick : Relation) (n l : ℕ) (low? : ℕ → ℕ → ℕ
         after = silentMove?→Silent Tick n tick? DT y q (and-right (quiet? p x) (quiet? y q) u);
       }
 
-  LowMove→playedLow? : (p a q : ℕ) → LowMove Low Tick n p a q → T (playedLow? n low? tick? p a q)
-  unfolding playedLow?
-  LowMove→playedLow? p a q m =
+  LowMove→lowMove? : (p a q : ℕ) → LowMove Low Tick n p a q → T (lowMove? n low? tick? p a q)
+  unfolding lowMove?
+  LowMove→lowMove? p a q m =
       let x = m .from in
       let y = m .to in
       let t = and-intro (quiet? p x) (quiet? y q) (Silent→silentMove? Tick n tick? DT p x (m .before))
@@ -104,10 +104,10 @@ module _ (Low : Moves) (Tick : Relation) (n l : ℕ) (low? : ℕ → ℕ → ℕ
       (DL .target-lt x a y (m .step)) (and-intro (low? x a y) (around? n tick? p x y q)
       (DL .Move→move? x a y (m .step)) t))
 
-  decided-lowMove : Decided (LowMove Low Tick n) n l (playedLow? n low? tick?)
+  decided-lowMove : Decided (LowMove Low Tick n) n l (lowMove? n low? tick?)
   decided-lowMove = record {
-    move?→Move = playedLow?→LowMove;
-    Move→move? = LowMove→playedLow?;
+    move?→Move = lowMove?→LowMove;
+    Move→move? = LowMove→lowMove?;
     source-lt = λ p a q m. silent-source-lt (DT .source-lt) (m .before);
     label-lt = λ p a q m. DL .label-lt (m .from) a (m .to) (m .step);
     target-lt = λ p a q m. silent-lt (m .after);
@@ -117,7 +117,7 @@ module _ (Low : Moves) (Tick : Relation) (n l : ℕ) (low? : ℕ → ℕ → ℕ
     pub weak-decided : Decided (Weak Low Tick n) n 256 (weak? n low? tick?)
     unfolding weak?
     weak-decided = record {
-      move?→Move = λ p a q t. of-test p a q (or-cases (playedLow? n low? tick? p a q)
+      move?→Move = λ p a q t. of-test p a q (or-cases (lowMove? n low? tick? p a q)
           (eqb a silentLabel && quiet? p q) t);
       Move→move? = test-of;
       source-lt = source;
@@ -125,17 +125,17 @@ module _ (Low : Moves) (Tick : Relation) (n l : ℕ) (low? : ℕ → ℕ → ℕ
       target-lt = λ p a q m. weak-target-lt m;
     }
       where
-        of-test : (p a q : ℕ) → T (playedLow? n low? tick? p a q) ⊎ T (eqb a silentLabel && quiet? p q)
+        of-test : (p a q : ℕ) → T (lowMove? n low? tick? p a q) ⊎ T (eqb a silentLabel && quiet? p q)
             → Weak Low Tick n p a q
-        of-test p a q (inl t) = low (playedLow?→LowMove p a q t)
+        of-test p a q (inl t) = low (lowMove?→LowMove p a q t)
         of-test p a q (inr t) = silent (eqb→eq a silentLabel (and-left (eqb a silentLabel) (quiet? p q) t))
             (silentMove?→Silent Tick n tick? DT p q (and-right (eqb a silentLabel) (quiet? p q) t))
 
         test-of : (p a q : ℕ) → Weak Low Tick n p a q
-            → T (playedLow? n low? tick? p a q || (eqb a silentLabel && quiet? p q))
-        test-of p a q (low m) = or-left (playedLow? n low? tick? p a q) (eqb a silentLabel && quiet? p q)
-            (LowMove→playedLow? p a q m)
-        test-of p a q (silent e s) = or-right (playedLow? n low? tick? p a q) (eqb a silentLabel && quiet? p q)
+            → T (lowMove? n low? tick? p a q || (eqb a silentLabel && quiet? p q))
+        test-of p a q (low m) = or-left (lowMove? n low? tick? p a q) (eqb a silentLabel && quiet? p q)
+            (LowMove→lowMove? p a q m)
+        test-of p a q (silent e s) = or-right (lowMove? n low? tick? p a q) (eqb a silentLabel && quiet? p q)
             (and-intro (eqb a silentLabel) (quiet? p q) (T-eqb e) (Silent→silentMove? Tick n tick? DT p q s))
 
         source : (p a q : ℕ) → Weak Low Tick n p a q → p < n
@@ -214,13 +214,13 @@ module _ (Low : Moves) (Tick : Relation) (n l : ℕ) (low? : ℕ → ℕ → ℕ
     }
       where
         low-round : (ℕ → ℕ → Bool) → ℕ → ℕ → Bool
-        low-round = answers? n l (playedLow? n low? tick?)
+        low-round = answers? n l (lowMove? n low? tick?)
 
         quiet-round : (ℕ → ℕ → Bool) → ℕ → ℕ → Bool
         quiet-round = answers? n 1 (λ x a y. eqb a 0 && quiet? x y)
 
         lows : Game (LowMove Low Tick n) n low-round
-        lows = decided-game (LowMove Low Tick n) n l (playedLow? n low? tick?) decided-lowMove
+        lows = decided-game (LowMove Low Tick n) n l (lowMove? n low? tick?) decided-lowMove
 
         quiets : Game Quiet n quiet-round
         quiets = decided-game Quiet n 1 (λ x a y. eqb a 0 && quiet? x y) decided-quiet

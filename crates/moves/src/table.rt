@@ -44,8 +44,8 @@ fn fill_label_table(store: &[u16], roles: &[u16], table: &mut [u8]) -> u8
     requires { ⌜ (actionLimit ≤ length (now roles))
         × Roles (view (modelAt (now store)) .levels) (modelAt (now store) .head .actions) (now roles) ⌝ }
     requires { ⌜ tableLength ≤ length (now table) ⌝ }
-    ensures { λ r. ⌜ Ranked (WeakMove (view (modelAt (now (store .entry))))) (modelAt (now (store .entry)) .head .states)
-        (now (table .entry)) (now (table .exit)) r ⌝ }
+    ensures { λ r. ⌜ Ranked (WeakMove (view (modelAt (now (store .entry)))))
+        (modelAt (now (store .entry)) .head .states) (now (table .entry)) (now (table .exit)) r ⌝ }
 {
     let mut from = [0u16; LABELS_LENGTH];
     let mut sources = [0u16; MOVES_LENGTH];
@@ -64,8 +64,8 @@ pub fn fill_table(store: &[u16], begins: &[u16], roles: &[u16], table: &mut [u8]
     requires { ⌜ (actionLimit ≤ length (now roles))
         × Roles (view (modelAt (now store)) .levels) (modelAt (now store) .head .actions) (now roles) ⌝ }
     requires { ⌜ tableLength ≤ length (now table) ⌝ }
-    ensures { λ r. ⌜ Ranked (WeakMove (view (modelAt (now (store .entry))))) (modelAt (now (store .entry)) .head .states)
-        (now (table .entry)) (now (table .exit)) r ⌝ }
+    ensures { λ r. ⌜ Ranked (WeakMove (view (modelAt (now (store .entry)))))
+        (modelAt (now (store .entry)) .head .states) (now (table .entry)) (now (table .exit)) r ⌝ }
 {
     if some_silent(store, roles) {
         return fill_label_table(store, roles, table);

@@ -57,7 +57,7 @@ pub record PassTexts (m : Model) (texts : List (List ℕ)) (rank : ℕ) : Type 0
   pub verdict-fields : PassFields texts rank
   pub greatest : Greatest (WeakMove (view m)) (IsState m) rank
 
--- Of a refused deterministic model, line by line. `states` are its lines between the `V` line and the `R` lines, and
+-- Of a refused model of that kind, deterministic and without a reachable silent step, line by line. `states` are its lines between the `V` line and the `R` lines, and
 -- `word` is the list that Page or Roll filled.
 pub record LeakTexts (m : Model) (texts : List (List ℕ)) (states lines : List PageLine) (word : List ℕ) : Type 0 where
   pub step : ℕ
@@ -80,7 +80,7 @@ pub record LeakTexts (m : Model) (texts : List (List ℕ)) (states lines : List 
   pub lines-are : lines ≡ (verdict-line (Refused (record { 0 = step }) depth) ∷ []) ++ states
       ++ (map run-line run ++ (map (nameLine m) sequence ++ (allows-line end ∷ []))) ++ (last-line ∷ [])
 
--- What the bytes of a deterministic model tell: Pass if they say that it is passed, and Leak if that it is refused.
+-- What the bytes of a deterministic model without a reachable silent step tell: Pass if they say that it is passed, and Leak if that it is refused.
 pub record BytesTell (m : Model) (bytes : List ℕ) (Pass Leak : Type 0) : Type 0 where
   pub verdict : SaysPass bytes ⊎ SaysRefuse bytes
   -- "It is passed exactly when this holds of every sequence of actions, however long, that can be run from the start

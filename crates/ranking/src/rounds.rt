@@ -244,7 +244,8 @@ fn rounds(
     last
 }
 
-// Fills the table with the ranks of n states by their listed steps, and answers the last round that separated two of them.
+// Fills the table with the ranks of n states by their listed steps, and answers the last round that separated two of
+// them.
 pub fn rank_moves(
     n: u16,
     first: &[u16; INDEX_LENGTH],

@@ -57,8 +57,8 @@ close = 2
 abbrev pub arrow : ℕ → ℕ → ℕ → StepLine
 arrow p a q = record { source = record { 0 = p }; action = record { 0 = a }; target = record { 0 = q } }
 
--- The model with so many states and steps, start 0, scan low, print high, and close of the given level, with these extra
--- starts.
+-- The model with so many states and steps, start 0, scan low, print high, and close of the given level, with these
+-- extra starts.
 abbrev modelFrom : List ℕ → ℕ → ℕ → ℕ → List StepLine → Model
 modelFrom extra closeLevel states steps arrows = record {
   head = record { states = states; actions = 3; steps = steps; start = record { 0 = 0 } };

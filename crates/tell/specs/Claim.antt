@@ -36,7 +36,7 @@ SaysPassed judge = (top : ℕ) × (judge ≡ verdictOutcome (Passed top))
 abbrev pub SaysRefused : Outcome → ℕ → ℕ → Type 0
 SaysRefused judge j depth = judge ≡ verdictOutcome (Refused (record { 0 = j }) depth)
 
--- What Judge tells of a deterministic model.
+-- What Judge tells of a deterministic model without a reachable silent step.
 pub record JudgeTells (m : Model) (judge : Outcome) : Type 0 where
   pub answered : SaysPassed judge ⊎ ((j : ℕ) × (depth : ℕ) × SaysRefused judge j depth)
   -- "It is passed exactly when this holds of every sequence of actions, however long, that can be run from the start:
@@ -72,7 +72,7 @@ pub record Sequence (m : Model) (j depth : ℕ) (word : Outcome) (list : List �
   pub filled : take (length sequence) list ≡ sequence
   pub shows : ShowsLeak m j depth sequence end
 
--- What Word tells of a deterministic model: never 23 nor 36, and 24 exactly when every sequence passes the test above.
+-- What Word tells of such a model: never 23 nor 36, and 24 exactly when every sequence passes the test above.
 pub record WordTells (m : Model) (word : Outcome) : Type 0 where
   pub not-branching : (j : ℕ) → ¬ (word ≡ refuses 23 j)
   pub not-silent : (j : ℕ) → ¬ (word ≡ refuses 36 j)

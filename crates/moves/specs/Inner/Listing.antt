@@ -1,5 +1,5 @@
--- Steps on their way into the lists: one step after the other, and the steps of one state, or of one label, behind those
--- of the one before. Only the contracts of inner functions cite it.
+-- Steps on their way into the lists: one step after the other, and the steps of one state, or of one label, behind
+-- those of the one before. Only the contracts of inner functions cite it.
 use mathlib.Core.List.{List}
 use mathlib.Core.Path.{_≡_}
 use Prim.Native.Nat.{ℕ, _+_, _≤_, _<_}

@@ -73,7 +73,8 @@ module _ {m : Model} {label : ℕ} where
 
   pub appended-labelled : {j at p q : ℕ} {sources targets : List ℕ} → at < length sources → at < length targets
       → source m j ≡ p → target m j ≡ q → StepLabel m label j
-      → Appended (Among (LabelledAs m label) j (j + 1)) at (at + 1) sources targets (set sources at p) (set targets at q)
+      → Appended (Among (LabelledAs m label) j (j + 1)) at (at + 1) sources targets (set sources at p)
+      (set targets at q)
   appended-labelled ls lt e f h = appended-step ls lt
       (record { has-label = h; source-is = e; target-is = f })
       (λ b r x. (sym e ∙ x .source-is, sym f ∙ x .target-is))

@@ -1,5 +1,5 @@
--- The lists by label have just the low and the silent steps of a model, so the moves that are made of them are the moves
--- that are played, and so are the ranks; and where there is no silent step these are the ranks of the low steps.
+-- The lists by label have just the low and the silent steps of a model, so the moves that are made of them are the
+-- moves that are played, and so are the ranks; and where there is no silent step these are the ranks of the low steps.
 -- Document 02, (vii). Assumes nothing.
 use mathlib.Core.List.{List}
 use mathlib.Core.Path.{_≡_, refl, sym, subst}
@@ -165,7 +165,7 @@ module _ {s : List ℕ} {m : Model} (st : Stored s m) (still : (p q : ℕ) → �
       → Ranked (LowStep (view m)) (m .head .states) entry exit last
       → Ranked (WeakMove (view m)) (m .head .states) entry exit last
   ranked-of-steps = ranked-map
-      (λ p q k lp lq. rank-agree (λ x. x < m .head .states) (λ a. a ≡ silentLabel) (LowStep (view m)) (WeakMove (view m))
-      low-weak-agree (m .head .states) _ _ (low-step-game st) (weak-move-game st) p q k lp lq lp lq)
+      (λ p q k lp lq. rank-agree (λ x. x < m .head .states) (λ a. a ≡ silentLabel) (LowStep (view m))
+      (WeakMove (view m)) low-weak-agree (m .head .states) _ _ (low-step-game st) (weak-move-game st) p q k lp lq lp lq)
       (λ p q k lp lq. separated-agree (λ x. x < m .head .states) (λ a. a ≡ silentLabel) (LowStep (view m))
       (WeakMove (view m)) low-weak-agree p q k lp lq)

@@ -124,7 +124,8 @@ module _ {Out : ℕ → ℕ → ℕ → Type 0} {n from to : ℕ} {first left ri
   }
 
   -- the moves of a state below n rise as before, and those of n as they were appended
-  ordered-before : Ordered n first left right → (p : ℕ) → p < n → Rising (getD next p 0) (getD next (p + 1) 0) left′ right′
+  ordered-before : Ordered n first left right → (p : ℕ) → p < n
+      → Rising (getD next p 0) (getD next (p + 1) 0) left′ right′
   ordered-before o p l =
       rising-kept (before-is p (omega arith)) (before-is (p + 1) (omega arith))
       (λ i k. y .left-kept i (omega (arith, k, x .first-le (p + 1) (omega arith))))

@@ -10,7 +10,7 @@ use lib.Seq.{take-append-seam, drop-append-seam}
 use Rattle.lts.specs.Tests.{all, any}
 use Rattle.lts.specs.Game.{alike?, rankBelow}
 use Rattle.lts.specs.Decided.{answered?, answers?, within?}
-use Rattle.lts.specs.WeakTests.{silentMove?, playedLow?, weakAnswers?}
+use Rattle.lts.specs.WeakTests.{silentMove?, lowMove?, weakAnswers?}
 use Rattle.text.specs.Faults.{answers}
 use Rattle.text.specs.Model.{Model}
 use Rattle.model.specs.Laws.Text.ReadingLaws.{readText-well-formed}
@@ -71,7 +71,7 @@ record Computed : Type 0 where
   woken-print : pageWith wokenPrint (refusedAt 0 1) (wordLines wokenPrint (0 ∷ []) Target) ≡ wokenPrintLines
 
 computed : Computed
-unfolding stateLinesOf leastPassing step? start? rankBelow alike? weakAnswers? playedLow? silentMove? answers? answered?
+unfolding stateLinesOf leastPassing step? start? rankBelow alike? weakAnswers? lowMove? silentMove? answers? answered?
     within? all any workedLines scannedOnceLines releasedLines closeLowLines branchingLines oneStateLines
     unreachedPrintLines wokenPrintLines
 computed = record {

@@ -44,7 +44,8 @@ printed-bytes {form} {m} n e x =
     take-filled (formBytes form m (x .lines)) _ (x .list) n (same-number (sym e ∙ x .outcome-is))
 
 lines-tell : (form : Form) {m : Model} → WellFormed m → DeterministicModel m → NoSilentStep m
-    → {run word run′ word′ : List ℕ} {lines : List PageLine} → PageOf m run word run′ word′ lines → FormTells form m (formBytes form m lines) word′
+    → {run word run′ word′ : List ℕ} {lines : List PageLine} → PageOf m run word run′ word′ lines
+    → FormTells form m (formBytes form m lines) word′
 unfolding formBytes
 lines-tell Page w det still x = page-tells w det still x
 lines-tell Roll w det still x = roll-tells w det still x

@@ -5,7 +5,7 @@ use mathlib.Core.Path.{_≡_, refl, subst}
 use Rattle.lts.specs.Tests.{all, any}
 use Rattle.lts.specs.Game.{alike?, rankBelow}
 use Rattle.lts.specs.Decided.{answered?, answers?, within?}
-use Rattle.lts.specs.WeakTests.{silentMove?, playedLow?, weakAnswers?}
+use Rattle.lts.specs.WeakTests.{silentMove?, lowMove?, weakAnswers?}
 use Rattle.text.specs.Numbers.{digits, digitsUpTo}
 use Rattle.model.specs.Inner.StepTest.{step?, start?}
 use Rattle.model.specs.Laws.Store.SystemLaws.{head-start}
@@ -26,12 +26,12 @@ use Rattle.page.specs.Laws.ExamplesLaws.{pageWith, prints-passed, prints
 -- ---- what evaluation finds
 
 before-scan-lines : pageWith ticksBeforeScan (Passed 1) [] ≡ beforeScanLines
-unfolding stateLinesOf leastPassing step? start? rankBelow alike? weakAnswers? playedLow? silentMove? answers? answered?
+unfolding stateLinesOf leastPassing step? start? rankBelow alike? weakAnswers? lowMove? silentMove? answers? answered?
     within? all any beforeScanLines
 before-scan-lines = refl
 
 depth-one-lines : pageWith tickDepthOne (refusedAt 0 1) (no-word-line ∷ []) ≡ depthOneLines
-unfolding stateLinesOf leastPassing step? start? rankBelow alike? weakAnswers? playedLow? silentMove? answers? answered?
+unfolding stateLinesOf leastPassing step? start? rankBelow alike? weakAnswers? lowMove? silentMove? answers? answered?
     within? all any depthOneLines
 depth-one-lines = refl
 

@@ -10,7 +10,8 @@ use lib.Seq.{getD-set-same, getD-set-other}
 use borrow.Author.Count.{below-more}
 use Rattle.lts.specs.TestsLaws.{eq-or-not}
 use Rattle.touching.specs.Inner.StateSets.{Out, StateSet}
-use Rattle.touching.specs.Laws.StateSetsLaws.{listed-count-le, listed-room, listed-add, listed-last, listed-still, distinct-add}
+use Rattle.touching.specs.Laws.StateSetsLaws.{listed-count-le, listed-room, listed-add, listed-last, listed-still}
+use Rattle.touching.specs.Laws.StateSetsLaws.{distinct-add}
 use Rattle.parts.specs.Inner.Reps.{repOf}
 use Rattle.parts.specs.Inner.Numbering.{NextIs, NextUpTo, NextFound, Changed}
 

@@ -45,8 +45,8 @@ module _ {Move : Moves} {n : ℕ} (target-lt : (p a q : ℕ) → p < n → Move 
   round-classes = subst (λ (j : ℕ). Classes Move n j next) (sym (add-one k)) D
 
   module _ {changed : List ℕ} {changes : ℕ} (H : Changed n class next changed changes) where
-    pub round-ranks : {t u : List ℕ} → Written n class next (k + 1) t u → RowsWritten class next (k + 1) u changed changes n
-        → RanksUpTo Move n k t → RanksUpTo Move n (k + 1) u
+    pub round-ranks : {t u : List ℕ} → Written n class next (k + 1) t u
+        → RowsWritten class next (k + 1) u changed changes n → RanksUpTo Move n k t → RanksUpTo Move n (k + 1) u
     round-ranks {t} {u} W rows U = subst (λ (j : ℕ). RanksUpTo Move n j u) (sym (add-one k))
         (ranksUpTo-suc C D H (subst (λ (j : ℕ). Written n class next j t u) (add-one k) W)
         (subst (λ (j : ℕ). RowsWritten class next j u changed changes n) (add-one k) rows) U)

@@ -11,7 +11,7 @@ use Rattle.lts.specs.Noninterference.{released?, thin, SameLow}
 use Rattle.lts.specs.LowLaws.{simulation-allows}
 use Rattle.lts.specs.Decided.{Decided, answered?, simulation?, within?}
 use Rattle.lts.specs.DecidedLaws.{simulation?→Answered}
-use Rattle.lts.specs.Checked.{lowMove?}
+use Rattle.lts.specs.Checked.{lowStep?}
 use Rattle.lts.specs.CheckedLaws.{decided-low}
 use Rattle.model.specs.Laws.Store.SystemLaws.{head-start}
 use Rattle.lts.specs.Run.{begin}
@@ -46,7 +46,7 @@ branching-same-words w l = (
 )
   where
     moved? : ℕ → ℕ → ℕ → Bool
-    moved? = lowMove? (view branching) (tests branching)
+    moved? = lowStep? (view branching) (tests branching)
 
     decides : Decided (LowStep (view branching)) 4 3 moved?
     decides = decided-low (view branching) (tests branching)

@@ -42,7 +42,7 @@ use Rattle.tell.specs.Bench.{ReadsAndJudged, refusedAt}
 use Rattle.letters.specs.declared.word.End.the-variants.{Source, Target}
 use Rattle.tell.specs.Inner.WordTest.{unbranched?, still?, firstSilent?, low?, allows?, notAfter?, eachWord?}
 use Rattle.tell.specs.Inner.WordTest.{wordOf?}
-use Rattle.lts.specs.WeakTests.{silentMove?, playedLow?, weakAnswers?}
+use Rattle.lts.specs.WeakTests.{silentMove?, lowMove?, weakAnswers?}
 use Rattle.tell.specs.TickModels.{ticksBeforeScan, ticksBeforeScanText, tickDepthOne, tickDepthOneText}
 
 pub record Read : Type 0 where
@@ -92,7 +92,7 @@ pub record Computed : Type 0 where
   pub depth-one : verdictOf tickDepthOne ≡ refusedAt 0 1
 
 pub computed : Computed
-unfolding greatestBelow leastBelow step? start? rankBelow alike? weakAnswers? playedLow? silentMove? answers? answered?
+unfolding greatestBelow leastBelow step? start? rankBelow alike? weakAnswers? lowMove? silentMove? answers? answered?
     within? all any
 computed = record {
   worked = refl;

@@ -89,5 +89,3 @@ pub record DividedUnder (Move : Moves) (Label : ℕ → Type 0) (n : ℕ) (class
   pub answers : (p q a : ℕ) → p < n → q < n → Label a → Same next p q → AnswersUnder Move class a p q
   pub stay : (p q : ℕ) → p < n → q < n → Same class p q → ((a : ℕ) → Label a → AnswersUnder Move class a p q)
       → Same next p q
-
--- ---- the states whose class changes

@@ -111,11 +111,12 @@ module _ {keys class next link : List ℕ} {p from : ℕ} (A : AtState keys clas
                   (new-lead D same here fresh);
               none-between = λ x l M. after-last e x l M (eq-or-not x p);
             })
-            go (inr i) = subst (NextLead class (set next p p) (p + 1) c y) (sym (getD-set-other link r y p 0 i)) (record {
-              next-gt = D .links c y L .next-gt;
-              is-lead = λ g. lead-stays D same (D .links c y L .is-lead g);
-              none-between = λ x l M. before-last i x l M (eq-or-not x p);
-            })
+            go (inr i) = subst (NextLead class (set next p p) (p + 1) c y) (sym (getD-set-other link r y p 0 i))
+                (record {
+                  next-gt = D .links c y L .next-gt;
+                  is-lead = λ g. lead-stays D same (D .links c y L .is-lead g);
+                  none-between = λ x l M. before-last i x l M (eq-or-not x p);
+                })
 
 -- ---- whatever the classes are
 

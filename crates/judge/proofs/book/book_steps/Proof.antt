@@ -68,7 +68,8 @@ returns c =
       ranks = ranks .table;
       table-past = ranks .past;
       book-filled =
-          bookFilled-of-steps (pre .0) (pre .1 .1) (bookFilled-of-listed moves e (c .before .before .fill-book .ensures));
+          bookFilled-of-steps (pre .0) (pre .1 .1)
+          (bookFilled-of-listed moves e (c .before .before .fill-book .ensures));
     }
 
 pub book-steps-spec : {M : Type 1} → statement M

@@ -108,8 +108,8 @@ returns-2 c =
     let from = ap (λ (x : State). x .0) (c .before .source .ensures) ∙ stored-source (pre .0) _ j in
     let to = ap (λ (x : State). x .0) (c .target .ensures) ∙ stored-target (pre .0) _ j in
     let room = placedTo-lt h j (pre .1 .1 .0 .2) (pre .0) in (
-      appended-labelled (omega (arith, room, pre .1 .1 .1 .0)) (omega (arith, room, pre .1 .1 .1 .1)) (sym from) (sym to)
-          h,
+      appended-labelled (omega (arith, room, pre .1 .1 .1 .0)) (omega (arith, room, pre .1 .1 .1 .1)) (sym from)
+          (sym to) h,
       placedTo-add h j (pre .1 .1 .0 .2),
     )
 

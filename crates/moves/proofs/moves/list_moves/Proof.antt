@@ -8,7 +8,8 @@ use Rattle.model.specs.StoredModel.{modelAt}
 use Rattle.model.specs.Laws.System.StoredLaws.{stored-states}
 use Rattle.comparing.specs.MoveList.{Ordered}
 use Rattle.moves.specs.Inner.Listing.{ListedTo}
-use Rattle.moves.specs.Laws.ListedToLaws.{listedTo-zero, listedTo-suc, ordered-zero, ordered-suc, lists-of-listedTo}
+use Rattle.moves.specs.Laws.ListedToLaws.{listedTo-zero, listedTo-suc, ordered-zero, ordered-suc}
+use Rattle.moves.specs.Laws.ListedToLaws.{lists-of-listedTo}
 use Rattle.moves.proofs.moves.list_moves.Statement.{statement}
 use Rattle.moves.proofs.moves.list_moves.Tie as tie
 use Rattle.model.specs.System.{view}

@@ -18,7 +18,11 @@ returns-3 : tie.Need-returns-3
 unfolding levelByte
 returns-3 c =
     let level = c .before .before .before .args .level in
-    rw (ne-eqb level 0 (c .before .before .if1 .left), ne-eqb level 1 (c .before .if2 .left), eq-eqb level 2 (c .if3 .taken))
+    rw (
+      ne-eqb level 0 (c .before .before .if1 .left),
+      ne-eqb level 1 (c .before .if2 .left),
+      eq-eqb level 2 (c .if3 .taken),
+    )
 
 returns-4 : tie.Need-returns-4
 unfolding levelByte
