@@ -1,4 +1,4 @@
-//! Ranking in plain Rust, written for speed and not proved, in the way of the proved operation: it looks again only
+//! Ranking in plain Rust, written for speed and not proved, which compares states by their moves: it looks again only
 //! where something changed. A round compares the states with a move to one whose class changed in the round before,
 //! each with a state of its class that has none, and with the first states of the parts that split off in this round;
 //! two states are compared through marks, one place for each action and class. The untouched part of a class keeps its

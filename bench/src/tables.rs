@@ -178,9 +178,9 @@ of the models without ticks and of those with ticks:
 const SECOND: &str = "\
 The second checker is written to be clear and not fast; its program is timed with its process too. Every operation that
 takes a store tests within its time that the store is good, and so does the second checker's. Plain Rust is written for
-speed and not proved, and takes a good store for granted. It ranks in the way of the proved operation, and looks again
-only where something changed; its book is one call that ranks, too, and like its check it finds a state's steps with an
-action by an index. Check is timed on the model's own book. Another ranking in plain Rust is over bit sets: it shows how
+speed and not proved, and takes a good store for granted. It compares states by their moves, and looks again only where
+something changed; its book is one call that ranks, too, and like its check it finds a state's steps with an action by
+an index. Check is timed on the model's own book. Another ranking in plain Rust is over bit sets: it shows how
 fast one can be where each move is a single step and a set of states the bits of one number. On models with ticks all of
 plain Rust is over bit sets: it works out the targets of the moves of each state and action as one number, ranks by
 them, and finds the entries of its book in the same rounds; there is no other ranking beside it.
@@ -282,9 +282,9 @@ impl Report {
              The program `till` answers on every model of the benchmark within {slowest}; {process} of that go to its \
              process, as\nan empty text shows. Roll takes at most {more} more than Page. \
              On models without ticks Rank takes at most {rank} times as\n\
-             long as plain Rust that ranks in the same way and is not proved, Book at most {book} times and \
-             Check at most {check}\ntimes. Plain Rust over bit sets, for single steps alone, ranks faster: \
-             Rank takes at most {bits} times as long as that.\n\
+             long as plain Rust that compares states by their moves and is not proved, Book at most {book} times and \
+             Check at most {check}\ntimes; and Rank at most {bits} times as long as plain Rust over bit sets, \
+             for single steps alone.\n\
              On models with ticks Rank takes at most {with_ticks} times as long as plain Rust over bit sets, \
              Book at most {book_with} times and Check\nat most {check_with} times.\n\
              `bench/TABLE.md` has every model and operation, and beside them the times of the second checker \

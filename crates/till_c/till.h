@@ -2,9 +2,9 @@
    fills no list past its least length. No pointer may be null, and no two lists of one call may overlap.
 
    For firmware: the archive has no globals, allocates nothing, calls nothing back, and needs only memcpy and memset
-   from outside; its code and constants take less than 42 kB of read-only memory, and a call takes less than 24 kB of
-   stack (till_book less than 44 kB; till_read less than 9 kB; till_reach, till_run and till_write less than 1 kB). It
-   is for x86-64 and uses the SSE registers.
+   from outside; its code and constants take less than 48 kB of read-only memory, and a call takes less than 90 kB of
+   stack (till_check less than 124 kB, till_book less than 100 kB; till_read less than 9 kB; till_reach, till_run and
+   till_write less than 1 kB). It is for x86-64 and uses the SSE registers.
 
    A program that was compiled before there were I lines lends stores of 3,972 numbers, and till_write an out of 14,420
    bytes: each such call gets TILL_SHORT_LIST until the program is compiled anew. Of a store that was kept, read the

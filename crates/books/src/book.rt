@@ -15,7 +15,7 @@ use text::limits::MOVES_LENGTH;
 ghost use mathlib.Core.Path.{_≡_};
 ghost use Prim.Native.Nat.{_≤_, _<_};
 ghost use lib.ListN.{length, getD};
-ghost use Rattle.text.specs.Limits.{tableLength, pairPlace, bookLength};
+ghost use Rattle.text.specs.Limits.{stateLimit, tableLength, pairPlace, bookLength};
 ghost use Rattle.comparing.specs.MoveList.{Listed, MoveList, Ordered};
 ghost use Rattle.ranking.specs.Table.{Ranks};
 ghost use Rattle.lts.specs.Book.{noEntry};
@@ -23,7 +23,21 @@ ghost use Rattle.books.specs.Books.{entryNumber, BookFilled};
 ghost use Rattle.books.specs.Inner.Groups.{IndexOf};
 ghost use Rattle.books.specs.Inner.Filling.{EntryWritten, PairFilled, RowFilled, RowsFilled, RowEmpty, BookEmpty};
 
-// Writes the entry of p and q: one side opens with the move at place i.
+// Writes the entry of p and q.
+pub fn put_entry(p: State, q: State, side: u8, action: u8, target: u8, depth: u8, book: &mut [u8])
+    requires { ⌜ (p .0 < stateLimit) × (q .0 < stateLimit) × (bookLength ≤ length (now book)) ⌝ }
+    ensures { λ _. ⌜ EntryWritten (pairPlace (p .0) (q .0))
+        (record { side = side; action = action; target = target; depth = depth }) (now (book .entry))
+        (now (book .exit)) ⌝ }
+{
+    let at = ENTRY_SIZE * pair_place(p, q);
+    book[at] = side;
+    book[at + 1] = action;
+    book[at + 2] = target;
+    book[at + 3] = depth;
+}
+
+// The same where one side opens with the move at place i.
 fn write_entry(
     n: u16,
     first: &[u16; INDEX_LENGTH],
@@ -47,13 +61,9 @@ fn write_entry(
         })
         (now (book .entry)) (now (book .exit)) ⌝ }
 {
-    let at = ENTRY_SIZE * pair_place(p, q);
     let a = actions[i] as u8;
     let t = targets[i] as u8;
-    book[at] = side;
-    book[at + 1] = a;
-    book[at + 2] = t;
-    book[at + 3] = depth;
+    put_entry(p, q, side, a, t, depth, book);
 }
 
 // Writes the entry of p and q, if their rank is above 0.

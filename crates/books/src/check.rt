@@ -11,6 +11,7 @@ use text::limits::GROUPS_LENGTH;
 use text::limits::INDEX_LENGTH;
 use text::limits::MOVES_LENGTH;
 use text::limits::ROW;
+use text::limits::SILENT_ACTION;
 use text::limits::TABLE_LENGTH;
 ghost use mathlib.Core.Path.{_≡_};
 ghost use Prim.Native.Nat.{ℕ, _≤_, _<_};
@@ -24,9 +25,6 @@ ghost use Rattle.books.specs.Checks.{checkedOutcome, CheckDone, StillMov
 ghost use Rattle.books.specs.Inner.Groups.{Indexed, Groups};
 ghost use Rattle.books.specs.Inner.Sides.{BySide, leadPlace, SoundTo};
 ghost use Rattle.books.specs.Inner.Still.{Still, Unanswered, UnansweredBy};
-
-// The action of a silent opening.
-pub const SILENT_ACTION: u16 = 255;
 
 // What is found of a book: that it is sound, or the number of the first bad entry.
 pub enum Checked {

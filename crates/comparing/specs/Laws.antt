@@ -1,4 +1,1 @@
 pub mod MoveListLaws
-pub mod AnswersLaws
-pub mod MarksLaws
-pub mod ReachesLaws

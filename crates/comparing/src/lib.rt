@@ -1,7 +1,6 @@
-// Two states compared by their listed steps: whether each step of either is answered by the other, with targets of one
-// class.
+// What is kept in lists: the steps of each state, and the class of each.
 pub mod lists;
-pub mod marks;
+pub mod stores;
 
 // The number of a class of states.
 pub struct Class(pub u16);

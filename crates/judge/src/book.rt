@@ -3,6 +3,7 @@ use silent::LABELS_LENGTH;
 use text::limits::BOOK_LENGTH;
 use text::limits::INDEX_LENGTH;
 use text::limits::MOVES_LENGTH;
+use text::limits::ROLES_LENGTH;
 use text::limits::STORE_LENGTH;
 use text::limits::TABLE_LENGTH;
 ghost use Prim.Native.Nat.{ℕ, _≤_};
@@ -33,8 +34,7 @@ fn book_labels(store: &[u16], table: &mut [u8], book: &mut [u8])
     let mut targets = [0u16; MOVES_LENGTH];
     moves::labels::list_store_labels(store, &mut from, &mut sources, &mut targets);
     let n = model::store::states(store);
-    let top = weak_ranks::rounds::rank_labels(n, &from, &sources, &targets, table);
-    weak_books::book::fill_label_book(n, &from, &sources, &targets, top, table, book);
+    weak_books::labels::fill_books(n, &from, &sources, &targets, table, book);
 }
 
 // The same of a good store without silent steps.
@@ -45,12 +45,14 @@ fn book_steps(store: &[u16], table: &mut [u8], book: &mut [u8])
     ensures { λ _. ⌜ BookDone (modelAt (now (store .entry))) (now (table .entry)) (now (book .entry))
         (now (table .exit)) (now (book .exit)) ⌝ }
 {
+    let mut roles = [0u16; ROLES_LENGTH];
     let mut first = [0u16; INDEX_LENGTH];
     let mut actions = [0u16; MOVES_LENGTH];
     let mut targets = [0u16; MOVES_LENGTH];
+    model::index::roles(store, &mut roles);
+    moves::table::fill_plain_table(store, &roles, table);
     moves::moves::list_store_moves(store, &mut first, &mut actions, &mut targets);
     let n = model::store::states(store);
-    ranking::rounds::rank_moves(n, &first, &actions, &targets, table);
     books::book::fill_book(n, &first, &actions, &targets, table, book);
 }
 

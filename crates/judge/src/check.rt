@@ -34,7 +34,7 @@ fn check_labels(store: &[u16], book: &[u8]) -> Checked
     let mut targets = [0u16; MOVES_LENGTH];
     moves::labels::list_store_labels(store, &mut from, &mut sources, &mut targets);
     let n = model::store::states(store);
-    weak_books::check::check_label_book(n, &from, &sources, &targets, book)
+    weak_books::labels::check_books(n, &from, &sources, &targets, book)
 }
 
 // Check on a good store without silent steps.

@@ -1,5 +1,4 @@
 // The operation Rank.
-use text::limits::INDEX_LENGTH;
 use text::limits::ROLES_LENGTH;
 use text::limits::STORE_LENGTH;
 use text::limits::TABLE_LENGTH;
@@ -25,9 +24,7 @@ pub fn rank(store: &[u16], table: &mut [u8]) -> RankAnswer
     if !model::good::good(store) {
         return RankAnswer::NotGood;
     }
-    let mut begins = [0u16; INDEX_LENGTH];
     let mut roles = [0u16; ROLES_LENGTH];
-    model::index::index(store, &mut begins);
     model::index::roles(store, &mut roles);
-    RankAnswer::Last(moves::table::fill_table(store, &begins, &roles, table))
+    RankAnswer::Last(moves::table::fill_table(store, &roles, table))
 }

@@ -1,7 +1,7 @@
 -- Moves that agree on all n states have the same book of our own: an opening under an idle label stays where it is, the
 -- other side may stay too, and so it never leads to a lower rank. With `weak-agree-all` this is so of the low steps and
 -- of the moves that are played where there is no silent step. Document 02, (v) and (vii). Assumes nothing.
-use mathlib.Core.Logic.{_⊎_, inl, inr, _↔_}
+use mathlib.Core.Logic.{_⊎_, inl, inr}
 use mathlib.Core.Path.{_≡_, sym, subst}
 use mathlib.Core.Bool.{Bool}
 use Prim.Native.Nat.{ℕ, _<_}
@@ -12,8 +12,7 @@ use Rattle.lts.specs.Game.{Game}
 use Rattle.lts.specs.Agree.{Agree}
 use Rattle.lts.specs.AgreeLaws.{rank-agree}
 use Rattle.lts.specs.Book.{Entry, Book, Opens, Plays, first-opens, second-opens, LowerRank, OwnEntry, OwnBook}
-use Rattle.lts.specs.BookLaws.{opens-map}
-use Rattle.lts.specs.OwnBookLaws.{lowerRank-sym}
+use Rattle.lts.specs.OwnBookLaws.{opens-turned, opens-turned-back}
 
 module _ (Idle : ℕ → Type 0) (M N : Moves) (n : ℕ) (A : Agree (λ p. p < n) Idle M N)
     (roundM roundN : (ℕ → ℕ → Bool) → ℕ → ℕ → Bool) (GM : Game M n roundM) (GN : Game N n roundN) where
@@ -66,24 +65,17 @@ module _ (Idle : ℕ → Type 0) (M N : Moves) (n : ℕ) (A : Agree (λ p. p < n
           let y : LowerRank N d p q = subst (λ (z : ℕ). LowerRank N d z q) (sym e) (o .answers q (A .idle q a lq i)) in
           absurd (omega (arith, rank-unique N p q (y .rank) d (y .rank-is) x, y .rank-lt))
 
-  -- What leads to a lower rank does so with the two sides turned.
-  turned : {L : Moves} {d p q a t : ℕ} → Opens L (λ x y. LowerRank L d y x) p q a t ↔ Opens L (LowerRank L d) p q a t
-  turned = (
-    opens-map (λ m. m) (λ u m. m) (λ x y. lowerRank-sym),
-    opens-map (λ m. m) (λ u m. m) (λ x y. lowerRank-sym),
-  )
-
   plays-forth : (d p q s a t : ℕ) → p < n → q < n → Plays M (LowerRank M d) p q s a t
       → Plays N (LowerRank N d) p q s a t
   plays-forth d p q s a t lp lq (first-opens e o) = first-opens e (opens-forth d p q a t lp lq o)
   plays-forth d p q s a t lp lq (second-opens e o) =
-      second-opens e (turned .1 (opens-forth d q p a t lq lp (turned .0 o)))
+      second-opens e (opens-turned-back (opens-forth d q p a t lq lp (opens-turned o)))
 
   plays-back : (d p q s a t : ℕ) → p < n → q < n → Rank N p q d → Plays N (LowerRank N d) p q s a t
       → Plays M (LowerRank M d) p q s a t
   plays-back d p q s a t lp lq x (first-opens e o) = first-opens e (opens-back d p q a t lp lq x o)
   plays-back d p q s a t lp lq x (second-opens e o) =
-      second-opens e (turned .1 (opens-back d q p a t lq lp (rank-sym N p q d x) (turned .0 o)))
+      second-opens e (opens-turned-back (opens-back d q p a t lq lp (rank-sym N p q d x) (opens-turned o)))
 
   -- ---- the book
 

@@ -13,8 +13,8 @@ use Rattle.lts.specs.AgreeLaws.{rank-same}
 use Rattle.lts.specs.Game.{Opening, by-first, by-second, Game, alike?}
 use Rattle.lts.specs.GameLaws.{not-alike?→¬Alike, ¬Alike→not-alike?}
 use Rattle.lts.specs.RankLaws.{rank-exists}
-use Rattle.lts.specs.BookLaws.{plays-map, plays-side-pos}
-use Rattle.lts.specs.Book.{Entry, Book, Present, Plays, first-opens, second-opens, LowerEntry}
+use Rattle.lts.specs.BookLaws.{opens-map, plays-map, plays-side-pos}
+use Rattle.lts.specs.Book.{Entry, Book, Present, Opens, Plays, first-opens, second-opens, LowerEntry}
 use Rattle.lts.specs.Book.{Sound, LowerRank, FirstPlay, OwnEntry, noEntry, OwnBook}
 
 -- ---- entries
@@ -60,6 +60,15 @@ lowerRank-sym {Move} {d} {x} {y} h = record {
   rank-pos = h .rank-pos;
   rank-lt = h .rank-lt;
 }
+
+-- What leads to a lower rank does so with the two sides turned.
+pub opens-turned : {Move : Moves} {d p q a t : ℕ} → Opens Move (λ x y. LowerRank Move d y x) p q a t
+    → Opens Move (LowerRank Move d) p q a t
+opens-turned = opens-map (λ m. m) (λ u m. m) (λ x y. lowerRank-sym)
+
+pub opens-turned-back : {Move : Moves} {d p q a t : ℕ} → Opens Move (LowerRank Move d) p q a t
+    → Opens Move (λ x y. LowerRank Move d y x) p q a t
+opens-turned-back = opens-map (λ m. m) (λ u m. m) (λ x y. lowerRank-sym)
 
 -- ---- our own book is sound
 

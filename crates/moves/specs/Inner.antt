@@ -1,2 +1,3 @@
-pub mod Listing
+pub mod Holding
 pub mod Labelling
+pub mod Listing

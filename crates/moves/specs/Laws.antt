@@ -3,3 +3,5 @@ pub mod RisingLaws
 pub mod ListedToLaws
 pub mod LabellingLaws
 pub mod LabelsLaws
+pub mod HoldingLaws
+pub mod HeldStepsLaws

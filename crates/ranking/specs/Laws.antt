@@ -1,5 +1,4 @@
 pub mod ClassListLaws
 pub mod TableWritesLaws
 pub mod RoundsLaws
-pub mod ReadyLaws
 pub mod RankedLaws

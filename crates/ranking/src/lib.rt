@@ -1,5 +1,3 @@
-// Ranks of states by classes, over steps given as lists. A round looks again only at states with a step to one whose
-// class changed in the round before.
-pub mod rounds;
+// The table of ranks: what a round writes into it, and what it holds after the last.
 pub mod table;
 pub mod writes;

@@ -1,1 +1,2 @@
+pub mod SetValues
 pub mod Sets

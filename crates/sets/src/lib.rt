@@ -1,4 +1,6 @@
 // Sets of numbers below 128 as the bits of two words. A list has one set for each state.
+pub mod set;
+
 use text::State;
 use text::limits::ROW;
 ghost use mathlib.Core.Bool.{true, false};

@@ -1,2 +1,3 @@
 pub mod Keys
 pub mod Loops
+pub mod Targets

@@ -3,3 +3,5 @@ pub mod TowardLaws
 pub mod LoopsLaws
 pub mod ClosedLaws
 pub mod KeysLaws
+pub mod TargetsLaws
+pub mod TurnedLaws

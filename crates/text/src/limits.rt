@@ -102,6 +102,9 @@ pub const ENTRY_SIZE: usize = 4;
 
 pub const BOOK_LENGTH: usize = ENTRY_SIZE * TABLE_LENGTH;
 
+// The action of a silent opening, which no action of a text has.
+pub const SILENT_ACTION: u16 = 255;
+
 // Lists that functions keep for themselves: where the steps or moves of each state begin, and where the last one's end;
 // the role of each action; one place for each move; where the moves of each state and action begin, and where the last
 // one's end.

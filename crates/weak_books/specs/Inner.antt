@@ -1,5 +1,7 @@
-pub mod Targets
-pub mod Opened
-pub mod Turned
+pub mod Depths
+pub mod Entering
 pub mod Noted
+pub mod Opened
+pub mod RankSets
 pub mod Tested
+pub mod Turned

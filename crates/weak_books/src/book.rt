@@ -5,18 +5,19 @@ use crate::openings::open_rows;
 use crate::ranked::join_each;
 use crate::ranked::sets_at_rank;
 use crate::seconds::turn_rows;
-use crate::targets::low_targets;
-use crate::targets::own_numbers;
-use crate::targets::silent_targets;
 use ranking::table::clear;
 use sets::SETS_LENGTH;
 use sets::clear_sets;
 use silent::LABELS_LENGTH;
+use silent::targets::low_targets;
+use silent::targets::own_numbers;
+use silent::targets::silent_targets;
 use text::Action;
 use text::limits::ACTION_LIMIT;
 use text::limits::BOOK_LENGTH;
 use text::limits::MOVES_LENGTH;
 use text::limits::ROW;
+use text::limits::SILENT_ACTION;
 ghost use mathlib.Core.Path.{_≡_};
 ghost use Prim.Native.Nat.{ℕ, _+_, _≤_, _<_};
 ghost use lib.ListN.{length, getD};
@@ -27,11 +28,9 @@ ghost use Rattle.ranking.specs.Table.{Ranks};
 ghost use Rattle.books.specs.Books.{BookFilled};
 ghost use Rattle.sets.specs.Inner.Sets.{Member};
 ghost use Rattle.silent.specs.Labelled.{LabelList, LabelMove};
+ghost use Rattle.silent.specs.Inner.Targets.{OwnNumbers, Targets};
 ghost use Rattle.weak_books.specs.Inner.Opened.{OpenedTo, OnlyAt, OpenedBefore};
-ghost use Rattle.weak_books.specs.Inner.Targets.{OwnNumbers, Targets, LowerSets};
-
-// The action of a silent opening.
-const SILENT_ACTION: u8 = 255;
+ghost use Rattle.weak_books.specs.Inner.RankSets.{LowerSets};
 
 // Writes the entries of the first openings with the action a, at the depth of the states at hand.
 fn open_action(
@@ -148,7 +147,7 @@ fn open_depth(
         depth,
         book,
     );
-    open_rows(n, silent, lower, &at, SILENT_ACTION, depth, book);
+    open_rows(n, silent, lower, &at, SILENT_ACTION as u8, depth, book);
     join_each(n, lower, &at);
 }
 

@@ -1,9 +1,5 @@
 // The test of a book, label by label, so that only the targets under one label are at hand.
-use crate::targets::low_targets;
-use crate::targets::own_numbers;
-use crate::targets::silent_targets;
 use books::check::Checked;
-use books::check::SILENT_ACTION;
 use books::check::byte_value;
 use books::check::is_lower;
 use ranking::table::pair_place;
@@ -11,12 +7,16 @@ use sets::SETS_LENGTH;
 use sets::has;
 use sets::next_member;
 use silent::LABELS_LENGTH;
+use silent::targets::low_targets;
+use silent::targets::own_numbers;
+use silent::targets::silent_targets;
 use text::Action;
 use text::State;
 use text::limits::ACTION_LIMIT;
 use text::limits::ENTRY_SIZE;
 use text::limits::MOVES_LENGTH;
 use text::limits::ROW;
+use text::limits::SILENT_ACTION;
 use text::limits::STATE_LIMIT;
 use text::limits::TABLE_LENGTH;
 ghost use mathlib.Core.Logic.{_⊎_};
@@ -32,7 +32,7 @@ ghost use Rattle.books.specs.Checks.{checkedOutcome, CheckDone};
 ghost use Rattle.books.specs.Inner.Sides.{BySide};
 ghost use Rattle.sets.specs.Inner.Sets.{Member};
 ghost use Rattle.silent.specs.Labelled.{LabelList, LabelMove};
-ghost use Rattle.weak_books.specs.Inner.Targets.{OwnNumbers, Targets};
+ghost use Rattle.silent.specs.Inner.Targets.{OwnNumbers, Targets};
 ghost use Rattle.weak_books.specs.Inner.Tested.{SetMove, SetOpens, SoundIf, FirstUnder};
 ghost use Rattle.weak_books.specs.Inner.Noted.{usedLength, NoLabel, Noted, UsedTo, LabelsTo};
 

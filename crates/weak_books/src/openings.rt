@@ -1,4 +1,5 @@
 // The openings of the first side with one label, by sets: the targets of each state, and what is lower beside each.
+pub use books::book::put_entry;
 use ranking::table::pair_place;
 use sets::SETS_LENGTH;
 use sets::is_within;
@@ -9,23 +10,8 @@ use text::limits::STATE_LIMIT;
 ghost use Prim.Native.Nat.{ℕ, _≤_, _<_};
 ghost use lib.ListN.{length};
 ghost use Rattle.text.specs.Limits.{stateLimit, pairPlace, bookLength};
-ghost use Rattle.books.specs.Inner.Filling.{EntryWritten};
 ghost use Rattle.sets.specs.Inner.Sets.{Member};
 ghost use Rattle.weak_books.specs.Inner.Opened.{LowestIn, PairOpened, LabelOpened};
-
-// Writes the entry of p and q.
-pub fn put_entry(p: State, q: State, side: u8, action: u8, target: u8, depth: u8, book: &mut [u8])
-    requires { ⌜ (p .0 < stateLimit) × (q .0 < stateLimit) × (bookLength ≤ length (now book)) ⌝ }
-    ensures { λ _. ⌜ EntryWritten (pairPlace (p .0) (q .0))
-        (record { side = side; action = action; target = target; depth = depth }) (now (book .entry))
-        (now (book .exit)) ⌝ }
-{
-    let at = ENTRY_SIZE * pair_place(p, q);
-    book[at] = side;
-    book[at + 1] = action;
-    book[at + 2] = target;
-    book[at + 3] = depth;
-}
 
 // The lowest target of p beside which all targets of q are lower, or 128. No target is lower beside itself, so that
 // there is none where each target of p is one of q.

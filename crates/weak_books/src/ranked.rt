@@ -10,7 +10,7 @@ ghost use Prim.Native.Nat.{_≤_, _<_};
 ghost use lib.ListN.{length, getD};
 ghost use Rattle.text.specs.Limits.{stateLimit, tableLength, pairPlace};
 ghost use Rattle.sets.specs.Inner.Sets.{setsLength, Joined};
-ghost use Rattle.weak_books.specs.Inner.Targets.{AtRank, JoinedBelow};
+ghost use Rattle.weak_books.specs.Inner.RankSets.{AtRank, JoinedBelow};
 
 // Adds q to set p, if their rank is r.
 fn add_at_rank(table: &[u8], r: u8, p: State, q: State, sets: &mut [u64])

@@ -1,10 +1,10 @@
 // Classes divided by keys. The number of a class is its lowest state, its lead.
 use comparing::lists::class_at;
+use comparing::stores::put;
 use sets::SETS_LENGTH;
 use sets::is_same;
 use text::State;
 use text::limits::ROW;
-use touching::stores::put;
 ghost use Prim.Native.Nat.{_≤_, _<_};
 ghost use Rattle.text.specs.Limits.{stateLimit};
 ghost use Rattle.weak_ranks.specs.Inner.Dividing.{LeadClasses, DividedBy, Dividing, LeadFound};

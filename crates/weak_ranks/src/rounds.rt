@@ -1,6 +1,7 @@
 // The rounds: in each, the classes are divided by the keys of all labels.
 use crate::dividing::divide;
 use comparing::lists::class_at;
+use comparing::stores::put;
 use ranking::table::clear;
 use ranking::writes::write_rows;
 use sets::SETS_LENGTH;
@@ -13,16 +14,14 @@ use text::limits::ACTION_LIMIT;
 use text::limits::MOVES_LENGTH;
 use text::limits::ROW;
 use text::limits::TABLE_LENGTH;
-use touching::stores::put;
 ghost use Prim.Native.Nat.{_+_, _≤_, _<_};
 ghost use lib.ListN.{length};
 ghost use Rattle.lts.specs.Weak.{silentLabel};
 ghost use Rattle.text.specs.Limits.{stateLimit, tableLength};
-ghost use Rattle.parts.specs.Inner.Numbering.{Changed};
 ghost use Rattle.silent.specs.Labelled.{LabelList, LabelMove};
 ghost use Rattle.silent.specs.Inner.Keys.{Keys};
 ghost use Rattle.ranking.specs.Table.{Ranked};
-ghost use Rattle.ranking.specs.Inner.ClassList.{Classes, Refined, RoundSeparates};
+ghost use Rattle.ranking.specs.Inner.ClassList.{Classes, Refined, Changed, RoundSeparates};
 ghost use Rattle.ranking.specs.Inner.TableWrites.{Outside, RanksUpTo, Finished};
 ghost use Rattle.weak_ranks.specs.Inner.Dividing.{LeadClasses, LabelBelow, DividedUnder};
 

@@ -9,8 +9,8 @@ use Rattle.lts.specs.Alike.{Moves, Rank}
 use Rattle.lts.specs.AlikeLaws.{rank-unique}
 use Rattle.lts.specs.TestsLaws.{lt-or-le}
 use Rattle.lts.specs.Book.{Opens, Plays, first-opens, second-opens, LowerRank, FirstPlay}
-use Rattle.lts.specs.BookLaws.{opens-map, plays-side-pos, opens-of-first}
-use Rattle.lts.specs.OwnBookLaws.{lowerRank-sym, play-exists}
+use Rattle.lts.specs.BookLaws.{plays-side-pos, opens-of-first}
+use Rattle.lts.specs.OwnBookLaws.{opens-turned, opens-turned-back, play-exists}
 use Rattle.text.specs.Limits.{pairPlace}
 use Rattle.comparing.specs.MoveList.{Listed, MoveList, Ordered}
 use Rattle.comparing.specs.Laws.MoveListLaws.{listed-game, listed-target-lt}
@@ -52,15 +52,6 @@ module _ {n : ℕ} {first actions targets table : List ℕ} (L : MoveList n firs
   lower-of-opens : {d p q a t : ℕ} → Opens Move (LowerRank Move d) p q a t → LowerAnswers Move table d q a t
   lower-of-opens {q = q} {a} {t} o u w =
       rankIn-of-lowerRank (listed-target-lt L _ a t (o .opening)) (listed-target-lt L q a u w) (o .answers u w)
-
-  -- The same where the opener is the second side.
-  opens-turned : {d p q a t : ℕ} → Opens Move (λ x y. LowerRank Move d y x) p q a t
-      → Opens Move (LowerRank Move d) p q a t
-  opens-turned = opens-map (λ m. m) (λ u m. m) (λ x y. lowerRank-sym)
-
-  opens-turned-back : {d p q a t : ℕ} → Opens Move (LowerRank Move d) p q a t
-      → Opens Move (λ x y. LowerRank Move d y x) p q a t
-  opens-turned-back = opens-map (λ m. m) (λ u m. m) (λ x y. lowerRank-sym)
 
   -- ---- the place that the search finds
 

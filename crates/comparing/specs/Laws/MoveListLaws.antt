@@ -1,6 +1,6 @@
 -- The steps of a move list are decided by a test, so they make a game and all that is shown of ranks holds of them.
 -- Assumes nothing.
-use mathlib.Core.Path.{_≡_, refl, ap, subst}
+use mathlib.Core.Path.{ap, subst}
 use mathlib.Core.Bool.{Bool, _&&_}
 use mathlib.Core.List.{List}
 use Prim.Native.Nat.{ℕ, _+_, _≤_, _<_}
@@ -12,11 +12,10 @@ use lib.ListN.{getD}
 use Rattle.lts.specs.Tests.{any}
 use Rattle.lts.specs.TestsLaws.{T-eqb, and-intro, and-left, and-right}
 use Rattle.lts.specs.TestsLaws.{any→Some, Some→any}
-use Rattle.lts.specs.Game.{Game, Separates}
-use Rattle.lts.specs.ClassesLaws.{rounds-lt}
+use Rattle.lts.specs.Game.{Game}
 use Rattle.lts.specs.Decided.{Decided, answers?}
 use Rattle.lts.specs.DecidedLaws.{decided-game}
-use Rattle.text.specs.Limits.{actionLimit, stepLimit}
+use Rattle.text.specs.Limits.{actionLimit}
 use Rattle.comparing.specs.MoveList.{Listed, MoveList}
 
 -- Place i holds a step from p with the action a to q.
@@ -38,22 +37,14 @@ module _ {n : ℕ} {first actions targets : List ℕ} (L : MoveList n first acti
   pub place-lt-last : {p i : ℕ} → p < n → i < getD first (p + 1) 0 → i < getD first n 0
   place-lt-last {p} {i} lp li = omega (arith, rising-le n (omega arith) (p + 1) (omega arith))
 
-  -- Where the steps of p end, and what stands before it.
-  pub step-end-le : {p to : ℕ} → p < n → to ≡ getD first (p + 1) 0 → to ≤ stepLimit
-  step-end-le {p} lp e = omega (arith, L .last-le (p + 1) (omega arith))
-
-  pub step-action-lt : {p i to : ℕ} → p < n → to ≡ getD first (p + 1) 0 → i < to → getD actions i 0 < actionLimit
-  step-action-lt {p} {i} lp e l = L .action-lt i (place-lt-last lp (omega arith))
-
-  pub step-target-lt : {p i to : ℕ} → p < n → to ≡ getD first (p + 1) 0 → i < to → getD targets i 0 < n
-  step-target-lt {p} {i} lp e l = L .target-lt i (place-lt-last lp (omega arith))
-
   pub listed-target-lt : (p a q : ℕ) → Listed n first actions targets p a q → q < n
-  listed-target-lt p a q m = subst (λ (x : ℕ). x < n) (m .target-is) (step-target-lt (m .source-lt) refl (m .place-lt))
+  listed-target-lt p a q m =
+      subst (λ (x : ℕ). x < n) (m .target-is) (L .target-lt (m .place) (place-lt-last (m .source-lt) (m .place-lt)))
 
   pub listed-action-lt : (p a q : ℕ) → Listed n first actions targets p a q → a < actionLimit
   listed-action-lt p a q m =
-      subst (λ (x : ℕ). x < actionLimit) (m .action-is) (step-action-lt (m .source-lt) refl (m .place-lt))
+      subst (λ (x : ℕ). x < actionLimit) (m .action-is)
+      (L .action-lt (m .place) (place-lt-last (m .source-lt) (m .place-lt)))
 
   listed?→Listed : (p a q : ℕ) → T (listed? n first actions targets p a q) → Listed n first actions targets p a q
   listed?→Listed p a q t =
@@ -94,8 +85,3 @@ module _ {n : ℕ} {first actions targets : List ℕ} (L : MoveList n first acti
   pub listed-game : Game (Listed n first actions targets) n (answers? n actionLimit (listed? n first actions targets))
   listed-game =
       decided-game (Listed n first actions targets) n actionLimit (listed? n first actions targets) listed-decided
-
-  -- There are fewer separating rounds than states.
-  pub listed-rounds-lt : (k : ℕ) → ((j : ℕ) → j < k → Separates (Listed n first actions targets) n j) → k < n
-  listed-rounds-lt = rounds-lt (Listed n first actions targets) n
-      (answers? n actionLimit (listed? n first actions targets)) listed-game (L .some-state)

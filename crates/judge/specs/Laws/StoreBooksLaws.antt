@@ -1,35 +1,50 @@
--- Books of a model's steps, listed by state or by label, are books of the moves that are played.
+-- Books of a model's steps, listed by state or by label, are books of the moves that are played, and ranks of the steps
+-- by label are ranks of these.
 -- Document 02, (v) and (vii). Assumes nothing.
 use mathlib.Core.List.{List}
-use mathlib.Core.Path.{_≡_, subst}
-use Prim.Native.Nat.{ℕ, _≤_, _<_}
-use lib.ListN.{getD}
+use mathlib.Core.Path.{_≡_, sym, subst}
+use Prim.Native.Nat.{ℕ}
 use Rattle.lts.specs.Alike.{Moves}
+use Rattle.lts.specs.AgreeLaws.{rank-same}
 use Rattle.lts.specs.AgreeBookLaws.{ownBook-agree}
 use Rattle.lts.specs.OwnBookLaws.{ownBook-same}
 use Rattle.lts.specs.View.{View}
 use Rattle.lts.specs.Weak.{silentLabel, LowStep, Tick, WeakMove}
 use Rattle.text.specs.Faults.{Outcome}
-use Rattle.text.specs.Limits.{stateLimit, pairPlace}
+use Rattle.text.specs.Limits.{stateLimit}
 use Rattle.text.specs.Model.{Model}
 use Rattle.model.specs.System.{view}
 use Rattle.model.specs.Inner.Stored.{Stored}
 use Rattle.model.specs.Laws.System.RankBoundLaws.{low-step-game, weak-move-game}
 use Rattle.silent.specs.Labelled.{LabelMove}
-use Rattle.ranking.specs.Table.{Ranked}
+use Rattle.comparing.specs.MoveList.{Listed, Lists}
+use Rattle.ranking.specs.Table.{Ranks}
 use Rattle.moves.specs.Labels.{LabelsOf}
 use Rattle.moves.specs.Laws.LabelsLaws.{weakMove-of-labels, labels-of-weakMove, low-weak-agree}
 use Rattle.books.specs.Books.{bookOf, BookFilled}
 use Rattle.books.specs.Checks.{CheckDone}
 use Rattle.books.specs.Laws.ChecksLaws.{checkDone-same}
 
--- No entry of the table exceeds the answer of Rank.
-pub ranked-entry-le : {Move : Moves} {n : ℕ} {entry exit : List ℕ} {last : ℕ} → Ranked Move n entry exit last
-    → (p q : ℕ) → p < n → q < n → getD exit (pairPlace p q) 0 ≤ last
-ranked-entry-le r p q lp lq = r .greatest .bound p q _ lp lq (r .table .ranks p q lp lq)
+-- Lists that have just some moves have their ranks, for a number that is that of the states.
+pub ranks-of-lists : {Move : Moves} {n x : ℕ} {first actions targets : List ℕ} → Lists Move n first actions targets
+    → x ≡ n → {table : List ℕ} → Ranks Move n table → Ranks (Listed x first actions targets) x table
+ranks-of-lists {first = first} {actions} {targets} l e {table} r =
+    subst (λ (y : ℕ). Ranks (Listed y first actions targets) y table) (sym e) record {
+      ranks = λ p q lp lq. rank-same (l .complete) (l .sound) p q (r .ranks p q lp lq);
+      outside = r .outside;
+    }
 
 module _ {v : View} {from sources targets : List ℕ} (x : LabelsOf v from sources targets) {n : ℕ}
     (e : n ≡ v .states) where
+  pub ranks-of-labels : {table : List ℕ} → Ranks (LabelMove n from sources targets) n table
+      → Ranks (WeakMove v) (v .states) table
+  ranks-of-labels {table} h =
+      let r = subst (λ (y : ℕ). Ranks (LabelMove y from sources targets) y table) e h in
+      record {
+        ranks = λ p q lp lq. rank-same (weakMove-of-labels x) (labels-of-weakMove x) p q (r .ranks p q lp lq);
+        outside = r .outside;
+      }
+
   pub bookFilled-of-labels : {entry exit : List ℕ} → BookFilled (LabelMove n from sources targets) n entry exit
       → BookFilled (WeakMove v) (v .states) entry exit
   bookFilled-of-labels {entry} {exit} h =

@@ -73,6 +73,11 @@ module _ (Move : Moves) (n : ℕ) where
     ranks-unique entry t u (r .table) (r .past) (s .table) (s .past),
   )
 
+-- No entry of the table exceeds the answer of Rank.
+pub ranked-entry-le : {Move : Moves} {n : ℕ} {entry exit : List ℕ} {last : ℕ} → Ranked Move n entry exit last
+    → (p q : ℕ) → p < n → q < n → getD exit (pairPlace p q) 0 ≤ last
+ranked-entry-le r p q lp lq = r .greatest .bound p q _ lp lq (r .table .ranks p q lp lq)
+
 -- ---- other moves with the same ranks
 
 somePair-map : {n : ℕ} {P Q : ℕ → ℕ → Type 0} → ((p q : ℕ) → p < n → q < n → P p q → Q p q)

@@ -12,7 +12,6 @@ use lib.Seq.{getD-drop, ext-getD}
 use Rattle.lts.specs.Alike.{Moves, Alike, Separated, Rank, bisimilar}
 use Rattle.lts.specs.AlikeLaws.{alike-suc, bisimilar-refl, rank-of-separated}
 use Rattle.lts.specs.Game.{Game}
-use Rattle.lts.specs.TestsLaws.{eq-or-not}
 use Rattle.lts.specs.GameLaws.{separated-of-separates, bisimilar-of-settled, rank-le-settled}
 use Rattle.text.specs.Limits.{stateLimit}
 use Rattle.text.specs.Limits.{tableLength, pairPlace}
@@ -20,10 +19,8 @@ use Rattle.text.specs.Lists.{Past}
 use Rattle.text.specs.Inner.Clearing.{Cleared}
 use Rattle.text.specs.Laws.ListsLaws.{past-getD}
 use Rattle.ranking.specs.Table.{Below, SomePair, Ranked}
-use Rattle.parts.specs.Inner.Reps.{Counted}
-use Rattle.parts.specs.Inner.Numbering.{NumbersKept, Changed}
-use Rattle.ranking.specs.Inner.ClassList.{Classes, Refined, RoundSeparates}
-use Rattle.ranking.specs.Laws.ClassListLaws.{classes-suc, separates-of-changed, settled-of-unchanged}
+use Rattle.ranking.specs.Inner.ClassList.{Classes, Refined, Changed}
+use Rattle.ranking.specs.Laws.ClassListLaws.{classes-suc}
 use Rattle.ranking.specs.Inner.TableWrites.{entryOf, Written, RowsWritten, RankUpTo, RanksUpTo, Finished}
 use Rattle.ranking.specs.Laws.TableWritesLaws.{ranksUpTo-suc}
 
@@ -44,24 +41,12 @@ module _ {Move : Moves} {n : ℕ} (target-lt : (p a q : ℕ) → p < n → Move 
   pub round-classes : Classes Move n (k + 1) next
   round-classes = subst (λ (j : ℕ). Classes Move n j next) (sym (add-one k)) D
 
-  module _ {changed : List ℕ} {changes : ℕ} (H : Changed n class next changed changes) where
-    pub round-ranks : {t u : List ℕ} → Written n class next (k + 1) t u
-        → RowsWritten class next (k + 1) u changed changes n → RanksUpTo Move n k t → RanksUpTo Move n (k + 1) u
-    round-ranks {t} {u} W rows U = subst (λ (j : ℕ). RanksUpTo Move n j u) (sym (add-one k))
-        (ranksUpTo-suc C D H (subst (λ (j : ℕ). Written n class next j t u) (add-one k) W)
-        (subst (λ (j : ℕ). RowsWritten class next j u changed changes n) (add-one k) rows) U)
-
-    pub round-separates : {classes classes′ : ℕ} {reps reps′ : List ℕ} → Counted n classes class reps
-        → Counted n classes′ next reps′ → NumbersKept classes classes′ class reps′ → RoundSeparates Move n k changes
-    round-separates A B K = record {
-      settled = λ e. settled-of-unchanged C D (λ p lp. none e p lp (eq-or-not (getD class p 0) (getD next p 0)));
-      separates = λ l. separates-of-changed C D A B K (getD changed 0 0) (H .listed-lt 0 l) (H .differs 0 l);
-    }
-      where
-        none : changes ≡ 0 → (p : ℕ) → p < n → (getD class p 0 ≡ getD next p 0) ⊎ ¬ (getD class p 0 ≡ getD next p 0)
-            → getD class p 0 ≡ getD next p 0
-        none e p lp (inl same) = same
-        none e p lp (inr d) = absurd (omega (arith, H .complete p lp d .1))
+  pub round-ranks : {changed : List ℕ} {changes : ℕ} → Changed n class next changed changes → {t u : List ℕ}
+      → Written n class next (k + 1) t u → RowsWritten class next (k + 1) u changed changes n → RanksUpTo Move n k t
+      → RanksUpTo Move n (k + 1) u
+  round-ranks {changed} {changes} H {t} {u} W rows U = subst (λ (j : ℕ). RanksUpTo Move n j u) (sym (add-one k))
+      (ranksUpTo-suc C D H (subst (λ (j : ℕ). Written n class next j t u) (add-one k) W)
+      (subst (λ (j : ℕ). RowsWritten class next j u changed changes n) (add-one k) rows) U)
 
 -- ---- after the last round
 

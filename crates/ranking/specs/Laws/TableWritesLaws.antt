@@ -14,8 +14,7 @@ use Rattle.text.specs.Limits.{stateLimit}
 use Rattle.text.specs.Limits.{tableLength, pairPlace}
 use Rattle.lts.specs.TestsLaws.{eq-or-not}
 use Rattle.comparing.specs.Inner.Numbered.{Same}
-use Rattle.parts.specs.Inner.Numbering.{Changed}
-use Rattle.ranking.specs.Inner.ClassList.{Classes}
+use Rattle.ranking.specs.Inner.ClassList.{Classes, Changed}
 use Rattle.ranking.specs.Inner.TableWrites.{entryOf, SeparatedBy, Outside, Written, PairWritten}
 use Rattle.ranking.specs.Inner.TableWrites.{RowWritten, RowsWritten, RankUpTo, RanksUpTo}
 

@@ -57,7 +57,7 @@ bit-or-cases a b i e = go (bit-cases (a / 2 ^ i))
         inr (sym (ap (λ (x : ℕ). max x (b / 2 ^ i % 2)) d ∙ zero-max (b / 2 ^ i % 2)) ∙ sym (bit-or a b i) ∙ e)
 
 -- Bit i of the half is the next bit.
-bit-half : (n i : ℕ) → n / 2 / 2 ^ i ≡ n / 2 ^ suc i
+pub bit-half : (n i : ℕ) → n / 2 / 2 ^ i ≡ n / 2 ^ suc i
 bit-half n i = div-div-eq-div-mul n 2 (2 ^ i) ∙ ap (λ (x : ℕ). n / x) (sym (pow-succ' 2 i))
 
 half-lt-pow : (n k : ℕ) → n < 2 ^ suc k → n / 2 < 2 ^ k
@@ -118,12 +118,20 @@ bit-pow-unique s i e = go (lt-or-le i s) (lt-or-le s i)
     go (inr l) (inl k) = absurd (omega (arith, high k))
     go (inr l) (inr k) = omega arith
 
+-- A word below 2 ^ k has its bits at places below k.
+pub bit-place-lt : {w : ℕ} (k i : ℕ) → w < 2 ^ k → w / 2 ^ i % 2 ≡ 1 → i < k
+bit-place-lt {w} k i fits o = cases (lt-or-le i k)
+  where
+    cases : (i < k) ⊎ (k ≤ i) → i < k
+    cases (inl l) = l
+    cases (inr l) = absurd (omega (arith, o, div-eq-of-lt (lt-of-lt-of-le fits (pow-mono l))))
+
 -- ---- the least bit
 
 pub bit-zero : (i : ℕ) → ¬ (0 / 2 ^ i % 2 ≡ 1)
 bit-zero i e = absurd (omega (arith, div-eq-of-lt (pow-pos i)))
 
-bit-first : (n : ℕ) → n / 2 ^ 0 % 2 ≡ n % 2
+pub bit-first : (n : ℕ) → n / 2 ^ 0 % 2 ≡ n % 2
 bit-first n = ap (λ (x : ℕ). x % 2) (div-one n)
 
 pub trailing-bit : (d n : ℕ) → 0 < n → n < 2 ^ d → n / 2 ^ trailingZeros d n % 2 ≡ 1
@@ -172,14 +180,7 @@ module _ (word from : ℕ) (fits : word < 2 ^ wordBits) (some : ¬ (word / 2 ^ f
       ∙ trailing-bit wordBits (word / 2 ^ from) pos (lt-of-le-of-lt (shr-le word from) fits)
 
   pub trailing-lt : from + trailingZeros wordBits (word / 2 ^ from) < wordBits
-  trailing-lt = go (from + trailingZeros wordBits (word / 2 ^ from)) trailing-set
-    where
-      go : (x : ℕ) → word / 2 ^ x % 2 ≡ 1 → x < wordBits
-      go x o = cases (lt-or-le x wordBits)
-        where
-          cases : (x < wordBits) ⊎ (wordBits ≤ x) → x < wordBits
-          cases (inl l) = l
-          cases (inr l) = absurd (omega (arith, o, div-eq-of-lt (lt-of-lt-of-le fits (pow-mono l))))
+  trailing-lt = bit-place-lt wordBits (from + trailingZeros wordBits (word / 2 ^ from)) fits trailing-set
 
   pub nextBit-trailing : NextBit word from (from + trailingZeros wordBits (word / 2 ^ from))
   nextBit-trailing = record {

@@ -1,6 +1,6 @@
 -- Steps by label and the moves made of them stay among n states, and tests decide the steps, so that the moves make a
 -- game. Document 02, (vii). Assumes nothing.
-use mathlib.Core.Logic.{_⊎_, inl, inr}
+use mathlib.Core.Logic.{_⊎_, inl, inr, ⊎-elim}
 use mathlib.Core.List.{List}
 use mathlib.Core.Path.{_≡_, ap}
 use mathlib.Core.Bool.{_&&_}
@@ -49,6 +49,14 @@ module _ (from sources targets : List ℕ) where
       Some→any (getD from (a + 1) 0) (stepAt? from sources targets a p q) i (s .place-lt)
       (and-intro (leb (getD from a 0) i) (is-source && is-target) (le→leb (getD from a 0) i (s .from-le)) u)
 
+-- An action without steps has no moves.
+pub labelMove-none : {n : ℕ} {from sources targets : List ℕ} {a : ℕ} → a < actionLimit
+    → getD from (a + 1) 0 ≤ getD from a 0 → (p q : ℕ) → ¬ (LabelMove n from sources targets p a q)
+labelMove-none l e p q (low m) =
+    let s = m .step .1 in
+    absurd (omega (arith, s .from-le, s .place-lt))
+labelMove-none l e p q (silent i s) = absurd (omega arith)
+
 module _ {n : ℕ} {from sources targets : List ℕ} (L : LabelList n from sources targets) where
   -- ---- steps
 
@@ -83,6 +91,10 @@ module _ {n : ℕ} {from sources targets : List ℕ} (L : LabelList n from sourc
   pub labelMove-label : {p a q : ℕ} → LabelMove n from sources targets p a q → (a < actionLimit) ⊎ (a ≡ silentLabel)
   labelMove-label (low m) = inl (m .step .0)
   labelMove-label (silent e s) = inr e
+
+  -- Between the actions and the silent label there is no label.
+  pub labelMove-between : (p b t : ℕ) → actionLimit ≤ b → b < silentLabel → ¬ (LabelMove n from sources targets p b t)
+  labelMove-between p b t l k m = ⊎-elim (λ h. omega (arith, h, l)) (λ h. omega (arith, h, k)) (labelMove-label m)
 
   -- ---- the game
 

@@ -7,38 +7,36 @@ use mathlib.Core.Path.{_≡_, refl, sym, ap, _∙_, subst}
 use Prim.Native.Nat.{ℕ, _+_, _≤_, _<_}
 use native.Mathlib.Omega.{arith}
 use lib.ListN.{getD}
-use Rattle.lts.specs.Alike.{Moves, Rank}
+use Rattle.lts.specs.Alike.{Moves, Relation, Rank}
 use Rattle.lts.specs.AlikeLaws.{rank-unique, rank-sym}
 use Rattle.lts.specs.Game.{Game}
 use Rattle.lts.specs.Book.{Entry, Opens, Plays, first-opens, second-opens, LowerRank, OwnEntry}
-use Rattle.lts.specs.BookLaws.{opens-map, plays-side-pos, opens-of-first}
-use Rattle.lts.specs.OwnBookLaws.{lowerRank-sym, play-exists}
+use Rattle.lts.specs.BookLaws.{plays-side-pos, opens-of-first}
+use Rattle.lts.specs.OwnBookLaws.{opens-turned, opens-turned-back, play-exists}
 use Rattle.text.specs.Limits.{stateLimit, pairPlace, bookLength}
 use Rattle.text.specs.Lists.{Past}
 use Rattle.text.specs.Laws.ListsLaws.{past-trans}
 use Rattle.ranking.specs.Table.{Ranks}
 use Rattle.books.specs.Books.{entryNumber, BookFilled}
 use Rattle.books.specs.Inner.Filling.{PairOwn}
+use Rattle.silent.specs.Labelled.{LabelList, LabelMove}
+use Rattle.silent.specs.Laws.LabelledLaws.{labelMove-label}
 use Rattle.weak_books.specs.Inner.Opened.{OpenedBelow, none, first, labelLimit, OpenedBefore}
 use Rattle.weak_books.specs.Inner.Turned.{EntryTurned, Turned}
 
+pub labelMove-label-lt : {n : ℕ} {from sources targets : List ℕ} → LabelList n from sources targets → (p a q : ℕ)
+    → LabelMove n from sources targets p a q → a < labelLimit
+labelMove-label-lt L p a q m = ⊎-elim (λ h. omega (arith, h)) (λ h. omega (arith, h)) (labelMove-label L m)
+
 -- ---- the first opening of a side
 
-module _ {Move : Moves} {r p q a t : ℕ}
-    (m : (b u : ℕ) → Opens Move (LowerRank Move r) p q b u → (a < b) ⊎ ((a ≡ b) × (t ≤ u))) where
-  action-lowest : (b u : ℕ) → Opens Move (LowerRank Move r) p q b u → a ≤ b
+module _ {Move : Moves} {Leads : Relation} {p q a t : ℕ}
+    (m : (b u : ℕ) → Opens Move Leads p q b u → (a < b) ⊎ ((a ≡ b) × (t ≤ u))) where
+  pub action-lowest : (b u : ℕ) → Opens Move Leads p q b u → a ≤ b
   action-lowest b u o = ⊎-elim (λ l. omega (arith, l)) (λ x. omega (arith, x .0)) (m b u o)
 
-  target-lowest : (u : ℕ) → Opens Move (LowerRank Move r) p q a u → t ≤ u
+  pub target-lowest : (u : ℕ) → Opens Move Leads p q a u → t ≤ u
   target-lowest u o = ⊎-elim (λ l. absurd (omega (arith, l))) (λ x. x .1) (m a u o)
-
-opens-turned : {Move : Moves} {d p q a t : ℕ} → Opens Move (λ x y. LowerRank Move d y x) p q a t
-    → Opens Move (LowerRank Move d) p q a t
-opens-turned = opens-map (λ m. m) (λ u m. m) (λ x y. lowerRank-sym)
-
-opens-turned-back : {Move : Moves} {d p q a t : ℕ} → Opens Move (LowerRank Move d) p q a t
-    → Opens Move (λ x y. LowerRank Move d y x) p q a t
-opens-turned-back = opens-map (λ m. m) (λ u m. m) (λ x y. lowerRank-sym)
 
 module _ {Move : Moves} {n : ℕ} {round : (ℕ → ℕ → Bool) → ℕ → ℕ → Bool} (G : Game Move n round)
     (label-lt : (p a q : ℕ) → Move p a q → a < labelLimit) where

@@ -16,7 +16,7 @@ use Rattle.books.specs.Books.{entryNumber, bookOf}
 use Rattle.books.specs.Inner.Sides.{SoundTo}
 use Rattle.silent.specs.Labelled.{LabelList, LabelMove}
 use Rattle.silent.specs.Laws.LabelledLaws.{labelMove-label}
-use Rattle.weak_books.specs.Inner.Targets.{Targets}
+use Rattle.silent.specs.Inner.Targets.{Targets}
 use Rattle.weak_books.specs.Inner.Tested.{SetMove, FirstUnder}
 use Rattle.weak_books.specs.Inner.Noted.{usedLength, NoLabel, Noted, UsedTo, LabelsTo}
 use Rattle.weak_books.specs.Laws.TestedLaws.{firstUnder-of-targets, firstUnder-trans}

@@ -10,7 +10,7 @@ use Rattle.lts.specs.TestsLaws.{lt-or-le}
 use Rattle.text.specs.Limits.{stateLimit, pairPlace}
 use Rattle.text.specs.Laws.ListsLaws.{past-refl, past-trans}
 use Rattle.sets.specs.Inner.Sets.{Member}
-use Rattle.weak_books.specs.Inner.Targets.{Targets}
+use Rattle.silent.specs.Inner.Targets.{Targets}
 use Rattle.weak_books.specs.Inner.Opened.{OpensIn, EntryOpened, stays, opens-not, opens-with, LabelOpened}
 use Rattle.weak_books.specs.Inner.Opened.{OpenedBelow, none, first, OpenedTo, OnlyAt}
 
@@ -90,6 +90,10 @@ module _ {Move : Moves} {n : ℕ} {lower at : List ℕ} {d : ℕ} where
   pub openedTo-skip : {i j : ℕ} {book : List ℕ} → ((p b t : ℕ) → i ≤ b → b < j → ¬ (Move p b t))
       → OpenedTo Move n lower at d i book → OpenedTo Move n lower at d j book
   openedTo-skip f x = record { opened = λ p q l m. openedBelow-skip (f p) (x .opened p q l m) }
+
+  pub openedTo-none : {a : ℕ} {book : List ℕ} → ((p t : ℕ) → ¬ (Move p a t)) → OpenedTo Move n lower at d a book
+      → OpenedTo Move n lower at d (a + 1) book
+  openedTo-none {a} f = openedTo-skip (λ p b t l k m. f p t (subst (λ (x : ℕ). Move p x t) (omega (arith, l, k)) m))
 
   pub openedTo-at : {i j : ℕ} {book : List ℕ} → i ≡ j → OpenedTo Move n lower at d i book
       → OpenedTo Move n lower at d j book

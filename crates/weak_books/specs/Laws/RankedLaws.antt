@@ -11,7 +11,7 @@ use Rattle.lts.specs.TestsLaws.{lt-or-le}
 use Rattle.text.specs.Limits.{pairPlace}
 use Rattle.ranking.specs.Table.{Ranks}
 use Rattle.sets.specs.Inner.Sets.{Member, Empty, Joined}
-use Rattle.weak_books.specs.Inner.Targets.{AtRank, LowerSets, JoinedBelow}
+use Rattle.weak_books.specs.Inner.RankSets.{AtRank, LowerSets, JoinedBelow}
 
 -- ---- one set
 

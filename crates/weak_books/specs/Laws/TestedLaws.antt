@@ -13,7 +13,7 @@ use Rattle.text.specs.Limits.{stateLimit, tableLength, pairPlace}
 use Rattle.books.specs.Books.{entryNumber, bookOf}
 use Rattle.books.specs.Laws.ChecksLaws.{at-number}
 use Rattle.sets.specs.Inner.Sets.{Member, NextMember}
-use Rattle.weak_books.specs.Inner.Targets.{Targets}
+use Rattle.silent.specs.Inner.Targets.{Targets}
 use Rattle.weak_books.specs.Inner.Tested.{SetMove, SetOpens, EntryUnder, SoundIf, FirstUnder}
 
 -- ---- the members of a set, one after the other

@@ -1,13 +1,52 @@
 -- The states whose class changes, listed one after another: those of the first m states. Assumes nothing.
-use mathlib.Core.Path.{_≡_, sym, subst}
+use mathlib.Core.Path.{_≡_, refl, sym, _∙_, subst}
 use mathlib.Core.Logic.{_⊎_, inl, inr}
 use mathlib.Core.List.{List}
 use Prim.Native.Nat.{ℕ, _+_, _<_}
 use native.Mathlib.Omega.{arith}
 use lib.ListN.{length, getD, set}
+use lib.Seq.{getD-set-same, getD-set-other}
 use Rattle.lts.specs.TestsLaws.{eq-or-not}
-use Rattle.touching.specs.Laws.StateSetsLaws.{listed-add, listed-last, listed-still, distinct-add}
-use Rattle.parts.specs.Inner.Numbering.{Changed}
+use Rattle.ranking.specs.Inner.ClassList.{Changed}
+
+-- ---- a list with one state more
+
+module _ (list : List ℕ) {count : ℕ} (p : ℕ) (ll : count < length list) where
+  at-count : {i : ℕ} → i ≡ count → getD (set list count p) i 0 ≡ p
+  at-count e = subst (λ (x : ℕ). getD (set list count p) x 0 ≡ p) (sym e) (getD-set-same list count p 0 ll)
+
+  before-count : {i : ℕ} → ¬ (i ≡ count) → getD (set list count p) i 0 ≡ getD list i 0
+  before-count {i} d = getD-set-other list count i p 0 d
+
+  -- What holds of all listed states, and of p.
+  listed-add : (Q : ℕ → Type 0) → Q p → ((i : ℕ) → i < count → Q (getD list i 0)) → (i : ℕ) → i < count + 1
+      → Q (getD (set list count p) i 0)
+  listed-add Q h each i l = go (eq-or-not i count)
+    where
+      go : (i ≡ count) ⊎ ¬ (i ≡ count) → Q (getD (set list count p) i 0)
+      go (inl e) = subst Q (sym (at-count e)) h
+      go (inr d) = subst Q (sym (before-count d)) (each i (omega arith))
+
+  listed-last : (i : ℕ) × (i < count + 1) × (getD (set list count p) i 0 ≡ p)
+  listed-last = (count, omega arith, at-count refl)
+
+  listed-still : {q : ℕ} → (i : ℕ) × (i < count) × (getD list i 0 ≡ q)
+      → (i : ℕ) × (i < count + 1) × (getD (set list count p) i 0 ≡ q)
+  listed-still r = (r .0, omega (arith, r .1), before-count (λ e. absurd (omega (arith, r .1))) ∙ r .2)
+
+  distinct-add : ((i : ℕ) → i < count → ¬ (getD list i 0 ≡ p))
+      → ((i j : ℕ) → i < count → j < count → getD list i 0 ≡ getD list j 0 → i ≡ j) → (i j : ℕ) → i < count + 1
+      → j < count + 1 → getD (set list count p) i 0 ≡ getD (set list count p) j 0 → i ≡ j
+  distinct-add other distinct i j li lj = go (eq-or-not i count) (eq-or-not j count)
+    where
+      go : (i ≡ count) ⊎ ¬ (i ≡ count) → (j ≡ count) ⊎ ¬ (j ≡ count)
+          → getD (set list count p) i 0 ≡ getD (set list count p) j 0 → i ≡ j
+      go (inl d) (inl e) h = d ∙ sym e
+      go (inl d) (inr e) h = absurd (other j (omega arith) (sym (before-count e) ∙ sym h ∙ at-count d))
+      go (inr d) (inl e) h = absurd (other i (omega arith) (sym (before-count d) ∙ h ∙ at-count e))
+      go (inr d) (inr e) h = distinct i j (omega arith) (omega arith) (sym (before-count d) ∙ h ∙ before-count e)
+
+-- ---- the states below m
 
 module _ {class next : List ℕ} where
   pub changed-zero : {list : List ℕ} → Changed 0 class next list 0

@@ -10,8 +10,7 @@ use Rattle.lts.specs.Game.{Separates}
 use Rattle.lts.specs.TestsLaws.{eq-or-not}
 use Rattle.text.specs.Limits.{stateLimit}
 use Rattle.comparing.specs.Inner.Numbered.{ClassNumbers}
-use Rattle.parts.specs.Inner.Numbering.{Changed}
-use Rattle.ranking.specs.Inner.ClassList.{Classes, Refined, RoundSeparates}
+use Rattle.ranking.specs.Inner.ClassList.{Classes, Refined, Changed, RoundSeparates}
 use Rattle.ranking.specs.Laws.ClassListLaws.{classes-suc, settled-of-unchanged}
 use Rattle.weak_ranks.specs.Inner.Dividing.{LeadClasses}
 

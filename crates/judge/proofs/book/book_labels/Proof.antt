@@ -1,10 +1,9 @@
 -- The steps that are listed by label have the model's ranks and its book.
 use mathlib.Core.Path.{_∙_}
-use native.Mathlib.Omega.{arith}
 use borrow.Author.Needs.{needs}
 use Rattle.model.specs.Laws.System.StoredLaws.{stored-states}
-use Rattle.moves.specs.Laws.LabelsLaws.{labelList-of-labels, ranked-of-labels}
-use Rattle.judge.specs.Laws.StoreBooksLaws.{ranked-entry-le, bookFilled-of-labels}
+use Rattle.moves.specs.Laws.LabelsLaws.{labelList-of-labels}
+use Rattle.judge.specs.Laws.StoreBooksLaws.{ranks-of-labels, bookFilled-of-labels}
 use Rattle.judge.proofs.book.book_labels.Statement.{statement}
 use Rattle.judge.proofs.book.book_labels.Tie as tie
 
@@ -23,28 +22,13 @@ list-store-labels-requires c κs = search needs
 states-requires : tie.Need-states-requires
 states-requires c κs = search needs
 
-rank-labels-requires : tie.Need-rank-labels-requires
-rank-labels-requires c κs =
-    let counted = c .before .before .before .before in
+fill-books-requires : tie.Need-fill-books-requires
+fill-books-requires c κs =
+    let counted = c .before .before .before .before .before in
     let listed = counted .before .before .before .before in
     let pre = listed .before .before .before .before .before .before .before .pre in
     let e = counted .states .ensures ∙ stored-states (pre .0) in
-    (labelList-of-labels (listed .list-store-labels .ensures) e, pre .1 .0)
-
-fill-label-book-requires : tie.Need-fill-label-book-requires
-fill-label-book-requires c κs =
-    let ranked = c .before .before .before .before .before .before .before in
-    let counted = ranked .before .before .before .before .before in
-    let listed = counted .before .before .before .before in
-    let pre = listed .before .before .before .before .before .before .before .pre in
-    let e = counted .states .ensures ∙ stored-states (pre .0) in
-    let ranks = ranked .rank-labels .ensures in (
-      labelList-of-labels (listed .list-store-labels .ensures) e,
-      (
-        (ranks .table, omega (arith, ranks .past .same-length, pre .1 .0)),
-        (ranked-entry-le ranks, pre .1 .1),
-      ),
-    )
+    (labelList-of-labels (listed .list-store-labels .ensures) e, pre .1)
 
 same-length : tie.Need-same-length
 same-length c = search needs
@@ -54,17 +38,17 @@ same-length-2 c = search needs
 
 returns : tie.Need-returns
 returns c =
-    let ranked = c .before .before .before .before .before .before .before .before .before .before in
-    let counted = ranked .before .before .before .before .before in
+    let filled = c .before .before .before .before in
+    let counted = filled .before .before .before .before .before .before in
     let listed = counted .before .before .before .before in
     let pre = listed .before .before .before .before .before .before .before .pre in
     let e = counted .states .ensures ∙ stored-states (pre .0) in
     let labels = listed .list-store-labels .ensures in
-    let ranks = ranked-of-labels labels e (ranked .rank-labels .ensures) in
+    let ranks = filled .fill-books .ensures .0 in
     record {
-      ranks = ranks .table;
-      table-past = ranks .past;
-      book-filled = bookFilled-of-labels labels e (c .before .before .fill-label-book .ensures);
+      ranks = ranks-of-labels labels e (ranks .0);
+      table-past = ranks .1;
+      book-filled = bookFilled-of-labels labels e (filled .fill-books .ensures .1);
     }
 
 pub book-labels-spec : {M : Type 1} → statement M
@@ -76,8 +60,7 @@ book-labels-spec =
     slice-aggregate-list-store-labels-3
     list-store-labels-requires
     states-requires
-    rank-labels-requires
-    fill-label-book-requires
+    fill-books-requires
     same-length
     same-length-2
     returns)

@@ -22,8 +22,8 @@ list-store-labels-requires c κs = search needs
 states-requires : tie.Need-states-requires
 states-requires c κs = search needs
 
-check-label-book-requires : tie.Need-check-label-book-requires
-check-label-book-requires c κs =
+check-books-requires : tie.Need-check-books-requires
+check-books-requires c κs =
     let counted = c .before .before .before in
     let listed = counted .before .before .before .before in
     let pre = listed .before .before .before .before .before .before .pre in
@@ -36,7 +36,7 @@ returns c =
     let listed = counted .before .before .before .before in
     let pre = listed .before .before .before .before .before .before .pre in
     let e = counted .states .ensures ∙ stored-states (pre .0) in
-    checkDone-of-labels (listed .list-store-labels .ensures) e (c .check-label-book .ensures)
+    checkDone-of-labels (listed .list-store-labels .ensures) e (c .check-books .ensures)
 
 pub check-labels-spec : {M : Type 1} → statement M
 check-labels-spec =
@@ -47,5 +47,5 @@ check-labels-spec =
     slice-aggregate-list-store-labels-3
     list-store-labels-requires
     states-requires
-    check-label-book-requires
+    check-books-requires
     returns)

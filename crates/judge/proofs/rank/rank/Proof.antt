@@ -34,22 +34,12 @@ returns-3 c =
     onStore-not-good (none-short-two (c .before .before .before .if1 .left) (c .before .before .if2 .left))
     (decides-refused (tested .result) _ (tested .ensures) (c .if3 .taken)) refl refl
 
-slice-aggregate-index : tie.Need-slice-aggregate-index
-slice-aggregate-index c = search needs
-
-index-requires : tie.Need-index-requires
-index-requires c κs =
-    let passed = c .before in
-    let tested = passed .before .good2 in
-    let long = passed .before .before .before .if1 .left in
-    (passed→Stored _ (tested .result) long (tested .ensures) (passed .if3 .left), omega arith)
-
 slice-aggregate-roles : tie.Need-slice-aggregate-roles
 slice-aggregate-roles c = search needs
 
 roles-requires : tie.Need-roles-requires
 roles-requires c κs =
-    let passed = c .before .before .before .before in
+    let passed = c .before in
     let tested = passed .before .good2 in
     let long = passed .before .before .before .if1 .left in
     (passed→Stored _ (tested .result) long (tested .ensures) (passed .if3 .left), omega arith)
@@ -57,21 +47,14 @@ roles-requires c κs =
 slice-aggregate-fill-table : tie.Need-slice-aggregate-fill-table
 slice-aggregate-fill-table c = search needs
 
-slice-aggregate-fill-table-2 : tie.Need-slice-aggregate-fill-table-2
-slice-aggregate-fill-table-2 c = search needs
-
 fill-table-requires : tie.Need-fill-table-requires
 fill-table-requires c κs =
-    let after = c .before .before .before .before in
-    let indexed = after .before .before .before in
-    let passed = indexed .before .before in
+    let after = c .before .before .before in
+    let passed = after .before .before in
     let tested = passed .before .good2 in
     let long = passed .before .before .before .if1 .left in (
       passed→Stored _ (tested .result) long (tested .ensures) (passed .if3 .left),
-      (
-        (omega arith, indexed .index .ensures),
-        ((omega arith, after .roles2 .ensures), passed .before .before .if2 .left),
-      ),
+      ((omega arith, after .roles2 .ensures), passed .before .before .if2 .left),
     )
 
 same-length : tie.Need-same-length
@@ -81,7 +64,7 @@ returns-4 : tie.Need-returns-4
 unfolding rankOutcome
 returns-4 c =
     let filled = c .before .before .fill-table in
-    let passed = c .before .before .before .before .before .before .before .before .before .before .before .before in
+    let passed = c .before .before .before .before .before .before .before .before in
     let tested = passed .before .good2 in
     let good = decides-passed (tested .result) _ (tested .ensures) (passed .if3 .left) in
     onStore-model (λ m. (last : ℕ) × (_≡_ {A = Outcome} (answers (filled .result ∷ [])) (answers (last ∷ [])))
@@ -97,12 +80,9 @@ rank-spec =
     returns-2
     good-requires
     returns-3
-    slice-aggregate-index
-    index-requires
     slice-aggregate-roles
     roles-requires
     slice-aggregate-fill-table
-    slice-aggregate-fill-table-2
     fill-table-requires
     same-length
     returns-4)

@@ -4,9 +4,8 @@ use borrow.Author.Needs.{needs}
 use Rattle.text.specs.Laws.ListsLaws.{past-trans}
 use Rattle.books.specs.Laws.RowsLaws.{empty-of-cleared}
 use Rattle.silent.specs.Laws.LabelledLaws.{labelMove-game}
-use Rattle.weak_books.specs.Laws.TargetsLaws.{labelMove-label-lt}
 use Rattle.weak_books.specs.Laws.DepthLaws.{openedBefore-start}
-use Rattle.weak_books.specs.Laws.FilledLaws.{bookFilled-of-turned}
+use Rattle.weak_books.specs.Laws.FilledLaws.{labelMove-label-lt, bookFilled-of-turned}
 use Rattle.weak_books.proofs.book.fill_label_book.Statement.{statement}
 use Rattle.weak_books.proofs.book.fill_label_book.Tie as tie
 

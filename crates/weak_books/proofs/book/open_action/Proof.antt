@@ -1,7 +1,8 @@
 -- An action without steps has no moves; with the targets of another one, the first openings are found.
+use native.Mathlib.Omega.{arith}
 use borrow.Author.Needs.{needs}
-use Rattle.weak_books.specs.Laws.TargetsLaws.{labelMove-none}
-use Rattle.weak_books.specs.Laws.OpenedLaws.{onlyAt-refl, onlyAt-of-label, openedTo-skip, openedTo-suc}
+use Rattle.silent.specs.Laws.LabelledLaws.{labelMove-none}
+use Rattle.weak_books.specs.Laws.OpenedLaws.{onlyAt-refl, onlyAt-of-label, openedTo-none, openedTo-suc}
 use Rattle.weak_books.proofs.book.open_action.Statement.{statement}
 use Rattle.weak_books.proofs.book.open_action.Tie as tie
 
@@ -27,7 +28,7 @@ returns : tie.Need-returns
 returns c =
     let start = c .before .before .before .before .before in
     let pre = start .pre .1 .1 .1 .1 in
-    (openedTo-skip (labelMove-none (start .args .a .0) (pre .0 .0) (c .if1 .taken)) (pre .1), onlyAt-refl _)
+    (openedTo-none (labelMove-none (pre .0 .0) (omega (arith, c .if1 .taken))) (pre .1), onlyAt-refl _)
 
 low-targets-requires : tie.Need-low-targets-requires
 low-targets-requires c κs =

@@ -1,8 +1,7 @@
 -- First the actions and then the silent label, so that all labels are done; then the states of this rank are lower.
 use native.Mathlib.Omega.{arith}
 use borrow.Author.Needs.{needs}
-use Rattle.silent.specs.Laws.LabelledLaws.{labelMove-target-lt}
-use Rattle.weak_books.specs.Laws.TargetsLaws.{labelMove-between}
+use Rattle.silent.specs.Laws.LabelledLaws.{labelMove-target-lt, labelMove-between}
 use Rattle.weak_books.specs.Laws.RankedLaws.{lowerSets-suc, lowerSets-apart}
 use Rattle.weak_books.specs.Laws.OpenedLaws.{onlyAt-trans, onlyAt-of-label, openedTo-skip, openedTo-suc}
 use Rattle.weak_books.specs.Laws.DepthLaws.{openedTo-zero, openedBefore-suc}
@@ -29,6 +28,9 @@ open-actions-requires c κs =
         ),
       ),
     )
+
+cast-open-rows : tie.Need-cast-open-rows
+cast-open-rows c = search needs
 
 open-rows-requires : tie.Need-open-rows-requires
 open-rows-requires c κs =
@@ -73,6 +75,7 @@ open-depth-spec =
     (tie.spec
     sets-at-rank-requires
     open-actions-requires
+    cast-open-rows
     open-rows-requires
     join-each-requires
     same-length

@@ -6,7 +6,7 @@ use Rattle.text.specs.Limits.{bookLength}
 use Rattle.text.specs.Lists.{Past}
 use Rattle.text.specs.Laws.ListsLaws.{past-refl, past-trans}
 use Rattle.silent.specs.Labelled.{LabelMove}
-use Rattle.weak_books.specs.Inner.Targets.{LowerSets}
+use Rattle.weak_books.specs.Inner.RankSets.{LowerSets}
 use Rattle.weak_books.specs.Inner.Opened.{OpenedBefore}
 use Rattle.weak_books.specs.Laws.DepthLaws.{openedBefore-at}
 use Rattle.weak_books.proofs.book.open_depths.Statement.{statement}

@@ -5,7 +5,7 @@ use native.Mathlib.Omega.{arith}
 use borrow.Author.Needs.{needs}
 use lib.ListN.{length}
 use Rattle.text.specs.Limits.{stateLimit}
-use Rattle.weak_books.specs.Inner.Targets.{JoinedBelow}
+use Rattle.weak_books.specs.Inner.RankSets.{JoinedBelow}
 use Rattle.weak_books.specs.Laws.RankedLaws.{joinedBelow-zero, joinedBelow-suc, joinedBelow-at}
 use Rattle.weak_books.proofs.ranked.join_each.Statement.{statement}
 use Rattle.weak_books.proofs.ranked.join_each.Tie as tie

@@ -2,7 +2,7 @@
 use Prim.Native.Nat.{_≤_, _-_}
 use native.Mathlib.Omega.{arith}
 use borrow.Author.Needs.{needs}
-use Rattle.weak_books.specs.Inner.Targets.{AtRank}
+use Rattle.weak_books.specs.Inner.RankSets.{AtRank}
 use Rattle.weak_books.specs.Laws.RankedLaws.{atRank-zero, atRank-suc, atRank-at}
 use Rattle.weak_books.proofs.ranked.sets_at_rank.Statement.{statement}
 use Rattle.weak_books.proofs.ranked.sets_at_rank.Tie as tie

@@ -5,7 +5,7 @@ use Prim.Native.Nat.{ℕ, _≤_, _<_, _-_}
 use native.Mathlib.Omega.{arith}
 use lib.ListN.{length}
 use Rattle.text.specs.Limits.{stateLimit}
-use Rattle.comparing.specs.Laws.MarksLaws.{getD-zeros}
+use Rattle.text.specs.Laws.ListLaws.{getD-zeros}
 use Rattle.weak_ranks.specs.Inner.Dividing.{DividedUpTo, AtState}
 use Rattle.weak_ranks.specs.Laws.DividingLaws.{divided-zero, divided-leadClasses, divided-by}
 use Rattle.weak_ranks.specs.Laws.LeadLaws.{divided-own, at-state}

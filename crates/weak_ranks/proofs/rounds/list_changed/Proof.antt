@@ -4,7 +4,7 @@ use mathlib.Core.Path.{_≡_, sym, _∙_, subst}
 use Prim.Native.Nat.{ℕ, _≤_, _<_, _-_}
 use native.Mathlib.Omega.{arith}
 use lib.ListN.{length}
-use Rattle.parts.specs.Inner.Numbering.{Changed}
+use Rattle.ranking.specs.Inner.ClassList.{Changed}
 use Rattle.weak_ranks.specs.Laws.ChangedLaws.{changed-zero, changed-skip, changed-more}
 use borrow.Author.Needs.{needs}
 use Rattle.weak_ranks.proofs.rounds.list_changed.Statement.{statement}

@@ -1,6 +1,6 @@
 -- The classes are refined, and the rows of the states that changed are written.
 use native.Mathlib.Omega.{arith}
-use Rattle.parts.specs.Laws.NextLaws.{changed-count-le}
+use Rattle.ranking.specs.Laws.ClassListLaws.{changed-count-le}
 use Rattle.ranking.specs.Laws.RoundsLaws.{round-classes, round-ranks}
 use Rattle.silent.specs.Laws.LabelledLaws.{labelMove-target-lt}
 use Rattle.weak_ranks.specs.Laws.RoundLaws.{leads-separate}

@@ -10,7 +10,7 @@ use Rattle.lts.specs.Alike.{Moves}
 use Rattle.lts.specs.Game.{Separates}
 use Rattle.lts.specs.ClassesLaws.{rounds-lt}
 use Rattle.text.specs.Limits.{stateLimit}
-use Rattle.comparing.specs.Laws.MarksLaws.{getD-zeros}
+use Rattle.text.specs.Laws.ListLaws.{getD-zeros}
 use Rattle.silent.specs.Labelled.{LabelMove}
 use Rattle.silent.specs.Laws.LabelledLaws.{labelMove-game}
 use Rattle.ranking.specs.Inner.ClassList.{Classes}

@@ -1,0 +1,4 @@
+pub mod Held
+pub mod HeldTests
+pub mod Inner
+pub mod Laws

@@ -1,0 +1,136 @@
+// The sets of a pool, found by their slots.
+use crate::POOL_LENGTH;
+use crate::SLOTS_LENGTH;
+use comparing::lists::wide;
+use comparing::stores::put;
+use sets::SETS_LENGTH;
+use sets::set::Set;
+use sets::set::either;
+use sets::set::is_empty;
+use sets::set::only;
+use sets::set::put_set;
+use sets::set::set_at;
+use text::State;
+use text::limits::ACTION_LIMIT;
+use text::limits::ROW;
+use text::limits::STATE_LIMIT;
+ghost use mathlib.Core.Logic.{_⊎_};
+ghost use mathlib.Core.Path.{_≡_};
+ghost use Prim.Native.Nat.{ℕ, _+_, _≤_, _<_};
+ghost use lib.ListN.{getD};
+ghost use Rattle.lts.specs.Weak.{silentLabel};
+ghost use Rattle.text.specs.Decides.{Decides};
+ghost use Rattle.text.specs.Limits.{stateLimit, actionLimit};
+ghost use Rattle.sets.specs.Inner.SetValues.{SetOf};
+ghost use Rattle.held.specs.Held.{rowCount, poolSets, slotPlace, targetRow, HeldAt};
+ghost use Rattle.held.specs.Inner.Slots.{Pooled, Separate, RowsKept, RowHeld, SetHeld, MemberAdded};
+
+// The row of the targets of moves with the label a.
+pub fn target_row(a: u16) -> u16
+    requires { ⌜ (a < actionLimit) ⊎ (a ≡ silentLabel) ⌝ }
+    ensures { λ r. ⌜ (r ≡ targetRow a) × (r + 1 < rowCount) ⌝ }
+{
+    if a < ACTION_LIMIT {
+        return 2 * a;
+    }
+    2 * ACTION_LIMIT
+}
+
+// The slot of p in a row.
+fn slot_place(row: u16, p: State) -> usize
+    requires { ⌜ (row < rowCount) × (p .0 < stateLimit) ⌝ }
+    ensures { λ r. ⌜ r ≡ slotPlace row (p .0) ⌝ }
+{
+    ROW * row as usize + p.0 as usize
+}
+
+// The set of p in a row.
+pub fn held(slots: &[u16; SLOTS_LENGTH], pool: &[u64; POOL_LENGTH], row: u16, p: State) -> Set
+    requires { ⌜ (row < rowCount) × (p .0 < stateLimit) × ((i : ℕ) → getD (now slots) i 0 < poolSets) ⌝ }
+    ensures { λ r. ⌜ SetOf (HeldAt (now (slots .entry)) (now (pool .entry)) row (p .0)) r ⌝ }
+{
+    let at = slot_place(row, p);
+    set_at(pool, wide(slots[at]))
+}
+
+// Whether p has a set of its own in a row. If not, its set there has no member.
+pub fn is_held(slots: &[u16; SLOTS_LENGTH], row: u16, p: State) -> bool
+    requires { ⌜ (row < rowCount) × (p .0 < stateLimit) ⌝ }
+    ensures { λ r. ⌜ Decides r (¬ (getD (now (slots .entry)) (slotPlace row (p .0)) 0 ≡ 0)) ⌝ }
+{
+    let at = slot_place(row, p);
+    slots[at] != 0
+}
+
+// Gives p in a row a free set for s, and yields the next free set; no members need none.
+fn hold_set(
+    row: u16,
+    p: State,
+    s: Set,
+    used: u16,
+    slots: &mut [u16; SLOTS_LENGTH],
+    pool: &mut [u64; POOL_LENGTH],
+) -> u16
+    requires { ⌜ (row < rowCount) × (p .0 < stateLimit) × (used < poolSets) ⌝ }
+    requires { ⌜ Pooled used (now slots) (now pool) ⌝ }
+    ensures { λ r. ⌜ SetHeld row (p .0) s (now (slots .entry)) (now (pool .entry)) (now (slots .exit))
+        (now (pool .exit)) ⌝ }
+    ensures { λ r. ⌜ (used ≤ r) × (r ≤ used + 1) × Pooled r (now (slots .exit)) (now (pool .exit)) ⌝ }
+{
+    let at = slot_place(row, p);
+    if is_empty(s) {
+        put(slots, at, 0);
+        return used;
+    }
+    put(slots, at, used);
+    put_set(pool, used as usize, s);
+    used + 1
+}
+
+// Gives each state in a row its set of a list. Yields the next free set.
+pub fn hold_row(
+    sets: &[u64; SETS_LENGTH],
+    row: u16,
+    used: u16,
+    slots: &mut [u16; SLOTS_LENGTH],
+    pool: &mut [u64; POOL_LENGTH],
+) -> u16
+    requires { ⌜ (row < rowCount) × (used + stateLimit ≤ poolSets) × Pooled used (now slots) (now pool) ⌝ }
+    ensures { λ r. ⌜ RowHeld (now (sets .entry)) row stateLimit (now (slots .exit)) (now (pool .exit)) ⌝ }
+    ensures { λ r. ⌜ RowsKept row (now (slots .entry)) (now (pool .entry)) (now (slots .exit)) (now (pool .exit)) ⌝ }
+    ensures { λ r. ⌜ (used ≤ r) × (r ≤ used + stateLimit) × Pooled r (now (slots .exit)) (now (pool .exit)) ⌝ }
+{
+    let mut next = used;
+    for p in 0..STATE_LIMIT {
+        let s = set_at(sets, p as usize);
+        next = hold_set(row, State(p), s, next, slots, pool);
+    }
+    next
+}
+
+// Adds x to the set of p in a row, in a free set if it has none. Yields the next free set.
+pub fn add_held(
+    row: u16,
+    p: State,
+    x: State,
+    used: u16,
+    slots: &mut [u16; SLOTS_LENGTH],
+    pool: &mut [u64; POOL_LENGTH],
+) -> u16
+    requires { ⌜ (row < rowCount) × (p .0 < stateLimit) × (x .0 < stateLimit) × (used < poolSets) ⌝ }
+    requires { ⌜ Separate used (now slots) (now pool) ⌝ }
+    ensures { λ r. ⌜ MemberAdded row (p .0) (x .0) (now (slots .entry)) (now (pool .entry)) (now (slots .exit))
+        (now (pool .exit)) ⌝ }
+    ensures { λ r. ⌜ (used ≤ r) × (r ≤ used + 1) × Separate r (now (slots .exit)) (now (pool .exit)) ⌝ }
+{
+    let at = slot_place(row, p);
+    let slot = wide(slots[at]);
+    if slot == 0 {
+        put(slots, at, used);
+        put_set(pool, used as usize, only(x.0));
+        return used + 1;
+    }
+    let s = set_at(pool, slot);
+    put_set(pool, slot, either(s, only(x.0)));
+    used
+}

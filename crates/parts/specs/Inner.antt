@@ -1,3 +1,0 @@
-pub mod Reps
-pub mod Leads
-pub mod Numbering

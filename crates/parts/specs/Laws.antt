@@ -1,8 +1,0 @@
-pub mod RepsLaws
-pub mod LeadSearchLaws
-pub mod LeadsLaws
-pub mod LedLaws
-pub mod KeepersLaws
-pub mod NumberingLaws
-pub mod NextLaws
-pub mod RenumberedLaws

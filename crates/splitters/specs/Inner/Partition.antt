@@ -1,0 +1,109 @@
+-- A partition of n states on its way through a round: the number of each state's class, and each class as a set. Only
+-- the contracts of inner functions cite it.
+use mathlib.Core.List.{List}
+use mathlib.Core.Logic.{_⊎_}
+use mathlib.Core.Path.{_≡_}
+use Prim.Native.Nat.{ℕ, _≤_, _<_}
+use lib.Dec.{ltb}
+use lib.ListN.{getD}
+use Rattle.text.specs.Limits.{stateLimit}
+use Rattle.comparing.specs.Inner.Numbered.{Same}
+use Rattle.sets.specs.Inner.Sets.{Member}
+use Rattle.sets.specs.Inner.SetValues.{In}
+use Rattle.sets.specs.declared.set.Set.{Set}
+use Rattle.held.specs.Held.{chosen}
+use Rattle.ranking.specs.Inner.TableWrites.{entryOf, SeparatedBy, Outside}
+
+-- `classes` classes, none without a state; `together` has the states whose class has another.
+pub record Partition (n : ℕ) (class members : List ℕ) (classes : ℕ) (together : Set) : Type 0 where
+  pub classes-le : classes ≤ n
+  pub class-lt : (p : ℕ) → p < n → getD class p 0 < classes
+  pub member : (p : ℕ) → p < n → Member members (getD class p 0) p
+  pub member-only : (c p : ℕ) → c < classes → Member members c p → (p < n) × (getD class p 0 ≡ c)
+  pub some : (c : ℕ) → c < classes → (p : ℕ) × (p < n) × (getD class p 0 ≡ c)
+  pub together-all : (p q : ℕ) → p < n → q < n → Same class p q → ¬ (p ≡ q) → In together p
+  pub together-lt : (p : ℕ) → In together p → p < n
+
+-- The sets of the classes alone.
+pub record ClassSets (n : ℕ) (class members : List ℕ) : Type 0 where
+  pub class-lt : (p : ℕ) → p < n → getD class p 0 < stateLimit
+  pub alike : (p q : ℕ) → p < n → q < n → Same class p q → Member members (getD class p 0) q
+  pub only : (p q : ℕ) → p < n → Member members (getD class p 0) q → (q < n) × Same class p q
+
+-- ---- what a split does
+
+-- `next` divides each class into the states that P holds of and the others.
+pub record SplitBy (n : ℕ) (P : ℕ → Type 0) (class next : List ℕ) : Type 0 where
+  pub same-before : (p q : ℕ) → p < n → q < n → Same next p q → Same class p q
+  pub same-side : (p q : ℕ) → p < n → q < n → Same next p q → P p → P q
+  pub stay : (p q : ℕ) → p < n → q < n → Same class p q → (P p → P q) → (P q → P p) → Same next p q
+
+-- The class that class c was a part of when the round began, with `old` classes: a new one has noted it.
+abbrev pub home : ℕ → List ℕ → ℕ → ℕ
+home old origin c = chosen (ltb c old) c (getD origin c 0)
+
+-- Each state is still a part of the class that it was in when the round began.
+pub record HomesKept (n old : ℕ) (origin class origin′ class′ : List ℕ) : Type 0 where
+  pub same : (p : ℕ) → p < n → home old origin′ (getD class′ p 0) ≡ home old origin (getD class p 0)
+
+-- Entries of two states that were of one class and are no more have the round's number, and no other has changed.
+pub record RoundWritten (n : ℕ) (class next : List ℕ) (round : ℕ) (entry exit : List ℕ) : Type 0 where
+  pub written : (p q : ℕ) → p < n → q < n → SeparatedBy class next p q → entryOf exit p q ≡ round
+  pub kept : (p q : ℕ) → p < n → q < n → ¬ (SeparatedBy class next p q) → entryOf exit p q ≡ entryOf entry p q
+  pub outside : Outside n entry exit
+
+-- A split by P in a round that began with `old` classes.
+pub record Split (n old round : ℕ) (P : ℕ → Type 0) (class origin table class′ origin′ table′ : List ℕ) : Type 0 where
+  pub by : SplitBy n P class class′
+  pub homes : HomesKept n old origin class origin′ class′
+  pub table-is : RoundWritten n class class′ round table table′
+
+-- A split by P, and one of the states that P holds of by Q.
+pub record SplitTwice (n old round : ℕ) (P Q : ℕ → Type 0) (class origin table class′ origin′ table′ : List ℕ) : Type 0
+  where
+    pub same-before : (p q : ℕ) → p < n → q < n → Same class′ p q → Same class p q
+    pub one : (p q : ℕ) → p < n → q < n → Same class′ p q → P p → P q
+    pub other : (p q : ℕ) → p < n → q < n → Same class′ p q → P p → Q p → Q q
+    pub stay : (p q : ℕ) → p < n → q < n → Same class p q → (P p → P q) → (P q → P p) → (Q p → Q q) → (Q q → Q p)
+        → Same class′ p q
+    pub homes : HomesKept n old origin class origin′ class′
+    pub table-is : RoundWritten n class class′ round table table′
+
+-- ---- inner steps
+
+-- One of p and q is in the one set, and one in the other.
+abbrev pub Across : Set → Set → ℕ → ℕ → Type 0
+Across a b p q = (In a p × In b q) ⊎ (In b p × In a q)
+
+-- The entries of p and q, both ways, have the round's number, and no other has changed.
+pub record PairWritten (p q round : ℕ) (entry exit : List ℕ) : Type 0 where
+  pub there : entryOf exit p q ≡ round
+  pub back : entryOf exit q p ≡ round
+  pub kept : (x y : ℕ) → y < stateLimit → ¬ ((x ≡ p) × (y ≡ q)) → ¬ ((x ≡ q) × (y ≡ p))
+      → entryOf exit x y ≡ entryOf entry x y
+
+-- The same of p and each state of the set.
+pub record BesideWritten (p : ℕ) (others : Set) (round : ℕ) (entry exit : List ℕ) : Type 0 where
+  pub there : (q : ℕ) → In others q → entryOf exit p q ≡ round
+  pub back : (q : ℕ) → In others q → entryOf exit q p ≡ round
+  pub kept : (x y : ℕ) → y < stateLimit → ¬ ((x ≡ p) × In others y) → ¬ (In others x × (y ≡ p))
+      → entryOf exit x y ≡ entryOf entry x y
+
+-- Entries across have the round's number, and no other has changed.
+pub record AcrossWritten (a b : Set) (round : ℕ) (entry exit : List ℕ) : Type 0 where
+  pub written : (p q : ℕ) → Across a b p q → entryOf exit p q ≡ round
+  pub kept : (p q : ℕ) → q < stateLimit → ¬ (Across a b p q) → entryOf exit p q ≡ entryOf entry p q
+
+-- The states of the set have got the class c, and the others are in theirs.
+pub record Moved (s : Set) (c : ℕ) (entry exit : List ℕ) : Type 0 where
+  pub moved : (p : ℕ) → In s p → getD exit p 0 ≡ c
+  pub kept : (p : ℕ) → ¬ (In s p) → getD exit p 0 ≡ getD entry p 0
+
+-- Class c falls into two parts with states.
+pub record TwoParts (members : List ℕ) (c : ℕ) (part rest : Set) : Type 0 where
+  pub part-in : (p : ℕ) → In part p → Member members c p
+  pub rest-in : (p : ℕ) → In rest p → Member members c p
+  pub apart : (p : ℕ) → In part p → ¬ (In rest p)
+  pub all : (p : ℕ) → Member members c p → In part p ⊎ In rest p
+  pub some-part : (p : ℕ) × In part p
+  pub some-rest : (p : ℕ) × In rest p

@@ -1,0 +1,125 @@
+-- A round: classes are divided by the moves to the classes that the round before made. A class that it left as it was
+-- divides nothing more: states of one class have moves to it together. Of what it divided, one part kept the number,
+-- and a state has a move to that part or to a new one if the states of its class have one to the whole; so the part that
+-- kept the number matters only to states that have a move to a new one. Only the contracts of inner functions cite it.
+use mathlib.Core.List.{List}
+use mathlib.Core.Path.{_≡_}
+use Prim.Native.Nat.{ℕ, _+_, _-_, _≤_, _<_}
+use lib.ListN.{getD}
+use Rattle.lts.specs.Alike.{Moves}
+use Rattle.text.specs.Limits.{stateLimit}
+use Rattle.comparing.specs.Inner.Numbered.{Same}
+use Rattle.sets.specs.Inner.Sets.{Member}
+use Rattle.sets.specs.Inner.SetValues.{In}
+use Rattle.sets.specs.declared.set.Set.{Set}
+use Rattle.held.specs.Held.{slotPlace, targetRow, sourceRow, HeldAt}
+use Rattle.ranking.specs.Inner.ClassList.{Classes, Refined, RoundSeparates}
+use Rattle.ranking.specs.Inner.TableWrites.{RanksUpTo, Outside}
+use Rattle.splitters.specs.Inner.Partition.{Partition, home, HomesKept, RoundWritten}
+
+-- Classes from `first` on are new, and have noted what they were a part of. States of one class have moves together to
+-- each other class with what was divided off it.
+pub record Stable (Move : Moves) (n first : ℕ) (class origin : List ℕ) : Type 0 where
+  pub together : (p q a t : ℕ) → p < n → q < n → Same class p q → Move p a t → getD class t 0 < first
+      → (u : ℕ) × Move q a u × (home first origin (getD class u 0) ≡ getD class t 0)
+
+-- The new classes, and the classes that they were divided off, as sets.
+pub record Fresh (first classes : ℕ) (members origin fresh rest : List ℕ) : Type 0 where
+  pub fresh-in : (j p : ℕ) → first ≤ j → j < classes → Member fresh j p → Member members j p
+  pub fresh-all : (j p : ℕ) → first ≤ j → j < classes → Member members j p → Member fresh j p
+  pub rest-in : (j p : ℕ) → first ≤ j → j < classes → Member rest j p → Member members (getD origin j 0) p
+  pub rest-all : (j p : ℕ) → first ≤ j → j < classes → Member members (getD origin j 0) p → Member rest j p
+
+-- ---- sets of states
+
+-- p has a member of the set in its own set of this row.
+pub record LeadsInto (slots pool : List ℕ) (row : ℕ) (s : Set) (p : ℕ) : Type 0 where
+  pub target : ℕ
+  pub held : HeldAt slots pool row p target
+  pub in-set : In s target
+
+-- p is in the set of a member of the set in this row.
+pub record LedFrom (slots pool : List ℕ) (row : ℕ) (s : Set) (p : ℕ) : Type 0 where
+  pub target : ℕ
+  pub in-set : In s target
+  pub held : HeldAt slots pool row target p
+
+-- Set q has the number of each label, in the list, of a move into q.
+pub record Into (labels : List ℕ) (count : ℕ) (slots into : List ℕ) : Type 0 where
+  pub noted : (i q : ℕ) → i < count → q < stateLimit
+      → ¬ (getD slots (slotPlace (sourceRow (getD labels i 0)) q) 0 ≡ 0) → Member into q i
+
+-- The sets have got this number for each state below `to` with a set of its own in the row, and have kept theirs.
+pub record RowNoted (slots : List ℕ) (row i to : ℕ) (entry exit : List ℕ) : Type 0 where
+  pub noted : (q : ℕ) → q < to → ¬ (getD slots (slotPlace row q) 0 ≡ 0) → Member exit q i
+  pub kept : (q x : ℕ) → Member entry q x → Member exit q x
+
+-- i is in a set of a member of the set.
+pub record InSome (sets : List ℕ) (of : Set) (i : ℕ) : Type 0 where
+  pub state : ℕ
+  pub in-set : In of state
+  pub member : Member sets state i
+
+-- ---- splits by moves to the new classes
+
+-- p has a move of this row into set j: of the new classes, or of those that they were divided off.
+abbrev pub IntoFresh : List ℕ → List ℕ → ℕ → List ℕ → ℕ → ℕ → Type 0
+IntoFresh slots pool row sets j p = (t : ℕ) × HeldAt slots pool row p t × Member sets j t
+
+-- Each such move of p is one of q, with labels and new classes that Used holds of.
+pub record SameMoves (slots pool : List ℕ) (Used : ℕ → ℕ → Type 0) (fresh rest : List ℕ) (p q : ℕ) : Type 0 where
+  pub to-fresh : (j a : ℕ) → Used j a → IntoFresh slots pool (targetRow a) fresh j p
+      → IntoFresh slots pool (targetRow a) fresh j q
+  pub to-rest : (j a : ℕ) → Used j a → IntoFresh slots pool (targetRow a) rest j p
+      → IntoFresh slots pool (targetRow a) rest j q
+
+-- `next` divides the classes by the moves with the labels and to the new classes that Used holds of, and keeps together
+-- what has the same such moves, whatever they are.
+pub record SplitUnder (n : ℕ) (slots pool : List ℕ) (Used : ℕ → ℕ → Type 0) (fresh rest class next : List ℕ) : Type 0
+  where
+    pub same-before : (p q : ℕ) → p < n → q < n → Same next p q → Same class p q
+    pub one : (j a p q : ℕ) → Used j a → p < n → q < n → Same next p q → IntoFresh slots pool (targetRow a) fresh j p
+        → IntoFresh slots pool (targetRow a) fresh j q
+    pub other : (j a p q : ℕ) → Used j a → p < n → q < n → Same next p q → IntoFresh slots pool (targetRow a) fresh j p
+        → IntoFresh slots pool (targetRow a) rest j p → IntoFresh slots pool (targetRow a) rest j q
+    pub stay : (p q : ℕ) → p < n → q < n → Same class p q → SameMoves slots pool Used fresh rest p q
+        → SameMoves slots pool Used fresh rest q p → Same next p q
+
+-- New class j has been used with each label of the list.
+abbrev pub UsedClass : ℕ → List ℕ → ℕ → ℕ → ℕ → Type 0
+UsedClass j labels count k b = (k ≡ j) × ((l : ℕ) × (l < count) × (getD labels l 0 ≡ b))
+
+-- So have those from `first` up to j.
+abbrev pub UsedLabels : ℕ → ℕ → List ℕ → ℕ → ℕ → ℕ → Type 0
+UsedLabels first j labels count k b = (first ≤ k) × (k < j) × ((l : ℕ) × (l < count) × (getD labels l 0 ≡ b))
+
+-- All that a round's splits do, with the labels and to the new classes that Used holds of.
+pub record UsedSplit (n old round : ℕ) (slots pool : List ℕ) (Used : ℕ → ℕ → Type 0)
+    (fresh rest class origin table class′ origin′ table′ : List ℕ) : Type 0 where
+  pub under : SplitUnder n slots pool Used fresh rest class class′
+  pub homes : HomesKept n old origin class origin′ class′
+  pub table-is : RoundWritten n class class′ round table table′
+
+-- ---- rounds
+
+-- What a round finds after k of them: the classes of k-alike states, and the ranks up to k.
+pub record Ready (Move : Moves) (n k first : ℕ) (class members origin : List ℕ) (classes : ℕ) (together : Set)
+    (table : List ℕ) : Type 0 where
+  pub are-classes : Classes Move n k class
+  pub partition : Partition n class members classes together
+  pub stable : Stable Move n first class origin
+  pub origin-lt : (j : ℕ) → first ≤ j → j < classes → getD origin j 0 < classes
+  pub first-le : first ≤ classes
+  pub rounds-lt : k < classes
+  pub ranks : RanksUpTo Move n k table
+
+-- What it leaves: the same one round later, unless it separates nothing, and which of the two. Only the entries of two
+-- states have changed.
+pub record Rounded (Move : Moves) (n k : ℕ) (class next members origin : List ℕ) (classes classes′ : ℕ) (together : Set)
+    (entry exit : List ℕ) : Type 0 where
+  pub refined : Refined Move n class next
+  pub classes-le : classes ≤ classes′
+  pub ranks : RanksUpTo Move n (k + 1) exit
+  pub outside : Outside n entry exit
+  pub separates : RoundSeparates Move n k (classes′ - classes)
+  pub ready : classes < classes′ → Ready Move n (k + 1) classes next members origin classes′ together exit

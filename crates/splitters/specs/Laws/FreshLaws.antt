@@ -1,0 +1,52 @@
+-- Sets of a list noted one by one: those of the new classes, and those that the new ones were divided off.
+-- Assumes nothing.
+use mathlib.Core.List.{List}
+use mathlib.Core.Logic.{_⊎_, inl, inr}
+use mathlib.Core.Path.{_≡_, sym, subst}
+use Prim.Native.Nat.{ℕ, _+_, _≤_, _<_}
+use native.Mathlib.Omega.{arith}
+use lib.ListN.{getD}
+use Rattle.lts.specs.TestsLaws.{eq-or-not}
+use Rattle.sets.specs.Inner.Sets.{Member}
+use Rattle.sets.specs.Inner.SetValues.{SetOf, SetPut}
+use Rattle.sets.specs.declared.set.Set.{Set}
+use Rattle.splitters.specs.Inner.Splitters.{Fresh}
+
+-- Set k of the list, from `first` up to j, has the members that Is k holds of.
+pub record Noted (Is : ℕ → ℕ → Type 0) (first j : ℕ) (sets : List ℕ) : Type 0 where
+  pub all : (k p : ℕ) → first ≤ k → k < j → Is k p → Member sets k p
+  pub only : (k p : ℕ) → first ≤ k → k < j → Member sets k p → Is k p
+
+module _ {Is : ℕ → ℕ → Type 0} {first : ℕ} where
+  pub noted-none : {sets : List ℕ} → Noted Is first first sets
+  noted-none = record {
+    all = λ k p l h. absurd (omega (arith, l, h));
+    only = λ k p l h. absurd (omega (arith, l, h));
+  }
+
+  pub noted-next : {j : ℕ} {sets sets′ : List ℕ} {s : Set} → Noted Is first j sets → SetOf (Is j) s
+      → SetPut j s sets sets′ → Noted Is first (j + 1) sets′
+  noted-next {j} {sets} {sets′} f m a = record {
+    all = λ k p l h i. all k p l h i (eq-or-not k j);
+    only = λ k p l h i. only k p l h i (eq-or-not k j);
+  }
+    where
+      all : (k p : ℕ) → first ≤ k → k < j + 1 → Is k p → (k ≡ j) ⊎ ¬ (k ≡ j) → Member sets′ k p
+      all k p l h i (inl e) = subst (λ (x : ℕ). Member sets′ x p) (sym e)
+          (a .put .only p (m .all p (subst (λ (x : ℕ). Is x p) e i)))
+      all k p l h i (inr d) = a .kept k p d (f .all k p l (omega (arith, h, d)) i)
+
+      only : (k p : ℕ) → first ≤ k → k < j + 1 → Member sets′ k p → (k ≡ j) ⊎ ¬ (k ≡ j) → Is k p
+      only k p l h i (inl e) = subst (λ (x : ℕ). Is x p) (sym e)
+          (m .only p (a .put .all p (subst (λ (x : ℕ). Member sets′ x p) e i)))
+      only k p l h i (inr d) = f .only k p l (omega (arith, h, d)) (a .only k p d i)
+
+pub fresh-of-noted : {first j classes : ℕ} {members origin fresh rest : List ℕ} → classes ≤ j
+    → Noted (Member members) first j fresh → Noted (λ k. Member members (getD origin k 0)) first j rest
+    → Fresh first classes members origin fresh rest
+fresh-of-noted l f g = record {
+  fresh-in = λ k p a h. f .only k p a (omega (arith, l, h));
+  fresh-all = λ k p a h. f .all k p a (omega (arith, l, h));
+  rest-in = λ k p a h. g .only k p a (omega (arith, l, h));
+  rest-all = λ k p a h. g .all k p a (omega (arith, l, h));
+}

@@ -1,0 +1,207 @@
+-- Sets of states that are gone through from the least state on: what is found so far, and what is left.
+-- Assumes nothing.
+use mathlib.Core.List.{List}
+use mathlib.Core.Logic.{_⊎_, inl, inr}
+use mathlib.Core.Path.{_≡_, sym, subst}
+use Prim.Native.Nat.{ℕ, _≤_, _<_}
+use native.Mathlib.Omega.{arith}
+use Rattle.lts.specs.TestsLaws.{eq-or-not}
+use Rattle.text.specs.Limits.{stateLimit}
+use Rattle.sets.specs.Inner.Sets.{Member}
+use Rattle.sets.specs.Inner.SetValues.{In, SetOf, Least, GreatestOf}
+use Rattle.sets.specs.Laws.SetValuesLaws.{in-or-not}
+use Rattle.sets.specs.declared.set.Set.{Set}
+use Rattle.held.specs.Held.{HeldAt, Turned}
+use Rattle.splitters.specs.Inner.Splitters.{InSome, LeadsInto, LedFrom}
+use Rattle.splitters.specs.Laws.WalkLaws.{none-of-least}
+
+-- ---- all that members of a set have
+
+-- The members of the set but those that are left are gone through.
+pub record JointTo (slots pool : List ℕ) (row : ℕ) (set left found : Set) : Type 0 where
+  pub all : (t x : ℕ) → In set t → HeldAt slots pool row t x → In found x ⊎ In left t
+  pub only : (x : ℕ) → In found x → LedFrom slots pool row set x
+  pub left-in : (t : ℕ) → In left t → In set t
+
+module _ {slots pool : List ℕ} {row : ℕ} {set : Set} where
+  pub jointTo-start : {found : Set} → SetOf (λ x. ⊥) found → JointTo slots pool row set set found
+  jointTo-start none = record {
+    all = λ t x i h. inr i;
+    only = λ x i. absurd (none .only x i);
+    left-in = λ t i. i;
+  }
+
+  pub jointTo-next : {left left′ found found′ own : Set} {t : ℕ} → JointTo slots pool row set left found → In left t
+      → SetOf (HeldAt slots pool row t) own → SetOf (λ x. In found x ⊎ In own x) found′
+      → SetOf (λ x. In left x × ¬ (x ≡ t)) left′ → JointTo slots pool row set left′ found′
+  jointTo-next {left} {left′} {found} {found′} {own} {t} j i o u w = record {
+    all = λ z x m h. all z x h (j .all z x m h) (eq-or-not z t);
+    only = λ x m. only x (u .only x m);
+    left-in = λ z m. j .left-in z (w .only z m .0);
+  }
+    where
+      all : (z x : ℕ) → HeldAt slots pool row z x → In found x ⊎ In left z → (z ≡ t) ⊎ ¬ (z ≡ t)
+          → In found′ x ⊎ In left′ z
+      all z x h (inl m) b = inl (u .all x (inl m))
+      all z x h (inr m) (inl e) =
+          inl (u .all x (inr (o .all x (subst (λ (y : ℕ). HeldAt slots pool row y x) e h))))
+      all z x h (inr m) (inr d) = inr (w .all z (m, d))
+
+      only : (x : ℕ) → In found x ⊎ In own x → LedFrom slots pool row set x
+      only x (inl m) = j .only x m
+      only x (inr m) = record { target = t; in-set = j .left-in t i; held = o .only x m }
+
+  pub jointTo-end : {left found : Set} {t : ℕ} → JointTo slots pool row set left found → Least left t → stateLimit ≤ t
+      → SetOf (LedFrom slots pool row set) found
+  jointTo-end {left} {found} j l h = record {
+    all = λ x m. all x (j .all (m .target) x (m .in-set) (m .held));
+    only = j .only;
+  }
+    where
+      all : {t : ℕ} (x : ℕ) → In found x ⊎ In left t → In found x
+      all x (inl i) = i
+      all {t} x (inr i) = absurd (none-of-least l h t i)
+
+-- The same of the sets of a list.
+pub record UnionTo (sets : List ℕ) (of left found : Set) : Type 0 where
+  pub all : (q x : ℕ) → In of q → Member sets q x → In found x ⊎ In left q
+  pub only : (x : ℕ) → In found x → InSome sets of x
+  pub left-in : (q : ℕ) → In left q → In of q
+
+module _ {sets : List ℕ} {of : Set} where
+  pub unionTo-start : {found : Set} → SetOf (λ x. ⊥) found → UnionTo sets of of found
+  unionTo-start none = record {
+    all = λ q x i h. inr i;
+    only = λ x i. absurd (none .only x i);
+    left-in = λ q i. i;
+  }
+
+  pub unionTo-next : {left left′ found found′ own : Set} {q : ℕ} → UnionTo sets of left found → In left q
+      → SetOf (Member sets q) own → SetOf (λ x. In found x ⊎ In own x) found′
+      → SetOf (λ x. In left x × ¬ (x ≡ q)) left′ → UnionTo sets of left′ found′
+  unionTo-next {left} {left′} {found} {found′} {own} {q} j i o u w = record {
+    all = λ z x m h. all z x h (j .all z x m h) (eq-or-not z q);
+    only = λ x m. only x (u .only x m);
+    left-in = λ z m. j .left-in z (w .only z m .0);
+  }
+    where
+      all : (z x : ℕ) → Member sets z x → In found x ⊎ In left z → (z ≡ q) ⊎ ¬ (z ≡ q) → In found′ x ⊎ In left′ z
+      all z x h (inl m) b = inl (u .all x (inl m))
+      all z x h (inr m) (inl e) = inl (u .all x (inr (o .all x (subst (λ (y : ℕ). Member sets y x) e h))))
+      all z x h (inr m) (inr d) = inr (w .all z (m, d))
+
+      only : (x : ℕ) → In found x ⊎ In own x → InSome sets of x
+      only x (inl m) = j .only x m
+      only x (inr m) = record { state = q; in-set = j .left-in q i; member = o .only x m }
+
+  pub unionTo-end : {left found : Set} {q : ℕ} → UnionTo sets of left found → Least left q → stateLimit ≤ q
+      → SetOf (InSome sets of) found
+  unionTo-end {left} {found} j l h = record {
+    all = λ x m. all x (j .all (m .state) x (m .in-set) (m .member));
+    only = j .only;
+  }
+    where
+      all : {q : ℕ} (x : ℕ) → In found x ⊎ In left q → In found x
+      all x (inl i) = i
+      all {q} x (inr i) = absurd (none-of-least l h q i)
+
+-- ---- those that lead into a goal
+
+-- Of the set, those that lead into the goal are found or left.
+pub record LeadingTo (slots pool : List ℕ) (row : ℕ) (set goal left found : Set) : Type 0 where
+  pub all : (x : ℕ) → In set x → LeadsInto slots pool row goal x → In found x ⊎ In left x
+  pub only : (x : ℕ) → In found x → LeadsInto slots pool row goal x
+
+-- What p tells of is left no more, p itself among it, and those of it that lead into the goal are found.
+pub record Tells (slots pool : List ℕ) (row : ℕ) (goal : Set) (p : ℕ) (found left found′ left′ : Set) : Type 0 where
+  pub less : (x : ℕ) → In left′ x → In left x × ¬ (x ≡ p)
+  pub kept : (x : ℕ) → In found x → In found′ x
+  pub all : (x : ℕ) → In left x → LeadsInto slots pool row goal x → In found′ x ⊎ In left′ x
+  pub only : (x : ℕ) → In found′ x → In found x ⊎ LeadsInto slots pool row goal x
+
+module _ {slots pool : List ℕ} {row : ℕ} {goal : Set} where
+  -- No target of p is in the goal: p tells of itself alone.
+  pub tells-none : {p t : ℕ} {own common found left left′ : Set} → SetOf (HeldAt slots pool row p) own
+      → SetOf (λ x. In own x × In goal x) common → GreatestOf common t → stateLimit ≤ t
+      → SetOf (λ x. In left x × ¬ (x ≡ p)) left′ → Tells slots pool row goal p found left found left′
+  tells-none {p} {t} {own} {common} {found} {left} {left′} o b g h s = record {
+    less = s .only;
+    kept = λ x i. i;
+    all = λ x i l. all x i l (eq-or-not x p);
+    only = λ x i. inl i;
+  }
+    where
+      none : (y : ℕ) → HeldAt slots pool row p y → In goal y → ⊥
+      none y m i = omega (arith, h, g .none-after y (b .all y (o .all y m, i)))
+
+      all : (x : ℕ) → In left x → LeadsInto slots pool row goal x → (x ≡ p) ⊎ ¬ (x ≡ p) → In found x ⊎ In left′ x
+      all x i l (inl e) =
+          absurd (none (l .target) (subst (λ (y : ℕ). HeldAt slots pool row y (l .target)) e (l .held)) (l .in-set))
+      all x i l (inr d) = inr (s .all x (i, d))
+
+  -- A target t of p is: all that lead to t are told, p among them.
+  pub tells-some : {p t back : ℕ} {own common told found left found′ left′ : Set} → Turned slots pool row back
+      → p < stateLimit → SetOf (HeldAt slots pool row p) own → SetOf (λ x. In own x × In goal x) common
+      → GreatestOf common t → t < stateLimit → SetOf (HeldAt slots pool back t) told
+      → SetOf (λ x. In found x ⊎ In told x) found′ → SetOf (λ x. In left x × ¬ (In told x)) left′
+      → Tells slots pool row goal p found left found′ left′
+  tells-some {p} {t} {back} {own} {common} {told} {found} {left} {found′} {left′} turned k o b g h s u w = record {
+    less = λ x i. (w .only x i .0, λ e. w .only x i .1 (subst (In told) (sym e) p-told));
+    kept = λ x i. u .all x (inl i);
+    all = λ x i l. all x i (in-or-not told x);
+    only = λ x i. only x (u .only x i);
+  }
+    where
+      p-told : In told p
+      p-told = s .all p (turned .there p t k (o .only t (b .only t (g .member h) .0)))
+
+      all : (x : ℕ) → In left x → In told x ⊎ ¬ (In told x) → In found′ x ⊎ In left′ x
+      all x i (inl m) = inl (u .all x (inr m))
+      all x i (inr d) = inr (w .all x (i, d))
+
+      only : (x : ℕ) → In found x ⊎ In told x → In found x ⊎ LeadsInto slots pool row goal x
+      only x (inl i) = inl i
+      only x (inr i) = inr (record {
+        target = t;
+        held = turned .again x t h (s .only x i);
+        in-set = b .only t (g .member h) .1;
+      })
+
+  -- The same of equal sets.
+  pub tells-eq : {p : ℕ} {found left found′ left′ found″ left″ : Set} → found″ ≡ found′ → left″ ≡ left′
+      → Tells slots pool row goal p found left found′ left′ → Tells slots pool row goal p found left found″ left″
+  tells-eq e d t = rw (e, d) t
+
+  module _ {set : Set} where
+    pub leadingTo-start : {found : Set} → SetOf (λ x. ⊥) found → LeadingTo slots pool row set goal set found
+    leadingTo-start none = record {
+      all = λ x i l. inr i;
+      only = λ x i. absurd (none .only x i);
+    }
+
+    pub leadingTo-next : {left left′ found found′ : Set} {p : ℕ} → LeadingTo slots pool row set goal left found
+        → Tells slots pool row goal p found left found′ left′ → LeadingTo slots pool row set goal left′ found′
+    leadingTo-next {left} {left′} {found} {found′} a t = record {
+      all = λ x i l. all x l (a .all x i l);
+      only = λ x i. only x (t .only x i);
+    }
+      where
+        all : (x : ℕ) → LeadsInto slots pool row goal x → In found x ⊎ In left x → In found′ x ⊎ In left′ x
+        all x l (inl i) = inl (t .kept x i)
+        all x l (inr i) = t .all x i l
+
+        only : (x : ℕ) → In found x ⊎ LeadsInto slots pool row goal x → LeadsInto slots pool row goal x
+        only x (inl i) = a .only x i
+        only x (inr l) = l
+
+    pub leadingTo-end : {left found r : Set} {p : ℕ} → LeadingTo slots pool row set goal left found → Least left p
+        → stateLimit ≤ p → SetOf (λ x. In found x × In set x) r
+        → SetOf (λ x. In set x × LeadsInto slots pool row goal x) r
+    leadingTo-end {left} {found} a l h b = record {
+      all = λ x m. b .all x (found-in x (a .all x (m .0) (m .1)), m .0);
+      only = λ x m. (b .only x m .1, a .only x (b .only x m .0));
+    }
+      where
+        found-in : (x : ℕ) → In found x ⊎ In left x → In found x
+        found-in x (inl i) = i
+        found-in x (inr i) = absurd (none-of-least l h x i)

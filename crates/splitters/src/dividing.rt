@@ -1,0 +1,231 @@
+// A partition split by a set of states.
+use crate::Parts;
+use crate::writing::move_states;
+use crate::writing::write_across;
+use comparing::lists::class_at;
+use comparing::stores::put;
+use sets::SETS_LENGTH;
+use sets::set::Set;
+use sets::set::both;
+use sets::set::is_empty;
+use sets::set::least;
+use sets::set::only;
+use sets::set::put_set;
+use sets::set::set_at;
+use sets::set::size;
+use sets::set::without;
+use text::State;
+use text::limits::ROW;
+use text::limits::STATE_LIMIT;
+ghost use mathlib.Core.Path.{_≡_};
+ghost use Prim.Native.Nat.{ℕ, _+_, _≤_, _<_};
+ghost use lib.ListN.{length, getD};
+ghost use Rattle.text.specs.Limits.{stateLimit, tableLength};
+ghost use Rattle.sets.specs.Inner.SetValues.{In, SetOf};
+ghost use Rattle.splitters.specs.Inner.Partition.{Partition, TwoParts, Split, home};
+
+// The class that class c was a part of when the round began.
+fn home_of(old: u16, origin: &[u16; ROW], c: u16) -> u16
+    requires { ⌜ c < stateLimit ⌝ }
+    ensures { λ r. ⌜ r ≡ home old (now (origin .entry)) c ⌝ }
+{
+    if c < old {
+        return c;
+    }
+    let at = c as usize;
+    origin[at]
+}
+
+// The set without its members, if it has only one.
+fn alone(together: Set, s: Set) -> Set
+    ensures { λ r. ⌜ ((x : ℕ) → In r x → In together x) ⌝ }
+    ensures { λ r. ⌜ ((x : ℕ) → In together x → ¬ (In r x) → In s x × ((y : ℕ) → In s y → y ≡ x)) ⌝ }
+{
+    let x = least(s);
+    if x >= STATE_LIMIT {
+        return together;
+    }
+    let one = only(x);
+    if !is_empty(without(s, one)) {
+        return together;
+    }
+    without(together, one)
+}
+
+// Makes the one part of class c a class of its own: the states of `moved` get the next number.
+fn divide(
+    n: u16,
+    c: u16,
+    moved: Set,
+    kept: Set,
+    old: u16,
+    round: u8,
+    parts: Parts,
+    class: &mut [u16; ROW],
+    members: &mut [u64; SETS_LENGTH],
+    origin: &mut [u16; ROW],
+    table: &mut [u8],
+) -> Parts
+    requires { ⌜ (n ≤ stateLimit) × (c < parts .classes) × (old ≤ parts .classes)
+        × (tableLength ≤ length (now table)) ⌝ }
+    requires { ⌜ Partition n (now class) (now members) (parts .classes) (parts .together) ⌝ }
+    requires { ⌜ TwoParts (now members) c moved kept ⌝ }
+    ensures { λ r. ⌜ Partition n (now (class .exit)) (now (members .exit)) (r .classes) (r .together)
+        × (r .classes ≡ parts .classes + 1) ⌝ }
+    ensures { λ r. ⌜ Split n old round (In moved) (now (class .entry)) (now (origin .entry)) (now (table .entry))
+        (now (class .exit)) (now (origin .exit)) (now (table .exit)) ⌝ }
+{
+    let to = parts.classes;
+    let from = home_of(old, origin, c);
+    put(origin, to as usize, from);
+    move_states(moved, to, class);
+    put_set(members, to as usize, moved);
+    put_set(members, c as usize, kept);
+    write_across(table, moved, kept, round);
+    let together = alone(alone(parts.together, moved), kept);
+    Parts {
+        classes: to + 1,
+        together,
+    }
+}
+
+// The same, where the part with fewer states moves.
+fn divide_less(
+    n: u16,
+    c: u16,
+    part: Set,
+    rest: Set,
+    old: u16,
+    round: u8,
+    parts: Parts,
+    class: &mut [u16; ROW],
+    members: &mut [u64; SETS_LENGTH],
+    origin: &mut [u16; ROW],
+    table: &mut [u8],
+) -> Parts
+    requires { ⌜ (n ≤ stateLimit) × (c < parts .classes) × (old ≤ parts .classes)
+        × (tableLength ≤ length (now table)) ⌝ }
+    requires { ⌜ Partition n (now class) (now members) (parts .classes) (parts .together) ⌝ }
+    requires { ⌜ TwoParts (now members) c part rest ⌝ }
+    ensures { λ r. ⌜ Partition n (now (class .exit)) (now (members .exit)) (r .classes) (r .together)
+        × (r .classes ≡ parts .classes + 1) ⌝ }
+    ensures { λ r. ⌜ Split n old round (In part) (now (class .entry)) (now (origin .entry)) (now (table .entry))
+        (now (class .exit)) (now (origin .exit)) (now (table .exit)) ⌝ }
+{
+    if size(rest) < size(part) {
+        return divide(
+            n,
+            c,
+            rest,
+            part,
+            old,
+            round,
+            parts,
+            class,
+            members,
+            origin,
+            table,
+        );
+    }
+    divide(
+        n,
+        c,
+        part,
+        rest,
+        old,
+        round,
+        parts,
+        class,
+        members,
+        origin,
+        table,
+    )
+}
+
+// Splits class c by a set.
+fn split_class(
+    n: u16,
+    c: u16,
+    set: Set,
+    old: u16,
+    round: u8,
+    parts: Parts,
+    class: &mut [u16; ROW],
+    members: &mut [u64; SETS_LENGTH],
+    origin: &mut [u16; ROW],
+    table: &mut [u8],
+) -> Parts
+    requires { ⌜ (n ≤ stateLimit) × (c < parts .classes) × (old ≤ parts .classes)
+        × (tableLength ≤ length (now table)) ⌝ }
+    requires { ⌜ Partition n (now class) (now members) (parts .classes) (parts .together) ⌝ }
+    ensures { λ r. ⌜ Partition n (now (class .exit)) (now (members .exit)) (r .classes) (r .together)
+        × (parts .classes ≤ r .classes) ⌝ }
+    ensures { λ r. ⌜ Split n old round (λ p. (getD (now (class .entry)) p 0 ≡ c) × In set p) (now (class .entry))
+        (now (origin .entry)) (now (table .entry)) (now (class .exit)) (now (origin .exit)) (now (table .exit)) ⌝ }
+{
+    let whole = set_at(members, c as usize);
+    let part = both(whole, set);
+    if is_empty(part) {
+        return parts;
+    }
+    let rest = without(whole, set);
+    if is_empty(rest) {
+        return parts;
+    }
+    divide_less(
+        n,
+        c,
+        part,
+        rest,
+        old,
+        round,
+        parts,
+        class,
+        members,
+        origin,
+        table,
+    )
+}
+
+// Splits each class by a set.
+pub fn split(
+    n: u16,
+    set: Set,
+    old: u16,
+    round: u8,
+    parts: Parts,
+    class: &mut [u16; ROW],
+    members: &mut [u64; SETS_LENGTH],
+    origin: &mut [u16; ROW],
+    table: &mut [u8],
+) -> Parts
+    requires { ⌜ (n ≤ stateLimit) × (old ≤ parts .classes) × (tableLength ≤ length (now table)) ⌝ }
+    requires { ⌜ Partition n (now class) (now members) (parts .classes) (parts .together) ⌝ }
+    ensures { λ r. ⌜ Partition n (now (class .exit)) (now (members .exit)) (r .classes) (r .together)
+        × (parts .classes ≤ r .classes) ⌝ }
+    ensures { λ r. ⌜ Split n old round (In set) (now (class .entry)) (now (origin .entry)) (now (table .entry))
+        (now (class .exit)) (now (origin .exit)) (now (table .exit)) ⌝ }
+{
+    let mut parts = parts;
+    let mut left = both(set, parts.together);
+    let mut p = least(left);
+    while p < STATE_LIMIT {
+        let c = class_at(class, State(p));
+        let whole = set_at(members, c.0 as usize);
+        left = without(left, whole);
+        parts = split_class(
+            n,
+            c.0,
+            set,
+            old,
+            round,
+            parts,
+            class,
+            members,
+            origin,
+            table,
+        );
+        p = least(left);
+    }
+    parts
+}

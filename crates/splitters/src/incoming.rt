@@ -1,0 +1,82 @@
+// Which labels lead into each state.
+use held::LABEL_COUNT;
+use held::POOL_LENGTH;
+use held::SLOTS_LENGTH;
+use held::slots::is_held;
+use held::slots::target_row;
+use sets::SETS_LENGTH;
+use sets::add_member;
+use sets::set::below;
+use sets::set::put_set;
+use text::State;
+use text::limits::ROW;
+use text::limits::STATE_LIMIT;
+ghost use Prim.Native.Nat.{ℕ, _≤_, _<_};
+ghost use Rattle.text.specs.Limits.{stateLimit};
+ghost use Rattle.sets.specs.Inner.Sets.{Member};
+ghost use Rattle.held.specs.Held.{rowCount, HeldList};
+ghost use Rattle.splitters.specs.Inner.Splitters.{Into, RowNoted};
+
+// Up to so many labels are all noted.
+const FEW: u16 = 16;
+
+// Notes the label of number i, whose sources stand in this row, for each state that its moves lead to.
+fn note_label(slots: &[u16; SLOTS_LENGTH], row: u16, i: u16, into: &mut [u64; SETS_LENGTH])
+    requires { ⌜ (row < rowCount) × (i < stateLimit) ⌝ }
+    ensures { λ _. ⌜ RowNoted (now (slots .entry)) row i stateLimit (now (into .entry)) (now (into .exit)) ⌝ }
+{
+    for q in 0..STATE_LIMIT {
+        if is_held(slots, row, State(q)) {
+            add_member(into, State(q), i);
+        }
+    }
+}
+
+// Notes all labels of the list for each state, whether their moves lead there or not.
+fn note_all(count: u16, into: &mut [u64; SETS_LENGTH])
+    requires { ⌜ count ≤ stateLimit ⌝ }
+    ensures { λ _. ⌜ ((i q : ℕ) → i < count → q < stateLimit → Member (now (into .exit)) q i) ⌝ }
+{
+    let all = below(count);
+    for q in 0..ROW {
+        put_set(into, q, all);
+    }
+}
+
+// Notes each label of the list for each state that its moves lead to.
+fn note_each(
+    n: u16,
+    labels: &[u16; LABEL_COUNT],
+    count: u16,
+    slots: &[u16; SLOTS_LENGTH],
+    pool: &[u64; POOL_LENGTH],
+    into: &mut [u64; SETS_LENGTH],
+)
+    requires { ⌜ HeldList n (now labels) count (now slots) (now pool) ⌝ }
+    ensures { λ _. ⌜ Into (now (labels .entry)) count (now (slots .entry)) (now (into .exit)) ⌝ }
+{
+    for i in 0..count {
+        let at = i as usize;
+        let row = target_row(labels[at]) + 1;
+        note_label(slots, row, i, into);
+    }
+}
+
+// The same; of few labels it costs less to look at each than to note which lead where.
+pub fn note_labels(
+    n: u16,
+    labels: &[u16; LABEL_COUNT],
+    count: u16,
+    slots: &[u16; SLOTS_LENGTH],
+    pool: &[u64; POOL_LENGTH],
+    into: &mut [u64; SETS_LENGTH],
+)
+    requires { ⌜ HeldList n (now labels) count (now slots) (now pool) ⌝ }
+    ensures { λ _. ⌜ Into (now (labels .entry)) count (now (slots .entry)) (now (into .exit)) ⌝ }
+{
+    if count <= FEW {
+        note_all(count, into);
+        return;
+    }
+    note_each(n, labels, count, slots, pool, into);
+}

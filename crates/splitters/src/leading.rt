@@ -1,0 +1,83 @@
+// Which states have moves into a set of states.
+use held::POOL_LENGTH;
+use held::SLOTS_LENGTH;
+use held::slots::held;
+use sets::SETS_LENGTH;
+use sets::set::Set;
+use sets::set::both;
+use sets::set::drop_least;
+use sets::set::either;
+use sets::set::greatest;
+use sets::set::least;
+use sets::set::none;
+use sets::set::set_at;
+use sets::set::without;
+use text::State;
+use text::limits::STATE_LIMIT;
+ghost use Prim.Native.Nat.{ℕ, _<_};
+ghost use lib.ListN.{getD};
+ghost use Rattle.sets.specs.Inner.SetValues.{In, SetOf};
+ghost use Rattle.held.specs.Held.{rowCount, poolSets, Turned};
+ghost use Rattle.splitters.specs.Inner.Splitters.{InSome, LeadsInto, LedFrom};
+
+// All members of the sets, in this row, of the members of a set.
+pub fn joint(slots: &[u16; SLOTS_LENGTH], pool: &[u64; POOL_LENGTH], row: u16, set: Set) -> Set
+    requires { ⌜ (row < rowCount) × ((i : ℕ) → getD (now slots) i 0 < poolSets) ⌝ }
+    ensures { λ r. ⌜ SetOf (LedFrom (now (slots .entry)) (now (pool .entry)) row set) r ⌝ }
+{
+    let mut found = none();
+    let mut left = set;
+    let mut t = least(left);
+    while t < STATE_LIMIT {
+        found = either(found, held(slots, pool, row, State(t)));
+        left = drop_least(left);
+        t = least(left);
+    }
+    found
+}
+
+// All members of the sets, in a list, of the members of a set.
+pub fn union(sets: &[u64; SETS_LENGTH], of: Set) -> Set
+    ensures { λ r. ⌜ SetOf (InSome (now (sets .entry)) of) r ⌝ }
+{
+    let mut found = none();
+    let mut left = of;
+    let mut q = least(left);
+    while q < STATE_LIMIT {
+        found = either(found, set_at(sets, q as usize));
+        left = drop_least(left);
+        q = least(left);
+    }
+    found
+}
+
+// Those of a set that have a move into a goal: `row` has the targets, and `back` the sources. A target in the goal
+// tells of all that lead to it, and the greatest of many.
+pub fn leading(
+    slots: &[u16; SLOTS_LENGTH],
+    pool: &[u64; POOL_LENGTH],
+    row: u16,
+    back: u16,
+    set: Set,
+    goal: Set,
+) -> Set
+    requires { ⌜ (row < rowCount) × (back < rowCount) × ((i : ℕ) → getD (now slots) i 0 < poolSets) ⌝ }
+    requires { ⌜ Turned (now slots) (now pool) row back ⌝ }
+    ensures { λ r. ⌜ SetOf (λ p. In set p × LeadsInto (now (slots .entry)) (now (pool .entry)) row goal p) r ⌝ }
+{
+    let mut found = none();
+    let mut left = set;
+    let mut p = least(left);
+    while p < STATE_LIMIT {
+        let t = greatest(both(held(slots, pool, row, State(p)), goal));
+        if t < STATE_LIMIT {
+            let told = held(slots, pool, back, State(t));
+            found = either(found, told);
+            left = without(left, told);
+        } else {
+            left = drop_least(left);
+        }
+        p = least(left);
+    }
+    both(found, set)
+}

@@ -1,0 +1,13 @@
+// Ranks by splitters: a round divides the classes by the moves to the classes that the round before made, as sets.
+pub mod dividing;
+pub mod incoming;
+pub mod leading;
+pub mod refining;
+pub mod rounds;
+pub mod writing;
+
+// How many classes there are, and the states whose class has another state.
+pub struct Parts {
+    pub classes: u16,
+    pub together: sets::set::Set,
+}

@@ -1,3 +1,0 @@
-pub mod StateSets
-pub mod Chains
-pub mod Touched

@@ -1,4 +1,0 @@
-pub mod ChainsLaws
-pub mod ConverseLaws
-pub mod StateSetsLaws
-pub mod TogetherLaws

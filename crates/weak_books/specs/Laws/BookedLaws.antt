@@ -1,0 +1,75 @@
+-- Round by round the table gets the ranks and the book the entries. Document 02, (v) and (vii). Assumes nothing.
+use mathlib.Core.List.{List}
+use mathlib.Core.Path.{_≡_, refl, sym, _∙_, subst}
+use Prim.Native.Nat.{ℕ, _+_, _≤_, _<_}
+use native.Mathlib.Omega.{arith}
+use lib.ListN.{length, getD}
+use borrow.Author.Count.{below-more}
+use Rattle.lts.specs.Alike.{Moves, Answers}
+use Rattle.text.specs.Limits.{stateLimit}
+use Rattle.text.specs.Laws.ListsLaws.{past-refl, past-trans}
+use Rattle.comparing.specs.Inner.Numbered.{Same}
+use Rattle.sets.specs.Inner.Sets.{Member}
+use Rattle.sets.specs.declared.set.Set.{Set}
+use Rattle.ranking.specs.Inner.TableWrites.{SeparatedBy, RanksUpTo, Finished}
+use Rattle.ranking.specs.Laws.TableWritesLaws.{outside-refl, outside-trans}
+use Rattle.splitters.specs.Inner.Partition.{Partition, ClassSets}
+use Rattle.splitters.specs.Inner.Splitters.{Rounded}
+use Rattle.splitters.specs.Laws.RoundLaws.{ready-zero}
+use Rattle.weak_books.specs.Inner.Entering.{Entered, Parted, BookUpTo, Booked}
+use Rattle.weak_books.specs.Laws.BookUpToLaws.{bookUpTo-suc}
+
+pub classSets-of-partition : {n : ℕ} {class members : List ℕ} {classes : ℕ} {together : Set} → n ≤ stateLimit
+    → Partition n class members classes together → ClassSets n class members
+classSets-of-partition {n} {class} {members} limit P = record {
+  class-lt = λ p lp. omega (arith, P .class-lt p lp, P .classes-le, limit);
+  alike = λ p q lp lq e. subst (λ (c : ℕ). Member members c q) (sym e) (P .member q lq);
+  only = λ p q lp m. let h = P .member-only (getD class p 0) q (P .class-lt p lp) m in (h .0, sym (h .1));
+}
+
+pub booked-zero : {Move : Moves} {n : ℕ} {table book class members origin : List ℕ} {classes : ℕ} {together : Set}
+    → classes ≡ 1 → ((p : ℕ) → getD class p 0 ≡ 0) → ((j : ℕ) → getD origin j 0 ≡ 0)
+    → Partition n class members classes together → RanksUpTo Move n 0 table → BookUpTo Move n 0 book
+    → Booked Move n 0 0 table table book book class members origin classes together
+booked-zero {table = table} {book} {origin = origin} e z o P U B = record {
+  ready = ready-zero origin e z o P U;
+  separates = λ j l. absurd (omega (arith, l));
+  outside = outside-refl table;
+  table-length = refl;
+  entries = B;
+  past = past-refl book;
+}
+
+module _ {Move : Moves} {n k first : ℕ} {table₀ table book₀ book class members origin : List ℕ} {classes : ℕ}
+    {together : Set} (B : Booked Move n k first table₀ table book₀ book class members origin classes together)
+    {table′ next members′ origin′ : List ℕ} {classes′ : ℕ} {together′ : Set}
+    (R : Rounded Move n k class next members′ origin′ classes classes′ together′ table table′) where
+  -- What the round separates does not answer each other.
+  pub separated-not-answers : (p q : ℕ) → p < n → q < n → SeparatedBy class next p q
+      → ¬ (Answers Move (Same class) p q)
+  separated-not-answers p q lp lq s a = s .not-same-after (R .refined .same-of-answers p q lp lq (s .same-before) a)
+
+  -- With its entries, a round that separates a pair leaves the same one round later.
+  pub booked-suc : {book′ : List ℕ} → ((p a q : ℕ) → p < n → Move p a q → q < n) → n ≤ stateLimit → classes < classes′
+      → length table′ ≡ length table → Entered Move class (k + 1) (Parted n class next) book book′
+      → Booked Move n (k + 1) classes table₀ table′ book₀ book′ next members′ origin′ classes′ together′
+  booked-suc target-lt states-le more e W =
+      let Y = R .ready more in
+      record {
+        ready = Y;
+        separates = below-more _ k (B .separates) (R .separates .separates (omega (arith, more)));
+        outside = outside-trans (B .outside) (R .outside);
+        table-length = e ∙ B .table-length;
+        entries = bookUpTo-suc (B .ready .are-classes) (B .ready .ranks) target-lt states-le (Y .are-classes) W
+            (B .entries);
+        past = past-trans (B .past) (W .past);
+      }
+
+  -- Another one is the last.
+  pub finished-of-booked : classes′ ≡ classes → Finished Move n k table₀ table′
+  finished-of-booked e = record {
+    ranks = R .ranks;
+    separates = B .separates;
+    settled = R .separates .settled (omega (arith, e));
+    outside = outside-trans (B .outside) (R .outside);
+  }

@@ -1,0 +1,138 @@
+-- Of two states that do not answer each other inside the classes one opens, and the first openings of both make their
+-- entries. Assumes nothing.
+use mathlib.Core.Bool.{Bool, not}
+use mathlib.Core.List.{List}
+use mathlib.Core.Logic.{_⊎_, inl, inr}
+use mathlib.Core.Path.{_≡_, refl, sym, ap, _∙_, subst}
+use Prim.Native.Nat.{ℕ, _≤_, _<_}
+use native.Mathlib.Omega.{arith}
+use borrow.Author.Tests.{lt-ltb, le-ltb}
+use lib.Dec.{T, T-not, eqb, eqb→eq}
+use lib.ListN.{getD}
+use Rattle.lts.specs.Alike.{Moves, Answers}
+use Rattle.lts.specs.AlikeLaws.{answers-map}
+use Rattle.lts.specs.Game.{Opening as Unanswered, by-first, by-second, Game}
+use Rattle.lts.specs.Book.{Entry, Opens, Plays, first-opens, second-opens}
+use Rattle.lts.specs.BookLaws.{opens-map, plays-side-pos, opens-of-first}
+use Rattle.lts.specs.TestsLaws.{T-cases, T-eqb, lt-or-le}
+use Rattle.text.specs.Limits.{stateLimit, pairPlace}
+use Rattle.text.specs.Laws.ListsLaws.{past-trans}
+use Rattle.comparing.specs.Inner.Numbered.{Same}
+use Rattle.books.specs.Inner.Filling.{EntryWritten}
+use Rattle.weak_books.specs.declared.opening.Opening.{Opening}
+use Rattle.weak_books.specs.Inner.Entering.{Apart, FirstOpening, sideEntry, openingEntry, EntryApart, PairEntered}
+use Rattle.weak_books.specs.Laws.FilledLaws.{action-lowest, target-lowest}
+
+-- ---- the entry of two openings
+
+pub openingEntry-first : (one other : Opening) (depth : ℕ) → one .target < stateLimit
+    → record { side = 1; action = one .label; target = one .target; depth = depth } ≡ openingEntry one other depth
+openingEntry-first one other depth l =
+    ap (λ (b : Bool). sideEntry b one other depth) (sym (lt-ltb (one .target) stateLimit l))
+
+pub openingEntry-second : (one other : Opening) (depth : ℕ) → stateLimit ≤ one .target
+    → record { side = 2; action = other .label; target = other .target; depth = depth } ≡ openingEntry one other depth
+openingEntry-second one other depth l =
+    ap (λ (b : Bool). sideEntry b one other depth) (sym (le-ltb (one .target) stateLimit l))
+
+pub entryWritten-as : {k : ℕ} {e f : Entry} {book book′ : List ℕ} → e ≡ f → EntryWritten k e book book′
+    → EntryWritten k f book book′
+entryWritten-as {k} {book = book} {book′} z = subst (λ (x : Entry). EntryWritten k x book book′) z
+
+-- ---- one of the two opens
+
+answers-sym : (Move : Moves) (class : List ℕ) {p q : ℕ} → Answers Move (Same class) p q → Answers Move (Same class) q p
+answers-sym Move class h = record {
+  there = λ a q′ m. let r = h .back a q′ m in (r .0, r .1, sym (r .2));
+  back = λ a p′ m. let r = h .there a p′ m in (r .0, r .1, sym (r .2));
+}
+
+-- An opening of either side.
+abbrev EitherOpens : Moves → List ℕ → ℕ → ℕ → Type 0
+EitherOpens Move class p q =
+    ((a : ℕ) × (t : ℕ) × Opens Move (Apart class) p q a t) ⊎ ((a : ℕ) × (t : ℕ) × Opens Move (Apart class) q p a t)
+
+either-opens : {Move : Moves} {n : ℕ} {round : (ℕ → ℕ → Bool) → ℕ → ℕ → Bool} → Game Move n round → (class : List ℕ)
+    {p q : ℕ} → ¬ (Answers Move (Same class) p q) → EitherOpens Move class p q
+either-opens {Move} {round = round} G class {p} {q} d = go (T-cases (round same? p q))
+  where
+    same? : ℕ → ℕ → Bool
+    same? x y = eqb (getD class x 0) (getD class y 0)
+
+    opening : Unanswered Move same? p q → EitherOpens Move class p q
+    opening (by-first a t m f) =
+        inl (a, t, record { opening = m; answers = λ u w e. T-not (same? t u) (f u w) (T-eqb e) })
+    opening (by-second a t m f) =
+        inr (a, t, record { opening = m; answers = λ u w e. T-not (same? u t) (f u w) (T-eqb (sym e)) })
+
+    go : T (round same? p q) ⊎ T (not (round same? p q)) → EitherOpens Move class p q
+    go (inl t) = absurd (d (answers-map Move (λ x y. eqb→eq (getD class x 0) (getD class y 0))
+        (G .passes same? p q t)))
+    go (inr t) = opening (G .fails same? p q t)
+
+-- ---- its entry
+
+module _ {Move : Moves} {class : List ℕ} {p q : ℕ} {one other : Opening}
+    (F : FirstOpening Move class p q one) (S : FirstOpening Move class q p other) where
+  by-first-side : (depth : ℕ) → one .target < stateLimit → EntryApart Move class depth p q
+      (record { side = 1; action = one .label; target = one .target; depth = depth })
+  by-first-side depth l = record {
+    depth-is = refl;
+    opening = record {
+      plays = first-opens refl (F .opens l);
+      first-side = λ s b u x. omega (arith, plays-side-pos x);
+      lowest-action = λ b u x. action-lowest (λ c v o. F .first c v o .1) b u (opens-of-first refl x);
+      lowest-target = λ u x. target-lowest (λ c v o. F .first c v o .1) u (opens-of-first refl x);
+    };
+  }
+
+  -- The second side opens where the first does not.
+  only-second : stateLimit ≤ one .target → (s b u : ℕ) → Plays Move (Apart class) p q s b u
+      → (s ≡ 2) × Opens Move (Apart class) q p b u
+  only-second l s b u (first-opens e o) = absurd (omega (arith, l, F .first b u o .0))
+  only-second l s b u (second-opens e o) = (e, opens-map (λ m. m) (λ u m. m) (λ x y d e. d (sym e)) o)
+
+  by-second-side : (depth : ℕ) → stateLimit ≤ one .target → other .target < stateLimit
+      → EntryApart Move class depth p q
+      (record { side = 2; action = other .label; target = other .target; depth = depth })
+  by-second-side depth l k = record {
+    depth-is = refl;
+    opening = record {
+      plays = second-opens refl (opens-map (λ m. m) (λ u m. m) (λ x y d e. d (sym e)) (S .opens k));
+      first-side = λ s b u x. omega (arith, only-second l s b u x .0);
+      lowest-action = λ b u x. action-lowest (λ c v o. S .first c v o .1) b u (only-second l 2 b u x .1);
+      lowest-target = λ u x. target-lowest (λ c v o. S .first c v o .1) u (only-second l 2 _ u x .1);
+    };
+  }
+
+  pub entryApart-of-first : {n : ℕ} {round : (ℕ → ℕ → Bool) → ℕ → ℕ → Bool} → Game Move n round
+      → ¬ (Answers Move (Same class) p q) → (depth : ℕ)
+      → EntryApart Move class depth p q (openingEntry one other depth)
+  entryApart-of-first G d depth = go (lt-or-le (one .target) stateLimit) (either-opens G class d)
+    where
+      go : (one .target < stateLimit) ⊎ (stateLimit ≤ one .target) → EitherOpens Move class p q
+          → EntryApart Move class depth p q (openingEntry one other depth)
+      go (inl l) _ =
+          subst (EntryApart Move class depth p q) (openingEntry-first one other depth l) (by-first-side depth l)
+      go (inr l) (inl (a, t, o)) = absurd (omega (arith, l, F .first a t o .0))
+      go (inr l) (inr (a, t, o)) = subst (EntryApart Move class depth p q) (openingEntry-second one other depth l)
+          (by-second-side depth l (S .first a t o .0))
+
+-- ---- both entries of a pair
+
+pub pairEntered-of-first : {Move : Moves} {n : ℕ} {round : (ℕ → ℕ → Bool) → ℕ → ℕ → Bool} → Game Move n round
+    → {class : List ℕ} {p q depth : ℕ} {one other : Opening} {book book′ book″ : List ℕ}
+    → p < stateLimit → q < stateLimit → ¬ (p ≡ q) → ¬ (Answers Move (Same class) p q)
+    → FirstOpening Move class p q one → FirstOpening Move class q p other
+    → EntryWritten (pairPlace p q) (openingEntry one other depth) book book′
+    → EntryWritten (pairPlace q p) (openingEntry other one depth) book′ book″
+    → PairEntered Move class depth p q book book″
+pairEntered-of-first {Move} G {class} {p} {q} {depth} lp lq d a F S v w = record {
+  there = subst (EntryApart Move class depth p q)
+      (sym (w .kept (pairPlace p q) (λ e. d (omega (arith, e, lp, lq))) ∙ v .written))
+      (entryApart-of-first F S G a depth);
+  back = subst (EntryApart Move class depth q p) (sym (w .written))
+      (entryApart-of-first S F G (λ h. a (answers-sym Move class h)) depth);
+  kept = λ k f g. w .kept k g ∙ v .kept k f;
+  past = past-trans (v .past) (w .past);
+}

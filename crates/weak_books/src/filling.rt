@@ -1,0 +1,122 @@
+// Table and book of the moves that are held, round by round: an entry is found in the round that separates its pair,
+// while the classes before that round still stand.
+use crate::entering::enter_round;
+use held::LABEL_COUNT;
+use held::POOL_LENGTH;
+use held::SLOTS_LENGTH;
+use ranking::table::clear;
+use sets::SETS_LENGTH;
+use splitters::incoming::note_labels;
+use splitters::rounds::one_class;
+use splitters::rounds::round;
+use text::limits::BOOK_LENGTH;
+use text::limits::ROW;
+use text::limits::TABLE_LENGTH;
+ghost use Prim.Native.Nat.{_≤_};
+ghost use lib.ListN.{length};
+ghost use Rattle.text.specs.Limits.{tableLength, bookLength};
+ghost use Rattle.text.specs.Lists.{Past};
+ghost use Rattle.held.specs.Held.{HeldList, HeldMove};
+ghost use Rattle.ranking.specs.Table.{Ranked};
+ghost use Rattle.ranking.specs.Inner.TableWrites.{RanksUpTo, Finished};
+ghost use Rattle.books.specs.Books.{BookFilled};
+ghost use Rattle.weak_books.specs.Inner.Entering.{BookUpTo};
+
+// Goes round until a round separates no further pair, and yields the last round that did.
+fn book_rounds(
+    n: u16,
+    labels: &[u16; LABEL_COUNT],
+    count: u16,
+    slots: &[u16; SLOTS_LENGTH],
+    pool: &[u64; POOL_LENGTH],
+    table: &mut [u8],
+    book: &mut [u8],
+) -> u8
+    requires { ⌜ HeldList n (now labels) count (now slots) (now pool) ⌝ }
+    requires { ⌜ (tableLength ≤ length (now table)) × (bookLength ≤ length (now book)) ⌝ }
+    requires { ⌜ RanksUpTo (HeldMove (now labels) count (now slots) (now pool)) n 0 (now table) ⌝ }
+    requires { ⌜ BookUpTo (HeldMove (now labels) count (now slots) (now pool)) n 0 (now book) ⌝ }
+    ensures { λ r. ⌜ Finished (HeldMove (now (labels .entry)) count (now (slots .entry)) (now (pool .entry))) n r
+        (now (table .entry)) (now (table .exit)) ⌝ }
+    ensures { λ r. ⌜ BookUpTo (HeldMove (now (labels .entry)) count (now (slots .entry)) (now (pool .entry))) n r
+        (now (book .exit)) × Past bookLength (now (book .entry)) (now (book .exit)) ⌝ }
+{
+    let mut class = [0u16; ROW];
+    let mut members = [0u64; SETS_LENGTH];
+    let mut origin = [0u16; ROW];
+    let mut fresh = [0u64; SETS_LENGTH];
+    let mut rest = [0u64; SETS_LENGTH];
+    let mut before = [0u16; ROW];
+    let mut sets = [0u64; SETS_LENGTH];
+    let mut into = [0u64; SETS_LENGTH];
+    note_labels(n, labels, count, slots, pool, &mut into);
+    let mut parts = one_class(n, &mut members);
+    let mut first = 0;
+    let mut k = 0;
+    let last = loop {
+        let old = parts.classes;
+        let states = parts.together;
+        before = class;
+        sets = members;
+        let next = round(
+            n,
+            labels,
+            count,
+            slots,
+            pool,
+            &into,
+            k,
+            first,
+            parts,
+            &mut class,
+            &mut members,
+            &mut origin,
+            &mut fresh,
+            &mut rest,
+            table,
+        );
+        if next.classes == old {
+            break k;
+        }
+        k += 1;
+        enter_round(
+            n,
+            labels,
+            count,
+            slots,
+            pool,
+            &before,
+            &sets,
+            &class,
+            &members,
+            states,
+            k,
+            book,
+        );
+        first = old;
+        parts = next;
+    };
+    last
+}
+
+// Fills the table with the ranks and the book with the openings, and answers the last round that separated two states.
+pub fn fill_held_book(
+    n: u16,
+    labels: &[u16; LABEL_COUNT],
+    count: u16,
+    slots: &[u16; SLOTS_LENGTH],
+    pool: &[u64; POOL_LENGTH],
+    table: &mut [u8],
+    book: &mut [u8],
+) -> u8
+    requires { ⌜ HeldList n (now labels) count (now slots) (now pool) ⌝ }
+    requires { ⌜ (tableLength ≤ length (now table)) × (bookLength ≤ length (now book)) ⌝ }
+    ensures { λ r. ⌜ Ranked (HeldMove (now (labels .entry)) count (now (slots .entry)) (now (pool .entry))) n
+        (now (table .entry)) (now (table .exit)) r ⌝ }
+    ensures { λ r. ⌜ BookFilled (HeldMove (now (labels .entry)) count (now (slots .entry)) (now (pool .entry))) n
+        (now (book .entry)) (now (book .exit)) ⌝ }
+{
+    clear(table, TABLE_LENGTH);
+    clear(book, BOOK_LENGTH);
+    book_rounds(n, labels, count, slots, pool, table, book)
+}
