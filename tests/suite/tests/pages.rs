@@ -104,6 +104,9 @@ fn the_readme() {
         ("two_starts.txt", 1, 5),
         ("two_starts.page", 1, 14),
         ("wrapping.roll", 3, 5),
+        ("ticks_before_scan.txt", 1, 11),
+        ("ticks_before_scan.page", 1, 6),
+        ("tick_betrays.page", 1, 7),
     ] {
         let file = fs::read_to_string(root().join("examples").join(name)).expect("an example");
         let lines = file.lines().skip(first - 1).take(count);

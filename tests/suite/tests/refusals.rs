@@ -329,7 +329,7 @@ fn as_judged(store: &Store, before: &Lists, after: &Lists) {
     assert!(*after == expected, "{store}");
 }
 
-/// Word: 22 before 23 and 24, and 23 before 24.
+/// Word: 22 before 23 and 24, and 23 before 24; tests/ticks.rs has 36 between 23 and 24.
 #[test]
 fn word_in_order() {
     let mut rng = gen::seeded("refusals::word_in_order", SEED + 2);
