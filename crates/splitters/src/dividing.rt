@@ -36,7 +36,7 @@ fn home_of(old: u16, origin: &[u16; ROW], c: u16) -> u16
     origin[at]
 }
 
-// The set without its members, if it has only one.
+// The set `together` without the member of s, if s has just one.
 fn alone(together: Set, s: Set) -> Set
     ensures { λ r. ⌜ ((x : ℕ) → In r x → In together x) ⌝ }
     ensures { λ r. ⌜ ((x : ℕ) → In together x → ¬ (In r x) → In s x × ((y : ℕ) → In s y → y ≡ x)) ⌝ }

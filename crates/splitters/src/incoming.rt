@@ -62,7 +62,8 @@ fn note_each(
     }
 }
 
-// The same; of few labels it costs less to look at each than to note which lead where.
+// Notes, for each state, at least the labels that lead there: of few labels all, since it costs less to look at each
+// than to note which lead where.
 pub fn note_labels(
     n: u16,
     labels: &[u16; LABEL_COUNT],

@@ -20,7 +20,7 @@ ghost use Rattle.sets.specs.Inner.SetValues.{In, SetOf};
 ghost use Rattle.held.specs.Held.{rowCount, poolSets, Turned};
 ghost use Rattle.splitters.specs.Inner.Splitters.{InSome, LeadsInto, LedFrom};
 
-// All members of the sets, in this row, of the members of a set.
+// What the members of a set have together, in their sets of this row.
 pub fn joint(slots: &[u16; SLOTS_LENGTH], pool: &[u64; POOL_LENGTH], row: u16, set: Set) -> Set
     requires { ⌜ (row < rowCount) × ((i : ℕ) → getD (now slots) i 0 < poolSets) ⌝ }
     ensures { λ r. ⌜ SetOf (LedFrom (now (slots .entry)) (now (pool .entry)) row set) r ⌝ }
@@ -36,7 +36,7 @@ pub fn joint(slots: &[u16; SLOTS_LENGTH], pool: &[u64; POOL_LENGTH], row: u16, s
     found
 }
 
-// All members of the sets, in a list, of the members of a set.
+// What the members of a set have together, in their sets of a list.
 pub fn union(sets: &[u64; SETS_LENGTH], of: Set) -> Set
     ensures { λ r. ⌜ SetOf (InSome (now (sets .entry)) of) r ⌝ }
 {
@@ -52,7 +52,7 @@ pub fn union(sets: &[u64; SETS_LENGTH], of: Set) -> Set
 }
 
 // Those of a set that have a move into a goal: `row` has the targets, and `back` the sources. A target in the goal
-// tells of all that lead to it, and the greatest of many.
+// tells of all that lead to it; of several targets the greatest is taken.
 pub fn leading(
     slots: &[u16; SLOTS_LENGTH],
     pool: &[u64; POOL_LENGTH],

@@ -38,7 +38,7 @@ ghost use Rattle.weak_books.specs.Inner.Depths.{LowerAdded, OpensIn, Fir
 // One place for each value of a byte.
 const BYTE_VALUES: usize = 256;
 
-// Up to so many answers are tested one by one as fast.
+// So many answers are tested one by one no slower than by sets.
 const FEW: u32 = 3;
 
 // Chains entry k by its depth, if it is there.

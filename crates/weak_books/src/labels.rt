@@ -1,4 +1,5 @@
-// Table and book of steps by label, and the test of a book: by sets, or where these have no room, label by label.
+// Table and book of steps by label, and the test of a book: by sets, or label by label where these have no room, and
+// the test also where no opening has many answers.
 use crate::book::fill_label_book;
 use crate::check::check_label_book;
 use crate::depths::check_held_book;

@@ -1,4 +1,5 @@
-// Books of plays where steps are silent: the book of the moves' ranks, and the test of any book, label by label.
+// Books of plays where steps are silent: the book of the moves' ranks, and the test of any book, by sets or label by
+// label.
 pub mod book;
 pub mod check;
 pub mod depths;

@@ -27,7 +27,8 @@ pub record Changed (n : ℕ) (class next changed : List ℕ) (changes : ℕ) : T
       → (i : ℕ) × (i < changes) × (getD changed i 0 ≡ p)
   pub distinct : (i j : ℕ) → i < changes → j < changes → getD changed i 0 ≡ getD changed j 0 → i ≡ j
 
--- The round after k of them separates a pair exactly if a state changes its class.
+-- The round after k of them separates a pair exactly if there are changes: states that change their class, or further
+-- classes.
 pub record RoundSeparates (Move : Moves) (n k changes : ℕ) : Type 0 where
   pub settled : changes ≡ 0 → Settled Move n k
   pub separates : 0 < changes → Separates Move n k

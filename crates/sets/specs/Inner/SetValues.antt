@@ -1,5 +1,5 @@
--- Sets of numbers below 128 as values: two words of 64 bits, that of the lower numbers first. Only the contracts of inner
--- functions cite it.
+-- Sets of numbers below 128 as values: two words of 64 bits, that of the lower numbers first. Only the contracts of
+-- inner functions cite it.
 use mathlib.Core.List.{List}
 use mathlib.Core.Path.{_≡_}
 use Prim.Native.Nat.{ℕ, zero, suc, _/_, _%_, _^_, _≤_, _<_}

@@ -14,7 +14,7 @@ use Rattle.sets.specs.declared.set.Set.{Set}
 use Rattle.held.specs.Held.{chosen}
 use Rattle.ranking.specs.Inner.TableWrites.{entryOf, SeparatedBy, Outside}
 
--- `classes` classes, none without a state; `together` has the states whose class has another.
+-- `classes` classes, none without a state; `together` has at least the states whose class has another.
 pub record Partition (n : ℕ) (class members : List ℕ) (classes : ℕ) (together : Set) : Type 0 where
   pub classes-le : classes ≤ n
   pub class-lt : (p : ℕ) → p < n → getD class p 0 < classes
@@ -24,7 +24,7 @@ pub record Partition (n : ℕ) (class members : List ℕ) (classes : ℕ) (toget
   pub together-all : (p q : ℕ) → p < n → q < n → Same class p q → ¬ (p ≡ q) → In together p
   pub together-lt : (p : ℕ) → In together p → p < n
 
--- The sets of the classes alone.
+-- Set `class p` has just the states of the class of p.
 pub record ClassSets (n : ℕ) (class members : List ℕ) : Type 0 where
   pub class-lt : (p : ℕ) → p < n → getD class p 0 < stateLimit
   pub alike : (p q : ℕ) → p < n → q < n → Same class p q → Member members (getD class p 0) q
@@ -58,7 +58,8 @@ pub record Split (n old round : ℕ) (P : ℕ → Type 0) (class origin table cl
   pub homes : HomesKept n old origin class origin′ class′
   pub table-is : RoundWritten n class class′ round table table′
 
--- A split by P, and one of the states that P holds of by Q.
+-- A split by P, in which Q divides the states that P holds of, and may divide the others; what neither tells apart
+-- stays.
 pub record SplitTwice (n old round : ℕ) (P Q : ℕ → Type 0) (class origin table class′ origin′ table′ : List ℕ) : Type 0
   where
     pub same-before : (p q : ℕ) → p < n → q < n → Same class′ p q → Same class p q

@@ -1,7 +1,8 @@
 -- A round: classes are divided by the moves to the classes that the round before made. A class that it left as it was
 -- divides nothing more: states of one class have moves to it together. Of what it divided, one part kept the number,
--- and a state has a move to that part or to a new one if the states of its class have one to the whole; so the part that
--- kept the number matters only to states that have a move to a new one. Only the contracts of inner functions cite it.
+-- and a state has a move to that part or to a new one if the states of its class have one to the whole; so the part
+-- that kept the number matters only to states that have a move to a new one. Only the contracts of inner functions cite
+-- it.
 use mathlib.Core.List.{List}
 use mathlib.Core.Path.{_≡_}
 use Prim.Native.Nat.{ℕ, _+_, _-_, _≤_, _<_}
@@ -18,7 +19,7 @@ use Rattle.ranking.specs.Inner.TableWrites.{RanksUpTo, Outside}
 use Rattle.splitters.specs.Inner.Partition.{Partition, home, HomesKept, RoundWritten}
 
 -- Classes from `first` on are new, and have noted what they were a part of. States of one class have moves together to
--- each other class with what was divided off it.
+-- each class that is not new, taken with the new ones divided off it.
 pub record Stable (Move : Moves) (n first : ℕ) (class origin : List ℕ) : Type 0 where
   pub together : (p q a t : ℕ) → p < n → q < n → Same class p q → Move p a t → getD class t 0 < first
       → (u : ℕ) × Move q a u × (home first origin (getD class u 0) ≡ getD class t 0)
@@ -32,19 +33,19 @@ pub record Fresh (first classes : ℕ) (members origin fresh rest : List ℕ) : 
 
 -- ---- sets of states
 
--- p has a member of the set in its own set of this row.
+-- In this row the set of p and s have a common member.
 pub record LeadsInto (slots pool : List ℕ) (row : ℕ) (s : Set) (p : ℕ) : Type 0 where
   pub target : ℕ
   pub held : HeldAt slots pool row p target
   pub in-set : In s target
 
--- p is in the set of a member of the set in this row.
+-- In this row p is in the set of some member of s.
 pub record LedFrom (slots pool : List ℕ) (row : ℕ) (s : Set) (p : ℕ) : Type 0 where
   pub target : ℕ
   pub in-set : In s target
   pub held : HeldAt slots pool row target p
 
--- Set q has the number of each label, in the list, of a move into q.
+-- Set q has at least the numbers, in the list, of the labels of moves into q.
 pub record Into (labels : List ℕ) (count : ℕ) (slots into : List ℕ) : Type 0 where
   pub noted : (i q : ℕ) → i < count → q < stateLimit
       → ¬ (getD slots (slotPlace (sourceRow (getD labels i 0)) q) 0 ≡ 0) → Member into q i
@@ -54,7 +55,7 @@ pub record RowNoted (slots : List ℕ) (row i to : ℕ) (entry exit : List ℕ) 
   pub noted : (q : ℕ) → q < to → ¬ (getD slots (slotPlace row q) 0 ≡ 0) → Member exit q i
   pub kept : (q x : ℕ) → Member entry q x → Member exit q x
 
--- i is in a set of a member of the set.
+-- i is in the set, of the list, of some member of `of`.
 pub record InSome (sets : List ℕ) (of : Set) (i : ℕ) : Type 0 where
   pub state : ℕ
   pub in-set : In of state
@@ -74,7 +75,7 @@ pub record SameMoves (slots pool : List ℕ) (Used : ℕ → ℕ → Type 0) (fr
       → IntoFresh slots pool (targetRow a) rest j q
 
 -- `next` divides the classes by the moves with the labels and to the new classes that Used holds of, and keeps together
--- what has the same such moves, whatever they are.
+-- what has the same such moves.
 pub record SplitUnder (n : ℕ) (slots pool : List ℕ) (Used : ℕ → ℕ → Type 0) (fresh rest class next : List ℕ) : Type 0
   where
     pub same-before : (p q : ℕ) → p < n → q < n → Same next p q → Same class p q

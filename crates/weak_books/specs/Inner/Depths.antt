@@ -53,7 +53,7 @@ pub record LowerAdded (P : ℕ → Type 0) (there back there′ back′ : List �
   pub firsts : Pairs (λ t u. P (pairPlace t u) ⊎ Member there t u) there′
   pub seconds : Pairs (λ t u. P (pairPlace u t) ⊎ Member back t u) back′
 
--- Of the entries that P holds of, r is the first bad one before entry `limit`, or `limit`.
+-- No entry before r that P holds of is bad; r is `limit`, or a bad entry before it.
 pub record FirstOf (Move : Moves) (P : ℕ → Type 0) (book : List ℕ) (limit r : ℕ) : Type 0 where
   pub number-le : r ≤ limit
   pub sound : (p q : ℕ) → p < stateLimit → q < stateLimit → P (pairPlace p q) → pairPlace p q < r

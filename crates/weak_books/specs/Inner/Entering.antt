@@ -91,7 +91,7 @@ pub record Parted (n : ℕ) (class next : List ℕ) (p q : ℕ) : Type 0 where
   pub lower : q < p
   pub separated : SeparatedBy class next p q
 
--- P holds of x and y, and the one of them that it goes by is not left.
+-- P holds of x and y, and the one of them that `pick` names is not left.
 pub record Done (P : ℕ → ℕ → Type 0) (pick : ℕ → ℕ → ℕ) (left : Set) (x y : ℕ) : Type 0 where
   pub holds : P x y
   pub visited : ¬ (In left (pick x y))
