@@ -4,7 +4,6 @@ pub mod incoming;
 pub mod leading;
 pub mod refining;
 pub mod rounds;
-pub mod writing;
 
 // How many classes there are, and the states whose class has another state.
 pub struct Parts {

@@ -20,8 +20,8 @@ use sets::set::set_at;
 use sets::set::without;
 use text::limits::ROW;
 ghost use Prim.Native.Nat.{ℕ, _+_, _≤_, _<_};
-ghost use lib.ListN.{length, getD};
-ghost use Rattle.text.specs.Limits.{stateLimit, tableLength};
+ghost use lib.ListN.{getD};
+ghost use Rattle.text.specs.Limits.{stateLimit};
 ghost use Rattle.held.specs.Held.{rowCount, poolSets, Turned, HeldList};
 ghost use Rattle.splitters.specs.Inner.Partition.{Partition, SplitTwice};
 ghost use Rattle.splitters.specs.Inner.Splitters.{LeadsInto, Into, UsedClass, UsedLabels, UsedSplit, Fresh};
@@ -36,34 +36,32 @@ fn split_moves(
     fresh: Set,
     rest: Set,
     old: u16,
-    round: u8,
     parts: Parts,
     class: &mut [u16; ROW],
     members: &mut [u64; SETS_LENGTH],
     origin: &mut [u16; ROW],
-    table: &mut [u8],
 ) -> Parts
-    requires { ⌜ (n ≤ stateLimit) × (old ≤ parts .classes) × (tableLength ≤ length (now table)) ⌝ }
+    requires { ⌜ (n ≤ stateLimit) × (old ≤ parts .classes) ⌝ }
     requires { ⌜ Partition n (now class) (now members) (parts .classes) (parts .together) ⌝ }
     requires { ⌜ (row + 1 < rowCount) × ((i : ℕ) → getD (now slots) i 0 < poolSets) ⌝ }
     requires { ⌜ Turned (now slots) (now pool) row (row + 1) ⌝ }
     ensures { λ r. ⌜ Partition n (now (class .exit)) (now (members .exit)) (r .classes) (r .together)
         × (parts .classes ≤ r .classes) ⌝ }
-    ensures { λ r. ⌜ SplitTwice n old round (LeadsInto (now (slots .entry)) (now (pool .entry)) row fresh)
+    ensures { λ r. ⌜ SplitTwice n old (LeadsInto (now (slots .entry)) (now (pool .entry)) row fresh)
         (LeadsInto (now (slots .entry)) (now (pool .entry)) row rest) (now (class .entry)) (now (origin .entry))
-        (now (table .entry)) (now (class .exit)) (now (origin .exit)) (now (table .exit)) ⌝ }
+        (now (class .exit)) (now (origin .exit)) ⌝ }
 {
     let from = both(joint(slots, pool, row + 1, fresh), parts.together);
     if is_empty(from) {
         return parts;
     }
-    let parts = split(n, from, old, round, parts, class, members, origin, table);
+    let parts = split(n, from, old, parts, class, members, origin);
     if is_empty(without(fresh, rest)) {
         return parts;
     }
     let left = both(from, parts.together);
     let to_rest = leading(slots, pool, row, row + 1, left, rest);
-    split(n, to_rest, old, round, parts, class, members, origin, table)
+    split(n, to_rest, old, parts, class, members, origin)
 }
 
 // Splits the classes by the moves with each label to new class j, of those labels that lead there.
@@ -78,22 +76,20 @@ fn refine_class(
     old: u16,
     fresh: &[u64; SETS_LENGTH],
     rest: &[u64; SETS_LENGTH],
-    round: u8,
     parts: Parts,
     class: &mut [u16; ROW],
     members: &mut [u64; SETS_LENGTH],
     origin: &mut [u16; ROW],
-    table: &mut [u8],
 ) -> Parts
-    requires { ⌜ (j < stateLimit) × (old ≤ parts .classes) × (tableLength ≤ length (now table)) ⌝ }
+    requires { ⌜ (j < stateLimit) × (old ≤ parts .classes) ⌝ }
     requires { ⌜ Partition n (now class) (now members) (parts .classes) (parts .together) ⌝ }
     requires { ⌜ HeldList n (now labels) count (now slots) (now pool)
         × Into (now labels) count (now slots) (now into) ⌝ }
     ensures { λ r. ⌜ Partition n (now (class .exit)) (now (members .exit)) (r .classes) (r .together)
         × (parts .classes ≤ r .classes) ⌝ }
-    ensures { λ r. ⌜ UsedSplit n old round (now (slots .entry)) (now (pool .entry))
+    ensures { λ r. ⌜ UsedSplit n old (now (slots .entry)) (now (pool .entry))
         (UsedClass j (now (labels .entry)) count) (now (fresh .entry)) (now (rest .entry)) (now (class .entry))
-        (now (origin .entry)) (now (table .entry)) (now (class .exit)) (now (origin .exit)) (now (table .exit)) ⌝ }
+        (now (origin .entry)) (now (class .exit)) (now (origin .exit)) ⌝ }
 {
     let new = set_at(fresh, j as usize);
     let from = set_at(rest, j as usize);
@@ -110,12 +106,10 @@ fn refine_class(
             new,
             from,
             old,
-            round,
             parts,
             class,
             members,
             origin,
-            table,
         );
         left = drop_least(left);
         i = least(left);
@@ -135,22 +129,20 @@ pub fn refine(
     old: u16,
     fresh: &[u64; SETS_LENGTH],
     rest: &[u64; SETS_LENGTH],
-    round: u8,
     parts: Parts,
     class: &mut [u16; ROW],
     members: &mut [u64; SETS_LENGTH],
     origin: &mut [u16; ROW],
-    table: &mut [u8],
 ) -> Parts
-    requires { ⌜ (first ≤ old) × (old ≤ parts .classes) × (tableLength ≤ length (now table)) ⌝ }
+    requires { ⌜ (first ≤ old) × (old ≤ parts .classes) ⌝ }
     requires { ⌜ Partition n (now class) (now members) (parts .classes) (parts .together) ⌝ }
     requires { ⌜ HeldList n (now labels) count (now slots) (now pool)
         × Into (now labels) count (now slots) (now into) ⌝ }
     ensures { λ r. ⌜ Partition n (now (class .exit)) (now (members .exit)) (r .classes) (r .together)
         × (parts .classes ≤ r .classes) ⌝ }
-    ensures { λ r. ⌜ UsedSplit n old round (now (slots .entry)) (now (pool .entry))
+    ensures { λ r. ⌜ UsedSplit n old (now (slots .entry)) (now (pool .entry))
         (UsedLabels first old (now (labels .entry)) count) (now (fresh .entry)) (now (rest .entry)) (now (class .entry))
-        (now (origin .entry)) (now (table .entry)) (now (class .exit)) (now (origin .exit)) (now (table .exit)) ⌝ }
+        (now (origin .entry)) (now (class .exit)) (now (origin .exit)) ⌝ }
 {
     let mut parts = parts;
     let mut j = first;
@@ -169,12 +161,10 @@ pub fn refine(
             old,
             fresh,
             rest,
-            round,
             parts,
             class,
             members,
             origin,
-            table,
         );
         j += 1;
     }

@@ -12,7 +12,6 @@ use Rattle.sets.specs.Inner.Sets.{Member}
 use Rattle.sets.specs.Inner.SetValues.{In}
 use Rattle.sets.specs.declared.set.Set.{Set}
 use Rattle.held.specs.Held.{chosen}
-use Rattle.ranking.specs.Inner.TableWrites.{entryOf, SeparatedBy, Outside}
 
 -- `classes` classes, none without a state; `together` has at least the states whose class has another.
 pub record Partition (n : ℕ) (class members : List ℕ) (classes : ℕ) (together : Set) : Type 0 where
@@ -42,58 +41,28 @@ pub record SplitBy (n : ℕ) (P : ℕ → Type 0) (class next : List ℕ) : Type
 abbrev pub home : ℕ → List ℕ → ℕ → ℕ
 home old origin c = chosen (ltb c old) c (getD origin c 0)
 
--- Each state is still a part of the class that it was in when the round began.
+-- Each state is still a part of the class that it was in when the round began, and what the old classes were divided
+-- off has not changed.
 pub record HomesKept (n old : ℕ) (origin class origin′ class′ : List ℕ) : Type 0 where
   pub same : (p : ℕ) → p < n → home old origin′ (getD class′ p 0) ≡ home old origin (getD class p 0)
-
--- Entries of two states that were of one class and are no more have the round's number, and no other has changed.
-pub record RoundWritten (n : ℕ) (class next : List ℕ) (round : ℕ) (entry exit : List ℕ) : Type 0 where
-  pub written : (p q : ℕ) → p < n → q < n → SeparatedBy class next p q → entryOf exit p q ≡ round
-  pub kept : (p q : ℕ) → p < n → q < n → ¬ (SeparatedBy class next p q) → entryOf exit p q ≡ entryOf entry p q
-  pub outside : Outside n entry exit
+  pub origin-kept : (j : ℕ) → j < old → getD origin′ j 0 ≡ getD origin j 0
 
 -- A split by P in a round that began with `old` classes.
-pub record Split (n old round : ℕ) (P : ℕ → Type 0) (class origin table class′ origin′ table′ : List ℕ) : Type 0 where
+pub record Split (n old : ℕ) (P : ℕ → Type 0) (class origin class′ origin′ : List ℕ) : Type 0 where
   pub by : SplitBy n P class class′
   pub homes : HomesKept n old origin class origin′ class′
-  pub table-is : RoundWritten n class class′ round table table′
 
 -- A split by P, in which Q divides the states that P holds of, and may divide the others; what neither tells apart
 -- stays.
-pub record SplitTwice (n old round : ℕ) (P Q : ℕ → Type 0) (class origin table class′ origin′ table′ : List ℕ) : Type 0
-  where
-    pub same-before : (p q : ℕ) → p < n → q < n → Same class′ p q → Same class p q
-    pub one : (p q : ℕ) → p < n → q < n → Same class′ p q → P p → P q
-    pub other : (p q : ℕ) → p < n → q < n → Same class′ p q → P p → Q p → Q q
-    pub stay : (p q : ℕ) → p < n → q < n → Same class p q → (P p → P q) → (P q → P p) → (Q p → Q q) → (Q q → Q p)
-        → Same class′ p q
-    pub homes : HomesKept n old origin class origin′ class′
-    pub table-is : RoundWritten n class class′ round table table′
+pub record SplitTwice (n old : ℕ) (P Q : ℕ → Type 0) (class origin class′ origin′ : List ℕ) : Type 0 where
+  pub same-before : (p q : ℕ) → p < n → q < n → Same class′ p q → Same class p q
+  pub one : (p q : ℕ) → p < n → q < n → Same class′ p q → P p → P q
+  pub other : (p q : ℕ) → p < n → q < n → Same class′ p q → P p → Q p → Q q
+  pub stay : (p q : ℕ) → p < n → q < n → Same class p q → (P p → P q) → (P q → P p) → (Q p → Q q) → (Q q → Q p)
+      → Same class′ p q
+  pub homes : HomesKept n old origin class origin′ class′
 
 -- ---- inner steps
-
--- One of p and q is in the one set, and one in the other.
-abbrev pub Across : Set → Set → ℕ → ℕ → Type 0
-Across a b p q = (In a p × In b q) ⊎ (In b p × In a q)
-
--- The entries of p and q, both ways, have the round's number, and no other has changed.
-pub record PairWritten (p q round : ℕ) (entry exit : List ℕ) : Type 0 where
-  pub there : entryOf exit p q ≡ round
-  pub back : entryOf exit q p ≡ round
-  pub kept : (x y : ℕ) → y < stateLimit → ¬ ((x ≡ p) × (y ≡ q)) → ¬ ((x ≡ q) × (y ≡ p))
-      → entryOf exit x y ≡ entryOf entry x y
-
--- The same of p and each state of the set.
-pub record BesideWritten (p : ℕ) (others : Set) (round : ℕ) (entry exit : List ℕ) : Type 0 where
-  pub there : (q : ℕ) → In others q → entryOf exit p q ≡ round
-  pub back : (q : ℕ) → In others q → entryOf exit q p ≡ round
-  pub kept : (x y : ℕ) → y < stateLimit → ¬ ((x ≡ p) × In others y) → ¬ (In others x × (y ≡ p))
-      → entryOf exit x y ≡ entryOf entry x y
-
--- Entries across have the round's number, and no other has changed.
-pub record AcrossWritten (a b : Set) (round : ℕ) (entry exit : List ℕ) : Type 0 where
-  pub written : (p q : ℕ) → Across a b p q → entryOf exit p q ≡ round
-  pub kept : (p q : ℕ) → q < stateLimit → ¬ (Across a b p q) → entryOf exit p q ≡ entryOf entry p q
 
 -- The states of the set have got the class c, and the others are in theirs.
 pub record Moved (s : Set) (c : ℕ) (entry exit : List ℕ) : Type 0 where

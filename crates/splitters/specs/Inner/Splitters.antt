@@ -16,7 +16,7 @@ use Rattle.sets.specs.declared.set.Set.{Set}
 use Rattle.held.specs.Held.{slotPlace, targetRow, sourceRow, HeldAt}
 use Rattle.ranking.specs.Inner.ClassList.{Classes, Refined, RoundSeparates}
 use Rattle.ranking.specs.Inner.TableWrites.{RanksUpTo, Outside}
-use Rattle.splitters.specs.Inner.Partition.{Partition, home, HomesKept, RoundWritten}
+use Rattle.splitters.specs.Inner.Partition.{Partition, home, HomesKept}
 
 -- Classes from `first` on are new, and have noted what they were a part of. States of one class have moves together to
 -- each class that is not new, taken with the new ones divided off it.
@@ -63,26 +63,26 @@ pub record InSome (sets : List ℕ) (of : Set) (i : ℕ) : Type 0 where
 
 -- ---- splits by moves to the new classes
 
--- p has a move of this row into set j: of the new classes, or of those that they were divided off.
-abbrev pub IntoFresh : List ℕ → List ℕ → ℕ → List ℕ → ℕ → ℕ → Type 0
-IntoFresh slots pool row sets j p = (t : ℕ) × HeldAt slots pool row p t × Member sets j t
+-- p has a move of this row into set j of the list.
+abbrev pub IntoSet : List ℕ → List ℕ → ℕ → List ℕ → ℕ → ℕ → Type 0
+IntoSet slots pool row sets j p = (t : ℕ) × HeldAt slots pool row p t × Member sets j t
 
 -- Each such move of p is one of q, with labels and new classes that Used holds of.
 pub record SameMoves (slots pool : List ℕ) (Used : ℕ → ℕ → Type 0) (fresh rest : List ℕ) (p q : ℕ) : Type 0 where
-  pub to-fresh : (j a : ℕ) → Used j a → IntoFresh slots pool (targetRow a) fresh j p
-      → IntoFresh slots pool (targetRow a) fresh j q
-  pub to-rest : (j a : ℕ) → Used j a → IntoFresh slots pool (targetRow a) rest j p
-      → IntoFresh slots pool (targetRow a) rest j q
+  pub to-fresh : (j a : ℕ) → Used j a → IntoSet slots pool (targetRow a) fresh j p
+      → IntoSet slots pool (targetRow a) fresh j q
+  pub to-rest : (j a : ℕ) → Used j a → IntoSet slots pool (targetRow a) rest j p
+      → IntoSet slots pool (targetRow a) rest j q
 
 -- `next` divides the classes by the moves with the labels and to the new classes that Used holds of, and keeps together
 -- what has the same such moves.
 pub record SplitUnder (n : ℕ) (slots pool : List ℕ) (Used : ℕ → ℕ → Type 0) (fresh rest class next : List ℕ) : Type 0
   where
     pub same-before : (p q : ℕ) → p < n → q < n → Same next p q → Same class p q
-    pub one : (j a p q : ℕ) → Used j a → p < n → q < n → Same next p q → IntoFresh slots pool (targetRow a) fresh j p
-        → IntoFresh slots pool (targetRow a) fresh j q
-    pub other : (j a p q : ℕ) → Used j a → p < n → q < n → Same next p q → IntoFresh slots pool (targetRow a) fresh j p
-        → IntoFresh slots pool (targetRow a) rest j p → IntoFresh slots pool (targetRow a) rest j q
+    pub one : (j a p q : ℕ) → Used j a → p < n → q < n → Same next p q → IntoSet slots pool (targetRow a) fresh j p
+        → IntoSet slots pool (targetRow a) fresh j q
+    pub other : (j a p q : ℕ) → Used j a → p < n → q < n → Same next p q → IntoSet slots pool (targetRow a) fresh j p
+        → IntoSet slots pool (targetRow a) rest j p → IntoSet slots pool (targetRow a) rest j q
     pub stay : (p q : ℕ) → p < n → q < n → Same class p q → SameMoves slots pool Used fresh rest p q
         → SameMoves slots pool Used fresh rest q p → Same next p q
 
@@ -95,11 +95,10 @@ abbrev pub UsedLabels : ℕ → ℕ → List ℕ → ℕ → ℕ → ℕ → Typ
 UsedLabels first j labels count k b = (first ≤ k) × (k < j) × ((l : ℕ) × (l < count) × (getD labels l 0 ≡ b))
 
 -- All that a round's splits do, with the labels and to the new classes that Used holds of.
-pub record UsedSplit (n old round : ℕ) (slots pool : List ℕ) (Used : ℕ → ℕ → Type 0)
-    (fresh rest class origin table class′ origin′ table′ : List ℕ) : Type 0 where
+pub record UsedSplit (n old : ℕ) (slots pool : List ℕ) (Used : ℕ → ℕ → Type 0)
+    (fresh rest class origin class′ origin′ : List ℕ) : Type 0 where
   pub under : SplitUnder n slots pool Used fresh rest class class′
   pub homes : HomesKept n old origin class origin′ class′
-  pub table-is : RoundWritten n class class′ round table table′
 
 -- ---- rounds
 
