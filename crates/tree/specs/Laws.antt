@@ -1,0 +1,2 @@
+-- What the splitting tree says of two classes, and how the rows of the classes are written from it. Assumes nothing.
+pub mod TreeLaws

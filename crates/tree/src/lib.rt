@@ -1,0 +1,1 @@
+// The table of ranks from the splitting tree of a partition.
