@@ -13,4 +13,3 @@ pub mod SplitLaws
 pub mod SplittingLaws
 pub mod StableLaws
 pub mod WalkLaws
-pub mod WritingLaws

@@ -92,10 +92,8 @@ fn divide(
     put_set(members, to as usize, moved);
     put_set(members, c.0 as usize, kept);
     let together = alone(alone(parts.together, moved), kept);
-    Parts {
-        classes: to + 1,
-        together,
-    }
+    let classes = to + 1;
+    Parts { classes, together }
 }
 
 // The same, where the part with fewer states moves.

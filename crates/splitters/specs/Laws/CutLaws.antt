@@ -15,7 +15,7 @@ use Rattle.sets.specs.declared.set.Set.{Set}
 use Rattle.held.specs.Held.{Turned}
 use Rattle.splitters.specs.Inner.Partition.{Partition, Split, SplitTwice}
 use Rattle.splitters.specs.Inner.Splitters.{LeadsInto, LedFrom}
-use Rattle.splitters.specs.Laws.SplitLaws.{split-none, split-map, homesKept-trans, roundWritten-trans, Finer}
+use Rattle.splitters.specs.Laws.SplitLaws.{split-none, split-map, homesKept-trans, Finer}
 
 -- ---- sets cut down to states whose class has another
 
@@ -25,9 +25,9 @@ pub record CutTo (n : ℕ) (class : List ℕ) (P : ℕ → Type 0) (s : Set) : T
   pub only : (p : ℕ) → p < n → In s p → P p
 
 -- A split by s is one by P: a state alone in its class is not separated from any.
-pub split-cut : {n old round : ℕ} {P : ℕ → Type 0} {s : Set} {c o t c′ o′ t′ : List ℕ} → CutTo n c P s
-    → Split n old round (In s) c o t c′ o′ t′ → Split n old round P c o t c′ o′ t′
-split-cut {n} {old} {round} {P} {s} {c} cut =
+pub split-cut : {n old : ℕ} {P : ℕ → Type 0} {s : Set} {c o c′ o′ : List ℕ} → CutTo n c P s
+    → Split n old (In s) c o c′ o′ → Split n old P c o c′ o′
+split-cut {n} {old} {P} {s} {c} cut =
     split-map (λ p q lp lq e h _. to p q lp lq e h (eq-or-not p q))
     (λ p q lp lq e h _. back p q lp lq e h (eq-or-not p q))
   where
@@ -90,9 +90,9 @@ leads-within {rest = rest} m none p l =
     go (inl i) = i
     go (inr d) = absurd (none (l .target) (m .all (l .target) (l .in-set, d)))
 
-module _ {n old round : ℕ} {P Q : ℕ → Type 0} {c o t : List ℕ} where
-  pub splitTwice-of-splits : {c′ o′ t′ c″ o″ t″ : List ℕ} → Split n old round P c o t c′ o′ t′
-      → Split n old round (λ p. P p × Q p) c′ o′ t′ c″ o″ t″ → SplitTwice n old round P Q c o t c″ o″ t″
+module _ {n old : ℕ} {P Q : ℕ → Type 0} {c o : List ℕ} where
+  pub splitTwice-of-splits : {c′ o′ c″ o″ : List ℕ} → Split n old P c o c′ o′
+      → Split n old (λ p. P p × Q p) c′ o′ c″ o″ → SplitTwice n old P Q c o c″ o″
   splitTwice-of-splits f g = record {
     same-before = λ p q lp lq e. f .by .same-before p q lp lq (g .by .same-before p q lp lq e);
     one = λ p q lp lq e. f .by .same-side p q lp lq (g .by .same-before p q lp lq e);
@@ -100,23 +100,21 @@ module _ {n old round : ℕ} {P Q : ℕ → Type 0} {c o t : List ℕ} where
     stay = λ p q lp lq e a b i j. g .by .stay p q lp lq (f .by .stay p q lp lq e a b) (λ h. (a (h .0), i (h .1)))
         (λ h. (b (h .0), j (h .1)));
     homes = homesKept-trans (f .homes) (g .homes);
-    table-is = roundWritten-trans (f .by .same-before) (g .by .same-before) (f .table-is) (g .table-is);
   }
 
   -- Where P holds, Q does: one split is enough.
-  pub splitTwice-once : {c′ o′ t′ : List ℕ} → ((p : ℕ) → P p → Q p) → Split n old round P c o t c′ o′ t′
-      → SplitTwice n old round P Q c o t c′ o′ t′
+  pub splitTwice-once : {c′ o′ : List ℕ} → ((p : ℕ) → P p → Q p) → Split n old P c o c′ o′
+      → SplitTwice n old P Q c o c′ o′
   splitTwice-once g f = record {
     same-before = f .by .same-before;
     one = f .by .same-side;
     other = λ p q lp lq e h _. g q (f .by .same-side p q lp lq e h);
     stay = λ p q lp lq e a b _ _. f .by .stay p q lp lq e a b;
     homes = f .homes;
-    table-is = f .table-is;
   }
 
   -- No state is in the first set: nothing is split.
-  pub splitTwice-none : {s : Set} → CutTo n c P s → ((x : ℕ) → ¬ (In s x)) → SplitTwice n old round P Q c o t c o t
+  pub splitTwice-none : {s : Set} → CutTo n c P s → ((x : ℕ) → ¬ (In s x)) → SplitTwice n old P Q c o c o
   splitTwice-none cut none = splitTwice-of-splits (split-cut cut (split-none (λ p _. none p)))
       (split-cut (record {
         all = λ p q lp lq e d h. cut .all p q lp lq e d (h .0);

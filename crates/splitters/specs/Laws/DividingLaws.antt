@@ -1,24 +1,21 @@
--- A class divided: the lists of classes and of sets are a partition again, the new class has noted where it comes from,
--- and the entries across the two parts are those of the states that the division separates. Assumes nothing.
+-- A class divided: the lists of classes and of sets are a partition again, and the new class has noted where it comes
+-- from. Assumes nothing.
 use mathlib.Core.List.{List}
-use mathlib.Core.Logic.{_⊎_, inl, inr, ⊎-elim}
-use mathlib.Core.Path.{_≡_, sym, ap, _∙_, subst}
+use mathlib.Core.Logic.{_⊎_, inl, inr}
+use mathlib.Core.Path.{_≡_, refl, sym, ap, _∙_, subst}
 use Prim.Native.Nat.{ℕ, _+_, _≤_, _<_}
 use native.Mathlib.Omega.{arith}
 use lib.Dec.{ltb}
 use lib.ListN.{length, getD, set}
 use lib.Seq.{getD-set-same, getD-set-other}
-use Rattle.text.specs.Limits.{stateLimit}
 use Rattle.lts.specs.TestsLaws.{eq-or-not}
 use Rattle.comparing.specs.Inner.Numbered.{Same}
 use Rattle.sets.specs.Inner.Sets.{Member}
-use Rattle.sets.specs.Inner.SetValues.{In, SetPut}
+use Rattle.sets.specs.Inner.SetValues.{In, SetOf, SetPut}
 use Rattle.sets.specs.Laws.SetValuesLaws.{in-or-not}
 use Rattle.sets.specs.declared.set.Set.{Set}
 use Rattle.held.specs.Held.{chosen}
-use Rattle.ranking.specs.Inner.TableWrites.{SeparatedBy}
-use Rattle.splitters.specs.Inner.Partition.{Partition, home, HomesKept, RoundWritten, Across, AcrossWritten}
-use Rattle.splitters.specs.Inner.Partition.{Moved, TwoParts}
+use Rattle.splitters.specs.Inner.Partition.{Partition, home, HomesKept, Moved, TwoParts}
 use Rattle.splitters.specs.Laws.HomeLaws.{home-le}
 use Rattle.splitters.specs.Laws.PartitionLaws.{numbers-le, moved-in, kept-in, kept-of-class, some-next}
 use Rattle.splitters.specs.Laws.PartitionLaws.{moved-of-new, splitBy-moved}
@@ -28,6 +25,26 @@ abbrev pub AloneOut : Set → Set → Set → Type 0
 AloneOut s together fewer = ((x : ℕ) → In fewer x → In together x)
     × ((x : ℕ) → In together x → ¬ (In fewer x) → In s x × ((y : ℕ) → In s y → y ≡ x))
 
+-- ---- states that move
+
+pub moved-none : {a : Set} {c : ℕ} {t : List ℕ} → ((y : ℕ) → ¬ (In a y)) → Moved a c t t
+moved-none f = record { moved = λ y m. absurd (f y m); kept = λ y _. refl }
+
+pub moved-other : {p c : ℕ} {a b : Set} {t u w : List ℕ} → p < length t → u ≡ set t p c → In a p
+    → SetOf (λ y. In a y × ¬ (y ≡ p)) b → Moved b c u w → Moved a c t w
+moved-other {p} {c} {a} {b} {t} {u} {w} l put m s g = record {
+  moved = λ y i. moved y i (eq-or-not y p);
+  kept = λ y d.
+      g .kept y (λ i. d (s .only y i .0)) ∙ ap (λ (v : List ℕ). getD v y 0) put
+      ∙ getD-set-other t p y c 0 (λ e. d (subst (In a) (sym e) m));
+}
+  where
+    moved : (y : ℕ) → In a y → (y ≡ p) ⊎ ¬ (y ≡ p) → getD w y 0 ≡ c
+    moved y i (inl e) =
+        ap (λ (x : ℕ). getD w x 0) e ∙ g .kept p (λ j. s .only p j .1 refl) ∙ ap (λ (v : List ℕ). getD v p 0) put
+        ∙ getD-set-same t p c 0 l
+    moved y i (inr d) = g .moved y (s .all y (i, d))
+
 -- ---- homes
 
 module _ {n c classes : ℕ} {class members : List ℕ} {together moved kept : Set}
@@ -35,13 +52,14 @@ module _ {n c classes : ℕ} {class members : List ℕ} {together moved kept : S
     {next : List ℕ} (M : Moved moved classes class next) where
   pub homesKept-put : {old from : ℕ} {origin origin′ : List ℕ} → old ≤ classes → classes < length origin
       → from ≡ home old origin c → origin′ ≡ set origin classes from → HomesKept n old origin class origin′ next
-  homesKept-put {old} {from} {origin} {origin′} lo lc h put = record { same = λ p lp. go p lp (in-or-not moved p) }
+  homesKept-put {old} {from} {origin} {origin′} lo lc h put = record {
+    same = λ p lp. go p lp (in-or-not moved p);
+    origin-kept = λ j lj. noted j (λ e. omega (arith, e, lj, lo));
+  }
     where
       -- Other classes come from where they did.
-      other : (i : ℕ) → ¬ (i ≡ classes) → home old origin′ i ≡ home old origin i
-      other i d =
-          ap (chosen (ltb i old) i)
-          (ap (λ (o : List ℕ). getD o i 0) put ∙ getD-set-other origin classes i from 0 d)
+      noted : (i : ℕ) → ¬ (i ≡ classes) → getD origin′ i 0 ≡ getD origin i 0
+      noted i d = ap (λ (o : List ℕ). getD o i 0) put ∙ getD-set-other origin classes i from 0 d
 
       go : (p : ℕ) → p < n → In moved p ⊎ ¬ (In moved p)
           → home old origin′ (getD next p 0) ≡ home old origin (getD class p 0)
@@ -50,51 +68,14 @@ module _ {n c classes : ℕ} {class members : List ℕ} {together moved kept : S
           ∙ ap (λ (o : List ℕ). getD o classes 0) put ∙ getD-set-same origin classes from 0 lc ∙ h
           ∙ ap (home old origin) (sym (moved-in P l T p m .1))
       go p lp (inr d) =
-          ap (home old origin′) (M .kept p d) ∙ other (getD class p 0) (λ e. omega (arith, e, P .class-lt p lp))
+          let i = getD class p 0 in
+          ap (home old origin′) (M .kept p d)
+          ∙ ap (chosen (ltb i old) i) (noted i (λ e. omega (arith, e, P .class-lt p lp)))
 
-  -- ---- the table
-
-  separated-across : (p q : ℕ) → p < n → q < n → SeparatedBy class next p q → Across moved kept p q
-  separated-across p q lp lq h = go (in-or-not moved p) (in-or-not moved q)
-    where
-      go : In moved p ⊎ ¬ (In moved p) → In moved q ⊎ ¬ (In moved q) → Across moved kept p q
-      go (inl i) (inl j) = absurd (h .not-same-after (M .moved p i ∙ sym (M .moved q j)))
-      go (inl i) (inr j) =
-          inl (i, kept-of-class P l T q lq (sym (h .same-before) ∙ moved-in P l T p i .1) j)
-      go (inr i) (inl j) =
-          inr (kept-of-class P l T p lp (h .same-before ∙ moved-in P l T q j .1) i, j)
-      go (inr i) (inr j) =
-          absurd (h .not-same-after (M .kept p i ∙ h .same-before ∙ sym (M .kept q j)))
+  -- ---- the partition
 
   next-kept : (p : ℕ) → In kept p → getD next p 0 ≡ c
   next-kept p i = M .kept p (λ m. T .apart p m i) ∙ kept-in P l T p i .1
-
-  across-separated : (p q : ℕ) → Across moved kept p q → SeparatedBy class next p q
-  across-separated p q (inl (i, j)) = record {
-    same-before = moved-in P l T p i .1 ∙ sym (kept-in P l T q j .1);
-    not-same-after = λ e. absurd (omega (arith, e, M .moved p i, next-kept q j));
-  }
-  across-separated p q (inr (i, j)) = record {
-    same-before = kept-in P l T p i .1 ∙ sym (moved-in P l T q j .1);
-    not-same-after = λ e. absurd (omega (arith, e, M .moved q j, next-kept p i));
-  }
-
-  across-lt : (p q : ℕ) → Across moved kept p q → (p < n) × (q < n)
-  across-lt p q (inl (i, j)) = (moved-in P l T p i .0, kept-in P l T q j .0)
-  across-lt p q (inr (i, j)) = (kept-in P l T p i .0, moved-in P l T q j .0)
-
-  pub roundWritten-across : {round : ℕ} {t t′ : List ℕ} → n ≤ stateLimit → AcrossWritten moved kept round t t′
-      → RoundWritten n class next round t t′
-  roundWritten-across ln w = record {
-    written = λ p q lp lq h. w .written p q (separated-across p q lp lq h);
-    kept = λ p q lp lq d. w .kept p q (omega (arith, lq, ln)) (λ a. d (across-separated p q a));
-    outside = record {
-      kept = λ p q lq d. w .kept p q lq
-          (λ a. ⊎-elim (λ k. omega (arith, k, across-lt p q a .0)) (λ k. omega (arith, k, across-lt p q a .1)) d);
-    };
-  }
-
-  -- ---- the partition
 
   module _ {middle members′ : List ℕ} (S : SetPut classes moved members middle)
       (R : SetPut c kept middle members′) where

@@ -13,19 +13,19 @@ use Rattle.sets.specs.Inner.SetValues.{In, SetOf, Least}
 use Rattle.sets.specs.declared.set.Set.{Set}
 use Rattle.held.specs.Held.{slotPlace, targetRow, sourceRow, HeldAt, Turned, HeldList}
 use Rattle.splitters.specs.Inner.Partition.{Partition, SplitTwice}
-use Rattle.splitters.specs.Inner.Splitters.{LeadsInto, Into, InSome, IntoFresh, SameMoves, SplitUnder}
+use Rattle.splitters.specs.Inner.Splitters.{LeadsInto, Into, InSome, IntoSet, SameMoves, SplitUnder}
 use Rattle.splitters.specs.Inner.Splitters.{UsedClass, UsedLabels, UsedSplit}
-use Rattle.splitters.specs.Laws.SplitLaws.{homesKept-refl, homesKept-trans, roundWritten-refl, roundWritten-trans}
+use Rattle.splitters.specs.Laws.SplitLaws.{homesKept-refl, homesKept-trans}
 
 -- ---- splits under the labels and new classes that have been used
 
-module _ {n old round : ℕ} {slots pool fresh rest : List ℕ} where
+module _ {n old : ℕ} {slots pool fresh rest : List ℕ} where
   -- States of one class have the moves together: nothing is to be split.
-  pub usedSplit-refl : {Used : ℕ → ℕ → Type 0} {c o t : List ℕ}
-      → ((j a p q : ℕ) → Used j a → p < n → q < n → Same c p q → IntoFresh slots pool (targetRow a) fresh j p
-      → IntoFresh slots pool (targetRow a) fresh j q
-      × (IntoFresh slots pool (targetRow a) rest j p → IntoFresh slots pool (targetRow a) rest j q))
-      → UsedSplit n old round slots pool Used fresh rest c o t c o t
+  pub usedSplit-refl : {Used : ℕ → ℕ → Type 0} {c o : List ℕ}
+      → ((j a p q : ℕ) → Used j a → p < n → q < n → Same c p q → IntoSet slots pool (targetRow a) fresh j p
+      → IntoSet slots pool (targetRow a) fresh j q
+      × (IntoSet slots pool (targetRow a) rest j p → IntoSet slots pool (targetRow a) rest j q))
+      → UsedSplit n old slots pool Used fresh rest c o c o
   usedSplit-refl f = record {
     under = record {
       same-before = λ p q lp lq e. e;
@@ -34,24 +34,23 @@ module _ {n old round : ℕ} {slots pool fresh rest : List ℕ} where
       stay = λ p q lp lq e a b. e;
     };
     homes = homesKept-refl;
-    table-is = roundWritten-refl;
   }
 
   -- No state has such a move into a new class.
-  pub usedSplit-none : {Used : ℕ → ℕ → Type 0} {c o t : List ℕ}
-      → ((j a p : ℕ) → Used j a → p < n → ¬ (IntoFresh slots pool (targetRow a) fresh j p))
-      → UsedSplit n old round slots pool Used fresh rest c o t c o t
+  pub usedSplit-none : {Used : ℕ → ℕ → Type 0} {c o : List ℕ}
+      → ((j a p : ℕ) → Used j a → p < n → ¬ (IntoSet slots pool (targetRow a) fresh j p))
+      → UsedSplit n old slots pool Used fresh rest c o c o
   usedSplit-none f = usedSplit-refl (λ j a p q u lp lq e h. absurd (f j a p u lp h))
 
   -- No class has two states.
-  pub usedSplit-alone : {Used : ℕ → ℕ → Type 0} {c o t members : List ℕ} {classes : ℕ} {together : Set}
+  pub usedSplit-alone : {Used : ℕ → ℕ → Type 0} {c o members : List ℕ} {classes : ℕ} {together : Set}
       → Partition n c members classes together → ((x : ℕ) → ¬ (In together x))
-      → UsedSplit n old round slots pool Used fresh rest c o t c o t
-  usedSplit-alone {Used} {c} {o} {t} {members} {classes} {together} part none =
+      → UsedSplit n old slots pool Used fresh rest c o c o
+  usedSplit-alone {Used} {c} {o} {members} {classes} {together} part none =
       usedSplit-refl (λ j a p q u lp lq e h.
       let d = eq p q lp lq e (eq-or-not p q) in (
-        subst (IntoFresh slots pool (targetRow a) fresh j) d h,
-        subst (IntoFresh slots pool (targetRow a) rest j) d,
+        subst (IntoSet slots pool (targetRow a) fresh j) d h,
+        subst (IntoSet slots pool (targetRow a) rest j) d,
       ))
     where
       eq : (p q : ℕ) → p < n → q < n → Same c p q → (p ≡ q) ⊎ ¬ (p ≡ q) → p ≡ q
@@ -59,13 +58,13 @@ module _ {n old round : ℕ} {slots pool fresh rest : List ℕ} where
       eq p q lp lq e (inr d) = absurd (none p (part .together-all p q lp lq e d))
 
   -- Splits under the one and then under the other are splits under both.
-  pub usedSplit-trans : {Used More All : ℕ → ℕ → Type 0} {c o t c′ o′ t′ c″ o″ t″ : List ℕ}
+  pub usedSplit-trans : {Used More All : ℕ → ℕ → Type 0} {c o c′ o′ c″ o″ : List ℕ}
       → ((j a : ℕ) → Used j a → All j a) → ((j a : ℕ) → More j a → All j a)
       → ((j a : ℕ) → All j a → Used j a ⊎ More j a)
-      → UsedSplit n old round slots pool Used fresh rest c o t c′ o′ t′
-      → UsedSplit n old round slots pool More fresh rest c′ o′ t′ c″ o″ t″
-      → UsedSplit n old round slots pool All fresh rest c o t c″ o″ t″
-  usedSplit-trans {Used} {More} {All} {c} {o} {t} {c′} {o′} {t′} {c″} i m cases f g = record {
+      → UsedSplit n old slots pool Used fresh rest c o c′ o′
+      → UsedSplit n old slots pool More fresh rest c′ o′ c″ o″
+      → UsedSplit n old slots pool All fresh rest c o c″ o″
+  usedSplit-trans {Used} {More} {All} {c} {o} {c′} {o′} {c″} i m cases f g = record {
     under = record {
       same-before = λ p q lp lq e. one .same-before p q lp lq (two .same-before p q lp lq e);
       one = λ j a p q u lp lq e. to-fresh j a p q lp lq e (cases j a u);
@@ -74,7 +73,6 @@ module _ {n old round : ℕ} {slots pool fresh rest : List ℕ} where
           (fewer m b);
     };
     homes = homesKept-trans (f .homes) (g .homes);
-    table-is = roundWritten-trans (one .same-before) (two .same-before) (f .table-is) (g .table-is);
   }
     where
       one : SplitUnder n slots pool Used fresh rest c c′
@@ -91,26 +89,26 @@ module _ {n old round : ℕ} {slots pool fresh rest : List ℕ} where
       }
 
       to-fresh : (j a p q : ℕ) → p < n → q < n → Same c″ p q → Used j a ⊎ More j a
-          → IntoFresh slots pool (targetRow a) fresh j p → IntoFresh slots pool (targetRow a) fresh j q
+          → IntoSet slots pool (targetRow a) fresh j p → IntoSet slots pool (targetRow a) fresh j q
       to-fresh j a p q lp lq e (inl u) = one .one j a p q u lp lq (two .same-before p q lp lq e)
       to-fresh j a p q lp lq e (inr u) = two .one j a p q u lp lq e
 
       to-rest : (j a p q : ℕ) → p < n → q < n → Same c″ p q → Used j a ⊎ More j a
-          → IntoFresh slots pool (targetRow a) fresh j p → IntoFresh slots pool (targetRow a) rest j p
-          → IntoFresh slots pool (targetRow a) rest j q
+          → IntoSet slots pool (targetRow a) fresh j p → IntoSet slots pool (targetRow a) rest j p
+          → IntoSet slots pool (targetRow a) rest j q
       to-rest j a p q lp lq e (inl u) = one .other j a p q u lp lq (two .same-before p q lp lq e)
       to-rest j a p q lp lq e (inr u) = two .other j a p q u lp lq e
 
   -- The same with another account of what is used.
-  pub usedSplit-same : {Used All : ℕ → ℕ → Type 0} {c o t c′ o′ t′ : List ℕ} → ((j a : ℕ) → Used j a → All j a)
-      → ((j a : ℕ) → All j a → Used j a) → UsedSplit n old round slots pool Used fresh rest c o t c′ o′ t′
-      → UsedSplit n old round slots pool All fresh rest c o t c′ o′ t′
+  pub usedSplit-same : {Used All : ℕ → ℕ → Type 0} {c o c′ o′ : List ℕ} → ((j a : ℕ) → Used j a → All j a)
+      → ((j a : ℕ) → All j a → Used j a) → UsedSplit n old slots pool Used fresh rest c o c′ o′
+      → UsedSplit n old slots pool All fresh rest c o c′ o′
   usedSplit-same to from f = usedSplit-trans {More = λ j a. ⊥} to (λ j a x. absurd x) (λ j a u. inl (from j a u)) f
       (usedSplit-none (λ j a p x. absurd x))
 
 -- A move into a set of the list is one into the set as a value.
 leads-of-into : {slots pool sets : List ℕ} {row j a k b : ℕ} {s : Set} {p : ℕ} → row ≡ targetRow a → (k ≡ j) × (b ≡ a)
-    → SetOf (Member sets j) s → IntoFresh slots pool (targetRow b) sets k p → LeadsInto slots pool row s p
+    → SetOf (Member sets j) s → IntoSet slots pool (targetRow b) sets k p → LeadsInto slots pool row s p
 leads-of-into {slots} {pool} {sets} {row} {j} {a} {k} {b} {s} {p} r u m (t, h, i) = record {
   target = t;
   held = subst (λ (x : ℕ). HeldAt slots pool x p t) (ap targetRow (u .1) ∙ sym r) h;
@@ -118,7 +116,7 @@ leads-of-into {slots} {pool} {sets} {row} {j} {a} {k} {b} {s} {p} r u m (t, h, i
 }
 
 into-of-leads : {slots pool sets : List ℕ} {row j a k b : ℕ} {s : Set} {p : ℕ} → row ≡ targetRow a → (k ≡ j) × (b ≡ a)
-    → SetOf (Member sets j) s → LeadsInto slots pool row s p → IntoFresh slots pool (targetRow b) sets k p
+    → SetOf (Member sets j) s → LeadsInto slots pool row s p → IntoSet slots pool (targetRow b) sets k p
 into-of-leads {slots} {pool} {sets} {row} {j} {a} {k} {b} {s} {p} r u m l = (
   l .target,
   subst (λ (x : ℕ). HeldAt slots pool x p (l .target)) (r ∙ ap targetRow (sym (u .1))) (l .held),
@@ -126,10 +124,10 @@ into-of-leads {slots} {pool} {sets} {row} {j} {a} {k} {b} {s} {p} r u m l = (
 )
 
 -- A split by the moves with one label to one new class.
-usedSplit-one : {n old round : ℕ} {slots pool fresh rest : List ℕ} {row j : ℕ} (a : ℕ) {new from : Set}
-    {c o t c′ o′ t′ : List ℕ} → row ≡ targetRow a → SetOf (Member fresh j) new → SetOf (Member rest j) from
-    → SplitTwice n old round (LeadsInto slots pool row new) (LeadsInto slots pool row from) c o t c′ o′ t′
-    → UsedSplit n old round slots pool (λ k b. (k ≡ j) × (b ≡ a)) fresh rest c o t c′ o′ t′
+usedSplit-one : {n old : ℕ} {slots pool fresh rest : List ℕ} {row j : ℕ} (a : ℕ) {new from : Set}
+    {c o c′ o′ : List ℕ} → row ≡ targetRow a → SetOf (Member fresh j) new → SetOf (Member rest j) from
+    → SplitTwice n old (LeadsInto slots pool row new) (LeadsInto slots pool row from) c o c′ o′
+    → UsedSplit n old slots pool (λ k b. (k ≡ j) × (b ≡ a)) fresh rest c o c′ o′
 usedSplit-one {slots = slots} {pool = pool} {row = row} {j = j} a r m v f = record {
   under = record {
     same-before = f .same-before;
@@ -140,20 +138,22 @@ usedSplit-one {slots = slots} {pool = pool} {row = row} {j = j} a r m v f = reco
         (same v (s .to-rest j a own)) (same v (s′ .to-rest j a own));
   };
   homes = f .homes;
-  table-is = f .table-is;
 }
   where
     own : (j ≡ j) × (a ≡ a)
     own = (refl, refl)
 
     same : {sets : List ℕ} {s : Set} {p q : ℕ} → SetOf (Member sets j) s
-        → (IntoFresh slots pool (targetRow a) sets j p → IntoFresh slots pool (targetRow a) sets j q)
+        → (IntoSet slots pool (targetRow a) sets j p → IntoSet slots pool (targetRow a) sets j q)
         → LeadsInto slots pool row s p → LeadsInto slots pool row s q
     same x g l = leads-of-into r own x (g (into-of-leads r own x l))
 
-pub turned-row : {slots pool : List ℕ} {row : ℕ} (a : ℕ) → row ≡ targetRow a
-    → Turned slots pool (targetRow a) (sourceRow a) → Turned slots pool row (row + 1)
-turned-row {slots} {pool} a r = subst (λ (x : ℕ). Turned slots pool x (x + 1)) (sym r)
+-- The row behind that of a label has its sources.
+pub turned-row : {n : ℕ} {labels : List ℕ} {count : ℕ} {slots pool : List ℕ} {row i : ℕ}
+    → HeldList n labels count slots pool → i < count → row ≡ targetRow (getD labels i 0)
+    → Turned slots pool row (row + 1)
+turned-row {slots = slots} {pool = pool} {i = i} L l r =
+    subst (λ (x : ℕ). Turned slots pool x (x + 1)) (sym r) (L .turned i l)
 
 -- ---- one new class, and one after another
 
@@ -161,11 +161,11 @@ turned-row {slots} {pool} a r = subst (λ (x : ℕ). Turned slots pool x (x + 1)
 abbrev pub UsedBut : ℕ → List ℕ → ℕ → Set → ℕ → ℕ → Type 0
 UsedBut j labels count left k b = (k ≡ j) × ((l : ℕ) × (l < count) × ¬ (In left l) × (getD labels l 0 ≡ b))
 
-module _ (labels : List ℕ) {n round count : ℕ} {slots pool : List ℕ} {old : ℕ} {fresh rest c o t : List ℕ} where
+module _ (labels : List ℕ) {n count : ℕ} {slots pool : List ℕ} {old : ℕ} {fresh rest c o : List ℕ} where
   -- Labels that do not lead into the new class need not be used.
   pub usedBut-start : {into : List ℕ} {j : ℕ} {new all : Set} → HeldList n labels count slots pool
       → Into labels count slots into → SetOf (Member fresh j) new → SetOf (InSome into new) all
-      → UsedSplit n old round slots pool (UsedBut j labels count all) fresh rest c o t c o t
+      → UsedSplit n old slots pool (UsedBut j labels count all) fresh rest c o c o
   usedBut-start {into} {j} {new} {all} L I m u = usedSplit-none (λ k b p d lp h. none b p d lp
       (h .0) (h .1) (subst (λ (x : ℕ). Member fresh x (h .0)) (d .0) (h .2)))
     where
@@ -182,14 +182,14 @@ module _ (labels : List ℕ) {n round count : ℕ} {slots pool : List ℕ} {old 
             member = I .noted l q h (f .member-lt) held;
           }))
 
-  module _ {c′ o′ t′ : List ℕ} where
+  module _ {c′ o′ : List ℕ} where
     -- One more label is used.
-    pub usedBut-next : {c″ o″ t″ : List ℕ} {row i j : ℕ} {new from left left′ : Set} → i < count
+    pub usedBut-next : {c″ o″ : List ℕ} {row i j : ℕ} {new from left left′ : Set} → i < count
         → row ≡ targetRow (getD labels i 0) → SetOf (Member fresh j) new → SetOf (Member rest j) from
         → SetOf (λ x. In left x × ¬ (x ≡ i)) left′
-        → UsedSplit n old round slots pool (UsedBut j labels count left) fresh rest c o t c′ o′ t′
-        → SplitTwice n old round (LeadsInto slots pool row new) (LeadsInto slots pool row from) c′ o′ t′ c″ o″ t″
-        → UsedSplit n old round slots pool (UsedBut j labels count left′) fresh rest c o t c″ o″ t″
+        → UsedSplit n old slots pool (UsedBut j labels count left) fresh rest c o c′ o′
+        → SplitTwice n old (LeadsInto slots pool row new) (LeadsInto slots pool row from) c′ o′ c″ o″
+        → UsedSplit n old slots pool (UsedBut j labels count left′) fresh rest c o c″ o″
     usedBut-next {i = i} {j = j} {left = left} {left′ = left′} l r m v w f g =
         usedSplit-trans (λ k b u. (u .0, (u .1 .0, u .1 .1, λ x. u .1 .2 (w .only (u .1 .0) x .0), u .1 .3)))
         (λ k b u. (u .0, (i, l, λ x. w .only i x .1 refl, sym (u .1))))
@@ -202,16 +202,16 @@ module _ (labels : List ℕ) {n round count : ℕ} {slots pool : List ℕ} {old 
 
     -- All are used.
     pub usedBut-end : {i j : ℕ} {left : Set} → Least left i → count ≤ i
-        → UsedSplit n old round slots pool (UsedBut j labels count left) fresh rest c o t c′ o′ t′
-        → UsedSplit n old round slots pool (UsedClass j labels count) fresh rest c o t c′ o′ t′
+        → UsedSplit n old slots pool (UsedBut j labels count left) fresh rest c o c′ o′
+        → UsedSplit n old slots pool (UsedClass j labels count) fresh rest c o c′ o′
     usedBut-end h l = usedSplit-same (λ k b u. (u .0, (u .1 .0, u .1 .1, u .1 .3)))
         (λ k b u. (u .0, (u .1 .0, u .1 .1, h .none-before (u .1 .0) (omega (arith, l, u .1 .1)), u .1 .2)))
 
     -- One more new class is used.
-    pub usedLabels-next : {c″ o″ t″ : List ℕ} {first j : ℕ} → first ≤ j
-        → UsedSplit n old round slots pool (UsedLabels first j labels count) fresh rest c o t c′ o′ t′
-        → UsedSplit n old round slots pool (UsedClass j labels count) fresh rest c′ o′ t′ c″ o″ t″
-        → UsedSplit n old round slots pool (UsedLabels first (j + 1) labels count) fresh rest c o t c″ o″ t″
+    pub usedLabels-next : {c″ o″ : List ℕ} {first j : ℕ} → first ≤ j
+        → UsedSplit n old slots pool (UsedLabels first j labels count) fresh rest c o c′ o′
+        → UsedSplit n old slots pool (UsedClass j labels count) fresh rest c′ o′ c″ o″
+        → UsedSplit n old slots pool (UsedLabels first (j + 1) labels count) fresh rest c o c″ o″
     usedLabels-next {first = first} {j = j} l = usedSplit-trans (λ k b u. (u .0, omega (arith, u .1), u .2))
         (λ k b u. (omega (arith, l, u .0), omega (arith, u .0), u .1)) (λ k b u. cases k b u (lt-or-le k j))
       where
@@ -222,21 +222,21 @@ module _ (labels : List ℕ) {n round count : ℕ} {slots pool : List ℕ} {old 
 
     -- All are used.
     pub usedLabels-end : {first j : ℕ} → j ≡ old
-        → UsedSplit n old round slots pool (UsedLabels first j labels count) fresh rest c o t c′ o′ t′
-        → UsedSplit n old round slots pool (UsedLabels first old labels count) fresh rest c o t c′ o′ t′
+        → UsedSplit n old slots pool (UsedLabels first j labels count) fresh rest c o c′ o′
+        → UsedSplit n old slots pool (UsedLabels first old labels count) fresh rest c o c′ o′
     usedLabels-end e = usedSplit-same (λ k b u. (u .0, omega (arith, e, u .1), u .2))
         (λ k b u. (u .0, omega (arith, e, u .1), u .2))
 
     -- No class has two states: the other new classes divide nothing.
     pub usedLabels-alone : {first j classes : ℕ} {members : List ℕ} {together : Set} → j ≤ old
-        → UsedSplit n old round slots pool (UsedLabels first j labels count) fresh rest c o t c′ o′ t′
+        → UsedSplit n old slots pool (UsedLabels first j labels count) fresh rest c o c′ o′
         → Partition n c′ members classes together → ((x : ℕ) → ¬ (In together x))
-        → UsedSplit n old round slots pool (UsedLabels first old labels count) fresh rest c o t c′ o′ t′
+        → UsedSplit n old slots pool (UsedLabels first old labels count) fresh rest c o c′ o′
     usedLabels-alone {first} l s part none =
         usedSplit-trans {More = UsedLabels first old labels count} (λ k b u. (u .0, omega (arith, l, u .1), u .2))
         (λ k b u. u) (λ k b u. inr u) s (usedSplit-alone part none)
 
   -- None is used.
   pub usedLabels-none : {first : ℕ}
-      → UsedSplit n old round slots pool (UsedLabels first first labels count) fresh rest c o t c o t
+      → UsedSplit n old slots pool (UsedLabels first first labels count) fresh rest c o c o
   usedLabels-none = usedSplit-none (λ k b p u. absurd (omega (arith, u .0, u .1)))

@@ -51,21 +51,21 @@ module _ {n c classes : ℕ} {class members : List ℕ} {together : Set}
       go (inr j) = j
 
   -- A split by the one part is a split by the other.
-  pub split-sym : {old round : ℕ} {a b : Set} {o t c′ o′ t′ : List ℕ} → TwoParts members c a b
-      → Split n old round (In a) class o t c′ o′ t′ → Split n old round (In b) class o t c′ o′ t′
+  pub split-sym : {old : ℕ} {a b : Set} {o c′ o′ : List ℕ} → TwoParts members c a b
+      → Split n old (In a) class o c′ o′ → Split n old (In b) class o c′ o′
   split-sym T = split-map (sides T) (sides (twoParts-sym T))
 
   -- ---- a class and a set
 
   module _ {set whole : Set} (W : SetOf (Member members c) whole) where
     -- None of the class is in the set,
-    pub split-outside : {old round : ℕ} {part : Set} {o t : List ℕ} → SetOf (λ x. In whole x × In set x) part
-        → ((x : ℕ) → ¬ (In part x)) → Split n old round (λ p. (getD class p 0 ≡ c) × In set p) class o t class o t
+    pub split-outside : {old : ℕ} {part : Set} {o : List ℕ} → SetOf (λ x. In whole x × In set x) part
+        → ((x : ℕ) → ¬ (In part x)) → Split n old (λ p. (getD class p 0 ≡ c) × In set p) class o class o
     split-outside A none = split-none (λ p lp h. none p (A .all p (in-whole P W p lp (h .0), h .1)))
 
     -- or each,
-    pub split-inside : {old round : ℕ} {rest : Set} {o t : List ℕ} → SetOf (λ x. In whole x × ¬ (In set x)) rest
-        → ((x : ℕ) → ¬ (In rest x)) → Split n old round (λ p. (getD class p 0 ≡ c) × In set p) class o t class o t
+    pub split-inside : {old : ℕ} {rest : Set} {o : List ℕ} → SetOf (λ x. In whole x × ¬ (In set x)) rest
+        → ((x : ℕ) → ¬ (In rest x)) → Split n old (λ p. (getD class p 0 ≡ c) × In set p) class o class o
     split-inside B none =
         split-refl (λ p q lp lq e h. let d = sym e ∙ h .0 in (d, go q (in-whole P W q lq d) (in-or-not set q)))
       where
@@ -90,8 +90,8 @@ module _ {n c classes : ℕ} {class members : List ℕ} {together : Set}
           side p i (inl j) = inl (A .all p (i, j))
           side p i (inr d) = inr (B .all p (i, d))
 
-      pub split-class : {old round : ℕ} {o t c′ o′ t′ : List ℕ} → Split n old round (In part) class o t c′ o′ t′
-          → Split n old round (λ p. (getD class p 0 ≡ c) × In set p) class o t c′ o′ t′
+      pub split-class : {old : ℕ} {o c′ o′ : List ℕ} → Split n old (In part) class o c′ o′
+          → Split n old (λ p. (getD class p 0 ≡ c) × In set p) class o c′ o′
       split-class = split-iff
           (λ p lp i. (P .member-only c p l (W .only p (A .only p i .0)) .1, A .only p i .1))
           (λ p lp h. A .all p (in-whole P W p lp (h .0), h .1))
@@ -115,8 +115,8 @@ module _ {n classes : ℕ} {class members : List ℕ} {together set left : Set}
       go p q lp lq e i j (inl h) = subst (In left) (sym h) i
       go p q lp lq e i j (inr d) = in-left q p lq lp (sym e) d j
 
-  pub split-together : {old round : ℕ} {o t c′ o′ t′ : List ℕ} → Split n old round (In left) class o t c′ o′ t′
-      → Split n old round (In set) class o t c′ o′ t′
+  pub split-together : {old : ℕ} {o c′ o′ : List ℕ} → Split n old (In left) class o c′ o′
+      → Split n old (In set) class o c′ o′
   split-together = split-map (λ p q lp lq e f _ i. there p q lp lq e f i (eq-or-not p q))
       (λ p q lp lq e f _ i. leftOf-together .closed p q lp lq e i (f (L .only p i .0)))
     where
@@ -152,10 +152,10 @@ module _ {n classes c x : ℕ} {class members : List ℕ} {together set left who
           untaken q (L .closed p q lp lq s (D .only p j .0) k) (λ d. D .only p j .1 (in-whole P W p lp (s ∙ d)));
     }
 
-    module _ {old round : ℕ} {o t c′ o′ t′ c″ o″ t″ : List ℕ}
-        (F : Split n old round (λ p. (getD class p 0 ≡ c) × In set p) class o t c′ o′ t′)
-        (G : Split n old round (In less) c′ o′ t′ c″ o″ t″) where
-      pub split-less : Split n old round (In left) class o t c″ o″ t″
+    module _ {old : ℕ} {o c′ o′ c″ o″ : List ℕ}
+        (F : Split n old (λ p. (getD class p 0 ≡ c) × In set p) class o c′ o′)
+        (G : Split n old (In less) c′ o′ c″ o″) where
+      pub split-less : Split n old (In left) class o c″ o″
       split-less = split-trans F G (record {
         same-before = λ p q lp lq h. F .by .same-before p q lp lq (G .by .same-before p q lp lq h);
         same-side = λ p q lp lq h j. side p q lp lq h j (eq-or-not (getD class p 0) c);

@@ -15,7 +15,7 @@ use Rattle.sets.specs.declared.set.Set.{Set}
 use Rattle.held.specs.Held.{targetRow, HeldAt, HeldList, HeldMove}
 use Rattle.ranking.specs.Inner.ClassList.{Refined}
 use Rattle.splitters.specs.Inner.Partition.{Partition, home, HomesKept}
-use Rattle.splitters.specs.Inner.Splitters.{Stable, Fresh, IntoFresh, SameMoves, SplitUnder, UsedLabels}
+use Rattle.splitters.specs.Inner.Splitters.{Stable, Fresh, IntoSet, SameMoves, SplitUnder, UsedLabels}
 use Rattle.splitters.specs.Laws.HomeLaws.{home-lt, home-le, home-before}
 
 -- ---- one round
@@ -35,7 +35,7 @@ module _ {n : ℕ} {labels : List ℕ} {count : ℕ} {slots pool : List ℕ} (L 
     Move = HeldMove labels count slots pool
 
     abbrev Into : List ℕ → ℕ → ℕ → ℕ → Type 0
-    Into sets a j p = IntoFresh slots pool (targetRow a) sets j p
+    Into sets a j p = IntoSet slots pool (targetRow a) sets j p
 
     -- A target that is held is that of a move, if there is any move with the label.
     move-of-held : {p q a t u : ℕ} → q < n → Move p a t → HeldAt slots pool (targetRow a) q u → Move q a u

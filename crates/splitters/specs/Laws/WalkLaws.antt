@@ -2,7 +2,7 @@
 -- Assumes nothing.
 use mathlib.Core.Logic.{_⊎_, inl, inr}
 use mathlib.Core.Path.{_≡_, sym, subst}
-use Prim.Native.Nat.{ℕ, zero, suc, _≤_, _<_}
+use Prim.Native.Nat.{ℕ, zero, suc, _-_, _≤_, _<_}
 use native.Mathlib.Omega.{arith}
 use Rattle.text.specs.Limits.{stateLimit}
 use Rattle.lts.specs.TestsLaws.{lt-suc-cases, lt-or-le}
@@ -27,7 +27,12 @@ pub least-rises : {a gone b : Set} {x y : ℕ} → Least a x → In gone x → S
 least-rises {gone = gone} h g s =
     least-after h (g .member-lt) (λ z i. (s .only z i .0, λ e. s .only z i .1 (subst (In gone) (sym e) g)))
 
--- The walk is at its end.
+-- The walk comes nearer to its end,
+pub walk-nearer : {a b : Set} {x y : ℕ} → Least a x → x < stateLimit → SetOf (λ z. In a z × ¬ (z ≡ x)) b → Least b y
+    → stateLimit - y < stateLimit - x
+walk-nearer h l s k = omega (arith, least-after h l (s .only) k, l)
+
+-- and is there.
 pub none-of-least : {s : Set} {x : ℕ} → Least s x → stateLimit ≤ x → (y : ℕ) → ¬ (In s y)
 none-of-least h l y m = h .none-before y (omega (arith, l, m .member-lt)) m
 

@@ -12,24 +12,17 @@ size-requires-2 c κs = search needs
 
 divide-requires : tie.Need-divide-requires
 divide-requires c κs =
-    let pre = c .before .before .before .before .before .before .before .before .pre in
+    let pre = c .before .before .before .before .before .before .pre in
     (pre .0, (pre .1 .0, twoParts-sym (pre .1 .1)))
-
-same-length : tie.Need-same-length
-same-length c = search needs
 
 returns : tie.Need-returns
 returns c =
-    let divided = c .before .before in
-    let pre = divided .before .before .before .before .before .before .before .before .before .pre in
-    let e = divided .divide .ensures in
+    let pre = c .before .before .before .before .before .before .before .pre in
+    let e = c .divide .ensures in
     (e .0, split-sym (pre .1 .0) (pre .0 .1) (twoParts-sym (pre .1 .1)) (e .1))
 
 divide-requires-2 : tie.Need-divide-requires-2
 divide-requires-2 c κs = search needs
-
-same-length-2 : tie.Need-same-length-2
-same-length-2 c = search needs
 
 returns-2 : tie.Need-returns-2
 returns-2 c = search needs
@@ -41,8 +34,6 @@ divide-less-spec =
     size-requires
     size-requires-2
     divide-requires
-    same-length
     returns
     divide-requires-2
-    same-length-2
     returns-2)

@@ -5,15 +5,15 @@ use native.Mathlib.Omega.{arith}
 use Rattle.text.specs.Limits.{stateLimit}
 use Rattle.sets.specs.Inner.SetValues.{Least}
 use Rattle.splitters.specs.Inner.Partition.{Moved}
-use Rattle.splitters.specs.Laws.WalkLaws.{least-after, none-of-least}
-use Rattle.splitters.specs.Laws.WritingLaws.{moved-none, moved-other}
+use Rattle.splitters.specs.Laws.WalkLaws.{walk-nearer, none-of-least}
+use Rattle.splitters.specs.Laws.DividingLaws.{moved-none, moved-other}
 use borrow.Author.Needs.{needs}
-use Rattle.splitters.proofs.writing.move_states.Statement.{statement}
-use Rattle.splitters.proofs.writing.move_states.Tie as tie
+use Rattle.splitters.proofs.dividing.move_states.Statement.{statement}
+use Rattle.splitters.proofs.dividing.move_states.Tie as tie
 
 abbrev Inv-loop : tie.InvT-loop
 Inv-loop c class₀ left₀ p₀ class left p =
-    Least left p × ((t : List ℕ) → Moved left c class t → Moved left₀ c class₀ t)
+    Least left p × ((t : List ℕ) → Moved left (c .0) class t → Moved left₀ (c .0) class₀ t)
 
 abbrev μ-loop : tie.MeasureT-loop
 μ-loop c class₀ left₀ p₀ class left p = stateLimit - p
@@ -46,8 +46,7 @@ least-requires-2 c κs = search needs
 loop-less : tie.Need-loop-less Inv-loop μ-loop
 loop-less c =
     let inv = turn c .loop .inv .0 in
-    let later = least-after inv (omega arith) (c .before .drop-least .ensures _ inv .only) (c .least2 .ensures) in
-    omega (arith, later, c .least2 .ensures .least-le)
+    walk-nearer inv (omega arith) (c .before .drop-least .ensures _ inv) (c .least2 .ensures)
 
 loop-again : tie.Need-loop-again Inv-loop μ-loop
 loop-again c =

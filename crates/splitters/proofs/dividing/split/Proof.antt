@@ -1,9 +1,7 @@
 -- Whatever splits the classes by what is left of the set makes up the split by all of it.
 use mathlib.Core.List.{List}
-use mathlib.Core.Path.{_≡_, refl, _∙_}
 use Prim.Native.Nat.{ℕ, _-_, _≤_}
 use native.Mathlib.Omega.{arith}
-use lib.ListN.{length}
 use Rattle.text.specs.Limits.{stateLimit}
 use Rattle.sets.specs.Inner.SetValues.{In, Least}
 use Rattle.splitters.specs.Inner.Partition.{Partition, Split}
@@ -17,15 +15,27 @@ use Rattle.splitters.proofs.dividing.split.Statement.{statement}
 use Rattle.splitters.proofs.dividing.split.Tie as tie
 
 abbrev Inv-loop : tie.InvT-loop
-Inv-loop n set old round class₀ members₀ origin₀ table₀ parts₀ left₀ p₀ class members origin table parts left p =
-    Least left p × (length table ≡ length table₀) × Partition n class members (parts .classes) (parts .together)
+Inv-loop n set old class₀ members₀ origin₀ parts₀ left₀ p₀ class members origin parts left p =
+    Least left p × Partition n class members (parts .classes) (parts .together)
     × (parts₀ .classes ≤ parts .classes) × LeftOf n class set left
-    × ((c o t : List ℕ) → Split n old round (In left) class origin table c o t
-    → Split n old round (In set) class₀ origin₀ table₀ c o t)
+    × ((c o : List ℕ) → Split n old (In left) class origin c o → Split n old (In set) class₀ origin₀ c o)
 
 abbrev μ-loop : tie.MeasureT-loop
-μ-loop n set old round class₀ members₀ origin₀ table₀ parts₀ left₀ p₀ class members origin table parts left p =
+μ-loop n set old class₀ members₀ origin₀ parts₀ left₀ p₀ class members origin parts left p =
     stateLimit - p
+
+-- ---- places of the function
+
+abbrev finding : tie.After-without Inv-loop μ-loop → tie.After-class-at Inv-loop μ-loop
+finding c = c .before .before .before .before .before
+
+abbrev turn : tie.After-class-at Inv-loop μ-loop → tie.At-loop Inv-loop μ-loop
+turn c = c .before .before .before
+
+abbrev begin : tie.At-loop Inv-loop μ-loop → tie.Start Inv-loop μ-loop
+begin c = c .before .before .before
+
+-- ---- needs
 
 both-requires : tie.Need-both-requires Inv-loop μ-loop
 both-requires c κs = search needs
@@ -35,9 +45,9 @@ least-requires c κs = search needs
 
 loop-holds : tie.Need-loop-holds Inv-loop μ-loop
 loop-holds c =
-    let P = c .before .before .before .pre .1 in
+    let P = c .before .before .pre .1 in
     let L = c .before .both .ensures in
-    (c .least .ensures, refl, P, omega arith, leftOf-together P L, λ _ _ _ s. split-together P L s)
+    (c .least .ensures, P, omega arith, leftOf-together P L, λ _ _ s. split-together P L s)
 
 class-at-requires : tie.Need-class-at-requires Inv-loop μ-loop
 class-at-requires c κs = search needs
@@ -48,63 +58,57 @@ cast-set-at c = search needs
 set-at-requires : tie.Need-set-at-requires Inv-loop μ-loop
 set-at-requires c κs =
     let found = c .before .before .before in
-    let inv = found .before .before .before .loop .inv in
-    let pre = found .before .before .before .before .before .before .before .pre in
-    let l = class-of-left-lt (inv .2) (inv .4) (inv .0 .member (omega arith)) (found .class-at .ensures) in
-    omega (arith, l, inv .2 .classes-le, pre .0 .0)
+    let inv = turn found .loop .inv in
+    let l = class-of-left-lt (inv .1) (inv .3) (inv .0 .member (omega arith)) (found .class-at .ensures) in
+    omega (arith, l, inv .1 .classes-le, begin (turn found) .pre .0 .0)
 
 without-requires : tie.Need-without-requires Inv-loop μ-loop
 without-requires c κs = search needs
 
 split-class-requires : tie.Need-split-class-requires Inv-loop μ-loop
 split-class-requires c κs =
-    let found = c .before .before .before .before .before .before .before .before .before in
-    let inv = found .before .before .before .loop .inv in
-    let pre = found .before .before .before .before .before .before .before .pre in
-    let l = class-of-left-lt (inv .2) (inv .4) (inv .0 .member (omega arith)) (found .class-at .ensures) in
-    ((pre .0 .0, l, omega (arith, pre .0 .1, inv .3), omega (arith, pre .0 .2, inv .1)), inv .2)
+    let found = finding (c .before .before .before) in
+    let inv = turn found .loop .inv in
+    let pre = begin (turn found) .pre in
+    let l = class-of-left-lt (inv .1) (inv .3) (inv .0 .member (omega arith)) (found .class-at .ensures) in
+    ((pre .0 .0, l, omega (arith, pre .0 .1, inv .2)), inv .1)
 
 least-requires-2 : tie.Need-least-requires-2 Inv-loop μ-loop
 least-requires-2 c κs = search needs
 
 loop-less : tie.Need-loop-less Inv-loop μ-loop
 loop-less c =
-    let taken = c .before .before .before .before .before .before .before .before in
-    let found = taken .before .before .before .before .before in
-    let inv = found .before .before .before .loop .inv in
+    let taken = c .before .before .before .before .before in
+    let found = finding taken in
+    let inv = turn found .loop .inv in
     let in-left = inv .0 .member (omega arith) in
-    let has = whole-has (inv .2) (inv .4) in-left (found .class-at .ensures) (taken .before .set-at .ensures)
+    let has = whole-has (inv .1) (inv .3) in-left (found .class-at .ensures) (taken .before .set-at .ensures)
     (taken .without .ensures) in
     let l = least-rises (inv .0) has (taken .without .ensures) (c .least2 .ensures) in
     omega (arith, l, has .member-lt)
 
 loop-again : tie.Need-loop-again Inv-loop μ-loop
 loop-again c =
-    let done = c .before .before .before in
-    let taken = done .before .before .before .before .before in
-    let found = taken .before .before .before .before .before in
-    let inv = found .before .before .before .loop .inv in
+    let taken = c .before .before .before .before .before in
+    let found = finding taken in
+    let inv = turn found .loop .inv in
     let in-left = inv .0 .member (omega arith) in
     let e = found .class-at .ensures in
     let W = taken .before .set-at .ensures in
     let D = taken .without .ensures in
-    let F = done .split-class .ensures in (
+    let F = c .before .split-class .ensures in (
       c .least2 .ensures,
-      done .split-class .kept .1 .1 .1 .1 .1 .1 .1 .1 .1 .0 ∙ inv .1,
       F .0 .0,
-      omega (arith, F .0 .1, inv .3),
-      leftOf-less (inv .2) (inv .4) in-left e W D (F .1 .by .same-before),
-      λ d o t G. inv .5 d o t (split-less (inv .2) (inv .4) in-left e W D (F .1) G),
+      omega (arith, F .0 .1, inv .2),
+      leftOf-less (inv .1) (inv .3) in-left e W D (F .1 .by .same-before),
+      λ d o G. inv .4 d o (split-less (inv .1) (inv .3) in-left e W D (F .1) G),
     )
-
-same-length : tie.Need-same-length Inv-loop μ-loop
-same-length c = c .before .loop .inv .1
 
 returns : tie.Need-returns Inv-loop μ-loop
 returns c =
     let inv = c .before .loop .inv in
     let none = none-of-least (inv .0) (omega arith) in
-    ((inv .2, inv .3), inv .5 _ _ _ (split-none (λ p _. none p)))
+    ((inv .1, inv .2), inv .4 _ _ (split-none (λ p _. none p)))
 
 pub split-spec : {M : Type 1} → statement M
 split-spec =
@@ -123,5 +127,4 @@ split-spec =
     least-requires-2
     loop-less
     loop-again
-    same-length
     returns)

@@ -1,34 +1,32 @@
 -- The labels that are not left are used: at first those that do not lead into the class, which divide nothing by it.
-use mathlib.Core.Path.{_≡_, refl, _∙_}
 use Prim.Native.Nat.{_-_, _≤_, _<_}
 use native.Mathlib.Omega.{arith}
-use lib.ListN.{length, getD}
 use Rattle.text.specs.Limits.{stateLimit}
 use Rattle.sets.specs.Inner.SetValues.{Least}
 use Rattle.splitters.specs.Inner.Partition.{Partition}
 use Rattle.splitters.specs.Inner.Splitters.{UsedSplit}
 use Rattle.splitters.specs.Laws.RefiningLaws.{UsedBut, usedBut-start, usedBut-next, usedBut-end, turned-row}
-use Rattle.splitters.specs.Laws.WalkLaws.{least-after}
+use Rattle.splitters.specs.Laws.WalkLaws.{walk-nearer}
 use borrow.Author.Needs.{needs}
 use Rattle.splitters.proofs.refining.refine_class.Statement.{statement}
 use Rattle.splitters.proofs.refining.refine_class.Tie as tie
 
 abbrev Inv-loop : tie.InvT-loop
-Inv-loop n labels count slots pool into j old fresh rest round class₀ members₀ origin₀ table₀ new from parts₀ left₀ i₀
-    class members origin table parts left i =
-    Least left i × (parts₀ .classes ≤ parts .classes) × (length table ≡ length table₀)
+Inv-loop n labels count slots pool into j old fresh rest class₀ members₀ origin₀ new from parts₀ left₀ i₀
+    class members origin parts left i =
+    Least left i × (parts₀ .classes ≤ parts .classes)
     × Partition n class members (parts .classes) (parts .together)
-    × UsedSplit n old round slots pool (UsedBut j labels count left) fresh rest class₀ origin₀ table₀ class origin table
+    × UsedSplit n old slots pool (UsedBut j labels count left) fresh rest class₀ origin₀ class origin
 
 abbrev μ-loop : tie.MeasureT-loop
-μ-loop n labels count slots pool into j old fresh rest round class₀ members₀ origin₀ table₀ new from parts₀ left₀ i₀
-    class members origin table parts left i =
+μ-loop n labels count slots pool into j old fresh rest class₀ members₀ origin₀ new from parts₀ left₀ i₀
+    class members origin parts left i =
     stateLimit - i
 
 -- ---- places of the function
 
 abbrev begin : tie.At-loop Inv-loop μ-loop → tie.Start Inv-loop μ-loop
-begin c = c .before .before .before .before .before .before .before .before
+begin c = c .before .before .before .before .before .before .before
 
 abbrev uniting : tie.At-loop Inv-loop μ-loop → tie.After-union Inv-loop μ-loop
 uniting c = c .before .before
@@ -37,10 +35,10 @@ abbrev turn : tie.After-target-row Inv-loop μ-loop → tie.In-loop Inv-loop μ-
 turn c = c .before .before
 
 abbrev splitting : tie.After-least2 Inv-loop μ-loop → tie.After-split-moves Inv-loop μ-loop
-splitting c = c .before .before .before .before
+splitting c = c .before .before
 
 abbrev row-of : tie.After-split-moves Inv-loop μ-loop → tie.After-target-row Inv-loop μ-loop
-row-of c = c .before .before .before .before .before
+row-of c = c .before .before .before .before
 
 -- ---- needs
 
@@ -58,13 +56,12 @@ least-requires c κs = search needs
 
 loop-holds : tie.Need-loop-holds Inv-loop μ-loop
 loop-holds c =
-    let P = c .before .before .before .before .before .before .before .pre .1 in
-    let labels = c .before .before .before .before .before .before .before .args .labels .now in (
+    let start = c .before .before .before .before .before .before in
+    let P = start .pre .1 in (
       c .least .ensures,
       omega arith,
-      refl,
       P .0,
-      usedBut-start labels (P .1 .0) (P .1 .1) (c .before .before .before .before .set-at .ensures)
+      usedBut-start (start .args .labels .now) (P .1 .0) (P .1 .1) (c .before .before .before .before .set-at .ensures)
           (c .before .union .ensures),
     )
 
@@ -84,17 +81,14 @@ target-row-requires c κs =
 
 split-moves-requires : tie.Need-split-moves-requires Inv-loop μ-loop
 split-moves-requires c κs =
-    let row = c .before .before .before .before in
+    let row = c .before .before .before in
     let at-loop = turn row .before in
     let P = begin at-loop .pre in
     let L = P .1 .1 .0 in
     let inv = at-loop .loop .inv in
-    let i = at-loop .loop .i in
-    let l : i < begin at-loop .args .count = omega (arith, turn row .loop-test) in
-    let at = row .target-row .ensures in (
-      (L .states-le, omega (arith, P .0 .1, inv .1), omega (arith, P .0 .2, inv .2)),
-      (inv .3, ((at .1, L .slot-lt), turned-row (getD (begin at-loop .args .labels .now) i 0) (at .0) (L .turned i l))),
-    )
+    let at = row .target-row .ensures in
+    let l : at-loop .loop .i < begin at-loop .args .count = omega (arith, turn row .loop-test) in
+    ((L .states-le, omega (arith, P .0 .1, inv .1)), (inv .2, ((at .1, L .slot-lt), turned-row L l (at .0))))
 
 drop-least-requires : tie.Need-drop-least-requires Inv-loop μ-loop
 drop-least-requires c κs = search needs
@@ -105,11 +99,10 @@ least-requires-2 c κs = search needs
 loop-less : tie.Need-loop-less Inv-loop μ-loop
 loop-less c =
     let in-loop = turn (row-of (splitting c)) in
-    let inv = in-loop .before .loop .inv .0 in
+    let inv = in-loop .before .loop .inv in
     let room = begin (in-loop .before) .pre .1 .1 .0 .count-le in
-    let l : in-loop .before .loop .i < stateLimit = omega (arith, in-loop .loop-test, room) in
-    let later = least-after inv l (c .before .drop-least .ensures _ inv .only) (c .least2 .ensures) in
-    omega (arith, later, l, c .least2 .ensures .least-le)
+    walk-nearer (inv .0) (omega (arith, in-loop .loop-test, room)) (c .before .drop-least .ensures _ (inv .0))
+    (c .least2 .ensures)
 
 loop-again : tie.Need-loop-again Inv-loop μ-loop
 loop-again c =
@@ -120,20 +113,16 @@ loop-again c =
     let before = uniting at-loop in (
       c .least2 .ensures,
       omega (arith, inv .1, split .split-moves .ensures .0 .1),
-      split .split-moves .kept .1 .1 .1 .1 .1 .1 .1 .1 .1 .1 .1 .1 .0 ∙ inv .2,
       split .split-moves .ensures .0 .0,
       usedBut-next (begin at-loop .args .labels .now) (omega (arith, turn row .loop-test)) (row .target-row .ensures .0)
           (before .before .before .before .set-at .ensures) (before .before .set-at2 .ensures)
-          (c .before .drop-least .ensures _ (inv .0)) (inv .4) (split .split-moves .ensures .1),
+          (c .before .drop-least .ensures _ (inv .0)) (inv .3) (split .split-moves .ensures .1),
     )
-
-same-length : tie.Need-same-length Inv-loop μ-loop
-same-length c = c .before .loop .inv .2
 
 returns : tie.Need-returns Inv-loop μ-loop
 returns c =
     let inv = c .before .loop .inv in
-    ((inv .3, inv .1), usedBut-end (begin (c .before) .args .labels .now) (inv .0) (omega arith) (inv .4))
+    ((inv .2, inv .1), usedBut-end (begin (c .before) .args .labels .now) (inv .0) (omega arith) (inv .3))
 
 pub refine-class-spec : {M : Type 1} → statement M
 refine-class-spec =
@@ -155,5 +144,4 @@ refine-class-spec =
     least-requires-2
     loop-less
     loop-again
-    same-length
     returns)

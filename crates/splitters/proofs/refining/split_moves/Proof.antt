@@ -12,13 +12,13 @@ use Rattle.splitters.proofs.refining.split_moves.Tie as tie
 -- ---- places of the function
 
 abbrev begin : tie.After-is-empty → tie.Start
-begin c = c .before .before .before .before
+begin c = c .before .before .before
 
 abbrev tested : tie.After-split → tie.After-is-empty
-tested c = c .before .before .before .before .before .before
+tested c = c .before .before .before .before .before
 
 abbrev split-at : tie.After-is-empty2 → tie.After-split
-split-at c = c .before .before .before .before
+split-at c = c .before .before
 
 -- The states that have a move into `fresh`, of those whose class has another.
 cut : (c : tie.After-is-empty) → CutTo (begin c .args .n) (begin c .args .class .now)
@@ -58,9 +58,6 @@ without-requires c κs = search needs
 is-empty-requires-2 : tie.Need-is-empty-requires-2
 is-empty-requires-2 c κs = search needs
 
-same-length : tie.Need-same-length
-same-length c = search needs
-
 returns-2 : tie.Need-returns-2
 returns-2 c =
     let compared = c .before in
@@ -83,23 +80,17 @@ leading-requires c κs =
 
 split-requires-2 : tie.Need-split-requires-2
 split-requires-2 c κs =
-    let first = split-at (c .before .before .before .before .before .before .before) in
+    let first = split-at (c .before .before .before .before .before .before) in
     let P = begin (tested first) .pre .0 in
-    let after = first .split .ensures .0 in (
-      (P .0, omega (arith, P .1, after .1), omega (arith, P .2, first .split .kept .1 .1 .1 .1 .1 .1 .1 .1 .0)),
-      after .0,
-    )
-
-same-length-2 : tie.Need-same-length-2
-same-length-2 c = search needs
+    let after = first .split .ensures .0 in
+    ((P .0, omega (arith, P .1, after .1)), after .0)
 
 returns-3 : tie.Need-returns-3
 returns-3 c =
-    let again = c .before .before in
-    let led = again .before .before .before .before .before in
+    let led = c .before .before .before .before in
     let first = split-at (led .before .before .before) in
     let one = first .split .ensures in
-    let two = again .split2 .ensures in
+    let two = c .split2 .ensures in
     let rest = cutTo-rest (cut (tested first)) (one .1 .by .same-before) (one .0 .0) (led .before .both2 .ensures)
     (led .leading .ensures) in (
       (two .0 .0, omega (arith, one .0 .1, two .0 .1)),
@@ -118,11 +109,9 @@ split-moves-spec =
     split-requires
     without-requires
     is-empty-requires-2
-    same-length
     returns-2
     both-requires-2
     add-leading
     leading-requires
     split-requires-2
-    same-length-2
     returns-3)
