@@ -9,7 +9,8 @@ use text::limits::STATE_LIMIT;
 ghost use Prim.Native.Nat.{_≤_, _<_};
 ghost use lib.ListN.{length};
 ghost use Rattle.text.specs.Limits.{stateLimit, tableLength};
-ghost use Rattle.splitters.specs.Inner.Partition.{PairWritten, BesideWritten, AcrossWritten, Moved};
+ghost use Rattle.ranking.specs.Inner.TableWrites.{PairWritten};
+ghost use Rattle.splitters.specs.Inner.Partition.{BesideWritten, AcrossWritten, Moved};
 
 // Writes the round for p and q both ways.
 fn write_pair(table: &mut [u8], p: State, q: State, round: u8)

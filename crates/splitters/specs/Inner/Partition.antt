@@ -12,7 +12,7 @@ use Rattle.sets.specs.Inner.Sets.{Member}
 use Rattle.sets.specs.Inner.SetValues.{In}
 use Rattle.sets.specs.declared.set.Set.{Set}
 use Rattle.held.specs.Held.{chosen}
-use Rattle.ranking.specs.Inner.TableWrites.{entryOf, SeparatedBy, Outside}
+use Rattle.ranking.specs.Inner.TableWrites.{entryOf, RoundWritten}
 
 -- `classes` classes, none without a state; `together` has at least the states whose class has another.
 pub record Partition (n : ℕ) (class members : List ℕ) (classes : ℕ) (together : Set) : Type 0 where
@@ -46,12 +46,6 @@ home old origin c = chosen (ltb c old) c (getD origin c 0)
 pub record HomesKept (n old : ℕ) (origin class origin′ class′ : List ℕ) : Type 0 where
   pub same : (p : ℕ) → p < n → home old origin′ (getD class′ p 0) ≡ home old origin (getD class p 0)
 
--- Entries of two states that were of one class and are no more have the round's number, and no other has changed.
-pub record RoundWritten (n : ℕ) (class next : List ℕ) (round : ℕ) (entry exit : List ℕ) : Type 0 where
-  pub written : (p q : ℕ) → p < n → q < n → SeparatedBy class next p q → entryOf exit p q ≡ round
-  pub kept : (p q : ℕ) → p < n → q < n → ¬ (SeparatedBy class next p q) → entryOf exit p q ≡ entryOf entry p q
-  pub outside : Outside n entry exit
-
 -- A split by P in a round that began with `old` classes.
 pub record Split (n old round : ℕ) (P : ℕ → Type 0) (class origin table class′ origin′ table′ : List ℕ) : Type 0 where
   pub by : SplitBy n P class class′
@@ -76,14 +70,7 @@ pub record SplitTwice (n old round : ℕ) (P Q : ℕ → Type 0) (class origin t
 abbrev pub Across : Set → Set → ℕ → ℕ → Type 0
 Across a b p q = (In a p × In b q) ⊎ (In b p × In a q)
 
--- The entries of p and q, both ways, have the round's number, and no other has changed.
-pub record PairWritten (p q round : ℕ) (entry exit : List ℕ) : Type 0 where
-  pub there : entryOf exit p q ≡ round
-  pub back : entryOf exit q p ≡ round
-  pub kept : (x y : ℕ) → y < stateLimit → ¬ ((x ≡ p) × (y ≡ q)) → ¬ ((x ≡ q) × (y ≡ p))
-      → entryOf exit x y ≡ entryOf entry x y
-
--- The same of p and each state of the set.
+-- The entries of p and each state of the set, both ways, have the round's number, and no other has changed.
 pub record BesideWritten (p : ℕ) (others : Set) (round : ℕ) (entry exit : List ℕ) : Type 0 where
   pub there : (q : ℕ) → In others q → entryOf exit p q ≡ round
   pub back : (q : ℕ) → In others q → entryOf exit q p ≡ round

@@ -15,8 +15,8 @@ use Rattle.sets.specs.Inner.SetValues.{In}
 use Rattle.sets.specs.declared.set.Set.{Set}
 use Rattle.held.specs.Held.{slotPlace, targetRow, sourceRow, HeldAt}
 use Rattle.ranking.specs.Inner.ClassList.{Classes, Refined, RoundSeparates}
-use Rattle.ranking.specs.Inner.TableWrites.{RanksUpTo, Outside}
-use Rattle.splitters.specs.Inner.Partition.{Partition, home, HomesKept, RoundWritten}
+use Rattle.ranking.specs.Inner.TableWrites.{RanksUpTo, Outside, RoundWritten}
+use Rattle.splitters.specs.Inner.Partition.{Partition, home, HomesKept}
 
 -- Classes from `first` on are new, and have noted what they were a part of. States of one class have moves together to
 -- each class that is not new, taken with the new ones divided off it.

@@ -16,8 +16,8 @@ use Rattle.sets.specs.Inner.SetValues.{In, SetPut}
 use Rattle.sets.specs.Laws.SetValuesLaws.{in-or-not}
 use Rattle.sets.specs.declared.set.Set.{Set}
 use Rattle.held.specs.Held.{chosen}
-use Rattle.ranking.specs.Inner.TableWrites.{SeparatedBy}
-use Rattle.splitters.specs.Inner.Partition.{Partition, home, HomesKept, RoundWritten, Across, AcrossWritten}
+use Rattle.ranking.specs.Inner.TableWrites.{SeparatedBy, RoundWritten}
+use Rattle.splitters.specs.Inner.Partition.{Partition, home, HomesKept, Across, AcrossWritten}
 use Rattle.splitters.specs.Inner.Partition.{Moved, TwoParts}
 use Rattle.splitters.specs.Laws.HomeLaws.{home-le}
 use Rattle.splitters.specs.Laws.PartitionLaws.{numbers-le, moved-in, kept-in, kept-of-class, some-next}

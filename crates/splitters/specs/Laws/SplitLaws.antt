@@ -7,9 +7,9 @@ use Prim.Native.Nat.{ℕ, _<_}
 use lib.ListN.{getD}
 use Rattle.lts.specs.TestsLaws.{eq-or-not}
 use Rattle.comparing.specs.Inner.Numbered.{Same}
-use Rattle.ranking.specs.Inner.TableWrites.{entryOf, SeparatedBy}
+use Rattle.ranking.specs.Inner.TableWrites.{entryOf, SeparatedBy, RoundWritten}
 use Rattle.ranking.specs.Laws.TableWritesLaws.{outside-refl, outside-trans}
-use Rattle.splitters.specs.Inner.Partition.{SplitBy, HomesKept, RoundWritten, Split}
+use Rattle.splitters.specs.Inner.Partition.{SplitBy, HomesKept, Split}
 
 -- ---- nothing is split
 

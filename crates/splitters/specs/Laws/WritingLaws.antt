@@ -3,42 +3,16 @@
 use mathlib.Core.List.{List}
 use mathlib.Core.Logic.{_⊎_, inl, inr, ⊎-elim}
 use mathlib.Core.Path.{_≡_, refl, sym, ap, _∙_, subst}
-use Prim.Native.Nat.{ℕ, _≤_, _<_}
-use native.Mathlib.Omega.{arith}
+use Prim.Native.Nat.{ℕ, _<_}
 use lib.ListN.{length, getD, set}
-use lib.Seq.{lt-length-set, getD-set-same, getD-set-other}
-use Rattle.text.specs.Limits.{stateLimit, tableLength, pairPlace}
-use Rattle.lts.specs.TestsLaws.{eq-or-not}
+use lib.Seq.{getD-set-same, getD-set-other}
+use Rattle.text.specs.Limits.{stateLimit}
+use Rattle.lts.specs.TestsLaws.{eq-or-not, both-or-not}
 use Rattle.sets.specs.Inner.SetValues.{In, SetOf}
 use Rattle.sets.specs.Laws.SetValuesLaws.{in-or-not}
 use Rattle.sets.specs.declared.set.Set.{Set}
-use Rattle.ranking.specs.Inner.TableWrites.{entryOf}
-use Rattle.splitters.specs.Inner.Partition.{PairWritten, Across, BesideWritten, AcrossWritten, Moved}
-
--- ---- the two entries of a pair
-
-pub pairWritten-set : (t : List ℕ) (round : ℕ) {p q i j : ℕ} → i ≡ pairPlace p q → j ≡ pairPlace q p → p < stateLimit
-    → q < stateLimit → tableLength ≤ length t → PairWritten p q round t (set (set t i round) j round)
-pairWritten-set t round {p} {q} {i} {j} ei ej lp lq lt = record {
-  there = ap (λ (k : ℕ). getD w k 0) (sym ei) ∙ there (eq-or-not i j);
-  back = ap (λ (k : ℕ). getD w k 0) (sym ej) ∙ getD-set-same u j round 0 long;
-  kept = λ x y l d e.
-      getD-set-other u j (pairPlace x y) round 0 (λ h. e (omega (arith, h, l, lp, ej), omega (arith, h, l, lp, ej)))
-      ∙ getD-set-other t i (pairPlace x y) round 0 (λ h. d (omega (arith, h, l, lq, ei), omega (arith, h, l, lq, ei)));
-}
-  where
-    u : List ℕ
-    u = set t i round
-
-    w : List ℕ
-    w = set u j round
-
-    long : j < length u
-    long = lt-length-set t i round (omega arith)
-
-    there : (i ≡ j) ⊎ ¬ (i ≡ j) → getD w i 0 ≡ round
-    there (inl e) = ap (λ (k : ℕ). getD w k 0) e ∙ getD-set-same u j round 0 long
-    there (inr d) = getD-set-other u j i round 0 d ∙ getD-set-same t i round 0 (omega arith)
+use Rattle.ranking.specs.Inner.TableWrites.{entryOf, PairWritten}
+use Rattle.splitters.specs.Inner.Partition.{Across, BesideWritten, AcrossWritten, Moved}
 
 -- ---- one state and a set
 
@@ -79,13 +53,8 @@ besideWritten-other {p} {q} {round} {a} {b} {t} {u} {w} lp m s f g = record {
 
 -- ---- two sets
 
-pair-or-not : {A B : Type 0} → A ⊎ ¬ A → B ⊎ ¬ B → (A × B) ⊎ ¬ (A × B)
-pair-or-not (inl a) (inl b) = inl (a, b)
-pair-or-not (inl a) (inr g) = inr (λ h. g (h .1))
-pair-or-not (inr f) b = inr (λ h. f (h .0))
-
 across-or-not : (a b : Set) (p q : ℕ) → Across a b p q ⊎ ¬ (Across a b p q)
-across-or-not a b p q = go (pair-or-not (in-or-not a p) (in-or-not b q)) (pair-or-not (in-or-not b p) (in-or-not a q))
+across-or-not a b p q = go (both-or-not (in-or-not a p) (in-or-not b q)) (both-or-not (in-or-not b p) (in-or-not a q))
   where
     go : (In a p × In b q) ⊎ ¬ (In a p × In b q) → (In b p × In a q) ⊎ ¬ (In b p × In a q)
         → Across a b p q ⊎ ¬ (Across a b p q)

@@ -1,7 +1,7 @@
 -- Two stores at the two places of the pair.
 use native.Mathlib.Omega.{arith}
 use lib.ListN.{length-set}
-use Rattle.splitters.specs.Laws.WritingLaws.{pairWritten-set}
+use Rattle.ranking.specs.Laws.TableWritesLaws.{pairWritten-set}
 use borrow.Author.Needs.{needs}
 use Rattle.splitters.proofs.writing.write_pair.Statement.{statement}
 use Rattle.splitters.proofs.writing.write_pair.Tie as tie
