@@ -94,6 +94,11 @@ eq-or-not a b = go (ℕ-discrete a b)
     go (yes e) = inl e
     go (no d) = inr d
 
+pub both-or-not : {P Q : Type 0} → P ⊎ ¬ P → Q ⊎ ¬ Q → (P × Q) ⊎ ¬ (P × Q)
+both-or-not (inl p) (inl q) = inl (p, q)
+both-or-not (inl p) (inr f) = inr (λ h. f (h .1))
+both-or-not (inr f) d = inr (λ h. f (h .0))
+
 pub lt-or-le : (i n : ℕ) → (i < n) ⊎ (n ≤ i)
 lt-or-le i n = go (decLt i n)
   where
@@ -218,7 +223,3 @@ least-of-passes f x t = go (least-cases f (suc x))
     go : ((m : ℕ) × (m < suc x) × Least f m) ⊎ Each (suc x) (λ i. not (f i)) → (m : ℕ) × (m ≤ x) × Least f m
     go (inl s) = (s .0, omega arith, s .2)
     go (inr z) = absurd (T-not (f x) (z x (omega arith)) t)
-
-pub least-unique : (f : ℕ → Bool) (m n : ℕ) → Least f m → Least f n → m ≡ n
-least-unique f m n x y = eq-of-not-lt m n (λ l. T-not (f m) (y .none-below m l) (x .passes))
-    (λ l. T-not (f n) (x .none-below n l) (y .passes))

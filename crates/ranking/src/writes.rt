@@ -6,7 +6,7 @@ use text::limits::ROW;
 ghost use Prim.Native.Nat.{ℕ, _≤_, _<_};
 ghost use lib.ListN.{length, getD};
 ghost use Rattle.text.specs.Limits.{stateLimit, tableLength};
-ghost use Rattle.ranking.specs.Inner.TableWrites.{Written, PairWritten, RowWritten, RowsWritten};
+ghost use Rattle.ranking.specs.Inner.TableWrites.{Written, SeparationWritten, RowWritten, RowsWritten};
 
 // Writes the round for p and q both ways, if it separates them.
 fn write_pair(
@@ -21,7 +21,8 @@ fn write_pair(
     requires { ⌜ (p .0 < stateLimit) × (q .0 < stateLimit) ⌝ }
     ensures { λ _. ⌜ ((n : ℕ) → n ≤ stateLimit → p .0 < n → q .0 < n → Written n (now (class .entry))
         (now (next .entry)) round (now (table .entry)) (now (table .exit))) ⌝ }
-    ensures { λ _. ⌜ PairWritten (now (class .entry)) (now (next .entry)) round (now (table .exit)) (p .0) (q .0) ⌝ }
+    ensures { λ _. ⌜ SeparationWritten (now (class .entry)) (now (next .entry)) round (now (table .exit)) (p .0)
+        (q .0) ⌝ }
 {
     let a = class_at(class, p);
     let b = class_at(class, q);

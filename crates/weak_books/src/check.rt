@@ -34,7 +34,7 @@ ghost use Rattle.sets.specs.Inner.Sets.{Member};
 ghost use Rattle.silent.specs.Labelled.{LabelList, LabelMove};
 ghost use Rattle.silent.specs.Inner.Targets.{OwnNumbers, Targets};
 ghost use Rattle.weak_books.specs.Inner.Tested.{SetMove, SetOpens, SoundIf, FirstUnder};
-ghost use Rattle.weak_books.specs.Inner.Noted.{usedLength, NoLabel, Noted, UsedTo, LabelsTo};
+ghost use Rattle.weak_books.specs.Inner.Noted.{usedLength, NoLabel, ActionNoted, UsedTo, LabelsTo};
 
 // One place for each value of a byte.
 const USED_LENGTH: usize = 256;
@@ -222,7 +222,7 @@ fn is_label(a: Action) -> bool
 fn note_action(book: &[u8], k: usize, used: &mut [u8]) -> bool
     requires { ⌜ (k < tableLength) × (bookLength ≤ length (now book)) × (usedLength ≤ length (now used)) ⌝ }
     ensures { λ r. ⌜ Decides r (NoLabel (now (book .entry)) k) ⌝ }
-    ensures { λ r. ⌜ Noted (now (book .entry)) k (now (used .entry)) (now (used .exit)) ⌝ }
+    ensures { λ r. ⌜ ActionNoted (now (book .entry)) k (now (used .entry)) (now (used .exit)) ⌝ }
 {
     let at = ENTRY_SIZE * k;
     if book[at] == 0 {

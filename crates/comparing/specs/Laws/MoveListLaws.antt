@@ -1,6 +1,6 @@
 -- The steps of a move list are decided by a test, so they make a game and all that is shown of ranks holds of them.
 -- Assumes nothing.
-use mathlib.Core.Path.{ap, subst}
+use mathlib.Core.Path.{_≡_, sym, ap, subst}
 use mathlib.Core.Bool.{Bool, _&&_}
 use mathlib.Core.List.{List}
 use Prim.Native.Nat.{ℕ, _+_, _≤_, _<_}
@@ -9,6 +9,7 @@ use native.Mathlib.Omega.{arith}
 use native.Mathlib.Decide.{le-ind}
 use lib.Dec.{T, leb, ltb, eqb, leb→le, le→leb, ltb→lt, lt→ltb, eqb→eq}
 use lib.ListN.{getD}
+use Rattle.lts.specs.Alike.{Moves}
 use Rattle.lts.specs.Tests.{any}
 use Rattle.lts.specs.TestsLaws.{T-eqb, and-intro, and-left, and-right}
 use Rattle.lts.specs.TestsLaws.{any→Some, Some→any}
@@ -16,7 +17,7 @@ use Rattle.lts.specs.Game.{Game}
 use Rattle.lts.specs.Decided.{Decided, answers?}
 use Rattle.lts.specs.DecidedLaws.{decided-game}
 use Rattle.text.specs.Limits.{actionLimit}
-use Rattle.comparing.specs.MoveList.{Listed, MoveList}
+use Rattle.comparing.specs.MoveList.{Listed, MoveList, Lists}
 
 -- Place i holds a step from p with the action a to q.
 abbrev pub listedAt? : ℕ → List ℕ → List ℕ → List ℕ → ℕ → ℕ → ℕ → ℕ → Bool
@@ -85,3 +86,9 @@ module _ {n : ℕ} {first actions targets : List ℕ} (L : MoveList n first acti
   pub listed-game : Game (Listed n first actions targets) n (answers? n actionLimit (listed? n first actions targets))
   listed-game =
       decided-game (Listed n first actions targets) n actionLimit (listed? n first actions targets) listed-decided
+
+-- The lists of a relation, for a number that is n.
+pub moveList-of-lists : {Move : Moves} {n x : ℕ} {first actions targets : List ℕ} → Lists Move n first actions targets
+    → x ≡ n → MoveList x first actions targets
+moveList-of-lists {first = first} {actions} {targets} l e =
+    subst (λ (y : ℕ). MoveList y first actions targets) (sym e) (l .moves)

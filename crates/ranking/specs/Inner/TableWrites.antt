@@ -24,23 +24,40 @@ pub record SeparatedBy (class next : List ℕ) (p q : ℕ) : Type 0 where
 pub record Outside (n : ℕ) (entry exit : List ℕ) : Type 0 where
   pub kept : (p q : ℕ) → q < stateLimit → (n ≤ p) ⊎ (n ≤ q) → entryOf exit p q ≡ entryOf entry p q
 
+-- The entries of p and q, both ways, have the round's number, and no other has changed.
+pub record PairWritten (p q round : ℕ) (entry exit : List ℕ) : Type 0 where
+  pub there : entryOf exit p q ≡ round
+  pub back : entryOf exit q p ≡ round
+  pub kept : (x y : ℕ) → y < stateLimit → ¬ ((x ≡ p) × (y ≡ q)) → ¬ ((x ≡ q) × (y ≡ p))
+      → entryOf exit x y ≡ entryOf entry x y
+
+-- Entries of separated pairs of the n states have the round's number, and no other has changed.
+pub record RoundWritten (n : ℕ) (class next : List ℕ) (round : ℕ) (entry exit : List ℕ) : Type 0 where
+  pub written : (p q : ℕ) → p < n → q < n → SeparatedBy class next p q → entryOf exit p q ≡ round
+  pub kept : (p q : ℕ) → p < n → q < n → ¬ (SeparatedBy class next p q) → entryOf exit p q ≡ entryOf entry p q
+  pub outside : Outside n entry exit
+
+-- ---- row by row
+
 -- Only entries of separated pairs of the n states have changed, to the round's number.
 pub record Written (n : ℕ) (class next : List ℕ) (round : ℕ) (entry exit : List ℕ) : Type 0 where
   pub inside : (p q : ℕ) → p < n → q < n
       → (entryOf exit p q ≡ entryOf entry p q) ⊎ (SeparatedBy class next p q × (entryOf exit p q ≡ round))
   pub outside : Outside n entry exit
 
--- p and q, if they are separated, have the round's number both ways.
-pub record PairWritten (class next : List ℕ) (round : ℕ) (table : List ℕ) (p q : ℕ) : Type 0 where
+-- If p and q are separated, both their entries have the round's number.
+pub record SeparationWritten (class next : List ℕ) (round : ℕ) (table : List ℕ) (p q : ℕ) : Type 0 where
   pub both : SeparatedBy class next p q → (entryOf table p q ≡ round) × (entryOf table q p ≡ round)
 
--- So have p and each of the first m states.
+-- The same of p and each of the first m states.
 pub record RowWritten (class next : List ℕ) (round : ℕ) (table : List ℕ) (p m : ℕ) : Type 0 where
-  pub pair : (q : ℕ) → q < m → PairWritten class next round table p q
+  pub pair : (q : ℕ) → q < m → SeparationWritten class next round table p q
 
--- So have the first m states of the list, and each of the n states.
+-- The same of each of the first m states of the list and each of the n states.
 pub record RowsWritten (class next : List ℕ) (round : ℕ) (table list : List ℕ) (m n : ℕ) : Type 0 where
   pub row : (i : ℕ) → i < m → RowWritten class next round table (getD list i 0) n
+
+-- ---- the rounds
 
 -- v says what the first k rounds found of p and q: the round that separated them, 0 if none did.
 abbrev pub RankUpTo : Moves → ℕ → ℕ → ℕ → ℕ → Type 0

@@ -1,15 +1,16 @@
--- One round on classes makes those of (k+1)-alike states from those of k-alike states, and where no state changes its
--- class the round separates nothing. Document 01, "Alike" and operation 3. Assumes nothing.
+-- One round on classes makes those of (k+1)-alike states from those of k-alike states. It separates two states whose
+-- class it divides, and where no state changes its class, none. Document 01, "Alike" and operation 3. Assumes nothing.
 use mathlib.Core.Path.{_≡_, sym, _∙_}
 use mathlib.Core.List.{List}
 use Prim.Native.Nat.{ℕ, suc, _≤_, _<_}
 use lib.ListN.{getD}
 use Rattle.lts.specs.Alike.{Moves, Answers, Alike}
 use Rattle.lts.specs.AlikeLaws.{alike-suc, answers-below}
-use Rattle.lts.specs.Game.{Settled}
+use Rattle.lts.specs.Game.{Settled, Separates}
 use Rattle.lts.specs.PigeonholeLaws.{injective-le}
 use Rattle.comparing.specs.Inner.Numbered.{Same}
 use Rattle.ranking.specs.Inner.ClassList.{Classes, Refined, Changed}
+use Rattle.ranking.specs.Inner.TableWrites.{SeparatedBy}
 
 -- ---- k-alike
 
@@ -35,14 +36,26 @@ module _ {Move : Moves} {n : ℕ} (target-lt : (p a q : ℕ) → p < n → Move 
     alike-of-same = λ p q lp lq e. alike-of-answers lp lq (R .answers-of-same p q lp lq e);
   }
 
--- ---- the states that change their class
+-- ---- what a round separates
 
 module _ {Move : Moves} {n k : ℕ} {class next : List ℕ} (C : Classes Move n k class) (D : Classes Move n (suc k) next)
   where
+    pub separates-of-separatedBy : {p q : ℕ} → p < n → q < n → SeparatedBy class next p q → Separates Move n k
+    separates-of-separatedBy {p} {q} lp lq s = record {
+      one = p;
+      other = q;
+      one-lt = lp;
+      other-lt = lq;
+      alike = C .alike-of-same p q lp lq (s .same-before);
+      not-alike = λ h. s .not-same-after (D .same-of-alike p q lp lq h);
+    }
+
     -- Where no state changes its class, the round separates nothing.
     pub settled-of-unchanged : ((p : ℕ) → p < n → getD class p 0 ≡ getD next p 0) → Settled Move n k
     settled-of-unchanged same p q lp lq h =
         D .alike-of-same p q lp lq (sym (same p lp) ∙ C .same-of-alike p q lp lq h ∙ same q lq)
+
+-- ---- the states that change their class
 
 -- Each state is listed once, so no more change than there are.
 pub changed-count-le : {n : ℕ} {class next changed : List ℕ} {changes : ℕ} → Changed n class next changed changes

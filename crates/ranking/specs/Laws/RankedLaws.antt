@@ -1,6 +1,5 @@
--- A ranked table is pinned: each byte of it, and the last separating round. And lists that have just the moves of a
--- relation have its ranks: what is ranked by the lists is ranked by the relation.
--- Document 01, "Rank" and operation 3. Assumes nothing.
+-- A ranked table is pinned: each byte of it, and the last separating round. And what is ranked by moves is ranked by
+-- other moves that separate the same. Document 01, "Rank" and operation 3. Assumes nothing.
 use mathlib.Core.List.{List}
 use mathlib.Core.Logic.{_⊎_, inl, inr, ⊎-elim, _↔_}
 use mathlib.Core.Path.{_≡_, sym, _∙_, subst}
@@ -10,13 +9,10 @@ use lib.ListN.{getD}
 use lib.Seq.{ext-getD}
 use Rattle.lts.specs.Alike.{Moves, Separated, Rank}
 use Rattle.lts.specs.AlikeLaws.{rank-unique}
-use Rattle.lts.specs.AgreeLaws.{separated-same, rank-same}
 use Rattle.lts.specs.TestsLaws.{lt-or-le}
-use Rattle.text.specs.Limits.{stateLimit}
-use Rattle.text.specs.Limits.{tableLength, pairPlace}
+use Rattle.text.specs.Limits.{stateLimit, tableLength, pairPlace}
 use Rattle.text.specs.Lists.{Past}
 use Rattle.text.specs.Laws.ListsLaws.{past-getD}
-use Rattle.comparing.specs.MoveList.{Listed, MoveList, Lists}
 use Rattle.ranking.specs.Table.{Below, SomePair, Ranks, LastRound, Greatest, Ranked}
 
 -- ---- one table, one answer
@@ -109,22 +105,3 @@ ranked-map f g {last = last} r = record {
     bound = λ p q k lp lq x. r .greatest .bound p q k lp lq (f p q k lp lq .1 x);
   };
 }
-
--- ---- the lists and the relation
-
-module _ {Move : Moves} {n : ℕ} {first actions targets : List ℕ} (l : Lists Move n first actions targets) where
-  ranked-of-lists : {entry exit : List ℕ} {last : ℕ} → Ranked (Listed n first actions targets) n entry exit last
-      → Ranked Move n entry exit last
-  ranked-of-lists = ranked-map
-      (λ p q k _ _. (rank-same (l .sound) (l .complete) p q, rank-same (l .complete) (l .sound) p q))
-      (λ p q k _ _. separated-same (l .sound) (l .complete) p q k)
-
-  -- the lists, and what is ranked by them, for a number that is n
-  module _ {x : ℕ} (e : x ≡ n) where
-    pub moveList-of-lists : MoveList x first actions targets
-    moveList-of-lists = subst (λ (y : ℕ). MoveList y first actions targets) (sym e) (l .moves)
-
-    pub ranked-of-listed : {entry exit : List ℕ} {last : ℕ}
-        → Ranked (Listed x first actions targets) x entry exit last → Ranked Move n entry exit last
-    ranked-of-listed {entry} {exit} {last} r =
-        ranked-of-lists (subst (λ (y : ℕ). Ranked (Listed y first actions targets) y entry exit last) e r)

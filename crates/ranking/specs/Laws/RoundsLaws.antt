@@ -19,9 +19,9 @@ use Rattle.text.specs.Lists.{Past}
 use Rattle.text.specs.Inner.Clearing.{Cleared}
 use Rattle.text.specs.Laws.ListsLaws.{past-getD}
 use Rattle.ranking.specs.Table.{Below, SomePair, Ranked}
-use Rattle.ranking.specs.Inner.ClassList.{Classes, Refined, Changed}
+use Rattle.ranking.specs.Inner.ClassList.{Classes, Refined}
 use Rattle.ranking.specs.Laws.ClassListLaws.{classes-suc}
-use Rattle.ranking.specs.Inner.TableWrites.{entryOf, Written, RowsWritten, RankUpTo, RanksUpTo, Finished}
+use Rattle.ranking.specs.Inner.TableWrites.{entryOf, RoundWritten, RankUpTo, RanksUpTo, Finished}
 use Rattle.ranking.specs.Laws.TableWritesLaws.{ranksUpTo-suc}
 
 -- ---- the cleared table
@@ -41,12 +41,10 @@ module _ {Move : Moves} {n : ℕ} (target-lt : (p a q : ℕ) → p < n → Move 
   pub round-classes : Classes Move n (k + 1) next
   round-classes = subst (λ (j : ℕ). Classes Move n j next) (sym (add-one k)) D
 
-  pub round-ranks : {changed : List ℕ} {changes : ℕ} → Changed n class next changed changes → {t u : List ℕ}
-      → Written n class next (k + 1) t u → RowsWritten class next (k + 1) u changed changes n → RanksUpTo Move n k t
+  pub round-ranks : {t u : List ℕ} → RoundWritten n class next (k + 1) t u → RanksUpTo Move n k t
       → RanksUpTo Move n (k + 1) u
-  round-ranks {changed} {changes} H {t} {u} W rows U = subst (λ (j : ℕ). RanksUpTo Move n j u) (sym (add-one k))
-      (ranksUpTo-suc C D H (subst (λ (j : ℕ). Written n class next j t u) (add-one k) W)
-      (subst (λ (j : ℕ). RowsWritten class next j u changed changes n) (add-one k) rows) U)
+  round-ranks {t} {u} W U = subst (λ (j : ℕ). RanksUpTo Move n j u) (sym (add-one k))
+      (ranksUpTo-suc C D (subst (λ (j : ℕ). RoundWritten n class next j t u) (add-one k) W) U)
 
 -- ---- after the last round
 

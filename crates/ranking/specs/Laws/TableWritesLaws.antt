@@ -1,22 +1,47 @@
--- The rows of the states that changed their class hold every pair that the round separates, so the table is right one
--- round further. Document 01, operation 3. Assumes nothing.
+-- A round that writes its number for each pair that it separates makes the table right one round further; and the rows
+-- of the states that changed their class hold every such pair. Document 01, operation 3. Assumes nothing.
 use mathlib.Core.Path.{_≡_, refl, sym, ap, _∙_, subst}
-use mathlib.Core.Logic.{_⊎_, inl, inr}
+use mathlib.Core.Logic.{_⊎_, inl, inr, ⊎-elim}
 use mathlib.Core.List.{List}
 use Prim.Native.Nat.{ℕ, suc, _+_, _≤_, _<_}
 use native.Mathlib.Omega.{arith}
-use lib.ListN.{length, getD, set, length-set}
-use lib.Seq.{getD-set-same, getD-set-other}
+use lib.ListN.{length, getD, set}
+use lib.Seq.{lt-length-set, getD-set-same, getD-set-other}
 use borrow.Author.Count.{below-more}
 use Rattle.lts.specs.Alike.{Moves, Alike, Separated}
 use Rattle.lts.specs.AlikeLaws.{alike-le}
-use Rattle.text.specs.Limits.{stateLimit}
-use Rattle.text.specs.Limits.{tableLength, pairPlace}
-use Rattle.lts.specs.TestsLaws.{eq-or-not}
+use Rattle.lts.specs.TestsLaws.{eq-or-not, both-or-not}
+use Rattle.text.specs.Limits.{stateLimit, tableLength, pairPlace}
 use Rattle.comparing.specs.Inner.Numbered.{Same}
 use Rattle.ranking.specs.Inner.ClassList.{Classes, Changed}
-use Rattle.ranking.specs.Inner.TableWrites.{entryOf, SeparatedBy, Outside, Written, PairWritten}
-use Rattle.ranking.specs.Inner.TableWrites.{RowWritten, RowsWritten, RankUpTo, RanksUpTo}
+use Rattle.ranking.specs.Inner.TableWrites.{entryOf, SeparatedBy, Outside, PairWritten, RoundWritten}
+use Rattle.ranking.specs.Inner.TableWrites.{Written, SeparationWritten, RowWritten, RowsWritten}
+use Rattle.ranking.specs.Inner.TableWrites.{RankUpTo, RanksUpTo}
+
+-- ---- the two entries of a pair
+
+pub pairWritten-set : (t : List ℕ) (round : ℕ) {p q i j : ℕ} → i ≡ pairPlace p q → j ≡ pairPlace q p → p < stateLimit
+    → q < stateLimit → tableLength ≤ length t → PairWritten p q round t (set (set t i round) j round)
+pairWritten-set t round {p} {q} {i} {j} ei ej lp lq lt = record {
+  there = ap (λ (k : ℕ). getD w k 0) (sym ei) ∙ there (eq-or-not i j);
+  back = ap (λ (k : ℕ). getD w k 0) (sym ej) ∙ getD-set-same u j round 0 long;
+  kept = λ x y l d e.
+      getD-set-other u j (pairPlace x y) round 0 (λ h. e (omega (arith, h, l, lp, ej), omega (arith, h, l, lp, ej)))
+      ∙ getD-set-other t i (pairPlace x y) round 0 (λ h. d (omega (arith, h, l, lq, ei), omega (arith, h, l, lq, ei)));
+}
+  where
+    u : List ℕ
+    u = set t i round
+
+    w : List ℕ
+    w = set u j round
+
+    long : j < length u
+    long = lt-length-set t i round (omega arith)
+
+    there : (i ≡ j) ⊎ ¬ (i ≡ j) → getD w i 0 ≡ round
+    there (inl e) = ap (λ (k : ℕ). getD w k 0) e ∙ getD-set-same u j round 0 long
+    there (inr d) = getD-set-other u j i round 0 d ∙ getD-set-same t i round 0 (omega arith)
 
 -- ---- writes one after another
 
@@ -72,71 +97,37 @@ module _ {n : ℕ} {class next : List ℕ} {round : ℕ} where
       → RowsWritten class next round u list m n
   rows-stay f below r = record { row = λ i l. row-stays f (below i l) (omega arith) (r .row i l) }
 
-  pub written-set : (t : List ℕ) {p q : ℕ} → n ≤ stateLimit → p < n → q < n → tableLength ≤ length t
-      → SeparatedBy class next p q → Written n class next round t (set t (pairPlace p q) round)
-  written-set t {p} {q} ln lp lq lt h = record {
-    inside = λ x y lx ly. go x y lx ly (eq-or-not (pairPlace x y) (pairPlace p q));
-    outside = record {
-      kept = λ x y ly d. getD-set-other t (pairPlace p q) (pairPlace x y) round 0 (λ e. elsewhere x y ly d e);
-    };
+  -- The two entries of a separated pair are written.
+  pub written-of-pair : {t u : List ℕ} {p q : ℕ} → n ≤ stateLimit → p < n → q < n → SeparatedBy class next p q
+      → PairWritten p q round t u → Written n class next round t u
+  written-of-pair {t} {u} {p} {q} ln lp lq h w = record {
+    inside = λ x y _ ly.
+        ⊎-elim
+        (λ e. inr (at (h, w .there) e))
+        (λ d.
+        ⊎-elim
+        (λ e. inr (at (separatedBy-sym h, w .back) e))
+        (λ e. inl (w .kept x y (omega (arith, ly, ln)) d e))
+        (both-or-not (eq-or-not x q) (eq-or-not y p)))
+        (both-or-not (eq-or-not x p) (eq-or-not y q));
+    outside = record { kept = λ x y ly d. w .kept x y ly (not-outside lp lq d) (not-outside lq lp d) };
   }
     where
-      go : (x y : ℕ) → x < n → y < n → (pairPlace x y ≡ pairPlace p q) ⊎ ¬ (pairPlace x y ≡ pairPlace p q)
-          → (entryOf (set t (pairPlace p q) round) x y ≡ entryOf t x y)
-          ⊎ (SeparatedBy class next x y × (entryOf (set t (pairPlace p q) round) x y ≡ round))
-      go x y lx ly (inr d) = inl (getD-set-other t (pairPlace p q) (pairPlace x y) round 0 d)
-      go x y lx ly (inl e) =
-          let ep : p ≡ x = omega arith in
-          let eq : q ≡ y = omega arith in
-          inr (
-            subst (λ (z : ℕ). SeparatedBy class next x z) eq (subst (λ (z : ℕ). SeparatedBy class next z q) ep h),
-            ap (λ (z : ℕ). getD (set t (pairPlace p q) round) z 0) e
-                ∙ getD-set-same t (pairPlace p q) round 0 (omega arith),
-          )
+      at : {a b x y : ℕ} → SeparatedBy class next a b × (entryOf u a b ≡ round) → (x ≡ a) × (y ≡ b)
+          → SeparatedBy class next x y × (entryOf u x y ≡ round)
+      at {b = b} {x} s (e, f) =
+          subst (λ (z : ℕ). SeparatedBy class next x z × (entryOf u x z ≡ round)) (sym f)
+          (subst (λ (z : ℕ). SeparatedBy class next z b × (entryOf u z b ≡ round)) (sym e) s)
 
-      elsewhere : (x y : ℕ) → y < stateLimit → (n ≤ x) ⊎ (n ≤ y) → pairPlace x y ≡ pairPlace p q → ⊥
-      elsewhere x y ly (inl l) e = omega arith
-      elsewhere x y ly (inr l) e = omega arith
-
--- The two places of a separated pair.
-module _ {class next : List ℕ} (round : ℕ) (t : List ℕ) {p q : ℕ} (lp : p < stateLimit) (lq : q < stateLimit)
-    (lt : tableLength ≤ length t) (h : SeparatedBy class next p q) where
-  second : (n : ℕ) → n ≤ stateLimit → p < n → q < n
-      → Written n class next round (set t (pairPlace p q) round)
-      (set (set t (pairPlace p q) round) (pairPlace q p) round)
-  second n ln kp kq = written-set (set t (pairPlace p q) round) ln kq kp (simp length-set lt) (separatedBy-sym h)
-
-  pair-written : (n : ℕ) → n ≤ stateLimit → p < n → q < n
-      → Written n class next round t (set (set t (pairPlace p q) round) (pairPlace q p) round)
-  pair-written n ln kp kq = written-trans (written-set t ln kp kq lt h) (second n ln kp kq)
-
-  pair-both : PairWritten class next round (set (set t (pairPlace p q) round) (pairPlace q p) round) p q
-  pair-both =
-      let long : tableLength ≤ length (set t (pairPlace p q) round) = simp length-set lt in
-      record {
-        both = λ _. (
-          written-stays (second stateLimit (omega arith) lp lq) p q lp lq
-              (getD-set-same t (pairPlace p q) round 0 (omega arith)),
-          getD-set-same (set t (pairPlace p q) round) (pairPlace q p) round 0 (omega arith),
-        );
-      }
-
-  -- the round is written at the places i and j
-  pub pair-set : {i j : ℕ} → i ≡ pairPlace p q → j ≡ pairPlace q p
-      → ((n : ℕ) → n ≤ stateLimit → p < n → q < n → Written n class next round t (set (set t i round) j round))
-      × PairWritten class next round (set (set t i round) j round) p q
-  pair-set {i} {j} e f =
-      let exit : set (set t i round) j round ≡ set (set t (pairPlace p q) round) (pairPlace q p) round =
-      (λ k. set (set t (e k) round) (f k) round) in (
-        λ n ln kp kq. subst (Written n class next round t) (sym exit) (pair-written n ln kp kq),
-        subst (λ (u : List ℕ). PairWritten class next round u p q) (sym exit) pair-both,
-      )
+      not-outside : {a b x y : ℕ} → a < n → b < n → (n ≤ x) ⊎ (n ≤ y) → ¬ ((x ≡ a) × (y ≡ b))
+      not-outside la lb (inl l) (e, f) = omega arith
+      not-outside la lb (inr l) (e, f) = omega arith
 
 module _ {class next t : List ℕ} {round : ℕ} where
   pub row-zero : {p : ℕ} → RowWritten class next round t p 0
   row-zero = record { pair = λ q l. absurd (omega arith) }
 
-  pub row-add-one : {p q : ℕ} → RowWritten class next round t p q → PairWritten class next round t p q
+  pub row-add-one : {p q : ℕ} → RowWritten class next round t p q → SeparationWritten class next round t p q
       → RowWritten class next round t p (q + 1)
   row-add-one {q = q} r w = record { pair = below-more _ q (r .pair) w }
 
@@ -154,7 +145,7 @@ module _ {class next t : List ℕ} {round : ℕ} where
       → RowsWritten class next round t list k n
   rows-le l r = record { row = λ i k. r .row i (omega arith) }
 
--- ---- a round, and all rounds
+-- ---- all rows
 
 -- Every pair that the round separates stands in the row of one of the two: if neither changed, they are of one class
 -- still.
@@ -175,44 +166,43 @@ entry-of-separated {class} {next} {t} {changed} {round} {n} C r p q lp lq h =
     go (inl e) (inr d) = row-of q lq d .pair p lp .both (separatedBy-sym h) .1
     go (inl e) (inl u) = absurd (h .not-same-after (sym e ∙ h .same-before ∙ u))
 
-module _ {Move : Moves} {n k : ℕ} {class next t u changed : List ℕ} {changes : ℕ} (C : Classes Move n k class)
-    (D : Classes Move n (suc k) next) (H : Changed n class next changed changes) (W : Written n class next (suc k) t u)
-    (R : RowsWritten class next (suc k) u changed changes n) where
-  kept-of-not : (p q : ℕ) → p < n → q < n → ¬ (SeparatedBy class next p q) → entryOf u p q ≡ entryOf t p q
-  kept-of-not p q lp lq d = go (W .inside p q lp lq)
-    where
-      go : (entryOf u p q ≡ entryOf t p q) ⊎ (SeparatedBy class next p q × (entryOf u p q ≡ suc k))
-          → entryOf u p q ≡ entryOf t p q
-      go (inl e) = e
-      go (inr h) = absurd (d (h .0))
+pub roundWritten-of-rows : {n changes round : ℕ} {class next changed t u : List ℕ}
+    → Changed n class next changed changes → Written n class next round t u
+    → RowsWritten class next round u changed changes n → RoundWritten n class next round t u
+roundWritten-of-rows C W R = record {
+  written = entry-of-separated C R;
+  kept = λ p q lp lq d. ⊎-elim (λ e. e) (λ h. absurd (d (h .0))) (W .inside p q lp lq);
+  outside = W .outside;
+}
 
-  -- The table is right one round further.
-  pub ranksUpTo-suc : RanksUpTo Move n k t → RanksUpTo Move n (suc k) u
-  ranksUpTo-suc U = record { found = λ p q lp lq. go p q lp lq (U .found p q lp lq) }
-    where
-      sep : (p q : ℕ) → p < n → q < n → Alike Move k p q → ¬ (Same next p q) → Separated Move p q (suc k)
-      sep p q lp lq h d = record {
-        not-alike = λ g. d (D .same-of-alike p q lp lq g);
-        alike-before = λ j l. alike-le Move p q j k (omega arith) h;
-      }
+-- ---- a round
 
-      new : (p q : ℕ) → p < n → q < n → entryOf t p q ≡ 0 → Alike Move k p q
-          → (getD next p 0 ≡ getD next q 0) ⊎ ¬ (getD next p 0 ≡ getD next q 0)
-          → RankUpTo Move (suc k) p q (entryOf u p q)
-      new p q lp lq z h (inl e) =
-          inl (kept-of-not p q lp lq (λ s. s .not-same-after e) ∙ z, D .alike-of-same p q lp lq e)
-      new p q lp lq z h (inr d) =
-          let s : SeparatedBy class next p q = record {
-            same-before = C .same-of-alike p q lp lq h;
-            not-same-after = d;
-          } in
-          let e : entryOf u p q ≡ suc k = entry-of-separated H R p q lp lq s in
-          inr (omega arith, subst (Separated Move p q) (sym e) (sep p q lp lq h d))
+-- The table is right one round further.
+pub ranksUpTo-suc : {Move : Moves} {n k : ℕ} {class next t u : List ℕ} → Classes Move n k class
+    → Classes Move n (suc k) next → RoundWritten n class next (suc k) t u → RanksUpTo Move n k t
+    → RanksUpTo Move n (suc k) u
+ranksUpTo-suc {Move} {n} {k} {class} {next} {t} {u} C D W U =
+    record { found = λ p q lp lq. go p q lp lq (U .found p q lp lq) }
+  where
+    new : (p q : ℕ) → p < n → q < n → entryOf t p q ≡ 0 → Alike Move k p q → Same next p q ⊎ ¬ (Same next p q)
+        → RankUpTo Move (suc k) p q (entryOf u p q)
+    new p q lp lq z h (inl e) =
+        inl (W .kept p q lp lq (λ s. s .not-same-after e) ∙ z, D .alike-of-same p q lp lq e)
+    new p q lp lq z h (inr d) =
+        let e : entryOf u p q ≡ suc k = W .written p q lp lq (record {
+          same-before = C .same-of-alike p q lp lq h;
+          not-same-after = d;
+        }) in
+        let x : Separated Move p q (suc k) = record {
+          not-alike = λ g. d (D .same-of-alike p q lp lq g);
+          alike-before = λ j l. alike-le Move p q j k (omega arith) h;
+        } in
+        inr (omega (arith, e), subst (Separated Move p q) (sym e) x)
 
-      go : (p q : ℕ) → p < n → q < n → RankUpTo Move k p q (entryOf t p q) → RankUpTo Move (suc k) p q (entryOf u p q)
-      go p q lp lq (inl (z, h)) = new p q lp lq z h (eq-or-not (getD next p 0) (getD next q 0))
-      go p q lp lq (inr (l, x)) =
-          let apart : ¬ (SeparatedBy class next p q) = λ s. x .not-alike
-          (alike-le Move p q (entryOf t p q) k l (C .alike-of-same p q lp lq (s .same-before))) in
-          let e : entryOf u p q ≡ entryOf t p q = kept-of-not p q lp lq apart in
-          inr (omega arith, subst (Separated Move p q) (sym e) x)
+    go : (p q : ℕ) → p < n → q < n → RankUpTo Move k p q (entryOf t p q) → RankUpTo Move (suc k) p q (entryOf u p q)
+    go p q lp lq (inl (z, h)) = new p q lp lq z h (eq-or-not (getD next p 0) (getD next q 0))
+    go p q lp lq (inr (l, x)) =
+        let apart : ¬ (SeparatedBy class next p q) = λ s. x .not-alike
+        (alike-le Move p q (entryOf t p q) k l (C .alike-of-same p q lp lq (s .same-before))) in
+        let e = W .kept p q lp lq apart in
+        inr (omega (arith, e, l), subst (Separated Move p q) (sym e) x)

@@ -9,17 +9,13 @@ use lib.Bits.{bitOr}
 use lib.ListN.{length, getD, set, replicate}
 use lib.Seq.{getD-set-same, getD-set-other}
 use Rattle.text.specs.Limits.{stateLimit}
+use Rattle.text.specs.Laws.ListLaws.{getD-zeros}
 use Rattle.lts.specs.TestsLaws.{eq-or-not}
 use Rattle.sets.specs.Inner.Sets.{wordBits, Member, Empty, Joined}
 use Rattle.sets.specs.Laws.BitsLaws.{bit-or-left, bit-or-right, bit-or-cases}
 use Rattle.sets.specs.Laws.BitsLaws.{bit-pow, bit-pow-unique, bit-zero}
 
 -- ---- no members
-
-getD-zeros : (n p : ℕ) → _≡_ {A = ℕ} (getD (replicate n 0) p 0) 0
-getD-zeros zero p = refl
-getD-zeros (suc n) zero = refl
-getD-zeros (suc n) (suc p) = getD-zeros n p
 
 pub empty-zeros : (n : ℕ) → Empty (replicate n 0)
 empty-zeros n = record {

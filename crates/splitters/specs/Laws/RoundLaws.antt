@@ -2,25 +2,22 @@
 -- before it left. It separates two states exactly if there is a further class, and the table is right one round later.
 -- Document 01, operation 3. Assumes nothing.
 use mathlib.Core.Path.{_≡_, sym, _∙_, subst}
-use mathlib.Core.Logic.{_⊎_, inl, inr}
 use mathlib.Core.List.{List}
 use Prim.Native.Nat.{ℕ, suc, _+_, _-_, _≤_, _<_}
-use native.Mathlib.Numerals.{add-one}
 use native.Mathlib.Omega.{arith}
 use lib.ListN.{getD}
-use Rattle.lts.specs.Alike.{Moves, Alike, Separated}
-use Rattle.lts.specs.AlikeLaws.{alike-le}
+use Rattle.lts.specs.Alike.{Moves}
 use Rattle.lts.specs.Game.{Separates}
-use Rattle.lts.specs.TestsLaws.{eq-or-not}
 use Rattle.sets.specs.Inner.Sets.{Member}
 use Rattle.sets.specs.Inner.SetValues.{SetOf, SetPut}
 use Rattle.sets.specs.declared.set.Set.{Set}
 use Rattle.held.specs.Held.{HeldList, HeldMove}
 use Rattle.ranking.specs.Inner.ClassList.{Classes, RoundSeparates}
-use Rattle.ranking.specs.Inner.TableWrites.{entryOf, SeparatedBy, RankUpTo, RanksUpTo}
-use Rattle.ranking.specs.Laws.ClassListLaws.{classes-zero, classes-suc, settled-of-unchanged}
-use Rattle.ranking.specs.Laws.RoundsLaws.{round-classes}
-use Rattle.splitters.specs.Inner.Partition.{Partition, HomesKept, RoundWritten}
+use Rattle.ranking.specs.Inner.TableWrites.{RanksUpTo}
+use Rattle.ranking.specs.Laws.ClassListLaws.{classes-zero, classes-suc}
+use Rattle.ranking.specs.Laws.ClassListLaws.{separates-of-separatedBy, settled-of-unchanged}
+use Rattle.ranking.specs.Laws.RoundsLaws.{round-classes, round-ranks}
+use Rattle.splitters.specs.Inner.Partition.{Partition, HomesKept}
 use Rattle.splitters.specs.Inner.Splitters.{Fresh, UsedLabels, UsedSplit, Ready, Rounded}
 use Rattle.splitters.specs.Laws.HomeLaws.{home-lt, home-before, origin-lt}
 use Rattle.splitters.specs.Laws.StableLaws.{heldMove-target-lt, refined-of-splitUnder, stable-of-refined}
@@ -29,36 +26,6 @@ use Rattle.splitters.specs.Laws.StableLaws.{heldMove-target-lt, refined-
 
 module _ {Move : Moves} {n k : ℕ} {class next : List ℕ} (C : Classes Move n k class) (D : Classes Move n (suc k) next)
   where
-    -- The table is right one round later.
-    pub ranksUpTo-roundWritten : {t u : List ℕ} → RoundWritten n class next (suc k) t u → RanksUpTo Move n k t
-        → RanksUpTo Move n (suc k) u
-    ranksUpTo-roundWritten {t} {u} W U = record { found = λ p q lp lq. go p q lp lq (U .found p q lp lq) }
-      where
-        new : (p q : ℕ) → p < n → q < n → entryOf t p q ≡ 0 → Alike Move k p q
-            → (getD next p 0 ≡ getD next q 0) ⊎ ¬ (getD next p 0 ≡ getD next q 0)
-            → RankUpTo Move (suc k) p q (entryOf u p q)
-        new p q lp lq z h (inl e) =
-            inl (W .kept p q lp lq (λ s. s .not-same-after e) ∙ z, D .alike-of-same p q lp lq e)
-        new p q lp lq z h (inr d) =
-            let e : entryOf u p q ≡ suc k = W .written p q lp lq (record {
-              same-before = C .same-of-alike p q lp lq h;
-              not-same-after = d;
-            }) in
-            let s : Separated Move p q (suc k) = record {
-              not-alike = λ g. d (D .same-of-alike p q lp lq g);
-              alike-before = λ j l. alike-le Move p q j k (omega arith) h;
-            } in
-            inr (omega (arith, e), subst (Separated Move p q) (sym e) s)
-
-        go : (p q : ℕ) → p < n → q < n → RankUpTo Move k p q (entryOf t p q)
-            → RankUpTo Move (suc k) p q (entryOf u p q)
-        go p q lp lq (inl (z, h)) = new p q lp lq z h (eq-or-not (getD next p 0) (getD next q 0))
-        go p q lp lq (inr (l, x)) =
-            let apart : ¬ (SeparatedBy class next p q) = λ s. x .not-alike
-            (alike-le Move p q (entryOf t p q) k l (C .alike-of-same p q lp lq (s .same-before))) in
-            let e = W .kept p q lp lq apart in
-            inr (omega (arith, e, l), subst (Separated Move p q) (sym e) x)
-
     -- A new class was divided off one that still has a state.
     pub roundSeparates-of-classes : {classes classes′ : ℕ} {members members′ origin origin′ : List ℕ}
         {together together′ : Set} → Partition n class members classes together
@@ -79,16 +46,10 @@ module _ {Move : Moves} {n k : ℕ} {class next : List ℕ} (C : Classes Move n 
             let lc : c < classes = P .class-lt (x .0) (x .1) in
             let y = Q .some c (omega (arith, l, lc)) in
             let e : getD class (y .0) 0 ≡ c = stays (y .0) (y .1) (omega (arith, y .2, lc)) ∙ y .2 in
-            record {
-              one = x .0;
-              other = y .0;
-              one-lt = x .1;
-              other-lt = y .1;
-              alike = C .alike-of-same (x .0) (y .0) (x .1) (y .1) (sym e);
-              not-alike = λ h.
-                  let same = D .same-of-alike (x .0) (y .0) (x .1) (y .1) h in
-                  omega (arith, same, x .2, y .2, lc);
-            }
+            separates-of-separatedBy C D (x .1) (y .1) (record {
+              same-before = sym e;
+              not-same-after = λ same. omega (arith, same, x .2, y .2, lc);
+            })
 
 -- ---- what it finds, and leaves
 
@@ -131,18 +92,16 @@ module _ {n : ℕ} {labels : List ℕ} {count : ℕ} {slots pool : List ℕ} (L 
   target-lt : (p a q : ℕ) → p < n → Move p a q → q < n
   target-lt p a q _ m = heldMove-target-lt L p a q m
 
-  pub rounded-of-labelsSplit : {classes′ : ℕ} {next members′ origin′ u : List ℕ} {together′ : Set}
+  pub rounded-of-usedSplit : {classes′ : ℕ} {next members′ origin′ u : List ℕ} {together′ : Set}
       → Partition n next members′ classes′ together′ → classes ≤ classes′
       → UsedSplit n classes (k + 1) slots pool (UsedLabels first classes labels count) fresh rest class origin t next
       origin′ u
       → Rounded (HeldMove labels count slots pool) n k class next members′ origin′ classes classes′ together′ t u
-  rounded-of-labelsSplit {next = next} {u = u} Q le S =
+  rounded-of-usedSplit {next = next} {u = u} Q le S =
       let class-lt = Y .partition .class-lt in
       let R = refined-of-splitUnder L (Y .partition) (Y .stable) (Y .origin-lt) F (S .under) in
       let D = classes-suc target-lt (Y .are-classes) R in
-      let W = subst (λ (j : ℕ). RoundWritten n class next j t u) (add-one k) (S .table-is) in
-      let U = subst (λ (j : ℕ). RanksUpTo Move n j u) (sym (add-one k))
-      (ranksUpTo-roundWritten (Y .are-classes) D W (Y .ranks)) in
+      let U = round-ranks target-lt (Y .are-classes) R (S .table-is) (Y .ranks) in
       record {
         refined = R;
         classes-le = le;

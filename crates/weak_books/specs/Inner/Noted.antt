@@ -19,7 +19,7 @@ pub record NoLabel (book : List ℕ) (k : ℕ) : Type 0 where
   pub not-silent : ¬ (entryNumber book k .action ≡ silentLabel)
 
 -- The action of entry k is noted, and those that were noted still are.
-pub record Noted (book : List ℕ) (k : ℕ) (entry exit : List ℕ) : Type 0 where
+pub record ActionNoted (book : List ℕ) (k : ℕ) (entry exit : List ℕ) : Type 0 where
   pub kept : (i : ℕ) → getD entry i 0 ≡ 1 → getD exit i 0 ≡ 1
   pub noted : ¬ (NoLabel book k) → Present (entryNumber book k) → getD exit (entryNumber book k .action) 0 ≡ 1
 

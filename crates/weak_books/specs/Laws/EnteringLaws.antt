@@ -7,7 +7,7 @@ use Prim.Native.Nat.{ℕ, _≤_, _<_}
 use native.Mathlib.Omega.{arith}
 use lib.ListN.{getD}
 use Rattle.lts.specs.Alike.{Moves}
-use Rattle.lts.specs.TestsLaws.{lt-or-le, eq-or-not}
+use Rattle.lts.specs.TestsLaws.{lt-or-le, eq-or-not, both-or-not}
 use Rattle.text.specs.Limits.{stateLimit, pairPlace}
 use Rattle.text.specs.Laws.ListsLaws.{past-refl, past-trans}
 use Rattle.sets.specs.Inner.Sets.{Member}
@@ -141,11 +141,6 @@ parted-set {p = p} C D lp A B R = record {
         },
       );
 }
-
-pub both-or-not : {P Q : Type 0} → P ⊎ ¬ P → Q ⊎ ¬ Q → (P × Q) ⊎ ¬ (P × Q)
-both-or-not (inl p) (inl q) = inl (p, q)
-both-or-not (inl p) (inr f) = inr (λ h. f (h .1))
-both-or-not (inr f) d = inr (λ h. f (h .0))
 
 pub beside-or-not : (p : ℕ) (others : Set) (x y : ℕ) → Beside p others x y ⊎ ¬ (Beside p others x y)
 beside-or-not p others x y = go (both-or-not (eq-or-not x p) (in-or-not others y)) (lt-or-le y p)

@@ -44,26 +44,26 @@ module _ {k : ℕ} {P : ℕ → Type 0} where
 -- ---- one rank
 
 -- The states below `to` of rank r beside p.
-abbrev pub Ranked : List ℕ → ℕ → ℕ → ℕ → ℕ → Type 0
-Ranked table r p to x = (x < to) × (getD table (pairPlace p x) 0 ≡ r)
+abbrev pub RowAtRank : List ℕ → ℕ → ℕ → ℕ → ℕ → Type 0
+RowAtRank table r p to x = (x < to) × (getD table (pairPlace p x) 0 ≡ r)
 
 module _ (table : List ℕ) {r : ℕ} where
-  pub ranked-suc : {p q : ℕ} {sets sets′ sets″ : List ℕ} → Joined p (Ranked table r p q) sets sets′
+  pub rowAtRank-suc : {p q : ℕ} {sets sets′ sets″ : List ℕ} → Joined p (RowAtRank table r p q) sets sets′
       → Joined p (λ x. (x ≡ q) × (getD table (pairPlace p x) 0 ≡ r)) sets′ sets″
-      → Joined p (Ranked table r p (q + 1)) sets sets″
-  ranked-suc {p} {q} u v = joined-then u v (λ x h. (omega (arith, h .0), h .1)) (λ x h. (omega (arith, h .0), h .1))
+      → Joined p (RowAtRank table r p (q + 1)) sets sets″
+  rowAtRank-suc {p} {q} u v = joined-then u v (λ x h. (omega (arith, h .0), h .1)) (λ x h. (omega (arith, h .0), h .1))
       (λ x h.
       ⊎-elim (λ l. inl (l, h .1)) (λ l. inr (omega (arith, l, h .0), h .1)) (lt-or-le x q))
 
-  pub ranked-at : {p q n : ℕ} {sets sets′ : List ℕ} → q ≡ n → Joined p (Ranked table r p q) sets sets′
-      → Joined p (Ranked table r p n) sets sets′
-  ranked-at {p} {sets = sets} {sets′} e = subst (λ (to : ℕ). Joined p (Ranked table r p to) sets sets′) e
+  pub rowAtRank-at : {p q n : ℕ} {sets sets′ : List ℕ} → q ≡ n → Joined p (RowAtRank table r p q) sets sets′
+      → Joined p (RowAtRank table r p n) sets sets′
+  rowAtRank-at {p} {sets = sets} {sets′} e = subst (λ (to : ℕ). Joined p (RowAtRank table r p to) sets sets′) e
 
 module _ {n : ℕ} {table : List ℕ} {r : ℕ} where
   pub atRank-zero : {sets : List ℕ} → Empty sets → AtRank n table r 0 sets
   atRank-zero e = record { at = λ p q l. absurd (omega arith); only = λ p q m. absurd (e .none p q m) }
 
-  pub atRank-suc : {p : ℕ} {sets sets′ : List ℕ} → AtRank n table r p sets → Joined p (Ranked table r p n) sets sets′
+  pub atRank-suc : {p : ℕ} {sets sets′ : List ℕ} → AtRank n table r p sets → Joined p (RowAtRank table r p n) sets sets′
       → AtRank n table r (p + 1) sets′
   atRank-suc {p} {sets} {sets′} a u = record {
     at = λ x q l k e. ⊎-elim

@@ -6,12 +6,11 @@ use Prim.Native.Nat.{ℕ, _+_, _≤_, _<_}
 use native.Mathlib.Omega.{arith}
 use lib.ListN.{getD}
 use Rattle.lts.specs.Alike.{Moves}
-use Rattle.lts.specs.Weak.{silentLabel, stay, low, silent}
+use Rattle.lts.specs.Weak.{silentLabel}
 use Rattle.lts.specs.TestsLaws.{lt-or-le}
-use Rattle.text.specs.Limits.{stateLimit, actionLimit}
+use Rattle.text.specs.Limits.{stateLimit}
 use Rattle.comparing.specs.Inner.Numbered.{Same}
 use Rattle.sets.specs.Inner.Sets.{SameSet, Member}
-use Rattle.silent.specs.Labelled.{LabelMove}
 use Rattle.silent.specs.Inner.Keys.{Keys}
 use Rattle.ranking.specs.Inner.ClassList.{Refined}
 use Rattle.weak_ranks.specs.Inner.Dividing.{DividedBy, AnswersUnder, LabelBelow, DividedUnder}
@@ -126,13 +125,3 @@ module _ {Move : Moves} {n : ℕ} {class : List ℕ} where
 
     pub dividedUnder-idle : ((p q : ℕ) → ¬ (Move p a q)) → DividedUnder Move (LabelBelow (a + 1)) n class next
     dividedUnder-idle none = dividedUnder-skip label-cases label-more none D
-
--- ---- the labels of the moves
-
--- A label with no step has no move.
-pub labelMove-none : {n : ℕ} {from sources targets : List ℕ} {a : ℕ} → a < actionLimit
-    → getD from (a + 1) 0 ≤ getD from a 0 → (p q : ℕ) → ¬ (LabelMove n from sources targets p a q)
-labelMove-none l e p q (low m) =
-    let s = m .step .1 in
-    absurd (omega (arith, s .from-le, s .place-lt))
-labelMove-none l e p q (silent i s) = absurd (omega arith)

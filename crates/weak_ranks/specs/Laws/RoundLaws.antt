@@ -11,7 +11,7 @@ use Rattle.lts.specs.TestsLaws.{eq-or-not}
 use Rattle.text.specs.Limits.{stateLimit}
 use Rattle.comparing.specs.Inner.Numbered.{ClassNumbers}
 use Rattle.ranking.specs.Inner.ClassList.{Classes, Refined, Changed, RoundSeparates}
-use Rattle.ranking.specs.Laws.ClassListLaws.{classes-suc, settled-of-unchanged}
+use Rattle.ranking.specs.Laws.ClassListLaws.{classes-suc, separates-of-separatedBy, settled-of-unchanged}
 use Rattle.weak_ranks.specs.Inner.Dividing.{LeadClasses}
 
 -- Before any round state 0 leads all states.
@@ -41,15 +41,10 @@ module _ {Move : Moves} {n : ℕ} (target-lt : (p a q : ℕ) → p < n → Move 
     separates-of-left p lp d =
         let r = getD class p 0 in
         let lr : r < n = omega (arith, A .lead-le p lp) in
-        record {
-          one = p;
-          other = r;
-          one-lt = lp;
-          other-lt = lr;
-          alike = C .alike-of-same p r lp lr (sym (A .lead-own p lp));
-          not-alike = λ h.
-              d (sym (classes-suc target-lt C R .same-of-alike p r lp lr h ∙ lead-keeps p lp));
-        }
+        separates-of-separatedBy C (classes-suc target-lt C R) lp lr (record {
+          same-before = sym (A .lead-own p lp);
+          not-same-after = λ e. d (sym (e ∙ lead-keeps p lp));
+        })
 
     pub leads-separate : {list : List ℕ} {count : ℕ} → Changed n class next list count → RoundSeparates Move n k count
     leads-separate {list} {count} H = record {

@@ -4,7 +4,7 @@ use native.Mathlib.Omega.{arith}
 use borrow.Author.Needs.{needs}
 use Rattle.model.specs.StoredModel.{modelAt}
 use Rattle.model.specs.Laws.System.StoredLaws.{stored-states}
-use Rattle.ranking.specs.Laws.RankedLaws.{moveList-of-lists}
+use Rattle.comparing.specs.Laws.MoveListLaws.{moveList-of-lists}
 use Rattle.moves.specs.Laws.LabelsLaws.{ranked-of-steps}
 use Rattle.books.specs.Laws.ListedLaws.{ordered-of-lists, bookFilled-of-listed}
 use Rattle.judge.specs.Laws.StoreBooksLaws.{ranks-of-lists, bookFilled-of-steps}

@@ -3,7 +3,7 @@ use mathlib.Core.Path.{sym, _∙_}
 use native.Mathlib.Omega.{arith}
 use lib.ListN.{length-set}
 use Rattle.ranking.specs.Inner.TableWrites.{SeparatedBy}
-use Rattle.ranking.specs.Laws.TableWritesLaws.{written-refl, pair-set}
+use Rattle.ranking.specs.Laws.TableWritesLaws.{pairWritten-set, written-refl, written-of-pair}
 use borrow.Author.Needs.{needs}
 use Rattle.ranking.proofs.writes.write_pair.Statement.{statement}
 use Rattle.ranking.proofs.writes.write_pair.Tie as tie
@@ -62,8 +62,9 @@ returns-3 c =
       same-before = sym u ∙ before .if1 .left ∙ v;
       not-same-after = λ e. after .if2 .left (x ∙ e ∙ sym y);
     } in
-    pair-set (a .round) (a .table .now) (at-start .pre .1 .0) (at-start .pre .1 .1) (at-start .pre .0) h
-    (placed .pair-place .ensures) (c .pair-place2 .ensures)
+    let w = pairWritten-set (a .table .now) (a .round) (placed .pair-place .ensures) (c .pair-place2 .ensures)
+    (at-start .pre .1 .0) (at-start .pre .1 .1) (at-start .pre .0) in
+    (λ n ln lp lq. written-of-pair ln lp lq h w, record { both = λ _. (w .there, w .back) })
 
 pub write-pair-spec : {M : Type 1} → statement M
 write-pair-spec =

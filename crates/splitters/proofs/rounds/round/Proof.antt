@@ -1,7 +1,7 @@
 -- The new classes are noted, and the classes are split by the moves to them.
 use borrow.Author.Needs.{needs}
 use native.Mathlib.Omega.{arith}
-use Rattle.splitters.specs.Laws.RoundLaws.{rounded-of-labelsSplit}
+use Rattle.splitters.specs.Laws.RoundLaws.{rounded-of-usedSplit}
 use Rattle.splitters.proofs.rounds.round.Statement.{statement}
 use Rattle.splitters.proofs.rounds.round.Tie as tie
 
@@ -42,7 +42,7 @@ returns c =
     let refining = c .before .before in
     let P = begin (noting refining) .pre in
     let refined = refining .refine .ensures in
-    rounded-of-labelsSplit (P .0 .0) (P .1 .0) (noting refining .note-fresh .ensures) (refined .0 .0) (refined .0 .1)
+    rounded-of-usedSplit (P .0 .0) (P .1 .0) (noting refining .note-fresh .ensures) (refined .0 .0) (refined .0 .1)
     (refined .1)
 
 pub round-spec : {M : Type 1} → statement M

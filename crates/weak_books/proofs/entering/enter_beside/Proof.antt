@@ -3,13 +3,13 @@ use mathlib.Core.Path.{refl}
 use Prim.Native.Nat.{ℕ, _-_, _<_}
 use native.Mathlib.Omega.{arith}
 use borrow.Author.Needs.{needs}
-use Rattle.lts.specs.TestsLaws.{eq-or-not}
+use Rattle.lts.specs.TestsLaws.{eq-or-not, both-or-not}
 use Rattle.text.specs.Limits.{stateLimit}
 use Rattle.sets.specs.Inner.SetValues.{In, Least}
 use Rattle.held.specs.Held.{HeldMove}
 use Rattle.splitters.specs.Laws.WalkLaws.{least-after}
 use Rattle.weak_books.specs.Inner.Entering.{Entered, Beside, Done}
-use Rattle.weak_books.specs.Laws.EnteringLaws.{entered-pair, done-start, done-next, done-end, both-or-not}
+use Rattle.weak_books.specs.Laws.EnteringLaws.{entered-pair, done-start, done-next, done-end}
 use Rattle.weak_books.specs.Laws.EnteringLaws.{pair-beside}
 use Rattle.weak_books.proofs.entering.enter_beside.Statement.{statement}
 use Rattle.weak_books.proofs.entering.enter_beside.Tie as tie

@@ -5,13 +5,13 @@ use native.Mathlib.Omega.{arith}
 use borrow.Author.Needs.{needs}
 use Rattle.sets.specs.Inner.Sets.{Joined}
 use lib.ListN.{length}
-use Rattle.weak_books.specs.Laws.RankedLaws.{Ranked, joined-none, ranked-suc, ranked-at}
+use Rattle.weak_books.specs.Laws.RankedLaws.{RowAtRank, joined-none, rowAtRank-suc, rowAtRank-at}
 use Rattle.weak_books.proofs.ranked.row_at_rank.Statement.{statement}
 use Rattle.weak_books.proofs.ranked.row_at_rank.Tie as tie
 
 abbrev Inv-loop : tie.InvT-loop
 Inv-loop n table r p sets₀ q₀ sets q =
-    (q ≤ n) × (length sets ≡ length sets₀) × Joined (p .0) (Ranked table r (p .0) q) sets₀ sets
+    (q ≤ n) × (length sets ≡ length sets₀) × Joined (p .0) (RowAtRank table r (p .0) q) sets₀ sets
 
 abbrev μ-loop : tie.MeasureT-loop
 μ-loop n table r p sets₀ q₀ sets q = n - q
@@ -43,7 +43,7 @@ loop-again c =
     let added = c .before .before .add-at-rank in (
       omega (arith, in-loop .loop-test .taken),
       added .kept .1 .1 .1 .1 .0 ∙ at-loop .loop .inv .1,
-      ranked-suc (at-loop .before .before .before .args .table .now) (at-loop .loop .inv .2) (added .ensures),
+      rowAtRank-suc (at-loop .before .before .before .args .table .now) (at-loop .loop .inv .2) (added .ensures),
     )
 
 same-length : tie.Need-same-length Inv-loop μ-loop
@@ -52,7 +52,8 @@ same-length c = c .before .loop .inv .1
 returns : tie.Need-returns Inv-loop μ-loop
 returns c =
     let inv = c .before .loop .inv in
-    ranked-at (c .before .before .before .before .args .table .now) (omega (arith, inv .0, c .loop-test .left)) (inv .2)
+    rowAtRank-at (c .before .before .before .before .args .table .now) (omega (arith, inv .0, c .loop-test .left))
+    (inv .2)
 
 pub row-at-rank-spec : {M : Type 1} → statement M
 row-at-rank-spec =

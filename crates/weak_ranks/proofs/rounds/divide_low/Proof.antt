@@ -5,10 +5,9 @@ use Prim.Native.Nat.{ℕ, _≤_, _-_}
 use native.Mathlib.Omega.{arith}
 use Rattle.text.specs.Limits.{actionLimit}
 use Rattle.silent.specs.Labelled.{LabelMove}
-use Rattle.silent.specs.Laws.LabelledLaws.{labelMove-label}
+use Rattle.silent.specs.Laws.LabelledLaws.{labelMove-none, labelMove-label}
 use Rattle.weak_ranks.specs.Inner.Dividing.{LeadClasses, LabelBelow, DividedUnder}
 use Rattle.weak_ranks.specs.Laws.LabelsLaws.{dividedUnder-action, dividedUnder-idle, refined-of-dividedUnder}
-use Rattle.weak_ranks.specs.Laws.LabelsLaws.{labelMove-none}
 use Rattle.weak_ranks.specs.Laws.RoundLaws.{leadClasses-numbers}
 use borrow.Author.Needs.{needs}
 use Rattle.weak_ranks.proofs.rounds.divide_low.Statement.{statement}

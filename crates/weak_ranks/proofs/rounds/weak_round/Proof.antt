@@ -2,6 +2,7 @@
 use native.Mathlib.Omega.{arith}
 use Rattle.ranking.specs.Laws.ClassListLaws.{changed-count-le}
 use Rattle.ranking.specs.Laws.RoundsLaws.{round-classes, round-ranks}
+use Rattle.ranking.specs.Laws.TableWritesLaws.{roundWritten-of-rows}
 use Rattle.silent.specs.Laws.LabelledLaws.{labelMove-target-lt}
 use Rattle.weak_ranks.specs.Laws.RoundLaws.{leads-separate}
 use borrow.Author.Needs.{needs}
@@ -47,12 +48,13 @@ returns c =
     let C = P .1 .0 .2 in
     let refined = refining listed .refine .ensures in
     let H = listed .list-changed .ensures in
-    let written = c .before .before .write-rows .ensures in (
+    let written = c .before .before .write-rows .ensures in
+    let W = roundWritten-of-rows H (written .0) (written .1) in (
       (refined .0, round-classes (λ p a q _ m. labelMove-target-lt L m) C (refined .1)),
       (
-        round-ranks (λ p a q _ m. labelMove-target-lt L m) C (refined .1) H (written .0) (written .1) (P .1 .1 .1),
+        round-ranks (λ p a q _ m. labelMove-target-lt L m) C (refined .1) W (P .1 .1 .1),
         (
-          written .0 .outside,
+          W .outside,
           leads-separate (λ p a q _ m. labelMove-target-lt L m) C (refined .1) A (refined .0) H,
         ),
       ),
