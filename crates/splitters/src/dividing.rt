@@ -21,7 +21,7 @@ ghost use mathlib.Core.Path.{_≡_};
 ghost use Prim.Native.Nat.{ℕ, _+_, _≤_, _<_};
 ghost use lib.ListN.{getD};
 ghost use Rattle.text.specs.Limits.{stateLimit};
-ghost use Rattle.sets.specs.Inner.SetValues.{In, SetOf};
+ghost use Rattle.sets.specs.Inner.SetValues.{In};
 ghost use Rattle.splitters.specs.Inner.Partition.{Partition, TwoParts, Split, Moved, home};
 
 // The class that class c was a part of when the round began.

@@ -67,8 +67,7 @@ cutTo-fresh turned k part j b = record {
 -- Those of `from` that lead into the other set as well, in the classes that the first split leaves.
 pub cutTo-rest : {n : ℕ} {P Q : ℕ → Type 0} {c c′ members : List ℕ} {classes : ℕ} {together from left both : Set}
     → CutTo n c P from → Finer n c c′ → Partition n c′ members classes together
-    → SetOf (λ x. In from x × In together x) left → SetOf (λ p. In left p × Q p) both
-    → CutTo n c′ (λ p. P p × Q p) both
+    → SetOf (λ x. In from x × In together x) left → SetOf (λ p. In left p × Q p) both → CutTo n c′ (λ p. P p × Q p) both
 cutTo-rest cut finer part l b = record {
   all = λ p q lp lq e d m. b .all p (
     l .all p (cut .all p q lp lq (finer p q lp lq e) d (m .0), part .together-all p q lp lq e d),

@@ -60,10 +60,8 @@ module _ {n old : ℕ} {slots pool fresh rest : List ℕ} where
   -- Splits under the one and then under the other are splits under both.
   pub usedSplit-trans : {Used More All : ℕ → ℕ → Type 0} {c o c′ o′ c″ o″ : List ℕ}
       → ((j a : ℕ) → Used j a → All j a) → ((j a : ℕ) → More j a → All j a)
-      → ((j a : ℕ) → All j a → Used j a ⊎ More j a)
-      → UsedSplit n old slots pool Used fresh rest c o c′ o′
-      → UsedSplit n old slots pool More fresh rest c′ o′ c″ o″
-      → UsedSplit n old slots pool All fresh rest c o c″ o″
+      → ((j a : ℕ) → All j a → Used j a ⊎ More j a) → UsedSplit n old slots pool Used fresh rest c o c′ o′
+      → UsedSplit n old slots pool More fresh rest c′ o′ c″ o″ → UsedSplit n old slots pool All fresh rest c o c″ o″
   usedSplit-trans {Used} {More} {All} {c} {o} {c′} {o′} {c″} i m cases f g = record {
     under = record {
       same-before = λ p q lp lq e. one .same-before p q lp lq (two .same-before p q lp lq e);

@@ -43,8 +43,7 @@ Finer n class next = (p q : ℕ) → p < n → q < n → Same next p q → Same 
 
 -- A split by P, then one by Q, is one by what the two together divide by.
 pub split-trans : {n old : ℕ} {P Q R : ℕ → Type 0} {c o c′ o′ c″ o″ : List ℕ}
-    → Split n old P c o c′ o′ → Split n old Q c′ o′ c″ o″ → SplitBy n R c c″
-    → Split n old R c o c″ o″
+    → Split n old P c o c′ o′ → Split n old Q c′ o′ c″ o″ → SplitBy n R c c″ → Split n old R c o c″ o″
 split-trans f g b = record {
   by = b;
   homes = homesKept-trans (f .homes) (g .homes);

@@ -21,8 +21,7 @@ Inv-loop n set old class₀ members₀ origin₀ parts₀ left₀ p₀ class mem
     × ((c o : List ℕ) → Split n old (In left) class origin c o → Split n old (In set) class₀ origin₀ c o)
 
 abbrev μ-loop : tie.MeasureT-loop
-μ-loop n set old class₀ members₀ origin₀ parts₀ left₀ p₀ class members origin parts left p =
-    stateLimit - p
+μ-loop n set old class₀ members₀ origin₀ parts₀ left₀ p₀ class members origin parts left p = stateLimit - p
 
 -- ---- places of the function
 

@@ -10,15 +10,15 @@ use Rattle.splitters.proofs.refining.refine.Statement.{statement}
 use Rattle.splitters.proofs.refining.refine.Tie as tie
 
 abbrev Inv-loop : tie.InvT-loop
-Inv-loop n labels count slots pool into first old fresh rest class₀ members₀ origin₀ parts₀ j₀ class
-    members origin parts j =
+Inv-loop n labels count slots pool into first old fresh rest class₀ members₀ origin₀ parts₀ j₀ class members origin
+    parts j =
     (first ≤ j) × (j ≤ old) × (parts₀ .classes ≤ parts .classes)
     × Partition n class members (parts .classes) (parts .together)
     × UsedSplit n old slots pool (UsedLabels first j labels count) fresh rest class₀ origin₀ class origin
 
 abbrev μ-loop : tie.MeasureT-loop
-μ-loop n labels count slots pool into first old fresh rest class₀ members₀ origin₀ parts₀ j₀ class
-    members origin parts j =
+μ-loop n labels count slots pool into first old fresh rest class₀ members₀ origin₀ parts₀ j₀ class members origin
+    parts j =
     old - j
 
 -- ---- places of the function

@@ -12,15 +12,14 @@ use Rattle.splitters.proofs.refining.refine_class.Statement.{statement}
 use Rattle.splitters.proofs.refining.refine_class.Tie as tie
 
 abbrev Inv-loop : tie.InvT-loop
-Inv-loop n labels count slots pool into j old fresh rest class₀ members₀ origin₀ new from parts₀ left₀ i₀
-    class members origin parts left i =
-    Least left i × (parts₀ .classes ≤ parts .classes)
-    × Partition n class members (parts .classes) (parts .together)
+Inv-loop n labels count slots pool into j old fresh rest class₀ members₀ origin₀ new from parts₀ left₀ i₀ class
+    members origin parts left i =
+    Least left i × (parts₀ .classes ≤ parts .classes) × Partition n class members (parts .classes) (parts .together)
     × UsedSplit n old slots pool (UsedBut j labels count left) fresh rest class₀ origin₀ class origin
 
 abbrev μ-loop : tie.MeasureT-loop
-μ-loop n labels count slots pool into j old fresh rest class₀ members₀ origin₀ new from parts₀ left₀ i₀
-    class members origin parts left i =
+μ-loop n labels count slots pool into j old fresh rest class₀ members₀ origin₀ new from parts₀ left₀ i₀ class
+    members origin parts left i =
     stateLimit - i
 
 -- ---- places of the function
