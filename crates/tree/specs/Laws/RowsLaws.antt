@@ -2,11 +2,11 @@
 use mathlib.Core.List.{List}
 use mathlib.Core.Logic.{_⊎_, inl, inr}
 use mathlib.Core.Path.{_≡_, refl, sym, ap, ap₂, _∙_, subst}
-use Prim.Native.Nat.{ℕ, _+_, _≤_, _<_}
+use Prim.Native.Nat.{ℕ, _+_, _-_, _≤_, _<_}
 use native.Mathlib.Omega.{arith}
 use lib.ListN.{getD}
 use Rattle.text.specs.Limits.{stateLimit}
-use Rattle.lts.specs.TestsLaws.{eq-or-not}
+use Rattle.lts.specs.TestsLaws.{eq-or-not, lt-or-le}
 use Rattle.sets.specs.Inner.Sets.{Member}
 use Rattle.sets.specs.Inner.SetValues.{In, SetOf}
 use Rattle.sets.specs.Laws.SetValuesLaws.{in-or-not}
@@ -23,29 +23,19 @@ partsWritten-one t = record {
   found = λ c x _. inr (λ e h. omega (arith, h .part-pos, h .part-lt), refl);
 }
 
-module _ {to : ℕ} {origin fresh : List ℕ} {c x : ℕ} where
-  inPart-suc : {e : ℕ} → InPart to origin fresh c x e → InPart (to + 1) origin fresh c x e
-  inPart-suc h = record {
-    part-pos = h .part-pos;
-    part-lt = omega (arith, h .part-lt);
-    origin-is = h .origin-is;
-    member = h .member;
-  }
+module _ {origin fresh : List ℕ} {c x e : ℕ} where
+  inPart-lt : {m to : ℕ} → e < to → InPart m origin fresh c x e → InPart to origin fresh c x e
+  inPart-lt l h = record { part-pos = h .part-pos; part-lt = l; origin-is = h .origin-is; member = h .member }
 
   -- A part is the last one, or one before it.
-  inPart-cases : {e : ℕ} → InPart (to + 1) origin fresh c x e
+  inPart-cases : {to : ℕ} → InPart (to + 1) origin fresh c x e
       → ((getD origin to 0 ≡ c) × Member fresh to x) ⊎ InPart to origin fresh c x e
-  inPart-cases {e} h = go (eq-or-not e to)
+  inPart-cases {to} h = go (eq-or-not e to)
     where
       go : (e ≡ to) ⊎ ¬ (e ≡ to) → ((getD origin to 0 ≡ c) × Member fresh to x) ⊎ InPart to origin fresh c x e
       go (inl d) = inl
           (ap (λ (z : ℕ). getD origin z 0) (sym d) ∙ h .origin-is, subst (λ (z : ℕ). Member fresh z x) d (h .member))
-      go (inr d) = inr (record {
-        part-pos = h .part-pos;
-        part-lt = omega (arith, h .part-lt, d);
-        origin-is = h .origin-is;
-        member = h .member;
-      })
+      go (inr d) = inr (inPart-lt (omega (arith, h .part-lt, d)) h)
 
 -- The states that class `to` had when it was divided off are written into the row of its origin.
 pub partsWritten-suc : {to : ℕ} {s : Set} {origin fresh when t u w : List ℕ} → 0 < to
@@ -64,7 +54,7 @@ partsWritten-suc {to} {s} {origin} {fresh} {when} {t} {u} {w} p h m f = record {
         last (inr j) = g e j
 
     stays : (c x : ℕ) → x < stateLimit → ¬ ((c ≡ getD origin to 0) × In s x) → PartEntry to origin fresh when t u c x → PartEntry (to + 1) origin fresh when t w c x
-    stays c x l d (inl (e, i, v)) = inl (e, inPart-suc i, f .kept c x l d ∙ v)
+    stays c x l d (inl (e, i, v)) = inl (e, inPart-lt (omega (arith, i .part-lt)) i, f .kept c x l d ∙ v)
     stays c x l d (inr (g, v)) = inr (none c x d g, f .kept c x l d ∙ v)
 
     go : (c x : ℕ) → x < stateLimit → PartEntry to origin fresh when t u c x → (c ≡ getD origin to 0) ⊎ ¬ (c ≡ getD origin to 0)
@@ -76,6 +66,15 @@ partsWritten-suc {to} {s} {origin} {fresh} {when} {t} {u} {w} p h m f = record {
     )
     go c x l r (inl d) (inr i) = stays c x l (λ j. i (j .1)) r
     go c x l r (inr d) _ = stays c x l (λ j. d (j .0)) r
+
+-- All classes but class 0 have been gone through, or there was none.
+pub partsWritten-end : {m to : ℕ} {origin fresh when t u : List ℕ} → to ≤ m → m ≤ to + (1 - to)
+    → PartsWritten m origin fresh when t u → PartsWritten to origin fresh when t u
+partsWritten-end {m} {to} {origin} {fresh} {when} {t} {u} l k h = record { found = λ c x b. go c x (h .found c x b) }
+  where
+    go : (c x : ℕ) → PartEntry m origin fresh when t u c x → PartEntry to origin fresh when t u c x
+    go c x (inl (e, i, v)) = inl (e, inPart-lt (omega (arith, i .part-pos, i .part-lt, k)) i, v)
+    go c x (inr (f, v)) = inr (λ e i. f e (inPart-lt (omega (arith, i .part-lt, l)) i), v)
 
 -- ---- rows
 
@@ -136,14 +135,27 @@ module _ {to : ℕ} {s : Set} {members origin when above t u v w : List ℕ} (p 
     kept = kept-next;
   }
 
+pub rowsFilled-end : {m to : ℕ} {members origin when t u : List ℕ} → to ≤ m → m ≤ to + (1 - to)
+    → RowsFilled m members origin when t u → RowsFilled to members origin when t u
+rowsFilled-end {m} {to} {members} {origin} {when} {t} {u} l k h = record {
+  own = λ c x p j. h .own c x p (omega (arith, j, l));
+  filled-is = λ c x p j. h .filled-is c x p (omega (arith, j, l));
+  kept = λ c x b d. h .kept c x b (rest c d (lt-or-le c m));
+}
+  where
+    rest : (c : ℕ) → (c ≡ 0) ⊎ (to ≤ c) → (c < m) ⊎ (m ≤ c) → (c ≡ 0) ⊎ (m ≤ c)
+    rest c (inl e) _ = inl e
+    rest c (inr b) (inl a) = inl (omega (arith, a, b, k))
+    rest c (inr b) (inr a) = inr a
+
 -- ---- copies
 
 pub rowsCopied-zero : {n : ℕ} {class rows : List ℕ} (t : List ℕ) → RowsCopied 0 n class rows t t
 rowsCopied-zero t = record { copied = λ p x l _. absurd (omega arith); outside = outside-refl t }
 
-pub rowsCopied-suc : {m n : ℕ} {class rows t u w : List ℕ} → m < n → n ≤ stateLimit → RowsCopied m n class rows t u
-    → EntriesWritten m (λ x. x < n) (entryOf rows (getD class m 0)) u w → RowsCopied (m + 1) n class rows t w
-rowsCopied-suc {m} {n} {class} {rows} {t} {u} {w} l k h f = record {
+pub rowsCopied-suc : {m n c : ℕ} {class rows t u w : List ℕ} → c ≡ getD class m 0 → m < n → n ≤ stateLimit → RowsCopied m n class rows t u
+    → EntriesWritten m (λ x. x < n) (entryOf rows c) u w → RowsCopied (m + 1) n class rows t w
+rowsCopied-suc {m} {n} {c} {class} {rows} {t} {u} {w} at l k h f = record {
   copied = λ p x a b. copied p x a b (eq-or-not p m);
   outside = outside-trans (h .outside) (record { kept = λ p x a d. f .kept p x a (λ g. beyond (g .0) (g .1) d) });
 }
@@ -155,5 +167,5 @@ rowsCopied-suc {m} {n} {class} {rows} {t} {u} {w} l k h f = record {
     copied : (p x : ℕ) → p < m + 1 → x < n → (p ≡ m) ⊎ ¬ (p ≡ m) → entryOf w p x ≡ entryOf rows (getD class p 0) x
     copied p x a b (inl e) =
         ap (λ (q : ℕ). entryOf w q x) e ∙ f .written x (omega arith) b
-        ∙ ap (λ (q : ℕ). entryOf rows (getD class q 0) x) (sym e)
+        ∙ ap (λ (d : ℕ). entryOf rows d x) at ∙ ap (λ (q : ℕ). entryOf rows (getD class q 0) x) (sym e)
     copied p x a b (inr d) = f .kept p x (omega arith) (λ g. d (g .0)) ∙ h .copied p x (omega (arith, a, d)) b

@@ -1,3 +1,7 @@
+use Prim.Native.Nat.{_+_, _-_, _≤_, _<_}
+use native.Mathlib.Omega.{arith}
+use Rattle.tree.specs.Inner.Rows.{PartsWritten}
+use Rattle.tree.specs.Laws.RowsLaws.{partsWritten-one, partsWritten-suc, partsWritten-end}
 use borrow.Author.Needs.{needs}
 use Rattle.tree.proofs.rows.write_parts.Statement.{statement}
 use Rattle.tree.proofs.rows.write_parts.Tie as tie
@@ -7,14 +11,15 @@ use Rattle.sets.proofs.set.set_at.Reads as set-at-reads
 use Rattle.tree.proofs.rows.write_entries.Reads as write-entries-reads
 
 abbrev Inv-loop : tie.InvT-loop
-Inv-loop rows₀ classes origin fresh when e₀ rows e = ?
+Inv-loop rows₀ classes origin fresh when e₀ rows e =
+    (0 < e) × (e ≤ classes + (1 - classes)) × PartsWritten e origin fresh when rows₀ rows
 
 abbrev μ-loop : tie.MeasureT-loop
-μ-loop rows₀ classes origin fresh when e₀ rows e = ?
+μ-loop rows₀ classes origin fresh when e₀ rows e = classes - e
 
 -- src/rows.rt:50:5
 loop-holds : tie.Need-loop-holds Inv-loop μ-loop
-loop-holds c = search needs
+loop-holds c = (omega arith, omega arith, partsWritten-one _)
 
 -- src/rows.rt:51:18
 cast-at : tie.Need-cast-at Inv-loop μ-loop
@@ -38,7 +43,9 @@ element-copy-out-write-entries c = search needs
 
 -- src/rows.rt:52:9
 write-entries-requires : tie.Need-write-entries-requires Inv-loop μ-loop
-write-entries-requires c κs = search needs
+write-entries-requires c κs =
+    let at = c .before .before .before .before .before .before in
+    at .before .pre .1 (at .loop .e) (at .loop .inv .0) (omega arith)
 
 -- src/rows.rt:50:9
 add-e : tie.Need-add-e Inv-loop μ-loop
@@ -50,11 +57,16 @@ loop-less c = search needs
 
 -- src/rows.rt:50:5
 loop-again : tie.Need-loop-again Inv-loop μ-loop
-loop-again c = ?
+loop-again c =
+    let inv = c .before .before .before .before .before .before .before .loop .inv in
+    let s = c .before .before .set-at .ensures in
+    (omega arith, omega arith, partsWritten-suc (inv .0) (inv .2) s (c .write-entries .ensures))
 
 -- src/rows.rt:39:1
 returns : tie.Need-returns Inv-loop μ-loop
-returns c = ?
+returns c =
+    let inv = c .before .loop .inv in
+    partsWritten-end (omega arith) (inv .1) (inv .2)
 
 pub write-parts-spec : {M : Type 1} → statement M
 write-parts-spec =
