@@ -5,4 +5,5 @@ pub mod MasksLaws
 pub mod OperationsLaws
 pub mod SetValuesLaws
 pub mod SetsLaws
+pub mod WalkLaws
 pub mod WordsLaws

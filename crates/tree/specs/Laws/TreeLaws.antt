@@ -53,7 +53,7 @@ module _ {classes : ℕ} {origin when : List ℕ} (T : Tree classes origin when)
       omega (arith, o, under-le (omega (arith, o, l)) u)
 
   -- What holds of a class where it holds of all before it holds of all classes.
-  by-rise : (P : ℕ → Type 0) → ((y : ℕ) → y < classes → ((x : ℕ) → x < y → P x) → P y) → (y : ℕ) → y < classes → P y
+  pub by-rise : (P : ℕ → Type 0) → ((y : ℕ) → y < classes → ((x : ℕ) → x < y → P x) → P y) → (y : ℕ) → y < classes → P y
   by-rise P step y l = step y l (below y (omega (arith, l)))
     where
       below : (m : ℕ) → m ≤ classes → (x : ℕ) → x < m → P x
