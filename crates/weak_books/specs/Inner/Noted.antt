@@ -8,10 +8,6 @@ use Rattle.lts.specs.Weak.{silentLabel}
 use Rattle.text.specs.Limits.{actionLimit, tableLength}
 use Rattle.books.specs.Books.{entryNumber}
 
--- One place for each value of a byte.
-abbrev pub usedLength : ℕ
-usedLength = 256
-
 -- Entry k is there, and has an action that no move has.
 pub record NoLabel (book : List ℕ) (k : ℕ) : Type 0 where
   pub present : Present (entryNumber book k)
@@ -19,7 +15,7 @@ pub record NoLabel (book : List ℕ) (k : ℕ) : Type 0 where
   pub not-silent : ¬ (entryNumber book k .action ≡ silentLabel)
 
 -- The action of entry k is noted, and those that were noted still are.
-pub record Noted (book : List ℕ) (k : ℕ) (entry exit : List ℕ) : Type 0 where
+pub record ActionNoted (book : List ℕ) (k : ℕ) (entry exit : List ℕ) : Type 0 where
   pub kept : (i : ℕ) → getD entry i 0 ≡ 1 → getD exit i 0 ≡ 1
   pub noted : ¬ (NoLabel book k) → Present (entryNumber book k) → getD exit (entryNumber book k .action) 0 ≡ 1
 

@@ -18,7 +18,7 @@ use Rattle.silent.specs.Labelled.{LabelList, LabelMove}
 use Rattle.silent.specs.Laws.LabelledLaws.{labelMove-label}
 use Rattle.silent.specs.Inner.Targets.{Targets}
 use Rattle.weak_books.specs.Inner.Tested.{SetMove, FirstUnder}
-use Rattle.weak_books.specs.Inner.Noted.{usedLength, NoLabel, Noted, UsedTo, LabelsTo}
+use Rattle.weak_books.specs.Inner.Noted.{NoLabel, ActionNoted, UsedTo, LabelsTo}
 use Rattle.weak_books.specs.Laws.TestedLaws.{firstUnder-of-targets, firstUnder-trans}
 
 -- ---- the action that was read
@@ -34,20 +34,16 @@ pub label-of-action : {book : List ℕ} {k a : ℕ} → a ≡ entryNumber book k
 label-of-action e (inl l) h = omega (arith, e, l, h .action-le)
 label-of-action e (inr s) h = h .not-silent (sym e ∙ s)
 
-pub label-lt : {a n : ℕ} → (a < actionLimit) ⊎ (a ≡ silentLabel) → usedLength ≤ n → a < n
-label-lt (inl l) u = omega arith
-label-lt (inr s) u = omega arith
-
 -- ---- noting
 
 -- Nothing is noted of an entry that is absent, or whose action no move has.
-pub noted-none : {book used : List ℕ} {k : ℕ} → (¬ (NoLabel book k) → ¬ (Present (entryNumber book k)))
-    → Noted book k used used
-noted-none f = record { kept = λ i e. e; noted = λ d present. absurd (f d present) }
+pub actionNoted-none : {book used : List ℕ} {k : ℕ} → (¬ (NoLabel book k) → ¬ (Present (entryNumber book k)))
+    → ActionNoted book k used used
+actionNoted-none f = record { kept = λ i e. e; noted = λ d present. absurd (f d present) }
 
-pub noted-set : {book used : List ℕ} {k a : ℕ} → a ≡ entryNumber book k .action → a < length used
-    → Noted book k used (set used a 1)
-noted-set {book} {used} {k} {a} e l = record {
+pub actionNoted-set : {book used : List ℕ} {k a : ℕ} → a ≡ entryNumber book k .action → a < length used
+    → ActionNoted book k used (set used a 1)
+actionNoted-set {book} {used} {k} {a} e l = record {
   kept = λ i h. kept i h (eq-or-not i a);
   noted = λ _ _. subst (λ (i : ℕ). getD (set used a 1) i 0 ≡ 1) e (getD-set-same used a 1 0 l);
 }
@@ -66,10 +62,11 @@ module _ {book : List ℕ} where
     noted = λ i m. u .noted i (omega (arith, l, m));
   }
 
-  pub usedTo-kept : {used used′ : List ℕ} {k : ℕ} → Noted book k used used′ → UsedTo book used k → UsedTo book used′ k
+  pub usedTo-kept : {used used′ : List ℕ} {k : ℕ} → ActionNoted book k used used′ → UsedTo book used k
+      → UsedTo book used′ k
   usedTo-kept h u = record { label = u .label; noted = λ j l present. h .kept _ (u .noted j l present) }
 
-  pub usedTo-add-one : {used used′ : List ℕ} {k : ℕ} → ¬ (NoLabel book k) → Noted book k used used′
+  pub usedTo-add-one : {used used′ : List ℕ} {k : ℕ} → ¬ (NoLabel book k) → ActionNoted book k used used′
       → UsedTo book used k → UsedTo book used′ (k + 1)
   usedTo-add-one {used} {used′} {k} d h u = record {
     label = λ j l. label j l (eq-or-not j k);

@@ -23,14 +23,6 @@ module _ {k : ℕ} {P : ℕ → Type 0} where
     only = λ j x m. inl m;
   }
 
-  pub joined-same : {Q : ℕ → Type 0} {sets sets′ : List ℕ} → ((x : ℕ) → P x → Q x) → ((x : ℕ) → Q x → P x)
-      → Joined k P sets sets′ → Joined k Q sets sets′
-  joined-same f g u = record {
-    joined = λ x h. u .joined x (g x h);
-    kept = u .kept;
-    only = λ j x m. ⊎-elim (λ y. inl y) (λ y. inr (y .0, f x (y .1))) (u .only j x m);
-  }
-
   pub joined-then : {Q R : ℕ → Type 0} {sets sets′ sets″ : List ℕ} → Joined k P sets sets′ → Joined k Q sets′ sets″
       → ((x : ℕ) → P x → R x) → ((x : ℕ) → Q x → R x) → ((x : ℕ) → R x → P x ⊎ Q x) → Joined k R sets sets″
   joined-then u v f g h = record {
@@ -44,26 +36,26 @@ module _ {k : ℕ} {P : ℕ → Type 0} where
 -- ---- one rank
 
 -- The states below `to` of rank r beside p.
-abbrev pub Ranked : List ℕ → ℕ → ℕ → ℕ → ℕ → Type 0
-Ranked table r p to x = (x < to) × (getD table (pairPlace p x) 0 ≡ r)
+abbrev pub OfRank : List ℕ → ℕ → ℕ → ℕ → ℕ → Type 0
+OfRank table r p to x = (x < to) × (getD table (pairPlace p x) 0 ≡ r)
 
 module _ (table : List ℕ) {r : ℕ} where
-  pub ranked-suc : {p q : ℕ} {sets sets′ sets″ : List ℕ} → Joined p (Ranked table r p q) sets sets′
+  pub ranked-suc : {p q : ℕ} {sets sets′ sets″ : List ℕ} → Joined p (OfRank table r p q) sets sets′
       → Joined p (λ x. (x ≡ q) × (getD table (pairPlace p x) 0 ≡ r)) sets′ sets″
-      → Joined p (Ranked table r p (q + 1)) sets sets″
+      → Joined p (OfRank table r p (q + 1)) sets sets″
   ranked-suc {p} {q} u v = joined-then u v (λ x h. (omega (arith, h .0), h .1)) (λ x h. (omega (arith, h .0), h .1))
       (λ x h.
       ⊎-elim (λ l. inl (l, h .1)) (λ l. inr (omega (arith, l, h .0), h .1)) (lt-or-le x q))
 
-  pub ranked-at : {p q n : ℕ} {sets sets′ : List ℕ} → q ≡ n → Joined p (Ranked table r p q) sets sets′
-      → Joined p (Ranked table r p n) sets sets′
-  ranked-at {p} {sets = sets} {sets′} e = subst (λ (to : ℕ). Joined p (Ranked table r p to) sets sets′) e
+  pub ranked-at : {p q n : ℕ} {sets sets′ : List ℕ} → q ≡ n → Joined p (OfRank table r p q) sets sets′
+      → Joined p (OfRank table r p n) sets sets′
+  ranked-at {p} {sets = sets} {sets′} e = subst (λ (to : ℕ). Joined p (OfRank table r p to) sets sets′) e
 
 module _ {n : ℕ} {table : List ℕ} {r : ℕ} where
   pub atRank-zero : {sets : List ℕ} → Empty sets → AtRank n table r 0 sets
   atRank-zero e = record { at = λ p q l. absurd (omega arith); only = λ p q m. absurd (e .none p q m) }
 
-  pub atRank-suc : {p : ℕ} {sets sets′ : List ℕ} → AtRank n table r p sets → Joined p (Ranked table r p n) sets sets′
+  pub atRank-suc : {p : ℕ} {sets sets′ : List ℕ} → AtRank n table r p sets → Joined p (OfRank table r p n) sets sets′
       → AtRank n table r (p + 1) sets′
   atRank-suc {p} {sets} {sets′} a u = record {
     at = λ x q l k e. ⊎-elim

@@ -5,13 +5,13 @@ use native.Mathlib.Omega.{arith}
 use borrow.Author.Needs.{needs}
 use Rattle.sets.specs.Inner.Sets.{Joined}
 use lib.ListN.{length}
-use Rattle.weak_books.specs.Laws.RankedLaws.{Ranked, joined-none, ranked-suc, ranked-at}
+use Rattle.weak_books.specs.Laws.RankedLaws.{OfRank, joined-none, ranked-suc, ranked-at}
 use Rattle.weak_books.proofs.ranked.row_at_rank.Statement.{statement}
 use Rattle.weak_books.proofs.ranked.row_at_rank.Tie as tie
 
 abbrev Inv-loop : tie.InvT-loop
 Inv-loop n table r p sets₀ q₀ sets q =
-    (q ≤ n) × (length sets ≡ length sets₀) × Joined (p .0) (Ranked table r (p .0) q) sets₀ sets
+    (q ≤ n) × (length sets ≡ length sets₀) × Joined (p .0) (OfRank table r (p .0) q) sets₀ sets
 
 abbrev μ-loop : tie.MeasureT-loop
 μ-loop n table r p sets₀ q₀ sets q = n - q
