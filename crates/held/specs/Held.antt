@@ -29,6 +29,10 @@ poolSets = 2560
 abbrev pub slotPlace : ℕ → ℕ → ℕ
 slotPlace row p = stateLimit * row + p
 
+-- The label a is one of the first `count` of the list.
+abbrev pub LabelIn : List ℕ → ℕ → ℕ → Type 0
+LabelIn labels count a = (i : ℕ) × (i < count) × (getD labels i 0 ≡ a)
+
 -- x is a member of the set of p in this row.
 abbrev pub HeldAt : List ℕ → List ℕ → ℕ → ℕ → ℕ → Type 0
 HeldAt slots pool row p x = Member pool (getD slots (slotPlace row p) 0) x

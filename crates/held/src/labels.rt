@@ -15,6 +15,7 @@ use text::Action;
 use text::limits::ACTION_LIMIT;
 use text::limits::MOVES_LENGTH;
 use text::limits::ROW;
+use text::limits::STATE_LIMIT;
 ghost use Prim.Native.Nat.{_+_, _*_, _≤_, _<_};
 ghost use Rattle.lts.specs.Weak.{silentLabel};
 ghost use Rattle.text.specs.Limits.{stateLimit, actionLimit};
@@ -26,8 +27,8 @@ ghost use Rattle.held.specs.Inner.Slots.{Pooled, LabelsKept, HeldTo};
 // The label of silent moves.
 const SILENT_LABEL: u16 = 255;
 
-// While fewer sets are in use, there is room for two rows.
-const ROOM: u16 = POOL_SETS - 256;
+// While no more sets are in use, there is room for two rows, of the targets and of the sources.
+const ROOM: u16 = POOL_SETS - 2 * STATE_LIMIT;
 
 // How many labels are held, and the next free set; 0 where there was no room for all.
 struct Holding {

@@ -1,7 +1,7 @@
 // The book of the moves' ranks: for each two states of a rank above 0 the first opening whose answers all lead to a
 // lower rank. Depth by depth and label by label, so that only the targets under one label are at hand; the second side
 // opens where the first cannot, and then as in the entry of the two the other way round.
-use crate::openings::open_rows;
+use crate::firsts::open_rows;
 use crate::ranked::join_each;
 use crate::ranked::sets_at_rank;
 use crate::seconds::turn_rows;

@@ -1,4 +1,5 @@
 // The test of a book, label by label, so that only the targets under one label are at hand.
+use crate::BYTE_VALUES;
 use books::check::Checked;
 use books::check::byte_value;
 use books::check::is_lower;
@@ -33,11 +34,10 @@ ghost use Rattle.books.specs.Inner.Sides.{BySide};
 ghost use Rattle.sets.specs.Inner.Sets.{Member};
 ghost use Rattle.silent.specs.Labelled.{LabelList, LabelMove};
 ghost use Rattle.silent.specs.Inner.Targets.{OwnNumbers, Targets};
-ghost use Rattle.weak_books.specs.Inner.Tested.{SetMove, SetOpens, SoundIf, FirstUnder};
-ghost use Rattle.weak_books.specs.Inner.Noted.{usedLength, NoLabel, ActionNoted, UsedTo, LabelsTo};
-
-// One place for each value of a byte.
-const USED_LENGTH: usize = 256;
+ghost use Rattle.weak_books.specs.Inner.Bounds.{byteValues};
+ghost use Rattle.weak_books.specs.Inner.OpensTo.{OpensTo};
+ghost use Rattle.weak_books.specs.Inner.Tested.{SetMove, SoundIf, FirstUnder};
+ghost use Rattle.weak_books.specs.Inner.Noted.{NoLabel, ActionNoted, UsedTo, LabelsTo};
 
 // Whether each answer of q leads, beside t, to an entry of lower depth.
 fn all_lower(
@@ -63,7 +63,7 @@ fn all_lower(
 }
 
 // Whether p opens so against q: t is one of its targets, and each answer leads to an entry of lower depth.
-fn opens(
+fn opens_under(
     keys: &[u64; SETS_LENGTH],
     book: &[u8],
     forward: bool,
@@ -73,7 +73,7 @@ fn opens(
     depth: u8,
 ) -> bool
     requires { ⌜ (p .0 < stateLimit) × (q .0 < stateLimit) × (bookLength ≤ length (now book)) ⌝ }
-    ensures { λ r. ⌜ Decides r (SetOpens (now (keys .entry))
+    ensures { λ r. ⌜ Decides r (OpensTo (Member (now (keys .entry)))
         (BySide forward (LowerEntry (bookOf (now (book .entry))) depth)) (p .0) (q .0) (t .0)) ⌝ }
 {
     if t.0 >= STATE_LIMIT {
@@ -96,10 +96,10 @@ fn sound_under(keys: &[u64; SETS_LENGTH], book: &[u8], p: State, q: State) -> bo
     let t = State(byte_value(book[at + 2]));
     let depth = book[at + 3];
     if side == 1 {
-        return opens(keys, book, true, p, q, t, depth);
+        return opens_under(keys, book, true, p, q, t, depth);
     }
     if side == 2 {
-        return opens(keys, book, false, q, p, t, depth);
+        return opens_under(keys, book, false, q, p, t, depth);
     }
     false
 }
@@ -145,7 +145,7 @@ fn first_bad_with(
     targets: &[u16; MOVES_LENGTH],
     own: &[u16; ROW],
     silent: &[u64; SETS_LENGTH],
-    used: &[u8; USED_LENGTH],
+    used: &[u8; BYTE_VALUES],
     book: &[u8],
     a: Action,
     limit: usize,
@@ -174,7 +174,7 @@ fn first_bad_low(
     targets: &[u16; MOVES_LENGTH],
     own: &[u16; ROW],
     silent: &[u64; SETS_LENGTH],
-    used: &[u8; USED_LENGTH],
+    used: &[u8; BYTE_VALUES],
     book: &[u8],
     limit: usize,
 ) -> usize
@@ -220,7 +220,7 @@ fn is_label(a: Action) -> bool
 
 // Notes the action of entry k, if it is there. Yields whether no move has such an action.
 fn note_action(book: &[u8], k: usize, used: &mut [u8]) -> bool
-    requires { ⌜ (k < tableLength) × (bookLength ≤ length (now book)) × (usedLength ≤ length (now used)) ⌝ }
+    requires { ⌜ (k < tableLength) × (bookLength ≤ length (now book)) × (byteValues ≤ length (now used)) ⌝ }
     ensures { λ r. ⌜ Decides r (NoLabel (now (book .entry)) k) ⌝ }
     ensures { λ r. ⌜ ActionNoted (now (book .entry)) k (now (used .entry)) (now (used .exit)) ⌝ }
 {
@@ -239,7 +239,7 @@ fn note_action(book: &[u8], k: usize, used: &mut [u8]) -> bool
 
 // Notes which actions the entries have, up to the first entry with an action that no move has. Yields its number, or
 // that of all entries.
-fn note_actions(book: &[u8], used: &mut [u8; USED_LENGTH]) -> usize
+fn note_actions(book: &[u8], used: &mut [u8; BYTE_VALUES]) -> usize
     requires { ⌜ bookLength ≤ length (now book) ⌝ }
     ensures { λ r. ⌜ LabelsTo (now (book .entry)) (now (used .exit)) r ⌝ }
 {
@@ -266,7 +266,7 @@ pub fn check_label_book(
     ensures { λ r. ⌜ CheckDone (LabelMove n (now (from .entry)) (now (sources .entry)) (now (targets .entry)))
         (now (book .entry)) (checkedOutcome r) ⌝ }
 {
-    let mut used = [0u8; USED_LENGTH];
+    let mut used = [0u8; BYTE_VALUES];
     let labelled = note_actions(book, &mut used);
     let mut own = [0u16; ROW];
     own_numbers(n, &mut own);

@@ -1,5 +1,6 @@
 // The test of a book, depth by depth: at each, the entries of lower depth are at hand as sets, so that all answers to
 // an opening are tested at once. It is for models where an opening has many answers.
+use crate::BYTE_VALUES;
 use books::check::Checked;
 use books::check::byte_value;
 use comparing::lists::wide;
@@ -31,14 +32,15 @@ ghost use Rattle.text.specs.Decides.{Decides};
 ghost use Rattle.text.specs.Limits.{stateLimit, actionLimit, tableLength, bookLength};
 ghost use Rattle.books.specs.Books.{entryNumber, bookOf};
 ghost use Rattle.books.specs.Checks.{checkedOutcome, CheckDone};
-ghost use Rattle.held.specs.Held.{labelCount, rowCount, poolSets, HeldList, HeldMove};
-ghost use Rattle.weak_books.specs.Inner.Depths.{depthCount, OnChain, AtDepth, Chained, LowerBy};
-ghost use Rattle.weak_books.specs.Inner.Depths.{LowerAdded, OpensIn, FirstOf, Flagged};
+ghost use Rattle.sets.specs.Inner.Sets.{Member};
+ghost use Rattle.held.specs.Held.{labelCount, rowCount, poolSets, HeldAt, HeldList, HeldMove};
+ghost use Rattle.weak_books.specs.Inner.Bounds.{byteValues};
+ghost use Rattle.weak_books.specs.Inner.Depths.{OnChain, AtDepth, Chained, LowerBy, LowerAdded};
+ghost use Rattle.weak_books.specs.Inner.Depths.{FirstOf, Flagged};
+ghost use Rattle.weak_books.specs.Inner.OpensTo.{OpensTo};
+ghost use Rattle.weak_books.specs.Inner.Wide.{WideLabel, Wide};
 
-// One place for each value of a byte.
-const BYTE_VALUES: usize = 256;
-
-// So many answers are tested one by one no slower than by sets.
+// Up to so many answers to an opening are tested one by one no slower than by sets.
 const FEW: u32 = 3;
 
 // Chains entry k by its depth, if it is there.
@@ -67,7 +69,7 @@ fn chain_entries(book: &[u8], head: &mut [u16; BYTE_VALUES], link: &mut [u16; TA
 
 // Flags the labels of the list.
 fn flag_labels(labels: &[u16; LABEL_COUNT], count: u16, flags: &mut [u16; BYTE_VALUES])
-    requires { ⌜ (count ≤ labelCount) × ((i : ℕ) → i < count → getD (now labels) i 0 < depthCount)
+    requires { ⌜ (count ≤ labelCount) × ((i : ℕ) → i < count → getD (now labels) i 0 < byteValues)
         × ((a : ℕ) → getD (now flags) a 0 ≡ 0) ⌝ }
     ensures { λ _. ⌜ Flagged (now (labels .entry)) count (now (flags .exit)) ⌝ }
 {
@@ -78,7 +80,7 @@ fn flag_labels(labels: &[u16; LABEL_COUNT], count: u16, flags: &mut [u16; BYTE_V
 }
 
 // Whether p opens to t against q in this row: each answer is one of the lower ones beside t.
-fn opens(
+fn opens_in_row(
     slots: &[u16; SLOTS_LENGTH],
     pool: &[u64; POOL_LENGTH],
     row: u16,
@@ -89,8 +91,8 @@ fn opens(
 ) -> bool
     requires { ⌜ (p .0 < stateLimit) × (q .0 < stateLimit) × (row < rowCount)
         × ((i : ℕ) → getD (now slots) i 0 < poolSets) ⌝ }
-    ensures { λ r. ⌜ Decides r (OpensIn (now (slots .entry)) (now (pool .entry)) row (now (lower .entry)) (p .0) (q .0)
-        (t .0)) ⌝ }
+    ensures { λ r. ⌜ Decides r (OpensTo (HeldAt (now (slots .entry)) (now (pool .entry)) row)
+        (Member (now (lower .entry))) (p .0) (q .0) (t .0)) ⌝ }
 {
     if t.0 >= STATE_LIMIT {
         return false;
@@ -132,10 +134,10 @@ fn sound_entry(
     let p = State((k / ROW) as u16);
     let q = State((k % ROW) as u16);
     if side == 1 {
-        return opens(slots, pool, row, there, p, q, t);
+        return opens_in_row(slots, pool, row, there, p, q, t);
     }
     if side == 2 {
-        return opens(slots, pool, row, back, q, p, t);
+        return opens_in_row(slots, pool, row, back, q, p, t);
     }
     false
 }
@@ -269,9 +271,10 @@ pub fn check_held_book(
     Checked::Sound
 }
 
-// Whether some state has many moves with the label a. Only the time that a test takes rests on it.
+// Whether some state has many moves with the label a.
 fn is_wide_label(slots: &[u16; SLOTS_LENGTH], pool: &[u64; POOL_LENGTH], a: u16) -> bool
     requires { ⌜ ((a < actionLimit) ⊎ (a ≡ silentLabel)) × ((i : ℕ) → getD (now slots) i 0 < poolSets) ⌝ }
+    ensures { λ r. ⌜ Decides r (WideLabel (now (slots .entry)) (now (pool .entry)) a) ⌝ }
 {
     let row = target_row(a);
     for p in 0..STATE_LIMIT {
@@ -291,6 +294,7 @@ pub fn is_wide(
     pool: &[u64; POOL_LENGTH],
 ) -> bool
     requires { ⌜ HeldList n (now labels) count (now slots) (now pool) ⌝ }
+    ensures { λ r. ⌜ Decides r (Wide (now (labels .entry)) count (now (slots .entry)) (now (pool .entry))) ⌝ }
 {
     for i in 0..count {
         let at = i as usize;

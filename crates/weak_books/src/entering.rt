@@ -1,7 +1,7 @@
 // The entries of the pairs that a round separates, by the classes before it.
 use crate::opening::Opening;
 use crate::opening::find_opening;
-use crate::openings::put_entry;
+use books::book::put_entry;
 use comparing::lists::class_at;
 use held::LABEL_COUNT;
 use held::POOL_LENGTH;
@@ -26,12 +26,13 @@ ghost use Rattle.held.specs.Held.{HeldList, HeldMove};
 ghost use Rattle.ranking.specs.Inner.TableWrites.{SeparatedBy};
 ghost use Rattle.splitters.specs.Inner.Partition.{ClassSets};
 ghost use Rattle.books.specs.Inner.Filling.{EntryWritten};
+ghost use Rattle.weak_books.specs.Inner.Bounds.{labelLimit};
 ghost use Rattle.weak_books.specs.Inner.Entering.{openingEntry, PairEntered, Entered, Beside, Parted};
 
 // Writes the entry of p and q: the first side opens, or where it cannot, the second.
 fn put_opening(p: State, q: State, first: Opening, second: Opening, depth: u8, book: &mut [u8])
     requires { ⌜ (p .0 < stateLimit) × (q .0 < stateLimit) × (bookLength ≤ length (now book)) ⌝ }
-    requires { ⌜ (first .label < 256) × (second .label < 256) × (second .target ≤ stateLimit) ⌝ }
+    requires { ⌜ (first .label < labelLimit) × (second .label < labelLimit) × (second .target ≤ stateLimit) ⌝ }
     ensures { λ _. ⌜ EntryWritten (pairPlace (p .0) (q .0)) (openingEntry first second depth) (now (book .entry))
         (now (book .exit)) ⌝ }
 {

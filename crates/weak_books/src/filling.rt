@@ -6,6 +6,7 @@ use held::POOL_LENGTH;
 use held::SLOTS_LENGTH;
 use ranking::table::clear;
 use sets::SETS_LENGTH;
+use splitters::Parts;
 use splitters::incoming::note_labels;
 use splitters::rounds::one_class;
 use splitters::rounds::round;
@@ -20,7 +21,78 @@ ghost use Rattle.held.specs.Held.{HeldList, HeldMove};
 ghost use Rattle.ranking.specs.Table.{Ranked};
 ghost use Rattle.ranking.specs.Inner.TableWrites.{RanksUpTo, Finished};
 ghost use Rattle.books.specs.Books.{BookFilled};
-ghost use Rattle.weak_books.specs.Inner.Entering.{BookUpTo};
+ghost use Rattle.splitters.specs.Inner.Splitters.{Into, Ready, Rounded};
+ghost use Rattle.weak_books.specs.Inner.Entering.{RoundEntered, BookUpTo};
+
+// One round after k of them, with the entries of the pairs that it separates, if there are any.
+fn book_round(
+    n: u16,
+    labels: &[u16; LABEL_COUNT],
+    count: u16,
+    slots: &[u16; SLOTS_LENGTH],
+    pool: &[u64; POOL_LENGTH],
+    into: &[u64; SETS_LENGTH],
+    k: u8,
+    first: u16,
+    parts: Parts,
+    class: &mut [u16; ROW],
+    members: &mut [u64; SETS_LENGTH],
+    origin: &mut [u16; ROW],
+    fresh: &mut [u64; SETS_LENGTH],
+    rest: &mut [u64; SETS_LENGTH],
+    table: &mut [u8],
+    book: &mut [u8],
+) -> Parts
+    requires { ⌜ HeldList n (now labels) count (now slots) (now pool)
+        × Into (now labels) count (now slots) (now into) ⌝ }
+    requires { ⌜ Ready (HeldMove (now labels) count (now slots) (now pool)) n k first (now class) (now members)
+        (now origin) (parts .classes) (parts .together) (now table) ⌝ }
+    requires { ⌜ (tableLength ≤ length (now table)) × (bookLength ≤ length (now book)) ⌝ }
+    ensures { λ r. ⌜ Rounded (HeldMove (now (labels .entry)) count (now (slots .entry)) (now (pool .entry))) n k
+        (now (class .entry)) (now (class .exit)) (now (members .exit)) (now (origin .exit)) (parts .classes)
+        (r .classes) (r .together) (now (table .entry)) (now (table .exit)) ⌝ }
+    ensures { λ r. ⌜ RoundEntered (HeldMove (now (labels .entry)) count (now (slots .entry)) (now (pool .entry))) n k
+        (now (class .entry)) (now (class .exit)) (parts .classes) (r .classes) (now (book .entry))
+        (now (book .exit)) ⌝ }
+{
+    let before = *class;
+    let sets = *members;
+    let next = round(
+        n,
+        labels,
+        count,
+        slots,
+        pool,
+        into,
+        k,
+        first,
+        parts,
+        class,
+        members,
+        origin,
+        fresh,
+        rest,
+        table,
+    );
+    if next.classes == parts.classes {
+        return next;
+    }
+    enter_round(
+        n,
+        labels,
+        count,
+        slots,
+        pool,
+        &before,
+        &sets,
+        class,
+        members,
+        parts.together,
+        k + 1,
+        book,
+    );
+    next
+}
 
 // Goes round until a round separates no further pair, and yields the last round that did.
 fn book_rounds(
@@ -46,8 +118,6 @@ fn book_rounds(
     let mut origin = [0u16; ROW];
     let mut fresh = [0u64; SETS_LENGTH];
     let mut rest = [0u64; SETS_LENGTH];
-    let mut before = [0u16; ROW];
-    let mut sets = [0u64; SETS_LENGTH];
     let mut into = [0u64; SETS_LENGTH];
     note_labels(n, labels, count, slots, pool, &mut into);
     let mut parts = one_class(n, &mut members);
@@ -55,10 +125,7 @@ fn book_rounds(
     let mut k = 0;
     let last = loop {
         let old = parts.classes;
-        let states = parts.together;
-        before = class;
-        sets = members;
-        let next = round(
+        let next = book_round(
             n,
             labels,
             count,
@@ -74,27 +141,14 @@ fn book_rounds(
             &mut fresh,
             &mut rest,
             table,
+            book,
         );
         if next.classes == old {
             break k;
         }
-        k += 1;
-        enter_round(
-            n,
-            labels,
-            count,
-            slots,
-            pool,
-            &before,
-            &sets,
-            &class,
-            &members,
-            states,
-            k,
-            book,
-        );
         first = old;
         parts = next;
+        k += 1;
     };
     last
 }

@@ -5,8 +5,11 @@ pub mod check;
 pub mod depths;
 pub mod entering;
 pub mod filling;
+pub mod firsts;
 pub mod labels;
 pub mod opening;
-pub mod openings;
 pub mod ranked;
 pub mod seconds;
+
+// One place for each value of a byte: an entry's action, or its depth.
+pub const BYTE_VALUES: usize = 256;

@@ -19,7 +19,9 @@ ghost use lib.ListN.{getD};
 ghost use Rattle.text.specs.Limits.{stateLimit};
 ghost use Rattle.held.specs.Held.{rowCount, poolSets, HeldAt, HeldList, HeldMove};
 ghost use Rattle.splitters.specs.Inner.Partition.{ClassSets};
-ghost use Rattle.weak_books.specs.Inner.Entering.{LowestTo, FirstOpening};
+ghost use Rattle.weak_books.specs.Inner.Bounds.{labelLimit};
+ghost use Rattle.weak_books.specs.Inner.OpensTo.{LowestTo};
+ghost use Rattle.weak_books.specs.Inner.Entering.{Apart, FirstApart};
 
 // A label and a target, which is 128 where there is no opening.
 pub struct Opening {
@@ -28,7 +30,7 @@ pub struct Opening {
 }
 
 // The lowest target of p in this row to which no target of q is alike, or 128.
-fn lowest_opening(
+fn lowest_apart(
     n: u16,
     slots: &[u16; SLOTS_LENGTH],
     pool: &[u64; POOL_LENGTH],
@@ -42,7 +44,8 @@ fn lowest_opening(
         × ((i : ℕ) → getD (now slots) i 0 < poolSets) ⌝ }
     requires { ⌜ ((x y : ℕ) → x < stateLimit → HeldAt (now slots) (now pool) row x y → y < n) ⌝ }
     requires { ⌜ ClassSets n (now class) (now members) ⌝ }
-    ensures { λ r. ⌜ LowestTo (now (slots .entry)) (now (pool .entry)) row (now (class .entry)) (p .0) (q .0) r ⌝ }
+    ensures { λ r. ⌜ LowestTo (HeldAt (now (slots .entry)) (now (pool .entry)) row)
+        (Apart (now (class .entry))) (p .0) (q .0) r ⌝ }
 {
     let answers = held(slots, pool, row, q);
     let mut left = without(held(slots, pool, row, p), answers);
@@ -74,8 +77,8 @@ pub fn find_opening(
     requires { ⌜ (p .0 < stateLimit) × (q .0 < stateLimit) ⌝ }
     requires { ⌜ HeldList n (now labels) count (now slots) (now pool) ⌝ }
     requires { ⌜ ClassSets n (now class) (now members) ⌝ }
-    ensures { λ r. ⌜ (r .label < 256) × (r .target ≤ stateLimit) ⌝ }
-    ensures { λ r. ⌜ FirstOpening (HeldMove (now (labels .entry)) count (now (slots .entry)) (now (pool .entry)))
+    ensures { λ r. ⌜ (r .label < labelLimit) × (r .target ≤ stateLimit) ⌝ }
+    ensures { λ r. ⌜ FirstApart (HeldMove (now (labels .entry)) count (now (slots .entry)) (now (pool .entry)))
         (now (class .entry)) (p .0) (q .0) r ⌝ }
 {
     let mut i = 0;
@@ -83,7 +86,7 @@ pub fn find_opening(
         let at = i as usize;
         let label = labels[at];
         let row = target_row(label);
-        let target = lowest_opening(n, slots, pool, row, class, members, p, q);
+        let target = lowest_apart(n, slots, pool, row, class, members, p, q);
         if target < STATE_LIMIT {
             return Opening { label, target };
         }

@@ -1,5 +1,5 @@
 // The openings of the second side: as in the entry of the two states the other way round.
-use crate::openings::put_entry;
+use books::book::put_entry;
 use ranking::table::pair_place;
 use ranking::table::rank_at;
 use text::State;
@@ -7,7 +7,7 @@ use text::limits::ENTRY_SIZE;
 ghost use Prim.Native.Nat.{_≤_, _<_};
 ghost use lib.ListN.{length};
 ghost use Rattle.text.specs.Limits.{stateLimit, tableLength, pairPlace, bookLength};
-ghost use Rattle.weak_books.specs.Inner.Turned.{PairTurned, Turned};
+ghost use Rattle.weak_books.specs.Inner.Turned.{PairTurned, AllTurned};
 
 // Writes the entry of p and q, if their rank is above 0 and there is none.
 fn turn_pair(table: &[u8], p: State, q: State, book: &mut [u8])
@@ -33,7 +33,7 @@ fn turn_pair(table: &[u8], p: State, q: State, book: &mut [u8])
 fn turn_row(n: u16, table: &[u8], p: State, book: &mut [u8])
     requires { ⌜ (n ≤ stateLimit) × (p .0 < n) × (tableLength ≤ length (now table))
         × (bookLength ≤ length (now book)) ⌝ }
-    ensures { λ _. ⌜ Turned n (now (table .entry)) (pairPlace (p .0) 0) (pairPlace (p .0) n) (now (book .entry))
+    ensures { λ _. ⌜ AllTurned n (now (table .entry)) (pairPlace (p .0) 0) (pairPlace (p .0) n) (now (book .entry))
         (now (book .exit)) ⌝ }
 {
     for q in 0..n {
@@ -44,7 +44,7 @@ fn turn_row(n: u16, table: &[u8], p: State, book: &mut [u8])
 // The same of each two states.
 pub fn turn_rows(n: u16, table: &[u8], book: &mut [u8])
     requires { ⌜ (n ≤ stateLimit) × (tableLength ≤ length (now table)) × (bookLength ≤ length (now book)) ⌝ }
-    ensures { λ _. ⌜ Turned n (now (table .entry)) 0 (pairPlace n 0) (now (book .entry)) (now (book .exit)) ⌝ }
+    ensures { λ _. ⌜ AllTurned n (now (table .entry)) 0 (pairPlace n 0) (now (book .entry)) (now (book .exit)) ⌝ }
 {
     for p in 0..n {
         turn_row(n, table, State(p), book);

@@ -17,7 +17,7 @@ use Rattle.lts.specs.DecidedLaws.{decided-game}
 use Rattle.lts.specs.Weak.{silentLabel}
 use Rattle.text.specs.Limits.{stateLimit, actionLimit}
 use Rattle.sets.specs.Inner.Sets.{wordBits, Member}
-use Rattle.held.specs.Held.{slotPlace, targetRow, HeldAt, HeldList, HeldMove, HeldAs}
+use Rattle.held.specs.Held.{LabelIn, slotPlace, targetRow, HeldAt, HeldList, HeldMove, HeldAs}
 use Rattle.held.specs.HeldTests.{member?, labelIn?, heldMove?, heldRound}
 
 -- ---- tests
@@ -41,16 +41,15 @@ module _ (sets : List ℕ) (k x : ℕ) where
   Member→member? m = and-intro (ltb x stateLimit) bit? (lt→ltb x stateLimit (m .member-lt)) (T-eqb (m .bit-is))
 
 module _ (labels : List ℕ) (count : ℕ) where
-  labelIn?→LabelIn : (a : ℕ) → T (labelIn? labels count a) → (i : ℕ) × (i < count) × (getD labels i 0 ≡ a)
+  labelIn?→LabelIn : (a : ℕ) → T (labelIn? labels count a) → LabelIn labels count a
   labelIn?→LabelIn a t =
       let x = any→Some count (λ i. eqb (getD labels i 0) a) t in
       (x .0, x .1, eqb→eq (getD labels (x .0) 0) a (x .2))
 
-  LabelIn→labelIn? : (a : ℕ) → (i : ℕ) × (i < count) × (getD labels i 0 ≡ a) → T (labelIn? labels count a)
+  LabelIn→labelIn? : (a : ℕ) → LabelIn labels count a → T (labelIn? labels count a)
   LabelIn→labelIn? a x = Some→any count (λ i. eqb (getD labels i 0) a) (x .0) (x .1) (T-eqb (x .2))
 
-  pub label-or-not : (a : ℕ) → ((i : ℕ) × (i < count) × (getD labels i 0 ≡ a))
-      ⊎ ¬ ((i : ℕ) × (i < count) × (getD labels i 0 ≡ a))
+  pub label-or-not : (a : ℕ) → LabelIn labels count a ⊎ ¬ (LabelIn labels count a)
   label-or-not a = of-test (labelIn? labels count a) (labelIn?→LabelIn a) (LabelIn→labelIn? a)
 
   module _ (slots pool : List ℕ) where

@@ -24,14 +24,11 @@ pub record LowAt (m : Model) (j a p q : ℕ) : Type 0 where
   pub action-is : action m j ≡ a
   pub target-is : target m j ≡ q
 
--- One of the first `to` steps is low, has the action a, and leads from p to q.
+-- One of the first `to` steps is such.
 pub record LowBefore (m : Model) (to a p q : ℕ) : Type 0 where
   pub number : ℕ
   pub number-lt : number < to
-  pub is-low : T (view m .levels .low? a)
-  pub source-is : source m number ≡ p
-  pub action-is : action m number ≡ a
-  pub target-is : target m number ≡ q
+  pub low-at : LowAt m number a p q
 
 -- The sets have just the low ones of the first `to` steps, from their sources and from their targets.
 pub record LowHeld (m : Model) (to : ℕ) (slots pool : List ℕ) : Type 0 where

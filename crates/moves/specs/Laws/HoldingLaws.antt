@@ -11,7 +11,7 @@ use lib.Seq.{getD-set-same, getD-set-other}
 use Rattle.lts.specs.TestsLaws.{eq-or-not}
 use Rattle.text.specs.Limits.{stateLimit, actionLimit}
 use Rattle.text.specs.Model.{Model}
-use Rattle.model.specs.System.{source, action, target, view}
+use Rattle.model.specs.System.{action, view}
 use Rattle.sets.specs.Inner.Sets.{Member, Empty}
 use Rattle.held.specs.Held.{slotPlace, targetRow, sourceRow, HeldAt}
 use Rattle.held.specs.Inner.Slots.{MemberAdded}
@@ -88,24 +88,10 @@ module _ {m : Model} {a : ℕ} {labels : List ℕ} {count : ℕ} (L : LowLabels 
 -- ---- the steps before one more
 
 lowBefore-suc : {m : Model} {j a p q : ℕ} → LowBefore m j a p q → LowBefore m (j + 1) a p q
-lowBefore-suc x = record {
-  number = x .number;
-  number-lt = omega (arith, x .number-lt);
-  is-low = x .is-low;
-  source-is = x .source-is;
-  action-is = x .action-is;
-  target-is = x .target-is;
-}
+lowBefore-suc x = record { number = x .number; number-lt = omega (arith, x .number-lt); low-at = x .low-at }
 
 lowBefore-last : {m : Model} {j a p q : ℕ} → LowAt m j a p q → LowBefore m (j + 1) a p q
-lowBefore-last {j = j} x = record {
-  number = j;
-  number-lt = omega arith;
-  is-low = x .is-low;
-  source-is = x .source-is;
-  action-is = x .action-is;
-  target-is = x .target-is;
-}
+lowBefore-last {j = j} x = record { number = j; number-lt = omega arith; low-at = x }
 
 -- One step, one source, action and target.
 lowAt-same : {m : Model} {j a b p r q s : ℕ} → a ≡ b → p ≡ r → q ≡ s → LowAt m j a p q → LowAt m j b r s
@@ -120,19 +106,11 @@ lowBefore-cases : {m : Model} {j a p q : ℕ} → LowBefore m (j + 1) a p q → 
 lowBefore-cases {m} {j} {a} {p} {q} x = go (eq-or-not (x .number) j)
   where
     go : (x .number ≡ j) ⊎ ¬ (x .number ≡ j) → LowBefore m j a p q ⊎ LowAt m j a p q
-    go (inl e) = inr record {
-      is-low = x .is-low;
-      source-is = ap (source m) (sym e) ∙ x .source-is;
-      action-is = ap (action m) (sym e) ∙ x .action-is;
-      target-is = ap (target m) (sym e) ∙ x .target-is;
-    }
+    go (inl e) = inr (subst (λ (i : ℕ). LowAt m i a p q) e (x .low-at))
     go (inr d) = inl record {
       number = x .number;
       number-lt = omega (arith, x .number-lt, d);
-      is-low = x .is-low;
-      source-is = x .source-is;
-      action-is = x .action-is;
-      target-is = x .target-is;
+      low-at = x .low-at;
     }
 
 -- ---- the sets, one step after another

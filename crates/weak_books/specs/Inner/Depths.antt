@@ -9,11 +9,8 @@ use Rattle.lts.specs.Book.{Present, LowerEntry, SoundAt}
 use Rattle.text.specs.Limits.{stateLimit, pairPlace}
 use Rattle.books.specs.Books.{entryNumber, bookOf}
 use Rattle.sets.specs.Inner.Sets.{Member}
-use Rattle.held.specs.Held.{HeldAt}
-
--- The depths that a byte can have.
-abbrev pub depthCount : ℕ
-depthCount = 256
+use Rattle.held.specs.Held.{LabelIn}
+use Rattle.weak_books.specs.Inner.Bounds.{byteValues}
 
 -- Entry k is on the chain that begins at `from`: a chain has the number of an entry and 1, and 0 ends it.
 pub data OnChain (link : List ℕ) (k : ℕ) : ℕ → Type 0 where
@@ -27,9 +24,9 @@ pub record AtDepth (book : List ℕ) (d k : ℕ) : Type 0 where
 
 -- The entries below `to` are chained by their depth. A chain falls.
 pub record Chained (book head link : List ℕ) (to : ℕ) : Type 0 where
-  pub on : (d k : ℕ) → d < depthCount → k < to → AtDepth book d k → OnChain link k (getD head d 0)
-  pub only : (d k : ℕ) → d < depthCount → OnChain link k (getD head d 0) → (k < to) × AtDepth book d k
-  pub head-le : (d : ℕ) → d < depthCount → getD head d 0 ≤ to
+  pub on : (d k : ℕ) → d < byteValues → k < to → AtDepth book d k → OnChain link k (getD head d 0)
+  pub only : (d k : ℕ) → d < byteValues → OnChain link k (getD head d 0) → (k < to) × AtDepth book d k
+  pub head-le : (d : ℕ) → d < byteValues → getD head d 0 ≤ to
   pub falls : (k : ℕ) → getD link k 0 ≤ k
 
 -- Set t of a list has just the u that R holds of beside t.
@@ -42,11 +39,6 @@ pub record Pairs (R : Relation) (sets : List ℕ) : Type 0 where
 pub record LowerBy (book : List ℕ) (depth : ℕ) (there back : List ℕ) : Type 0 where
   pub firsts : Pairs (LowerEntry (bookOf book) depth) there
   pub seconds : Pairs (λ t u. LowerEntry (bookOf book) depth u t) back
-
--- p opens to t against q in this row: each answer is a member of set t of the lower ones.
-pub record OpensIn (slots pool : List ℕ) (row : ℕ) (lower : List ℕ) (p q t : ℕ) : Type 0 where
-  pub opening : HeldAt slots pool row p t
-  pub answers : (u : ℕ) → HeldAt slots pool row q u → Member lower t u
 
 -- Both lists have got the pair of entry k if P holds of it, and no other member.
 pub record LowerAdded (P : ℕ → Type 0) (there back there′ back′ : List ℕ) : Type 0 where
@@ -64,4 +56,4 @@ pub record FirstOf (Move : Moves) (P : ℕ → Type 0) (book : List ℕ) (limit 
 -- The flags say which labels are listed.
 pub record Flagged (labels : List ℕ) (count : ℕ) (flags : List ℕ) : Type 0 where
   pub flagged : (i : ℕ) → i < count → getD flags (getD labels i 0) 0 ≡ 1
-  pub only : (a : ℕ) → ¬ (getD flags a 0 ≡ 0) → (i : ℕ) × (i < count) × (getD labels i 0 ≡ a)
+  pub only : (a : ℕ) → ¬ (getD flags a 0 ≡ 0) → LabelIn labels count a

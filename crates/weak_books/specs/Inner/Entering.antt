@@ -3,7 +3,7 @@ use mathlib.Core.Bool.{Bool, true, false}
 use mathlib.Core.List.{List}
 use mathlib.Core.Logic.{_⊎_}
 use mathlib.Core.Path.{_≡_}
-use Prim.Native.Nat.{ℕ, _≤_, _<_}
+use Prim.Native.Nat.{ℕ, _+_, _≤_, _<_}
 use lib.Dec.{ltb}
 use lib.ListN.{length, getD}
 use Rattle.lts.specs.Alike.{Moves, Alike, Separated}
@@ -18,34 +18,25 @@ use Rattle.held.specs.Held.{targetRow, HeldAt}
 use Rattle.ranking.specs.Inner.TableWrites.{SeparatedBy, Outside}
 use Rattle.splitters.specs.Inner.Splitters.{Ready}
 use Rattle.books.specs.Books.{entryNumber}
+use Rattle.weak_books.specs.Inner.OpensTo.{OpensTo}
 use Rattle.weak_books.specs.declared.opening.Opening.{Opening}
 
 -- t and u are of two classes.
 abbrev pub Apart : List ℕ → ℕ → ℕ → Type 0
 Apart class t u = ¬ (Same class t u)
 
--- p opens with t in this row: no target of q there is of its class.
-pub record OpensTo (slots pool : List ℕ) (row : ℕ) (class : List ℕ) (p q t : ℕ) : Type 0 where
-  pub opening : HeldAt slots pool row p t
-  pub answers : (u : ℕ) → HeldAt slots pool row q u → Apart class t u
-
--- The lowest such target is t; t is 128 if there is none.
-pub record LowestTo (slots pool : List ℕ) (row : ℕ) (class : List ℕ) (p q t : ℕ) : Type 0 where
-  pub lowest-le : t ≤ stateLimit
-  pub none-before : (u : ℕ) → u < t → ¬ (OpensTo slots pool row class p q u)
-  pub opens : t < stateLimit → OpensTo slots pool row class p q t
-
 -- p has no opening with the first i labels of the list.
 pub record NoneOpens (labels : List ℕ) (i : ℕ) (slots pool class : List ℕ) (p q : ℕ) : Type 0 where
-  pub none : (j t : ℕ) → j < i → ¬ (OpensTo slots pool (targetRow (getD labels j 0)) class p q t)
+  pub none : (j t : ℕ) → j < i → ¬ (OpensTo (HeldAt slots pool (targetRow (getD labels j 0))) (Apart class) p q t)
 
 -- Of the targets `all`, those that are not left have an answer of their class.
 pub record Tried (class : List ℕ) (answers all left : Set) : Type 0 where
   pub left-in : (t : ℕ) → In left t → In all t
   pub gone : (t : ℕ) → In all t → ¬ (In left t) → ¬ ((u : ℕ) → In answers u → Apart class t u)
 
--- The first opening of p against q, by label and then by target; its target is 128 if there is none.
-pub record FirstOpening (Move : Moves) (class : List ℕ) (p q : ℕ) (o : Opening) : Type 0 where
+-- The first opening of p against q all of whose answers are of other classes, by label and then by target; its target
+-- is 128 if there is none.
+pub record FirstApart (Move : Moves) (class : List ℕ) (p q : ℕ) (o : Opening) : Type 0 where
   pub opens : o .target < stateLimit → Opens Move (Apart class) p q (o .label) (o .target)
   pub first : (b u : ℕ) → Opens Move (Apart class) p q b u
       → (o .target < stateLimit) × ((o .label < b) ⊎ ((o .label ≡ b) × (o .target ≤ u)))
@@ -90,6 +81,13 @@ pub record Parted (n : ℕ) (class next : List ℕ) (p q : ℕ) : Type 0 where
   pub first-lt : p < n
   pub lower : q < p
   pub separated : SeparatedBy class next p q
+
+-- What a round leaves in the book: where it made no further class, the book as it was, and else the entries of the
+-- pairs that it separated.
+pub record RoundEntered (Move : Moves) (n k : ℕ) (class next : List ℕ) (classes classes′ : ℕ) (entry exit : List ℕ)
+    : Type 0 where
+  pub stays : classes′ ≡ classes → exit ≡ entry
+  pub entered : classes < classes′ → Entered Move class (k + 1) (Parted n class next) entry exit
 
 -- P holds of x and y, and the one of them that `pick` names is not left.
 pub record Done (P : ℕ → ℕ → Type 0) (pick : ℕ → ℕ → ℕ) (left : Set) (x y : ℕ) : Type 0 where

@@ -8,10 +8,6 @@ use Rattle.lts.specs.Weak.{silentLabel}
 use Rattle.text.specs.Limits.{actionLimit, tableLength}
 use Rattle.books.specs.Books.{entryNumber}
 
--- One place for each value of a byte.
-abbrev pub usedLength : ℕ
-usedLength = 256
-
 -- Entry k is there, and has an action that no move has.
 pub record NoLabel (book : List ℕ) (k : ℕ) : Type 0 where
   pub present : Present (entryNumber book k)

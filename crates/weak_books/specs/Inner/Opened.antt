@@ -9,28 +9,20 @@ use Rattle.lts.specs.Alike.{Moves, Relation}
 use Rattle.lts.specs.Book.{Entry, Present, Opens, LowerRank, noEntry}
 use Rattle.text.specs.Limits.{stateLimit, pairPlace, bookLength}
 use Rattle.text.specs.Lists.{Past}
-use Rattle.sets.specs.Inner.Sets.{Member, Within}
+use Rattle.sets.specs.Inner.Sets.{Member}
 use Rattle.books.specs.Books.{entryNumber}
+use Rattle.weak_books.specs.Inner.Bounds.{labelLimit}
+use Rattle.weak_books.specs.Inner.OpensTo.{OpensTo, LowestTo}
 
 -- ---- one label, by sets: set p of the keys has the targets of p, and set t of the lower ones what is lower beside t
-
--- p opens against q with the target t: each answer is lower beside t.
-pub record OpensIn (keys lower : List ℕ) (p q t : ℕ) : Type 0 where
-  pub opening : Member keys p t
-  pub answers : Within keys q lower t
-
--- The lowest target that p opens with against q is t; t is 128 if there is none.
-pub record LowestIn (keys lower : List ℕ) (p q t : ℕ) : Type 0 where
-  pub lowest-le : t ≤ stateLimit
-  pub none-before : (u : ℕ) → u < t → ¬ (OpensIn keys lower p q u)
-  pub opens : t < stateLimit → OpensIn keys lower p q t
 
 -- The entry e of p and q has become e′: an entry stays, and where there was none, p opens with the label a if it can.
 pub data EntryOpened (keys lower : List ℕ) (depth a p q : ℕ) (e e′ : Entry) : Type 0 where
   stays : Present e → e′ ≡ e → EntryOpened keys lower depth a p q e e′
-  opens-not : e′ ≡ e → ((t : ℕ) → ¬ (OpensIn keys lower p q t)) → EntryOpened keys lower depth a p q e e′
+  opens-not : e′ ≡ e → ((t : ℕ) → ¬ (OpensTo (Member keys) (Member lower) p q t))
+      → EntryOpened keys lower depth a p q e e′
   opens-with : (t : ℕ) → e .side ≡ 0 → e′ ≡ record { side = 1; action = a; target = t; depth = depth } → t < stateLimit
-      → LowestIn keys lower p q t → EntryOpened keys lower depth a p q e e′
+      → LowestTo (Member keys) (Member lower) p q t → EntryOpened keys lower depth a p q e e′
 
 -- The same of that entry alone.
 pub record PairOpened (keys lower : List ℕ) (depth a p q : ℕ) (entry exit : List ℕ) : Type 0 where
@@ -68,10 +60,6 @@ pub record OnlyAt (n : ℕ) (at : List ℕ) (entry exit : List ℕ) : Type 0 whe
   pub past : Past bookLength entry exit
 
 -- ---- depths
-
--- Above all labels.
-abbrev pub labelLimit : ℕ
-labelLimit = 256
 
 -- The first sides of all two states of a rank above 0 and below the depth have opened where they can, and there are no
 -- further entries.

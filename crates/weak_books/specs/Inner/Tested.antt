@@ -2,7 +2,7 @@
 use mathlib.Core.List.{List}
 use mathlib.Core.Path.{_≡_}
 use Prim.Native.Nat.{ℕ, _≤_, _<_}
-use Rattle.lts.specs.Alike.{Moves, Relation}
+use Rattle.lts.specs.Alike.{Moves}
 use Rattle.lts.specs.Book.{Present, SoundAt}
 use Rattle.text.specs.Limits.{stateLimit, pairPlace}
 use Rattle.books.specs.Books.{bookOf}
@@ -11,11 +11,6 @@ use Rattle.sets.specs.Inner.Sets.{Member}
 -- Set p has the targets of the moves of p, whatever their label.
 abbrev pub SetMove : List ℕ → Moves
 SetMove keys p a q = Member keys p q
-
--- p opens to t, and each answer of q leads, beside t, to what Leads holds of.
-pub record SetOpens (keys : List ℕ) (Leads : Relation) (p q t : ℕ) : Type 0 where
-  pub opening : Member keys p t
-  pub answers : (u : ℕ) → Member keys q u → Leads t u
 
 -- The entry of p and q is there and has an action that Label holds of.
 pub record EntryUnder (Label : ℕ → Type 0) (book : List ℕ) (p q : ℕ) : Type 0 where

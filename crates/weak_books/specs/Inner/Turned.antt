@@ -24,7 +24,7 @@ pub record PairTurned (table : List ℕ) (p q : ℕ) (entry exit : List ℕ) : T
   pub past : Past bookLength entry exit
 
 -- The same of each two of n states, where the number of their entry is from `from` up to `to`.
-pub record Turned (n : ℕ) (table : List ℕ) (from to : ℕ) (entry exit : List ℕ) : Type 0 where
+pub record AllTurned (n : ℕ) (table : List ℕ) (from to : ℕ) (entry exit : List ℕ) : Type 0 where
   pub turned : (p q : ℕ) → p < n → q < n → from ≤ pairPlace p q → pairPlace p q < to
       → EntryTurned (getD table (pairPlace p q) 0) (entryNumber entry (pairPlace p q))
       (entryNumber entry (pairPlace q p)) (entryNumber exit (pairPlace p q))

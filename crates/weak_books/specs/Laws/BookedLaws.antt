@@ -6,17 +6,19 @@ use native.Mathlib.Omega.{arith}
 use lib.ListN.{length, getD}
 use borrow.Author.Count.{below-more}
 use Rattle.lts.specs.Alike.{Moves, Answers}
-use Rattle.text.specs.Limits.{stateLimit}
+use Rattle.text.specs.Limits.{stateLimit, bookLength}
+use Rattle.text.specs.Lists.{Past}
 use Rattle.text.specs.Laws.ListsLaws.{past-refl, past-trans}
 use Rattle.comparing.specs.Inner.Numbered.{Same}
 use Rattle.sets.specs.Inner.Sets.{Member}
 use Rattle.sets.specs.declared.set.Set.{Set}
+use Rattle.ranking.specs.Inner.ClassList.{Refined}
 use Rattle.ranking.specs.Inner.TableWrites.{SeparatedBy, RanksUpTo, Finished}
 use Rattle.ranking.specs.Laws.TableWritesLaws.{outside-refl, outside-trans}
 use Rattle.splitters.specs.Inner.Partition.{Partition, ClassSets}
 use Rattle.splitters.specs.Inner.Splitters.{Rounded}
 use Rattle.splitters.specs.Laws.RoundLaws.{ready-zero}
-use Rattle.weak_books.specs.Inner.Entering.{Entered, Parted, BookUpTo, Booked}
+use Rattle.weak_books.specs.Inner.Entering.{Entered, Parted, RoundEntered, BookUpTo, Booked}
 use Rattle.weak_books.specs.Laws.BookUpToLaws.{bookUpTo-suc}
 
 pub classSets-of-partition : {n : ℕ} {class members : List ℕ} {classes : ℕ} {together : Set} → n ≤ stateLimit
@@ -40,21 +42,34 @@ booked-zero {table = table} {book} {origin = origin} e z o P U B = record {
   past = past-refl book;
 }
 
+-- What a round separates does not answer each other.
+pub separated-not-answers : {Move : Moves} {n : ℕ} {class next : List ℕ} → Refined Move n class next → (p q : ℕ)
+    → p < n → q < n → SeparatedBy class next p q → ¬ (Answers Move (Same class) p q)
+separated-not-answers R p q lp lq s a = s .not-same-after (R .same-of-answers p q lp lq (s .same-before) a)
+
+-- The entries of a round that made further classes, and those of one that made none.
+module _ {Move : Moves} {n k : ℕ} {class next : List ℕ} {classes classes′ : ℕ} where
+  pub roundEntered-more : {book book′ : List ℕ} → ¬ (classes′ ≡ classes)
+      → Entered Move class (k + 1) (Parted n class next) book book′
+      → RoundEntered Move n k class next classes classes′ book book′
+  roundEntered-more d w = record { stays = λ e. absurd (d e); entered = λ _. w }
+
+  pub roundEntered-stays : {book : List ℕ} → classes′ ≡ classes
+      → RoundEntered Move n k class next classes classes′ book book
+  roundEntered-stays e = record { stays = λ _. refl; entered = λ l. absurd (omega (arith, e, l)) }
+
 module _ {Move : Moves} {n k first : ℕ} {table₀ table book₀ book class members origin : List ℕ} {classes : ℕ}
     {together : Set} (B : Booked Move n k first table₀ table book₀ book class members origin classes together)
-    {table′ next members′ origin′ : List ℕ} {classes′ : ℕ} {together′ : Set}
-    (R : Rounded Move n k class next members′ origin′ classes classes′ together′ table table′) where
-  -- What the round separates does not answer each other.
-  pub separated-not-answers : (p q : ℕ) → p < n → q < n → SeparatedBy class next p q
-      → ¬ (Answers Move (Same class) p q)
-  separated-not-answers p q lp lq s a = s .not-same-after (R .refined .same-of-answers p q lp lq (s .same-before) a)
-
+    {table′ book′ next members′ origin′ : List ℕ} {classes′ : ℕ} {together′ : Set}
+    (R : Rounded Move n k class next members′ origin′ classes classes′ together′ table table′)
+    (E : RoundEntered Move n k class next classes classes′ book book′) where
   -- With its entries, a round that separates a pair leaves the same one round later.
-  pub booked-suc : {book′ : List ℕ} → ((p a q : ℕ) → p < n → Move p a q → q < n) → n ≤ stateLimit → classes < classes′
-      → length table′ ≡ length table → Entered Move class (k + 1) (Parted n class next) book book′
+  pub booked-suc : ((p a q : ℕ) → p < n → Move p a q → q < n) → n ≤ stateLimit → classes < classes′
+      → length table′ ≡ length table
       → Booked Move n (k + 1) classes table₀ table′ book₀ book′ next members′ origin′ classes′ together′
-  booked-suc target-lt states-le more e W =
+  booked-suc target-lt states-le more e =
       let Y = R .ready more in
+      let W = E .entered more in
       record {
         ready = Y;
         separates = below-more _ k (B .separates) (R .separates .separates (omega (arith, more)));
@@ -73,3 +88,7 @@ module _ {Move : Moves} {n k first : ℕ} {table₀ table book₀ book class mem
     settled = R .separates .settled (omega (arith, e));
     outside = outside-trans (B .outside) (R .outside);
   }
+
+  pub entries-of-booked : classes′ ≡ classes → BookUpTo Move n k book′ × Past bookLength book₀ book′
+  entries-of-booked e =
+      subst (λ (b : List ℕ). BookUpTo Move n k b × Past bookLength book₀ b) (sym (E .stays e)) (B .entries, B .past)

@@ -10,7 +10,8 @@ use lib.Seq.{getD-set-same, getD-set-other}
 use Rattle.lts.specs.TestsLaws.{eq-or-not}
 use Rattle.lts.specs.Book.{Present}
 use Rattle.books.specs.Books.{entryNumber}
-use Rattle.weak_books.specs.Inner.Depths.{depthCount, OnChain, first, later, AtDepth, Chained}
+use Rattle.weak_books.specs.Inner.Bounds.{byteValues}
+use Rattle.weak_books.specs.Inner.Depths.{OnChain, first, later, AtDepth, Chained}
 
 -- ---- on a chain
 
@@ -61,13 +62,13 @@ chained-absent {book} {head} {link} {k} z C = record {
   falls = C .falls;
 }
   where
-    on : (d j : ℕ) → d < depthCount → j < k + 1 → AtDepth book d j → (j ≡ k) ⊎ ¬ (j ≡ k)
+    on : (d j : ℕ) → d < byteValues → j < k + 1 → AtDepth book d j → (j ≡ k) ⊎ ¬ (j ≡ k)
         → OnChain link j (getD head d 0)
     on d j ld l a (inl e) = absurd (subst (λ (x : ℕ). Present (entryNumber book x)) e (a .present) z)
     on d j ld l a (inr n) = C .on d j ld (omega (arith, l, n)) a
 
 -- The next entry, d its depth, becomes the first one of its chain.
-module _ {book head link head′ link′ : List ℕ} {k d : ℕ} (here : AtDepth book d k) (ld : d < depthCount)
+module _ {book head link head′ link′ : List ℕ} {k d : ℕ} (here : AtDepth book d k) (ld : d < byteValues)
     (head-lt : d < length head) (link-lt : k < length link) (head-is : head′ ≡ set head d (k + 1))
     (link-is : link′ ≡ set link k (getD head d 0)) (C : Chained book head link k) where
   head-at : (x : ℕ) → x ≡ d → getD head′ x 0 ≡ k + 1
@@ -93,7 +94,7 @@ module _ {book head link head′ link′ : List ℕ} {k d : ℕ} (here : AtDepth
   kept-back : {j from : ℕ} → from ≤ k → OnChain link′ j from → OnChain link j from
   kept-back = onChain-agree (λ j l. omega (arith, link-below j l, C .falls j)) (λ j l. sym (link-below j l))
 
-  on-next : (x j : ℕ) → x < depthCount → j < k + 1 → AtDepth book x j → (x ≡ d) ⊎ ¬ (x ≡ d) → (j ≡ k) ⊎ ¬ (j ≡ k)
+  on-next : (x j : ℕ) → x < byteValues → j < k + 1 → AtDepth book x j → (x ≡ d) ⊎ ¬ (x ≡ d) → (j ≡ k) ⊎ ¬ (j ≡ k)
       → OnChain link′ j (getD head′ x 0)
   on-next x j lx l a (inl e) (inl i) = onChain-cons k (head-at x e) (inl i)
   on-next x j lx l a (inl e) (inr n) =
@@ -111,14 +112,14 @@ module _ {book head link head′ link′ : List ℕ} {k d : ℕ} (here : AtDepth
       let old = C .only d j ld (kept-back (C .head-le d ld) (subst (OnChain link′ j) link-at c)) in
       (omega (arith, old .0), subst (λ (y : ℕ). AtDepth book y j) (sym e) (old .1))
 
-  only-next : (x j : ℕ) → x < depthCount → OnChain link′ j (getD head′ x 0) → (x ≡ d) ⊎ ¬ (x ≡ d)
+  only-next : (x j : ℕ) → x < byteValues → OnChain link′ j (getD head′ x 0) → (x ≡ d) ⊎ ¬ (x ≡ d)
       → (j < k + 1) × AtDepth book x j
   only-next x j lx c (inl e) = only-first x j e (onChain-cases k (head-at x e) c)
   only-next x j lx c (inr m) =
       let old = C .only x j lx (kept-back (C .head-le x lx) (subst (OnChain link′ j) (head-other x m) c)) in
       (omega (arith, old .0), old .1)
 
-  head-le-next : (x : ℕ) → x < depthCount → (x ≡ d) ⊎ ¬ (x ≡ d) → getD head′ x 0 ≤ k + 1
+  head-le-next : (x : ℕ) → x < byteValues → (x ≡ d) ⊎ ¬ (x ≡ d) → getD head′ x 0 ≤ k + 1
   head-le-next x lx (inl e) = omega (arith, head-at x e)
   head-le-next x lx (inr m) = omega (arith, head-other x m, C .head-le x lx)
 

@@ -13,7 +13,8 @@ use Rattle.text.specs.Limits.{stateLimit, tableLength, entrySize, pairPlace}
 use Rattle.books.specs.Books.{entryNumber, bookOf}
 use Rattle.books.specs.Inner.Sides.{LowerNumber, SoundTo}
 use Rattle.books.specs.Laws.ChecksLaws.{at-number}
-use Rattle.weak_books.specs.Inner.Depths.{depthCount, OnChain, Chained, FirstOf}
+use Rattle.weak_books.specs.Inner.Bounds.{byteValues}
+use Rattle.weak_books.specs.Inner.Depths.{OnChain, Chained, FirstOf}
 use Rattle.weak_books.specs.Laws.ChainsLaws.{onChain-nil, onChain-cases}
 
 -- ---- some entries
@@ -85,7 +86,7 @@ module _ {Move : Moves} {book : List ℕ} where
   pub firstLower-zero : {limit : ℕ} → FirstOf Move (LowerNumber book 0) book limit limit
   firstLower-zero = firstOf-none (λ p q lq h. absurd (omega (arith, h .depth-lt))) refl
 
-  pub firstLower-next : {head link : List ℕ} {d limit k j : ℕ} → d < depthCount → Chained book head link tableLength
+  pub firstLower-next : {head link : List ℕ} {d limit k j : ℕ} → d < byteValues → Chained book head link tableLength
       → FirstOf Move (LowerNumber book d) book limit k
       → FirstOf Move (λ x. OnChain link x (getD head d 0)) book k j
       → FirstOf Move (LowerNumber book (d + 1)) book limit j
@@ -98,7 +99,7 @@ module _ {Move : Moves} {book : List ℕ} where
       go x l h (inr n) = inl (record { present = h .present; depth-lt = omega (arith, h .depth-lt, n) })
 
   -- Each depth is a byte, so in the end all entries that are there were tested.
-  pub firstLower-all : {d limit r : ℕ} → d ≡ depthCount → ((i : ℕ) → getD book i 0 < depthCount)
+  pub firstLower-all : {d limit r : ℕ} → d ≡ byteValues → ((i : ℕ) → getD book i 0 < byteValues)
       → FirstOf Move (LowerNumber book d) book limit r → FirstOf Move (λ k. k < tableLength) book limit r
   firstLower-all {d} e byte f = record {
     number-le = f .number-le;

@@ -20,7 +20,7 @@ use Rattle.text.specs.Laws.ListsLaws.{past-trans}
 use Rattle.comparing.specs.Inner.Numbered.{Same}
 use Rattle.books.specs.Inner.Filling.{EntryWritten}
 use Rattle.weak_books.specs.declared.opening.Opening.{Opening}
-use Rattle.weak_books.specs.Inner.Entering.{Apart, FirstOpening, sideEntry, openingEntry, EntryApart, PairEntered}
+use Rattle.weak_books.specs.Inner.Entering.{Apart, FirstApart, sideEntry, openingEntry, EntryApart, PairEntered}
 use Rattle.weak_books.specs.Laws.FilledLaws.{action-lowest, target-lowest}
 
 -- ---- the entry of two openings
@@ -73,7 +73,7 @@ either-opens {Move} {round = round} G class {p} {q} d = go (T-cases (round same?
 -- ---- its entry
 
 module _ {Move : Moves} {class : List ℕ} {p q : ℕ} {one other : Opening}
-    (F : FirstOpening Move class p q one) (S : FirstOpening Move class q p other) where
+    (F : FirstApart Move class p q one) (S : FirstApart Move class q p other) where
   by-first-side : (depth : ℕ) → one .target < stateLimit → EntryApart Move class depth p q
       (record { side = 1; action = one .label; target = one .target; depth = depth })
   by-first-side depth l = record {
@@ -123,7 +123,7 @@ module _ {Move : Moves} {class : List ℕ} {p q : ℕ} {one other : Opening}
 pub pairEntered-of-first : {Move : Moves} {n : ℕ} {round : (ℕ → ℕ → Bool) → ℕ → ℕ → Bool} → Game Move n round
     → {class : List ℕ} {p q depth : ℕ} {one other : Opening} {book book′ book″ : List ℕ}
     → p < stateLimit → q < stateLimit → ¬ (p ≡ q) → ¬ (Answers Move (Same class) p q)
-    → FirstOpening Move class p q one → FirstOpening Move class q p other
+    → FirstApart Move class p q one → FirstApart Move class q p other
     → EntryWritten (pairPlace p q) (openingEntry one other depth) book book′
     → EntryWritten (pairPlace q p) (openingEntry other one depth) book′ book″
     → PairEntered Move class depth p q book book″

@@ -21,12 +21,14 @@ use Rattle.books.specs.Books.{entryNumber, BookFilled}
 use Rattle.books.specs.Inner.Filling.{PairOwn}
 use Rattle.silent.specs.Labelled.{LabelList, LabelMove}
 use Rattle.silent.specs.Laws.LabelledLaws.{labelMove-label}
-use Rattle.weak_books.specs.Inner.Opened.{OpenedBelow, none, first, labelLimit, OpenedBefore}
-use Rattle.weak_books.specs.Inner.Turned.{EntryTurned, Turned}
+use Rattle.weak_books.specs.Inner.Bounds.{labelLimit}
+use Rattle.weak_books.specs.Inner.Opened.{OpenedBelow, none, first, OpenedBefore}
+use Rattle.weak_books.specs.Inner.Turned.{EntryTurned, AllTurned}
+use Rattle.weak_books.specs.Laws.BoundsLaws.{label-lt}
 
 pub labelMove-label-lt : {n : ℕ} {from sources targets : List ℕ} → LabelList n from sources targets → (p a q : ℕ)
     → LabelMove n from sources targets p a q → a < labelLimit
-labelMove-label-lt L p a q m = ⊎-elim (λ h. omega (arith, h)) (λ h. omega (arith, h)) (labelMove-label L m)
+labelMove-label-lt L p a q m = label-lt (labelMove-label L m)
 
 -- ---- the first opening of a side
 
@@ -85,7 +87,7 @@ module _ {Move : Moves} {n : ℕ} {round : (ℕ → ℕ → Bool) → ℕ → �
 
   module _ {table : List ℕ} (states-le : n ≤ stateLimit) (R : Ranks Move n table) {top : ℕ}
       (top-is : (p q : ℕ) → p < n → q < n → getD table (pairPlace p q) 0 ≤ top) {book book′ : List ℕ}
-      (O : OpenedBefore Move n table (top + 1) book) (W : Turned n table 0 (pairPlace n 0) book book′) where
+      (O : OpenedBefore Move n table (top + 1) book) (W : AllTurned n table 0 (pairPlace n 0) book book′) where
     module _ (p q : ℕ) (lp : p < n) (lq : q < n) where
       abbrev r : ℕ
       r = getD table (pairPlace p q) 0

@@ -18,10 +18,12 @@ use Rattle.text.specs.Laws.DecidesLaws.{decides-iff}
 use Rattle.books.specs.Books.{entryNumber, bookOf}
 use Rattle.books.specs.Laws.EntryLaws.{bookOf-number, bad-side, sound-first, sound-second}
 use Rattle.sets.specs.declared.set.Set.{Set}
+use Rattle.sets.specs.Inner.Sets.{Member}
 use Rattle.sets.specs.Inner.SetValues.{In, SetOf}
 use Rattle.sets.specs.Laws.SetValuesLaws.{in-or-not}
-use Rattle.held.specs.Held.{targetRow, HeldAt, HeldList, HeldMove}
-use Rattle.weak_books.specs.Inner.Depths.{depthCount, Pairs, LowerBy, OpensIn, Flagged}
+use Rattle.held.specs.Held.{LabelIn, targetRow, HeldAt, HeldList, HeldMove}
+use Rattle.weak_books.specs.Inner.Depths.{Pairs, LowerBy, Flagged}
+use Rattle.weak_books.specs.Inner.OpensTo.{OpensTo}
 
 -- ---- an opening by sets
 
@@ -38,7 +40,7 @@ module _ {P Q : ℕ → Type 0} {a b w : Set} (x : SetOf P a) (y : SetOf Q b) (d
   none-of-within f u m = let h = d .only u m in h .1 (y .all u (f u (x .only u (h .0))))
 
 -- The sets of the row are the moves with the label, which is listed.
-module _ {labels slots pool : List ℕ} {count row a : ℕ} (listed : (i : ℕ) × (i < count) × (getD labels i 0 ≡ a))
+module _ {labels slots pool : List ℕ} {count row a : ℕ} (listed : LabelIn labels count a)
     (row-is : row ≡ targetRow a) where
   move-of-held : {p q : ℕ} → p < stateLimit → HeldAt slots pool row p q → HeldMove labels count slots pool p a q
   move-of-held {p} {q} l h = record {
@@ -54,14 +56,14 @@ module _ {labels slots pool : List ℕ} {count row a : ℕ} (listed : (i : ℕ) 
 
   -- Set t of the lower ones has what t leads to.
   opens-of-held : {lower : List ℕ} {Leads : Relation} {p q t : ℕ} → Pairs Leads lower → p < stateLimit
-      → OpensIn slots pool row lower p q t → Opens (HeldMove labels count slots pool) Leads p q a t
+      → OpensTo (HeldAt slots pool row) (Member lower) p q t → Opens (HeldMove labels count slots pool) Leads p q a t
   opens-of-held {t = t} L lp o = record {
     opening = move-of-held lp (o .opening);
     answers = λ u m. L .only t u (o .opening .member-lt) (o .answers u (held-of-move m));
   }
 
   held-of-opens : {lower : List ℕ} {Leads : Relation} {p q t : ℕ} → Pairs Leads lower → q < stateLimit
-      → Opens (HeldMove labels count slots pool) Leads p q a t → OpensIn slots pool row lower p q t
+      → Opens (HeldMove labels count slots pool) Leads p q a t → OpensTo (HeldAt slots pool row) (Member lower) p q t
   held-of-opens {t = t} L lq o =
       let h = held-of-move (o .opening) in
       record {
@@ -95,7 +97,7 @@ flagged-next {labels} {flags} {flags′} {i} {a} a-is l e F = record {
         other _ n ∙ F .flagged j (omega (arith, k, m))
 
     only : (b : ℕ) → ¬ (getD flags′ b 0 ≡ 0) → (b ≡ a) ⊎ ¬ (b ≡ a)
-        → (j : ℕ) × (j < i + 1) × (getD labels j 0 ≡ b)
+        → LabelIn labels (i + 1) b
     only b n (inl d) = (i, omega arith, sym a-is ∙ sym d)
     only b n (inr m) =
         let h = F .only b (λ z. n (other b m ∙ z)) in
@@ -104,13 +106,8 @@ flagged-next {labels} {flags} {flags′} {i} {a} a-is l e F = record {
 pub flagged-at : {labels flags : List ℕ} {i count : ℕ} → i ≡ count → Flagged labels i flags → Flagged labels count flags
 flagged-at {labels} {flags} e = subst (λ (x : ℕ). Flagged labels x flags) e
 
--- A label of the list has a byte's value.
-pub label-byte : {a : ℕ} → (a < actionLimit) ⊎ (a ≡ silentLabel) → a < depthCount
-label-byte (inl l) = omega (arith, l)
-label-byte (inr e) = omega (arith, e)
-
 pub listed-label : {n count a : ℕ} {labels slots pool : List ℕ} → HeldList n labels count slots pool
-    → (i : ℕ) × (i < count) × (getD labels i 0 ≡ a) → (a < actionLimit) ⊎ (a ≡ silentLabel)
+    → LabelIn labels count a → (a < actionLimit) ⊎ (a ≡ silentLabel)
 listed-label H l = subst (λ (x : ℕ). (x < actionLimit) ⊎ (x ≡ silentLabel)) (l .2) (H .label (l .0) (l .1))
 
 -- An entry whose action is not flagged is bad: no move has it.
@@ -160,17 +157,17 @@ module _ (labels : List ℕ) (count : ℕ) (slots pool book : List ℕ) (k : ℕ
   entry-unflagged F = unflagged-bad (bookOf book) p q read F entry-is
 
   pub entry-first : {there back : List ℕ} {row : ℕ} → entryNumber book k .side ≡ 1 → k < tableLength
-      → (i : ℕ) × (i < count) × (getD labels i 0 ≡ a) → row ≡ targetRow a
+      → LabelIn labels count a → row ≡ targetRow a
       → LowerBy book (entryNumber book k .depth) there back → (r : Bool)
-      → Decides r (OpensIn slots pool row there p q t) → Decides r (SoundAt Move (bookOf book) p q)
+      → Decides r (OpensTo (HeldAt slots pool row) (Member there) p q t) → Decides r (SoundAt Move (bookOf book) p q)
   entry-first s l listed row-is L r d = sound-first Move (bookOf book) p q read entry-is s r
       (decides-iff r (opens-of-held listed row-is (L .firsts) (omega (arith, l)))
       (held-of-opens listed row-is (L .firsts) (omega arith)) d)
 
   pub entry-second : {there back : List ℕ} {row : ℕ} → entryNumber book k .side ≡ 2 → k < tableLength
-      → (i : ℕ) × (i < count) × (getD labels i 0 ≡ a) → row ≡ targetRow a
+      → LabelIn labels count a → row ≡ targetRow a
       → LowerBy book (entryNumber book k .depth) there back → (r : Bool)
-      → Decides r (OpensIn slots pool row back q p t) → Decides r (SoundAt Move (bookOf book) p q)
+      → Decides r (OpensTo (HeldAt slots pool row) (Member back) q p t) → Decides r (SoundAt Move (bookOf book) p q)
   entry-second s l listed row-is L r d = sound-second Move (bookOf book) p q read entry-is s r
       (decides-iff r (opens-of-held listed row-is (L .seconds) (omega arith))
       (held-of-opens listed row-is (L .seconds) (omega (arith, l))) d)

@@ -12,7 +12,8 @@ use Rattle.lts.specs.Book.{LowerEntry}
 use Rattle.text.specs.Limits.{stateLimit, tableLength, pairPlace}
 use Rattle.books.specs.Books.{bookOf}
 use Rattle.sets.specs.Inner.Sets.{Member, Empty, Joined}
-use Rattle.weak_books.specs.Inner.Depths.{depthCount, OnChain, Chained, Pairs, LowerBy, LowerAdded}
+use Rattle.weak_books.specs.Inner.Bounds.{byteValues}
+use Rattle.weak_books.specs.Inner.Depths.{OnChain, Chained, Pairs, LowerBy, LowerAdded}
 use Rattle.weak_books.specs.Laws.ChainsLaws.{onChain-nil, onChain-cons, onChain-cases}
 
 -- ---- pairs of entries
@@ -127,7 +128,7 @@ lowerBy-zero x y = record {
 }
 
 -- The chain of depth d has the entries of this depth.
-pub lowerBy-next : {book head link there back there′ back′ : List ℕ} {d : ℕ} → d < depthCount
+pub lowerBy-next : {book head link there back there′ back′ : List ℕ} {d : ℕ} → d < byteValues
     → Chained book head link tableLength → LowerBy book d there back
     → LowerAdded (λ k. OnChain link k (getD head d 0)) there back there′ back′ → LowerBy book (d + 1) there′ back′
 lowerBy-next {book} {head} {link} {d = d} ld C L A = record {

@@ -18,7 +18,7 @@ use Rattle.silent.specs.Labelled.{LabelList, LabelMove}
 use Rattle.silent.specs.Laws.LabelledLaws.{labelMove-label}
 use Rattle.silent.specs.Inner.Targets.{Targets}
 use Rattle.weak_books.specs.Inner.Tested.{SetMove, FirstUnder}
-use Rattle.weak_books.specs.Inner.Noted.{usedLength, NoLabel, ActionNoted, UsedTo, LabelsTo}
+use Rattle.weak_books.specs.Inner.Noted.{NoLabel, ActionNoted, UsedTo, LabelsTo}
 use Rattle.weak_books.specs.Laws.TestedLaws.{firstUnder-of-targets, firstUnder-trans}
 
 -- ---- the action that was read
@@ -33,10 +33,6 @@ pub label-of-action : {book : List ℕ} {k a : ℕ} → a ≡ entryNumber book k
     → (a < actionLimit) ⊎ (a ≡ silentLabel) → ¬ (NoLabel book k)
 label-of-action e (inl l) h = omega (arith, e, l, h .action-le)
 label-of-action e (inr s) h = h .not-silent (sym e ∙ s)
-
-pub label-lt : {a n : ℕ} → (a < actionLimit) ⊎ (a ≡ silentLabel) → usedLength ≤ n → a < n
-label-lt (inl l) u = omega arith
-label-lt (inr s) u = omega arith
 
 -- ---- noting
 

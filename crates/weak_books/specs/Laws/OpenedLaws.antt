@@ -11,7 +11,8 @@ use Rattle.text.specs.Limits.{stateLimit, pairPlace}
 use Rattle.text.specs.Laws.ListsLaws.{past-refl, past-trans}
 use Rattle.sets.specs.Inner.Sets.{Member}
 use Rattle.silent.specs.Inner.Targets.{Targets}
-use Rattle.weak_books.specs.Inner.Opened.{OpensIn, EntryOpened, stays, opens-not, opens-with, LabelOpened}
+use Rattle.weak_books.specs.Inner.OpensTo.{OpensTo}
+use Rattle.weak_books.specs.Inner.Opened.{EntryOpened, stays, opens-not, opens-with, LabelOpened}
 use Rattle.weak_books.specs.Inner.Opened.{OpenedBelow, none, first, OpenedTo, OnlyAt}
 
 -- ---- one entry
@@ -35,18 +36,16 @@ module _ {Move : Moves} {d p q : ℕ} where
 
 module _ {Move : Moves} {a p q : ℕ} {keys lower : List ℕ} (K : Targets Move a keys) (lp : p < stateLimit)
     (lq : q < stateLimit) where
-  opens-of-in : {t : ℕ} → OpensIn keys lower p q t → Opens Move (Member lower) p q a t
-  opens-of-in {t} o = record {
+  opens-of-to : {t : ℕ} → OpensTo (Member keys) (Member lower) p q t → Opens Move (Member lower) p q a t
+  opens-of-to {t} o = record {
     opening = K .only p t lp (o .opening);
-    answers = λ u m. o .answers .within u (K .reached q u m);
+    answers = λ u m. o .answers u (K .reached q u m);
   }
 
-  in-of-opens : {b t : ℕ} → b ≡ a → Opens Move (Member lower) p q b t → OpensIn keys lower p q t
-  in-of-opens {b} {t} e o = record {
+  to-of-opens : {b t : ℕ} → b ≡ a → Opens Move (Member lower) p q b t → OpensTo (Member keys) (Member lower) p q t
+  to-of-opens {b} {t} e o = record {
     opening = K .reached p t (subst (λ (x : ℕ). Move p x t) e (o .opening));
-    answers = record {
-      within = λ u m. o .answers u (subst (λ (x : ℕ). Move q x u) (sym e) (K .only q u lq m));
-    };
+    answers = λ u m. o .answers u (subst (λ (x : ℕ). Move q x u) (sym e) (K .only q u lq m));
   }
 
   pub openedBelow-suc : {d : ℕ} {e e′ : Entry} → OpenedBelow Move (Member lower) d p q a e
@@ -54,15 +53,15 @@ module _ {Move : Moves} {a p q : ℕ} {keys lower : List ℕ} (K : Targets Move 
   openedBelow-suc (none z h) (stays present f) = absurd (present (ap (λ (x : Entry). x .side) z))
   openedBelow-suc (none z h) (opens-not f g) =
       none (f ∙ z) (λ b t l o.
-      ⊎-elim (λ k. h b t k o) (λ k. g t (in-of-opens (omega (arith, k, l)) o)) (lt-or-le b a))
+      ⊎-elim (λ k. h b t k o) (λ k. g t (to-of-opens (omega (arith, k, l)) o)) (lt-or-le b a))
   openedBelow-suc (none z h) (opens-with t s f l n) =
-      first a t f (opens-of-in (n .opens l)) (λ b u o. lowest b u o (lt-or-le b a) (lt-or-le a b) (lt-or-le u t))
+      first a t f (opens-of-to (n .opens l)) (λ b u o. lowest b u o (lt-or-le b a) (lt-or-le a b) (lt-or-le u t))
     where
       lowest : (b u : ℕ) → Opens Move (Member lower) p q b u → (b < a) ⊎ (a ≤ b) → (a < b) ⊎ (b ≤ a)
           → (u < t) ⊎ (t ≤ u) → (a < b) ⊎ ((a ≡ b) × (t ≤ u))
       lowest b u o (inl k) _ _ = absurd (h b u k o)
       lowest b u o (inr k) (inl j) _ = inl j
-      lowest b u o (inr k) (inr j) (inl i) = absurd (n .none-before u i (in-of-opens (omega (arith, k, j)) o))
+      lowest b u o (inr k) (inr j) (inl i) = absurd (n .none-before u i (to-of-opens (omega (arith, k, j)) o))
       lowest b u o (inr k) (inr j) (inr i) = inr (omega (arith, k, j), i)
   openedBelow-suc (first b t z o m) (stays present f) = first b t (f ∙ z) o m
   openedBelow-suc (first b t z o m) (opens-not f g) = first b t (f ∙ z) o m

@@ -23,14 +23,6 @@ module _ {k : ℕ} {P : ℕ → Type 0} where
     only = λ j x m. inl m;
   }
 
-  pub joined-same : {Q : ℕ → Type 0} {sets sets′ : List ℕ} → ((x : ℕ) → P x → Q x) → ((x : ℕ) → Q x → P x)
-      → Joined k P sets sets′ → Joined k Q sets sets′
-  joined-same f g u = record {
-    joined = λ x h. u .joined x (g x h);
-    kept = u .kept;
-    only = λ j x m. ⊎-elim (λ y. inl y) (λ y. inr (y .0, f x (y .1))) (u .only j x m);
-  }
-
   pub joined-then : {Q R : ℕ → Type 0} {sets sets′ sets″ : List ℕ} → Joined k P sets sets′ → Joined k Q sets′ sets″
       → ((x : ℕ) → P x → R x) → ((x : ℕ) → Q x → R x) → ((x : ℕ) → R x → P x ⊎ Q x) → Joined k R sets sets″
   joined-then u v f g h = record {

@@ -14,7 +14,8 @@ use Rattle.books.specs.Books.{entryNumber, bookOf}
 use Rattle.books.specs.Laws.ChecksLaws.{at-number}
 use Rattle.sets.specs.Inner.Sets.{Member, NextMember}
 use Rattle.silent.specs.Inner.Targets.{Targets}
-use Rattle.weak_books.specs.Inner.Tested.{SetMove, SetOpens, EntryUnder, SoundIf, FirstUnder}
+use Rattle.weak_books.specs.Inner.OpensTo.{OpensTo}
+use Rattle.weak_books.specs.Inner.Tested.{SetMove, EntryUnder, SoundIf, FirstUnder}
 
 -- ---- the members of a set, one after the other
 
@@ -36,12 +37,12 @@ module _ {keys : List ℕ} {q : ℕ} (P : ℕ → Type 0) where
 
 -- ---- an opening by targets
 
-pub opens-of-sets : {keys : List ℕ} {R : Relation} {p q a t : ℕ} → SetOpens keys R p q t
+pub opens-of-sets : {keys : List ℕ} {R : Relation} {p q a t : ℕ} → OpensTo (Member keys) R p q t
     → Opens (SetMove keys) R p q a t
 opens-of-sets o = record { opening = o .opening; answers = o .answers }
 
 pub sets-of-opens : {keys : List ℕ} {R : Relation} {p q a t : ℕ} → Opens (SetMove keys) R p q a t
-    → SetOpens keys R p q t
+    → OpensTo (Member keys) R p q t
 sets-of-opens o = record { opening = o .opening; answers = o .answers }
 
 -- The targets under the label of the entry are its moves.

@@ -12,7 +12,7 @@ use Rattle.text.specs.Limits.{stateLimit, pairPlace, entrySize}
 use Rattle.text.specs.Laws.ListsLaws.{past-refl, past-trans}
 use Rattle.books.specs.Books.{entryNumber}
 use Rattle.books.specs.Inner.Filling.{EntryWritten}
-use Rattle.weak_books.specs.Inner.Turned.{EntryTurned, PairTurned, Turned}
+use Rattle.weak_books.specs.Inner.Turned.{EntryTurned, PairTurned, AllTurned}
 
 -- ---- one entry
 
@@ -74,22 +74,23 @@ turned-later {r} same kept x = record {
 -- ---- many entries
 
 module _ {n : ℕ} {table : List ℕ} where
-  pub turned-none : {i j : ℕ} (book : List ℕ) → ((p q : ℕ) → p < n → q < n → i ≤ pairPlace p q → pairPlace p q < j → ⊥)
-      → Turned n table i j book book
-  turned-none book none = record {
+  pub allTurned-none : {i j : ℕ} (book : List ℕ)
+      → ((p q : ℕ) → p < n → q < n → i ≤ pairPlace p q → pairPlace p q < j → ⊥)
+      → AllTurned n table i j book book
+  allTurned-none book none = record {
     turned = λ p q lp lq l k. absurd (none p q lp lq l k);
     stays = λ k h. refl;
     kept = λ k h. refl;
     past = past-refl book;
   }
 
-  pub turned-to : {i j k : ℕ} {book book′ : List ℕ} → j ≡ k → Turned n table i j book book′
-      → Turned n table i k book book′
-  turned-to {i} {book = book} {book′} e = subst (λ (x : ℕ). Turned n table i x book book′) e
+  pub allTurned-to : {i j k : ℕ} {book book′ : List ℕ} → j ≡ k → AllTurned n table i j book book′
+      → AllTurned n table i k book book′
+  allTurned-to {i} {book = book} {book′} e = subst (λ (x : ℕ). AllTurned n table i x book book′) e
 
-  pub turned-then : {i j k : ℕ} {book book′ book″ : List ℕ} → i ≤ j → j ≤ k → Turned n table i j book book′
-      → Turned n table j k book′ book″ → Turned n table i k book book″
-  turned-then {i} {j} {k} {book} {book′} {book″} li lk x y = record {
+  pub allTurned-then : {i j k : ℕ} {book book′ book″ : List ℕ} → i ≤ j → j ≤ k → AllTurned n table i j book book′
+      → AllTurned n table j k book′ book″ → AllTurned n table i k book book″
+  allTurned-then {i} {j} {k} {book} {book′} {book″} li lk x y = record {
     turned = λ p q lp lq l h. ⊎-elim
         (λ g.
         subst (EntryTurned (getD table (pairPlace p q) 0) (entryNumber book (pairPlace p q))
@@ -106,9 +107,9 @@ module _ {n : ℕ} {table : List ℕ} where
     past = past-trans (x .past) (y .past);
   }
 
-  pub turned-pair : {p q : ℕ} {book book′ : List ℕ} → n ≤ stateLimit → p < n → q < n → PairTurned table p q book book′
-      → Turned n table (pairPlace p q) (pairPlace p (q + 1)) book book′
-  turned-pair {p} {q} {book} {book′} le lp lq x = record {
+  pub allTurned-pair : {p q : ℕ} {book book′ : List ℕ} → n ≤ stateLimit → p < n → q < n
+      → PairTurned table p q book book′ → AllTurned n table (pairPlace p q) (pairPlace p (q + 1)) book book′
+  allTurned-pair {p} {q} {book} {book′} le lp lq x = record {
     turned = λ u v lu lv l h.
         let e : u ≡ p = omega (arith, le, lq, lv, l, h) in
         let f : v ≡ q = omega (arith, le, lq, lv, l, h) in
@@ -127,9 +128,9 @@ module _ {n : ℕ} {table : List ℕ} where
   }
 
   -- Up to the next row there are no states.
-  pub turned-row : {i : ℕ} (p : ℕ) {book book′ book″ : List ℕ} → n ≤ stateLimit → i ≤ pairPlace p 0
-      → Turned n table i (pairPlace p 0) book book′ → Turned n table (pairPlace p 0) (pairPlace p n) book′ book″
-      → Turned n table i (pairPlace (p + 1) 0) book book″
-  turned-row {i} p {book″ = book″} le li x y =
-      turned-then (omega (arith, li)) (omega (arith, le)) (turned-then li (omega arith) x y)
-      (turned-none book″ (λ u v lu lv l h. omega (arith, le, lv, l, h)))
+  pub allTurned-row : {i : ℕ} (p : ℕ) {book book′ book″ : List ℕ} → n ≤ stateLimit → i ≤ pairPlace p 0
+      → AllTurned n table i (pairPlace p 0) book book′ → AllTurned n table (pairPlace p 0) (pairPlace p n) book′ book″
+      → AllTurned n table i (pairPlace (p + 1) 0) book book″
+  allTurned-row {i} p {book″ = book″} le li x y =
+      allTurned-then (omega (arith, li)) (omega (arith, le)) (allTurned-then li (omega arith) x y)
+      (allTurned-none book″ (λ u v lu lv l h. omega (arith, le, lv, l, h)))

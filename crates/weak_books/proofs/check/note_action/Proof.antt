@@ -1,7 +1,8 @@
 -- The byte read is the entry's action, and its place is that of the mark.
+use native.Mathlib.Omega.{arith}
 use Rattle.text.specs.Laws.DecidesLaws.{decides-passed, decides-refused}
-use Rattle.weak_books.specs.Laws.NotedLaws.{noLabel-of-action, label-of-action, label-lt}
-use Rattle.weak_books.specs.Laws.NotedLaws.{actionNoted-none, actionNoted-set}
+use Rattle.weak_books.specs.Laws.NotedLaws.{noLabel-of-action, label-of-action, actionNoted-none, actionNoted-set}
+use Rattle.weak_books.specs.Laws.BoundsLaws.{label-lt}
 use borrow.Author.Needs.{needs}
 use Rattle.weak_books.proofs.check.note_action.Statement.{statement}
 use Rattle.weak_books.proofs.check.note_action.Tie as tie
@@ -43,7 +44,7 @@ slice-write-used c =
     let tested = c .before .is-label in
     let P = c .before .before .before .before .before .before .before .before .pre in
     let label = decides-passed (tested .result) _ (tested .ensures) (c .if2 .left) in
-    label-lt label (P .2)
+    omega (arith, label-lt label, P .2)
 
 same-length : tie.Need-same-length
 same-length c = search needs
@@ -54,7 +55,7 @@ returns-3 c =
     let e = c .before .before .byte-value .ensures in
     let P = c .before .before .before .before .before .before .before .before .pre in
     let label = decides-passed (tested .result) _ (tested .ensures) (c .if2 .left) in
-    (label-of-action e label, actionNoted-set e (label-lt label (P .2)))
+    (label-of-action e label, actionNoted-set e (omega (arith, label-lt label, P .2)))
 
 pub note-action-spec : {M : Type 1} → statement M
 note-action-spec =

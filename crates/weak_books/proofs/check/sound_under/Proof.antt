@@ -34,8 +34,8 @@ add-depth c = search needs
 shared-slice-read-depth : tie.Need-shared-slice-read-depth
 shared-slice-read-depth c = search needs
 
-opens-requires : tie.Need-opens-requires
-opens-requires c κs = search needs
+opens-under-requires : tie.Need-opens-under-requires
+opens-under-requires c κs = search needs
 
 returns : tie.Need-returns
 returns c =
@@ -45,10 +45,11 @@ returns c =
     let entry-is = bookOf-number (a .book .now) (a .p .0) (a .q .0) (placed .pair-place .ensures) refl
     (target .byte-value .ensures) in
     sound-first (SetMove (a .keys .now)) (bookOf (a .book .now)) (a .p .0) (a .q .0) _ entry-is (c .before .if1 .taken)
-    (c .opens .result) (decides-iff (c .opens .result) opens-of-sets sets-of-opens (c .opens .ensures))
+    (c .opens-under .result)
+    (decides-iff (c .opens-under .result) opens-of-sets sets-of-opens (c .opens-under .ensures))
 
-opens-requires-2 : tie.Need-opens-requires-2
-opens-requires-2 c κs = search needs
+opens-under-requires-2 : tie.Need-opens-under-requires-2
+opens-under-requires-2 c κs = search needs
 
 returns-2 : tie.Need-returns-2
 returns-2 c =
@@ -58,7 +59,8 @@ returns-2 c =
     let entry-is = bookOf-number (a .book .now) (a .p .0) (a .q .0) (placed .pair-place .ensures) refl
     (target .byte-value .ensures) in
     sound-second (SetMove (a .keys .now)) (bookOf (a .book .now)) (a .p .0) (a .q .0) _ entry-is (c .before .if2 .taken)
-    (c .opens2 .result) (decides-iff (c .opens2 .result) opens-of-sets sets-of-opens (c .opens2 .ensures))
+    (c .opens-under2 .result)
+    (decides-iff (c .opens-under2 .result) opens-of-sets sets-of-opens (c .opens-under2 .ensures))
 
 returns-3 : tie.Need-returns-3
 returns-3 c =
@@ -81,8 +83,8 @@ sound-under-spec =
     byte-value-requires
     add-depth
     shared-slice-read-depth
-    opens-requires
+    opens-under-requires
     returns
-    opens-requires-2
+    opens-under-requires-2
     returns-2
     returns-3)

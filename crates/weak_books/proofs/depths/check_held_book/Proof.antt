@@ -3,9 +3,9 @@ use native.Mathlib.Omega.{arith}
 use Rattle.text.specs.Limits.{tableLength}
 use Rattle.text.specs.Laws.ListLaws.{getD-zeros}
 use Rattle.books.specs.Laws.ChecksLaws.{checkDone-sound, checkDone-bad}
-use Rattle.weak_books.specs.Inner.Depths.{depthCount}
+use Rattle.weak_books.specs.Inner.Bounds.{byteValues}
 use Rattle.weak_books.specs.Laws.ChainsLaws.{chained-zero}
-use Rattle.weak_books.specs.Laws.HeldEntryLaws.{label-byte}
+use Rattle.weak_books.specs.Laws.BoundsLaws.{label-lt}
 use Rattle.weak_books.specs.Laws.DepthsLaws.{soundTo-of-firstOf}
 use borrow.Author.Needs.{needs}
 use Rattle.weak_books.proofs.depths.check_held_book.Statement.{statement}
@@ -13,12 +13,12 @@ use Rattle.weak_books.proofs.depths.check_held_book.Tie as tie
 
 chain-entries-requires : tie.Need-chain-entries-requires
 chain-entries-requires c κs =
-    (c .before .before .before .pre .1, chained-zero (getD-zeros depthCount) (getD-zeros tableLength))
+    (c .before .before .before .pre .1, chained-zero (getD-zeros byteValues) (getD-zeros tableLength))
 
 flag-labels-requires : tie.Need-flag-labels-requires
 flag-labels-requires c κs =
     let H = c .before .before .before .before .before .pre .0 in
-    (H .count-le, λ i l. label-byte (H .label i l), getD-zeros depthCount)
+    (H .count-le, λ i l. label-lt (H .label i l), getD-zeros byteValues)
 
 first-bad-requires : tie.Need-first-bad-requires
 first-bad-requires c κs = search needs

@@ -6,7 +6,8 @@ use Rattle.books.specs.Inner.Sides.{LowerNumber}
 use Rattle.sets.specs.Inner.Sets.{setsLength}
 use Rattle.sets.specs.Laws.SetsLaws.{empty-zeros}
 use Rattle.held.specs.Held.{HeldMove}
-use Rattle.weak_books.specs.Inner.Depths.{depthCount, LowerBy, FirstOf}
+use Rattle.weak_books.specs.Inner.Bounds.{byteValues}
+use Rattle.weak_books.specs.Inner.Depths.{LowerBy, FirstOf}
 use Rattle.weak_books.specs.Laws.LowerLaws.{lowerBy-zero, lowerBy-next}
 use Rattle.weak_books.specs.Laws.DepthsLaws.{firstLower-zero, firstLower-next, firstLower-all}
 use borrow.Author.Needs.{needs}
@@ -15,12 +16,12 @@ use Rattle.weak_books.proofs.depths.first_bad.Tie as tie
 
 abbrev Inv-loop : tie.InvT-loop
 Inv-loop n labels count slots pool flags book head link there₀ back₀ bad₀ d₀ there back bad d =
-    (d ≤ depthCount) × LowerBy book d there back
+    (d ≤ byteValues) × LowerBy book d there back
     × FirstOf (HeldMove labels count slots pool) (LowerNumber book d) book tableLength bad
 
 abbrev μ-loop : tie.MeasureT-loop
 μ-loop n labels count slots pool flags book head link there₀ back₀ bad₀ d₀ there back bad d =
-    depthCount - d
+    byteValues - d
 
 loop-holds : tie.Need-loop-holds Inv-loop μ-loop
 loop-holds c = (omega arith, lowerBy-zero (empty-zeros setsLength) (empty-zeros setsLength), firstLower-zero)

@@ -65,8 +65,8 @@ cast-t22 c = search needs
 cast-t22-2 : tie.Need-cast-t22-2
 cast-t22-2 c = search needs
 
-opens-requires : tie.Need-opens-requires
-opens-requires c κs = search needs
+opens-in-row-requires : tie.Need-opens-in-row-requires
+opens-in-row-requires c κs = search needs
 
 returns-2 : tie.Need-returns-2
 returns-2 c =
@@ -79,11 +79,11 @@ returns-2 c =
     let P = start .pre in
     entry-first (a .labels .now) (a .count) (a .slots .now) (a .pool .now) (a .book .now) (a .k)
     (action .byte-value .ensures) (target .byte-value2 .ensures) (c .before .if2 .taken) (P .0 .0)
-    (P .1 .0 .1 .only _ (flag .if1 .left)) (row .target-row .ensures .0) (P .1 .1) (c .opens .result)
-    (c .opens .ensures)
+    (P .1 .0 .1 .only _ (flag .if1 .left)) (row .target-row .ensures .0) (P .1 .1) (c .opens-in-row .result)
+    (c .opens-in-row .ensures)
 
-opens-requires-2 : tie.Need-opens-requires-2
-opens-requires-2 c κs = search needs
+opens-in-row-requires-2 : tie.Need-opens-in-row-requires-2
+opens-in-row-requires-2 c κs = search needs
 
 returns-3 : tie.Need-returns-3
 returns-3 c =
@@ -96,8 +96,8 @@ returns-3 c =
     let P = start .pre in
     entry-second (a .labels .now) (a .count) (a .slots .now) (a .pool .now) (a .book .now) (a .k)
     (action .byte-value .ensures) (target .byte-value2 .ensures) (c .before .if3 .taken) (P .0 .0)
-    (P .1 .0 .1 .only _ (flag .if1 .left)) (row .target-row .ensures .0) (P .1 .1) (c .opens2 .result)
-    (c .opens2 .ensures)
+    (P .1 .0 .1 .only _ (flag .if1 .left)) (row .target-row .ensures .0) (P .1 .1) (c .opens-in-row2 .result)
+    (c .opens-in-row2 .ensures)
 
 returns-4 : tie.Need-returns-4
 returns-4 c =
@@ -128,8 +128,8 @@ sound-entry-spec =
     target-row-requires
     cast-t22
     cast-t22-2
-    opens-requires
+    opens-in-row-requires
     returns-2
-    opens-requires-2
+    opens-in-row-requires-2
     returns-3
     returns-4)

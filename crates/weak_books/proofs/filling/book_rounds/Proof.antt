@@ -8,8 +8,8 @@ use Rattle.text.specs.Laws.ListLaws.{getD-zeros}
 use Rattle.held.specs.Held.{HeldMove}
 use Rattle.held.specs.Laws.HeldLaws.{heldMove-target-lt}
 use Rattle.weak_books.specs.Inner.Entering.{Booked}
-use Rattle.weak_books.specs.Laws.BookedLaws.{classSets-of-partition, booked-zero, separated-not-answers}
-use Rattle.weak_books.specs.Laws.BookedLaws.{booked-suc, finished-of-booked}
+use Rattle.weak_books.specs.Laws.BookedLaws.{booked-zero}
+use Rattle.weak_books.specs.Laws.BookedLaws.{booked-suc, finished-of-booked, entries-of-booked}
 use Rattle.weak_books.proofs.filling.book_rounds.Statement.{statement}
 use Rattle.weak_books.proofs.filling.book_rounds.Tie as tie
 
@@ -32,19 +32,19 @@ noting c = c .before .before .before
 abbrev begin : tie.At-loop Inv-loop μ-loop → tie.Start Inv-loop μ-loop
 begin c = noting c .before .before .before .before
 
-abbrev going : tie.After-round Inv-loop μ-loop → tie.At-loop Inv-loop μ-loop
+abbrev going : tie.After-book-round Inv-loop μ-loop → tie.At-loop Inv-loop μ-loop
 going c = c .before .before .before .before .before .before .before .before .before
 
-abbrev playing : tie.Else1 Inv-loop μ-loop → tie.After-round Inv-loop μ-loop
-playing c = c .before .before .before .before
+abbrev playing : tie.Else1 Inv-loop μ-loop → tie.After-book-round Inv-loop μ-loop
+playing c = c .before .before .before .before .before .before
 
-abbrev dividing : tie.After-enter-round Inv-loop μ-loop → tie.Else1 Inv-loop μ-loop
-dividing c = c .before .before .before .before .before .before
+abbrev ending : tie.Then1 Inv-loop μ-loop → tie.After-book-round Inv-loop μ-loop
+ending c = c .before .before .before .before .before .before
 
 -- Where it goes on, there is a further class.
 more : (c : tie.Else1 Inv-loop μ-loop)
-    → going (playing c) .loop .parts .classes < playing c .round .result .classes
-more c = omega (arith, c .if1 .left, playing c .round .ensures .classes-le)
+    → going (playing c) .loop .parts .classes < playing c .book-round .result .classes
+more c = omega (arith, c .if1 .left, playing c .book-round .ensures .0 .classes-le)
 
 -- ---- needs
 
@@ -63,12 +63,17 @@ loop-holds c =
     booked-zero (one .0) (getD-zeros stateLimit) (getD-zeros stateLimit) (one .1 _ (getD-zeros stateLimit)) (P .1 .1 .0)
     (P .1 .1 .1)
 
-round-requires : tie.Need-round-requires Inv-loop μ-loop
-round-requires c κs =
+book-round-requires : tie.Need-book-round-requires Inv-loop μ-loop
+book-round-requires c κs =
     let at-loop = c .before .before .before .before .before .before .before .before in
     let P = begin at-loop .pre in
-    let inv = at-loop .loop .inv in
-    ((P .0, noting at-loop .note-labels .ensures), (inv .ready, omega (arith, P .1 .0 .0, inv .table-length)))
+    let inv = at-loop .loop .inv in (
+      (P .0, noting at-loop .note-labels .ensures),
+      (
+        inv .ready,
+        (omega (arith, P .1 .0 .0, inv .table-length), omega (arith, P .1 .0 .1, inv .past .same-length)),
+      ),
+    )
 
 add-k : tie.Need-add-k Inv-loop μ-loop
 add-k c =
@@ -76,57 +81,38 @@ add-k c =
     let Y = at-loop .loop .inv .ready in
     omega (arith, Y .rounds-lt, Y .partition .classes-le, begin at-loop .pre .0 .states-le)
 
-enter-round-requires : tie.Need-enter-round-requires Inv-loop μ-loop
-enter-round-requires c κs =
-    let else = c .before .before .before .before .before in
-    let played = playing else in
-    let at-loop = going played in
-    let P = begin at-loop .pre in
-    let limit = P .0 .states-le in
-    let inv = at-loop .loop .inv in
-    let old = inv .ready .partition in
-    let after = played .round .ensures in (
-      omega (arith, inv .past .same-length, P .1 .0 .1),
-      (
-        P .0,
-        (
-          (classSets-of-partition limit old, classSets-of-partition limit (after .ready (more else) .partition)),
-          (
-            (old .together-lt, old .together-all),
-            separated-not-answers inv after,
-          ),
-        ),
-      ),
-    )
-
 loop-less : tie.Need-loop-less Inv-loop μ-loop
 loop-less c =
-    let else = dividing (c .before .before) in
-    omega (arith, more else, playing else .round .ensures .ready (more else) .partition .classes-le)
+    omega (arith, more c, playing c .book-round .ensures .0 .ready (more c) .partition .classes-le)
 
 loop-again : tie.Need-loop-again Inv-loop μ-loop
 loop-again c =
-    let entered = c .before .before in
-    let else = dividing entered in
-    let played = playing else in
+    let played = playing c in
     let at-loop = going played in
     let L = begin at-loop .pre .0 in
-    booked-suc (at-loop .loop .inv) (played .round .ensures) (λ p a q _ m. heldMove-target-lt L m) (L .states-le)
-    (more else) (played .round .kept .1 .1 .1 .1 .1 .1 .1 .1 .1 .1 .1 .1 .1 .1 .0) (entered .enter-round .ensures)
+    booked-suc (at-loop .loop .inv) (played .book-round .ensures .0) (played .book-round .ensures .1)
+    (λ p a q _ m. heldMove-target-lt L m) (L .states-le) (more c)
+    (played .book-round .kept .1 .1 .1 .1 .1 .1 .1 .1 .1 .1 .1 .1 .1 .1 .0)
 
 same-length : tie.Need-same-length Inv-loop μ-loop
 same-length c =
-    let played = c .before .before .before .before in
-    played .round .kept .1 .1 .1 .1 .1 .1 .1 .1 .1 .1 .1 .1 .1 .1 .0 ∙ going played .loop .inv .table-length
+    let played = ending c in
+    played .book-round .kept .1 .1 .1 .1 .1 .1 .1 .1 .1 .1 .1 .1 .1 .1 .0 ∙ going played .loop .inv .table-length
 
 same-length-2 : tie.Need-same-length-2 Inv-loop μ-loop
-same-length-2 c = going (c .before .before .before .before) .loop .inv .past .same-length
+same-length-2 c =
+    let played = ending c in
+    played .book-round .kept .1 .1 .1 .1 .1 .1 .1 .1 .1 .1 .1 .1 .1 .1 .1 .0
+    ∙ going played .loop .inv .past .same-length
 
 returns : tie.Need-returns Inv-loop μ-loop
 returns c =
-    let played = c .before .before .before .before in
+    let played = ending c in
     let inv = going played .loop .inv in
-    (finished-of-booked inv (played .round .ensures) (c .if1 .taken), (inv .entries, inv .past))
+    let round = played .book-round .ensures in (
+      finished-of-booked inv (round .0) (round .1) (c .if1 .taken),
+      entries-of-booked inv (round .0) (round .1) (c .if1 .taken),
+    )
 
 pub book-rounds-spec : {M : Type 1} → statement M
 book-rounds-spec =
@@ -137,9 +123,8 @@ book-rounds-spec =
     note-labels-requires
     one-class-requires
     loop-holds
-    round-requires
+    book-round-requires
     add-k
-    enter-round-requires
     loop-less
     loop-again
     same-length

@@ -3,10 +3,12 @@ use mathlib.Core.Path.{_≡_, refl}
 use Prim.Native.Nat.{_-_, _≤_}
 use native.Mathlib.Omega.{arith}
 use borrow.Author.Needs.{needs}
+use Rattle.held.specs.Held.{HeldAt}
 use Rattle.weak_books.specs.Inner.Entering.{NoneOpens}
-use Rattle.weak_books.specs.Laws.FirstOpeningLaws.{lowestTo-row, label-small, row-target-lt, noneOpens-zero}
-use Rattle.weak_books.specs.Laws.FirstOpeningLaws.{noneOpens-at, noneOpens-suc, firstOpening-none}
-use Rattle.weak_books.specs.Laws.FirstOpeningLaws.{firstOpening-of-lowest}
+use Rattle.weak_books.specs.Laws.BoundsLaws.{label-lt}
+use Rattle.weak_books.specs.Laws.FirstApartLaws.{lowestTo-row, row-target-lt, noneOpens-zero}
+use Rattle.weak_books.specs.Laws.FirstApartLaws.{noneOpens-at, noneOpens-suc, firstApart-none}
+use Rattle.weak_books.specs.Laws.FirstApartLaws.{firstApart-of-lowest}
 use Rattle.weak_books.proofs.opening.find_opening.Statement.{statement}
 use Rattle.weak_books.proofs.opening.find_opening.Tie as tie
 
@@ -34,8 +36,8 @@ target-row-requires c κs =
     let in-loop = c .before in
     in-loop .before .before .pre .1 .0 .label (in-loop .before .loop .i) (in-loop .loop-test .taken)
 
-lowest-opening-requires : tie.Need-lowest-opening-requires Inv-loop μ-loop
-lowest-opening-requires c κs =
+lowest-apart-requires : tie.Need-lowest-apart-requires Inv-loop μ-loop
+lowest-apart-requires c κs =
     let in-loop = c .before .before in
     let P = in-loop .before .before .pre in
     let H = P .1 .0 in
@@ -50,9 +52,11 @@ returns c =
     let P = in-loop .before .before .pre in
     let H = P .1 .0 in
     let l = in-loop .loop-test .taken in
-    let low = lowestTo-row (c .before .before .target-row .ensures .0) (c .before .lowest-opening .ensures) in (
-      (label-small H l, low .lowest-le),
-      firstOpening-of-lowest H (P .0 .0) (P .0 .1) l (in-loop .before .loop .inv .1) refl low (c .if1 .taken),
+    let a = in-loop .before .before .args in
+    let low = lowestTo-row (HeldAt (a .slots .now) (a .pool .now)) (c .before .before .target-row .ensures .0)
+    (c .before .lowest-apart .ensures) in (
+      (label-lt (H .label _ l), low .lowest-le),
+      firstApart-of-lowest H (P .0 .0) (P .0 .1) l (in-loop .before .loop .inv .1) refl low (c .if1 .taken),
     )
 
 add-i : tie.Need-add-i Inv-loop μ-loop
@@ -64,7 +68,9 @@ loop-less c = search needs
 loop-again : tie.Need-loop-again Inv-loop μ-loop
 loop-again c =
     let in-loop = c .before .before .before .before in
-    let low = lowestTo-row (c .before .before .target-row .ensures .0) (c .before .lowest-opening .ensures) in (
+    let a = in-loop .before .before .args in
+    let low = lowestTo-row (HeldAt (a .slots .now) (a .pool .now)) (c .before .before .target-row .ensures .0)
+    (c .before .lowest-apart .ensures) in (
       omega (arith, in-loop .loop-test .taken),
       noneOpens-suc (in-loop .before .loop .inv .1) low (λ l. omega (arith, l, c .if1 .left)),
     )
@@ -76,7 +82,7 @@ returns-2 c =
     let inv = at-loop .loop .inv in
     let e : at-loop .loop .i ≡ at-loop .before .args .count = omega (arith, inv .0, c .loop-test .left) in (
       (omega arith, omega arith),
-      firstOpening-none (P .1 .0) (P .0 .0) (P .0 .1) (noneOpens-at e (inv .1)) (λ l. omega (arith, l)),
+      firstApart-none (P .1 .0) (P .0 .0) (P .0 .1) (noneOpens-at e (inv .1)) (λ l. omega (arith, l)),
     )
 
 pub find-opening-spec : {M : Type 1} → statement M
@@ -90,7 +96,7 @@ find-opening-spec =
     mul-label
     element-copy-out-label
     target-row-requires
-    lowest-opening-requires
+    lowest-apart-requires
     returns
     add-i
     loop-less

@@ -4,7 +4,8 @@ use Prim.Native.Nat.{ℕ}
 use lib.ListN.{getD}
 use borrow.Author.Needs.{needs}
 use Rattle.text.specs.Limits.{pairPlace}
-use Rattle.weak_books.specs.Laws.RankedLaws.{joined-none, joined-same}
+use Rattle.sets.specs.Laws.SetsLaws.{joined-map}
+use Rattle.weak_books.specs.Laws.RankedLaws.{joined-none}
 use Rattle.weak_books.proofs.ranked.add_at_rank.Statement.{statement}
 use Rattle.weak_books.proofs.ranked.add_at_rank.Tie as tie
 
@@ -31,7 +32,7 @@ returns-2 c =
     let a = left .before .before .before .before .args in
     let e : getD (a .table .now) (pairPlace (a .p .0) (a .q .0)) 0 ≡ a .r =
     sym (left .before .rank-at .ensures) ∙ left .if1 .left in
-    joined-same
+    joined-map
     (λ x f. (f, subst (λ (y : ℕ). getD (a .table .now) (pairPlace (a .p .0) y) 0 ≡ a .r) (sym f) e))
     (λ x h. h .0)
     (c .before .before .add-member .ensures)

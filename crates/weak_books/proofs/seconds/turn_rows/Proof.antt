@@ -3,19 +3,19 @@ use Prim.Native.Nat.{_≤_, _-_}
 use native.Mathlib.Omega.{arith}
 use borrow.Author.Needs.{needs}
 use Rattle.text.specs.Limits.{pairPlace}
-use Rattle.weak_books.specs.Inner.Turned.{Turned}
-use Rattle.weak_books.specs.Laws.TurnedLaws.{turned-none, turned-row, turned-to}
+use Rattle.weak_books.specs.Inner.Turned.{AllTurned}
+use Rattle.weak_books.specs.Laws.TurnedLaws.{allTurned-none, allTurned-row, allTurned-to}
 use Rattle.weak_books.proofs.seconds.turn_rows.Statement.{statement}
 use Rattle.weak_books.proofs.seconds.turn_rows.Tie as tie
 
 abbrev Inv-loop : tie.InvT-loop
-Inv-loop n table book₀ p₀ book p = (p ≤ n) × Turned n table 0 (pairPlace p 0) book₀ book
+Inv-loop n table book₀ p₀ book p = (p ≤ n) × AllTurned n table 0 (pairPlace p 0) book₀ book
 
 abbrev μ-loop : tie.MeasureT-loop
 μ-loop n table book₀ p₀ book p = n - p
 
 loop-holds : tie.Need-loop-holds Inv-loop μ-loop
-loop-holds c = (omega arith, turned-none _ (λ u v lu lv l h. omega (arith, l, h)))
+loop-holds c = (omega arith, allTurned-none _ (λ u v lu lv l h. omega (arith, l, h)))
 
 turn-row-requires : tie.Need-turn-row-requires Inv-loop μ-loop
 turn-row-requires c κs =
@@ -36,13 +36,13 @@ loop-again c =
     let le = at-loop .before .before .before .pre .0 in
     let row = c .before .before .turn-row .ensures in
     let inv = at-loop .loop .inv in
-    (omega (arith, in-loop .loop-test .taken), turned-row (at-loop .loop .p) le (omega arith) (inv .1) row)
+    (omega (arith, in-loop .loop-test .taken), allTurned-row (at-loop .loop .p) le (omega arith) (inv .1) row)
 
 same-length : tie.Need-same-length Inv-loop μ-loop
 same-length c = c .before .loop .inv .1 .past .same-length
 
 returns : tie.Need-returns Inv-loop μ-loop
-returns c = let inv = c .before .loop .inv in turned-to (omega (arith, inv .0, c .loop-test .left)) (inv .1)
+returns c = let inv = c .before .loop .inv in allTurned-to (omega (arith, inv .0, c .loop-test .left)) (inv .1)
 
 pub turn-rows-spec : {M : Type 1} → statement M
 turn-rows-spec =

@@ -5,9 +5,9 @@ use native.Mathlib.Omega.{arith}
 use lib.ListN.{getD}
 use borrow.Author.Needs.{needs}
 use Rattle.text.specs.Limits.{entrySize}
-use Rattle.weak_books.specs.Laws.OpeningsLaws.{pairOpened-stays, pairOpened-none, pairOpened-entry}
-use Rattle.weak_books.proofs.openings.open_pair.Statement.{statement}
-use Rattle.weak_books.proofs.openings.open_pair.Tie as tie
+use Rattle.weak_books.specs.Laws.FirstsLaws.{pairOpened-stays, pairOpened-none, pairOpened-entry}
+use Rattle.weak_books.proofs.firsts.open_pair.Statement.{statement}
+use Rattle.weak_books.proofs.firsts.open_pair.Tie as tie
 
 pair-place-requires : tie.Need-pair-place-requires
 pair-place-requires c κs = search needs

@@ -4,9 +4,9 @@ use native.Mathlib.Omega.{arith}
 use borrow.Author.Needs.{needs}
 use Rattle.text.specs.Limits.{pairPlace}
 use Rattle.weak_books.specs.Inner.Opened.{LabelOpened}
-use Rattle.weak_books.specs.Laws.OpeningsLaws.{labelOpened-none, labelOpened-to, labelOpened-then}
-use Rattle.weak_books.proofs.openings.open_rows.Statement.{statement}
-use Rattle.weak_books.proofs.openings.open_rows.Tie as tie
+use Rattle.weak_books.specs.Laws.FirstsLaws.{labelOpened-none, labelOpened-to, labelOpened-then}
+use Rattle.weak_books.proofs.firsts.open_rows.Statement.{statement}
+use Rattle.weak_books.proofs.firsts.open_rows.Tie as tie
 
 abbrev Inv-loop : tie.InvT-loop
 Inv-loop n keys lower at a depth book₀ p₀ book p =

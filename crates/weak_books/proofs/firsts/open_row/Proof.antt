@@ -5,10 +5,10 @@ use borrow.Author.Needs.{needs}
 use Rattle.text.specs.Limits.{stateLimit, pairPlace}
 use Rattle.sets.specs.Inner.Sets.{Member}
 use Rattle.weak_books.specs.Inner.Opened.{LabelOpened}
-use Rattle.weak_books.specs.Laws.OpeningsLaws.{labelOpened-none, labelOpened-to, no-member-between}
-use Rattle.weak_books.specs.Laws.OpeningsLaws.{labelOpened-next}
-use Rattle.weak_books.proofs.openings.open_row.Statement.{statement}
-use Rattle.weak_books.proofs.openings.open_row.Tie as tie
+use Rattle.weak_books.specs.Laws.FirstsLaws.{labelOpened-none, labelOpened-to, no-member-between}
+use Rattle.weak_books.specs.Laws.FirstsLaws.{labelOpened-next}
+use Rattle.weak_books.proofs.firsts.open_row.Statement.{statement}
+use Rattle.weak_books.proofs.firsts.open_row.Tie as tie
 
 abbrev Inv-loop : tie.InvT-loop
 Inv-loop keys lower at a p depth book₀ q₀ book q =

@@ -1,17 +1,16 @@
 -- The targets of p that are no targets of q are tried from the lowest up, each class once.
-use mathlib.Core.Path.{refl}
 use Prim.Native.Nat.{_-_, _<_}
 use native.Mathlib.Omega.{arith}
 use borrow.Author.Needs.{needs}
 use Rattle.text.specs.Limits.{stateLimit}
 use Rattle.text.specs.Laws.DecidesLaws.{decides-true, decides-false}
 use Rattle.sets.specs.Inner.SetValues.{Least}
-use Rattle.splitters.specs.Laws.WalkLaws.{least-rises}
+use Rattle.held.specs.Laws.SlotsLaws.{setOf-number}
 use Rattle.weak_books.specs.Inner.Entering.{Tried}
-use Rattle.weak_books.specs.Laws.FirstOpeningLaws.{setOf-number, tried-start, tried-next, apart-of-none}
-use Rattle.weak_books.specs.Laws.FirstOpeningLaws.{lowestTo-of-tried}
-use Rattle.weak_books.proofs.opening.lowest_opening.Statement.{statement}
-use Rattle.weak_books.proofs.opening.lowest_opening.Tie as tie
+use Rattle.weak_books.specs.Laws.FirstApartLaws.{tried-start, least-past, tried-next, target-of-tried}
+use Rattle.weak_books.specs.Laws.FirstApartLaws.{lowestTo-here, lowestTo-none}
+use Rattle.weak_books.proofs.opening.lowest_apart.Statement.{statement}
+use Rattle.weak_books.proofs.opening.lowest_apart.Tie as tie
 
 abbrev Inv-loop : tie.InvT-loop
 Inv-loop n slots pool row class members answers left₀ t₀ left t = Least left t × Tried class answers left₀ left
@@ -27,9 +26,6 @@ begin c = c .before .before .before .before .before
 abbrev found : tie.At-loop Inv-loop μ-loop → tie.After-held2 Inv-loop μ-loop
 found c = c .before .before .before
 
-abbrev testing : tie.After-is-empty Inv-loop μ-loop → tie.After-set-at Inv-loop μ-loop
-testing c = c .before .before
-
 abbrev going : tie.After-set-at Inv-loop μ-loop → tie.In-loop Inv-loop μ-loop
 going c = c .before .before .before .before
 
@@ -38,11 +34,10 @@ target-lt : (c : tie.In-loop Inv-loop μ-loop) → c .before .loop .t < begin (c
 target-lt c =
     let at-loop = c .before in
     let P = begin at-loop .pre in
-    let t = at-loop .loop .t in
     let inv = at-loop .loop .inv in
-    let left = inv .1 .left-in t (inv .0 .member (c .loop-test .taken)) in
-    let target = at-loop .before .before .without .ensures .only t left .0 in
-    P .1 .0 _ t (P .0 .1) (found at-loop .held2 .ensures .only t target)
+    P .1 .0 _ _ (P .0 .1)
+    (target-of-tried (found at-loop .held2 .ensures) (at-loop .before .before .without .ensures) (inv .1) (inv .0)
+    (c .loop-test .taken))
 
 -- ---- needs
 
@@ -71,8 +66,7 @@ set-at-requires : tie.Need-set-at-requires Inv-loop μ-loop
 set-at-requires c κs =
     let in-loop = c .before .before .before in
     let at-loop = in-loop .before in
-    let small = begin at-loop .pre .1 .1 .class-lt (at-loop .loop .t) (target-lt in-loop) in
-    omega (arith, small, c .before .before .class-at .ensures)
+    omega (arith, begin at-loop .pre .1 .1 .class-lt _ (target-lt in-loop), c .before .before .class-at .ensures)
 
 both-requires : tie.Need-both-requires Inv-loop μ-loop
 both-requires c κs = search needs
@@ -83,17 +77,16 @@ is-empty-requires c κs = search needs
 returns : tie.Need-returns Inv-loop μ-loop
 returns c =
     let tested = c .before in
-    let set = testing tested in
+    let set = tested .before .before in
     let in-loop = going set in
     let at-loop = in-loop .before in
     let P = begin at-loop .pre in
-    let Q = found at-loop .before .held .ensures in
     let inv = at-loop .loop .inv in
     let none = decides-true (tested .is-empty .result) _ (tested .is-empty .ensures) (c .if1 .taken) in
     let A = setOf-number (set .before .before .before .class-at .ensures) (set .set-at .ensures) in
-    lowestTo-of-tried (found at-loop .held2 .ensures) Q (at-loop .before .before .without .ensures) (inv .1) (inv .0)
-    (λ l. apart-of-none (P .1 .1) (target-lt in-loop) A (tested .before .both .ensures)
-    (λ u i. P .1 .0 _ u (P .0 .2) (Q .only u i)) none)
+    lowestTo-here (found at-loop .held2 .ensures) (found at-loop .before .held .ensures)
+    (at-loop .before .before .without .ensures) (inv .1) (inv .0) (P .1 .1) (target-lt in-loop) A
+    (tested .before .both .ensures) (λ u. P .1 .0 _ u (P .0 .2)) none
 
 without-requires-2 : tie.Need-without-requires-2 Inv-loop μ-loop
 without-requires-2 c κs = search needs
@@ -103,24 +96,23 @@ least-requires-2 c κs = search needs
 
 loop-less : tie.Need-loop-less Inv-loop μ-loop
 loop-less c =
-    let set = testing (c .before .before .before) in
+    let set = c .before .before .before .before .before in
     let in-loop = going set in
     let at-loop = in-loop .before in
-    let t = at-loop .loop .t in
     let A = setOf-number (set .before .before .before .class-at .ensures) (set .set-at .ensures) in
-    let own = A .all t (begin at-loop .pre .1 .1 .alike t t (target-lt in-loop) (target-lt in-loop) refl) in
-    let more = least-rises (at-loop .loop .inv .0) own (c .before .without2 .ensures) (c .least2 .ensures) in
+    let more = least-past (begin at-loop .pre .1 .1) (target-lt in-loop) A (at-loop .loop .inv .0)
+    (c .before .without2 .ensures) (c .least2 .ensures) in
     omega (arith, more, in-loop .loop-test .taken)
 
 loop-again : tie.Need-loop-again Inv-loop μ-loop
 loop-again c =
     let tested = c .before .before .before in
-    let set = testing tested in
+    let set = tested .before .before in
     let in-loop = going set in
     let at-loop = in-loop .before in
     let A = setOf-number (set .before .before .before .class-at .ensures) (set .set-at .ensures) in
-    let full = c .before .before .if1 .left in
-    let some = decides-false (tested .is-empty .result) _ (tested .is-empty .ensures) full in (
+    let empty = tested .is-empty in
+    let some = decides-false (empty .result) _ (empty .ensures) (c .before .before .if1 .left) in (
       c .least2 .ensures,
       tried-next (begin at-loop .pre .1 .1) (target-lt in-loop) A (tested .before .both .ensures)
           (at-loop .loop .inv .1) some (c .before .without2 .ensures),
@@ -130,11 +122,11 @@ returns-2 : tie.Need-returns-2 Inv-loop μ-loop
 returns-2 c =
     let at-loop = c .before in
     let inv = at-loop .loop .inv in
-    lowestTo-of-tried (found at-loop .held2 .ensures) (found at-loop .before .held .ensures)
-    (at-loop .before .before .without .ensures) (inv .1) (inv .0) (λ l. absurd (omega (arith, l, c .loop-test .left)))
+    lowestTo-none (found at-loop .held2 .ensures) (found at-loop .before .held .ensures)
+    (at-loop .before .before .without .ensures) (inv .1) (inv .0) (λ l. omega (arith, l, c .loop-test .left))
 
-pub lowest-opening-spec : {M : Type 1} → statement M
-lowest-opening-spec =
+pub lowest-apart-spec : {M : Type 1} → statement M
+lowest-apart-spec =
     tie.close
     (tie.spec
     Inv-loop

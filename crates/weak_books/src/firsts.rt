@@ -1,5 +1,5 @@
 // The openings of the first side with one label, by sets: the targets of each state, and what is lower beside each.
-pub use books::book::put_entry;
+use books::book::put_entry;
 use ranking::table::pair_place;
 use sets::SETS_LENGTH;
 use sets::is_within;
@@ -11,14 +11,15 @@ ghost use Prim.Native.Nat.{ℕ, _≤_, _<_};
 ghost use lib.ListN.{length};
 ghost use Rattle.text.specs.Limits.{stateLimit, pairPlace, bookLength};
 ghost use Rattle.sets.specs.Inner.Sets.{Member};
-ghost use Rattle.weak_books.specs.Inner.Opened.{LowestIn, PairOpened, LabelOpened};
+ghost use Rattle.weak_books.specs.Inner.OpensTo.{LowestTo};
+ghost use Rattle.weak_books.specs.Inner.Opened.{PairOpened, LabelOpened};
 
 // The lowest target of p beside which all targets of q are lower, or 128. No target is lower beside itself, so that
 // there is none where each target of p is one of q.
 fn lowest_opening(keys: &[u64; SETS_LENGTH], lower: &[u64; SETS_LENGTH], p: State, q: State) -> u16
     requires { ⌜ (p .0 < stateLimit) × (q .0 < stateLimit) ⌝ }
     requires { ⌜ ((t : ℕ) → ¬ (Member (now lower) t t)) ⌝ }
-    ensures { λ r. ⌜ LowestIn (now (keys .entry)) (now (lower .entry)) (p .0) (q .0) r ⌝ }
+    ensures { λ r. ⌜ LowestTo (Member (now (keys .entry))) (Member (now (lower .entry))) (p .0) (q .0) r ⌝ }
 {
     if is_within(keys, p, keys, q) {
         return STATE_LIMIT;

@@ -11,31 +11,36 @@ use Rattle.text.specs.Laws.ListsLaws.{past-refl, past-trans}
 use Rattle.sets.specs.Inner.Sets.{Member, Within, NextMember}
 use Rattle.books.specs.Books.{entryNumber}
 use Rattle.books.specs.Inner.Filling.{EntryWritten}
-use Rattle.weak_books.specs.Inner.Opened.{OpensIn, LowestIn, EntryOpened, stays, opens-not, opens-with}
+use Rattle.weak_books.specs.Inner.OpensTo.{OpensTo, LowestTo}
+use Rattle.weak_books.specs.Inner.Opened.{EntryOpened, stays, opens-not, opens-with}
 use Rattle.weak_books.specs.Inner.Opened.{PairOpened, LabelOpened}
 
 -- ---- the lowest target
 
 module _ {keys lower : List ℕ} {p q : ℕ} where
   -- None of the targets before t opens.
-  pub none-start : {t : ℕ} → NextMember keys p 0 t → (u : ℕ) → u < t → ¬ (OpensIn keys lower p q u)
+  pub none-start : {t : ℕ} → NextMember keys p 0 t → (u : ℕ) → u < t → ¬ (OpensTo (Member keys) (Member lower) p q u)
   none-start n u l o = n .none-before u (omega arith) l (o .opening)
 
-  pub none-next : {t t′ : ℕ} → ((u : ℕ) → u < t → ¬ (OpensIn keys lower p q u)) → ¬ (Within keys q lower t)
-      → NextMember keys p (t + 1) t′ → (u : ℕ) → u < t′ → ¬ (OpensIn keys lower p q u)
+  pub none-next : {t t′ : ℕ} → ((u : ℕ) → u < t → ¬ (OpensTo (Member keys) (Member lower) p q u))
+      → ¬ (Within keys q lower t) → NextMember keys p (t + 1) t′ → (u : ℕ) → u < t′
+      → ¬ (OpensTo (Member keys) (Member lower) p q u)
   none-next {t} h w n u l o = ⊎-elim
       (λ k. h u k o)
       (λ k. ⊎-elim
       (λ j. n .none-before u (omega (arith, j)) l (o .opening))
-      (λ j. let e : u ≡ t = omega (arith, k, j) in w (subst (Within keys q lower) e (o .answers)))
+      (λ j.
+      let e : u ≡ t = omega (arith, k, j) in
+      w (record { within = λ x m. subst (λ (y : ℕ). Member lower y x) e (o .answers x m) }))
       (lt-or-le t u))
       (lt-or-le u t)
 
   -- Where each target of p is one of q, the opening itself would be an answer.
-  pub lowest-within : ((t : ℕ) → ¬ (Member lower t t)) → Within keys p keys q → LowestIn keys lower p q stateLimit
+  pub lowest-within : ((t : ℕ) → ¬ (Member lower t t)) → Within keys p keys q
+      → LowestTo (Member keys) (Member lower) p q stateLimit
   lowest-within apart w = record {
     lowest-le = omega arith;
-    none-before = λ u l o. apart u (o .answers .within u (w .within u (o .opening)));
+    none-before = λ u l o. apart u (o .answers u (w .within u (o .opening)));
     opens = λ l. absurd (omega arith);
   }
 
@@ -50,7 +55,7 @@ module _ {keys lower : List ℕ} {d a p q : ℕ} where
     past = past-refl book;
   }
 
-  pub pairOpened-none : {t : ℕ} {book : List ℕ} → ¬ (t < stateLimit) → LowestIn keys lower p q t
+  pub pairOpened-none : {t : ℕ} {book : List ℕ} → ¬ (t < stateLimit) → LowestTo (Member keys) (Member lower) p q t
       → PairOpened keys lower d a p q book book
   pairOpened-none {t} {book} l n = record {
     opened = opens-not refl (λ u o. n .none-before u (omega (arith, l, o .opening .member-lt)) o);
@@ -59,7 +64,7 @@ module _ {keys lower : List ℕ} {d a p q : ℕ} where
   }
 
   pub pairOpened-entry : {t : ℕ} {book book′ : List ℕ} → entryNumber book (pairPlace p q) .side ≡ 0 → t < stateLimit
-      → LowestIn keys lower p q t
+      → LowestTo (Member keys) (Member lower) p q t
       → EntryWritten (pairPlace p q) (record { side = 1; action = a; target = t; depth = d }) book book′
       → PairOpened keys lower d a p q book book′
   pairOpened-entry {t} e l n w = record {

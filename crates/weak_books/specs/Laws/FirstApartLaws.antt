@@ -6,6 +6,7 @@ use mathlib.Core.Path.{_≡_, refl, sym, _∙_, subst}
 use Prim.Native.Nat.{ℕ, _+_, _≤_, _<_}
 use native.Mathlib.Omega.{arith}
 use lib.ListN.{getD}
+use Rattle.lts.specs.Alike.{Relation}
 use Rattle.lts.specs.Book.{Opens}
 use Rattle.lts.specs.TestsLaws.{lt-or-le}
 use Rattle.text.specs.Limits.{stateLimit}
@@ -15,29 +16,27 @@ use Rattle.sets.specs.Laws.SetValuesLaws.{in-or-not}
 use Rattle.sets.specs.declared.set.Set.{Set}
 use Rattle.held.specs.Held.{targetRow, HeldAt, HeldList, HeldMove}
 use Rattle.splitters.specs.Inner.Partition.{ClassSets}
+use Rattle.splitters.specs.Laws.WalkLaws.{least-rises}
 use Rattle.weak_books.specs.declared.opening.Opening.{Opening}
-use Rattle.weak_books.specs.Inner.Entering.{Apart, OpensTo, LowestTo, NoneOpens, Tried, FirstOpening}
+use Rattle.weak_books.specs.Inner.Entering.{Apart, NoneOpens, Tried, FirstApart}
+use Rattle.weak_books.specs.Inner.OpensTo.{OpensTo, LowestTo}
 
 -- ---- one row
 
--- The set of a number that was read.
-pub setOf-number : {members : List ℕ} {c d : ℕ} {s : Set} → c ≡ d → SetOf (Member members c) s
-    → SetOf (Member members d) s
-setOf-number {members} {s = s} e = subst (λ (x : ℕ). SetOf (Member members x) s) e
-
 pub tried-start : {class : List ℕ} {answers all : Set} → Tried class answers all all
 tried-start = record { left-in = λ t i. i; gone = λ t i d. absurd (d i) }
+
+-- Without the class of t, the least that is left is greater.
+pub least-past : {n : ℕ} {class members : List ℕ} {t t′ : ℕ} {alike left left′ : Set} → ClassSets n class members
+    → t < n → SetOf (Member members (getD class t 0)) alike → Least left t
+    → SetOf (λ x. In left x × ¬ (In alike x)) left′ → Least left′ t′ → t < t′
+least-past {t = t} C lt A least = least-rises least (A .all t (C .alike t t lt lt refl))
 
 -- The class of t as a set, and the answers in it.
 module _ {n : ℕ} {class members : List ℕ} {t : ℕ} {answers alike joint : Set} (C : ClassSets n class members)
     (lt : t < n) (A : SetOf (Member members (getD class t 0)) alike)
     (J : SetOf (λ x. In alike x × In answers x) joint) where
-  -- No answer is of the class of t.
-  pub apart-of-none : ((u : ℕ) → In answers u → u < n) → ((u : ℕ) → ¬ (In joint u)) → (u : ℕ) → In answers u
-      → Apart class t u
-  apart-of-none small none u i e = none u (J .all u (A .all u (C .alike t u lt (small u i) e), i))
-
-  -- An answer is, so that no target of that class opens.
+  -- There is an answer, so that no target of that class opens.
   pub tried-next : {all left left′ : Set} → Tried class answers all left → ¬ ((u : ℕ) → ¬ (In joint u))
       → SetOf (λ x. In left x × ¬ (In alike x)) left′ → Tried class answers all left′
   tried-next {all} {left} {left′} T some L = record {
@@ -54,32 +53,47 @@ module _ {n : ℕ} {class members : List ℕ} {t : ℕ} {answers alike joint : S
           let e = C .only t x lt (A .only x g) .1 in
           f u (b .1) (sym e ∙ C .only t u lt (A .only u (b .0)) .1))
 
-module _ {slots pool : List ℕ} {row p q : ℕ} {targets answers all : Set} (P : SetOf (HeldAt slots pool row p) targets)
-    (Q : SetOf (HeldAt slots pool row q) answers) (L : SetOf (λ x. In targets x × ¬ (In answers x)) all) where
-  pub lowestTo-of-tried : {class : List ℕ} {left : Set} {t : ℕ} → Tried class answers all left → Least left t
-      → (t < stateLimit → (u : ℕ) → In answers u → Apart class t u) → LowestTo slots pool row class p q t
-  lowestTo-of-tried {class} {left} {t} T least apart = record {
+-- What is tried next is a target.
+pub target-of-tried : {P : ℕ → Type 0} {class : List ℕ} {targets answers all left : Set} {t : ℕ} → SetOf P targets
+    → SetOf (λ x. In targets x × ¬ (In answers x)) all → Tried class answers all left → Least left t → t < stateLimit
+    → P t
+target-of-tried {t = t} P L T least l = P .only t (L .only t (T .left-in t (least .member l)) .0)
+
+module _ {Target : Relation} {p q : ℕ} {targets answers all : Set} (P : SetOf (Target p) targets)
+    (Q : SetOf (Target q) answers) (L : SetOf (λ x. In targets x × ¬ (In answers x)) all) {class : List ℕ} {left : Set}
+    {t : ℕ} (T : Tried class answers all left) (least : Least left t) where
+  lowestTo-of-tried : (t < stateLimit → (u : ℕ) → In answers u → Apart class t u)
+      → LowestTo Target (Apart class) p q t
+  lowestTo-of-tried apart = record {
     lowest-le = least .least-le;
     none-before = λ u l o. T .gone u (L .all u (P .all u (o .opening), λ i. o .answers u (Q .only u i) refl))
         (least .none-before u l) (λ x i. o .answers x (Q .only x i));
     opens = λ l. record {
-      opening = P .only t (L .only t (T .left-in t (least .member l)) .0);
+      opening = target-of-tried P L T least l;
       answers = λ u h. apart l u (Q .all u h);
     };
   }
 
-pub lowestTo-row : {slots pool class : List ℕ} {r s p q t : ℕ} → r ≡ s → LowestTo slots pool r class p q t
-    → LowestTo slots pool s class p q t
-lowestTo-row {slots} {pool} {class} {p = p} {q} {t} e = subst (λ (x : ℕ). LowestTo slots pool x class p q t) e
+  -- No target is left.
+  pub lowestTo-none : ¬ (t < stateLimit) → LowestTo Target (Apart class) p q t
+  lowestTo-none d = lowestTo-of-tried (λ l. absurd (d l))
+
+  -- No answer is of the class of t.
+  pub lowestTo-here : {n : ℕ} {members : List ℕ} {alike joint : Set} → ClassSets n class members → t < n
+      → SetOf (Member members (getD class t 0)) alike → SetOf (λ x. In alike x × In answers x) joint
+      → ((u : ℕ) → Target q u → u < n) → ((u : ℕ) → ¬ (In joint u)) → LowestTo Target (Apart class) p q t
+  lowestTo-here C lt A J small none =
+      lowestTo-of-tried (λ _ u i e. none u (J .all u (A .all u (C .alike t u lt (small u (Q .only u i)) e), i)))
+
+pub lowestTo-row : (Row : ℕ → Relation) {Leads : Relation} {r s p q t : ℕ} → r ≡ s → LowestTo (Row r) Leads p q t
+    → LowestTo (Row s) Leads p q t
+lowestTo-row Row {Leads} {p = p} {q} {t} e = subst (λ (x : ℕ). LowestTo (Row x) Leads p q t) e
 
 -- ---- all labels
 
 -- What is known of label i of the list, whose row was read.
 module _ {n : ℕ} {labels : List ℕ} {count : ℕ} {slots pool : List ℕ} (H : HeldList n labels count slots pool) {i : ℕ}
     (l : i < count) where
-  pub label-small : getD labels i 0 < 256
-  label-small = ⊎-elim (λ k. omega (arith, k)) (λ e. omega (arith, e)) (H .label i l)
-
   pub row-target-lt : {r : ℕ} → r ≡ targetRow (getD labels i 0) → (x y : ℕ) → x < stateLimit → HeldAt slots pool r x y
       → y < n
   row-target-lt e x y lx h = H .state-lt i x y l lx (subst (λ (r : ℕ). HeldAt slots pool r x y) e h) .1
@@ -92,7 +106,7 @@ pub noneOpens-at : {labels slots pool class : List ℕ} {p q i j : ℕ} → i �
 noneOpens-at {labels} {slots} {pool} {class} {p} {q} e = subst (λ (i : ℕ). NoneOpens labels i slots pool class p q) e
 
 pub noneOpens-suc : {labels slots pool class : List ℕ} {p q i t : ℕ} → NoneOpens labels i slots pool class p q
-    → LowestTo slots pool (targetRow (getD labels i 0)) class p q t → ¬ (t < stateLimit)
+    → LowestTo (HeldAt slots pool (targetRow (getD labels i 0))) (Apart class) p q t → ¬ (t < stateLimit)
     → NoneOpens labels (i + 1) slots pool class p q
 noneOpens-suc {labels} {slots} {pool} {class} {p} {q} {i} N low d = record {
   none = λ j u l o. ⊎-elim
@@ -100,25 +114,26 @@ noneOpens-suc {labels} {slots} {pool} {class} {p} {q} {i} N low d = record {
       (λ k.
       let e : j ≡ i = omega (arith, k, l) in
       low .none-before u (omega (arith, d, o .opening .member-lt))
-      (subst (λ (x : ℕ). OpensTo slots pool (targetRow (getD labels x 0)) class p q u) e o))
+      (subst (λ (x : ℕ). OpensTo (HeldAt slots pool (targetRow (getD labels x 0))) (Apart class) p q u) e o))
       (lt-or-le j i);
 }
 
-module _ {n : ℕ} {labels : List ℕ} {count : ℕ} {slots pool class : List ℕ} {p q : ℕ}
+module _ {n : ℕ} {labels : List ℕ} {count : ℕ} {slots pool : List ℕ} {p q : ℕ}
     (H : HeldList n labels count slots pool) (lp : p < stateLimit) (lq : q < stateLimit) where
   -- An opening with a label of the list, by its row, and back.
-  opens-of-row : {i t : ℕ} → i < count → OpensTo slots pool (targetRow (getD labels i 0)) class p q t
-      → Opens (HeldMove labels count slots pool) (Apart class) p q (getD labels i 0) t
-  opens-of-row {i} l o = record {
+  opens-of-row : {Leads : Relation} {i t : ℕ} → i < count
+      → OpensTo (HeldAt slots pool (targetRow (getD labels i 0))) Leads p q t
+      → Opens (HeldMove labels count slots pool) Leads p q (getD labels i 0) t
+  opens-of-row {i = i} l o = record {
     opening = record { source-lt = lp; number = i; number-lt = l; label-is = refl; held = o .opening };
     answers = λ u m. o .answers u (m .held);
   }
 
-  row-of-opens : {b t : ℕ} → (o : Opens (HeldMove labels count slots pool) (Apart class) p q b t)
-      → OpensTo slots pool (targetRow (getD labels (o .opening .number) 0)) class p q t
-  row-of-opens {b} {t} o =
+  row-of-opens : {Leads : Relation} {b t : ℕ} → (o : Opens (HeldMove labels count slots pool) Leads p q b t)
+      → OpensTo (HeldAt slots pool (targetRow (getD labels (o .opening .number) 0))) Leads p q t
+  row-of-opens {Leads} {b} {t} o =
       let m = o .opening in
-      subst (λ (a : ℕ). OpensTo slots pool (targetRow a) class p q t) (sym (m .label-is)) (record {
+      subst (λ (a : ℕ). OpensTo (HeldAt slots pool (targetRow a)) Leads p q t) (sym (m .label-is)) (record {
         opening = m .held;
         answers = λ u h. o .answers u (record {
           source-lt = lq;
@@ -129,17 +144,18 @@ module _ {n : ℕ} {labels : List ℕ} {count : ℕ} {slots pool class : List �
         });
       })
 
-  pub firstOpening-none : {o : Opening} → NoneOpens labels count slots pool class p q → ¬ (o .target < stateLimit)
-      → FirstOpening (HeldMove labels count slots pool) class p q o
-  firstOpening-none N d = record {
+  pub firstApart-none : {class : List ℕ} {o : Opening} → NoneOpens labels count slots pool class p q
+      → ¬ (o .target < stateLimit) → FirstApart (HeldMove labels count slots pool) class p q o
+  firstApart-none N d = record {
     opens = λ l. absurd (d l);
     first = λ b u x. absurd (N .none (x .opening .number) u (x .opening .number-lt) (row-of-opens x));
   }
 
-  pub firstOpening-of-lowest : {i : ℕ} {o : Opening} → i < count → NoneOpens labels i slots pool class p q
-      → o .label ≡ getD labels i 0 → LowestTo slots pool (targetRow (getD labels i 0)) class p q (o .target)
-      → o .target < stateLimit → FirstOpening (HeldMove labels count slots pool) class p q o
-  firstOpening-of-lowest {i} {o} l N e low small = record {
+  pub firstApart-of-lowest : {class : List ℕ} {i : ℕ} {o : Opening} → i < count
+      → NoneOpens labels i slots pool class p q → o .label ≡ getD labels i 0
+      → LowestTo (HeldAt slots pool (targetRow (getD labels i 0))) (Apart class) p q (o .target)
+      → o .target < stateLimit → FirstApart (HeldMove labels count slots pool) class p q o
+  firstApart-of-lowest {class} {i} {o} l N e low small = record {
     opens = λ _.
         subst (λ (a : ℕ). Opens (HeldMove labels count slots pool) (Apart class) p q a (o .target)) (sym e)
         (opens-of-row l (low .opens small));
@@ -157,6 +173,6 @@ module _ {n : ℕ} {labels : List ℕ} {count : ℕ} {slots pool class : List �
           let m = x .opening in
           let same : m .number ≡ i = omega (arith, k, j) in
           let f : getD labels i 0 ≡ b = subst (λ (y : ℕ). getD labels y 0 ≡ b) same (m .label-is) in
-          let r = subst (λ (y : ℕ). OpensTo slots pool (targetRow (getD labels y 0)) class p q u) same
+          let r = subst (λ (y : ℕ). OpensTo (HeldAt slots pool (targetRow (getD labels y 0))) (Apart class) p q u) same
           (row-of-opens x) in
           inr (e ∙ f, ⊎-elim (λ h. absurd (low .none-before u h r)) (λ h. h) (lt-or-le u (o .target)))

@@ -1,8 +1,8 @@
 -- The opening is there, and its target is a state; each answer was looked up.
 use Rattle.text.specs.Laws.DecidesLaws.{decides-passed, decides-refused, decides-iff}
 use borrow.Author.Needs.{needs}
-use Rattle.weak_books.proofs.check.opens.Statement.{statement}
-use Rattle.weak_books.proofs.check.opens.Tie as tie
+use Rattle.weak_books.proofs.check.opens_under.Statement.{statement}
+use Rattle.weak_books.proofs.check.opens_under.Tie as tie
 
 returns : tie.Need-returns
 returns c = search needs
@@ -25,5 +25,5 @@ returns-3 c =
     decides-iff (c .all-lower .result) (λ h. record { opening = move; answers = h }) (λ o. o .answers)
     (c .all-lower .ensures)
 
-pub opens-spec : {M : Type 1} → statement M
-opens-spec = tie.close (tie.spec returns has-requires returns-2 all-lower-requires returns-3)
+pub opens-under-spec : {M : Type 1} → statement M
+opens-under-spec = tie.close (tie.spec returns has-requires returns-2 all-lower-requires returns-3)

@@ -5,15 +5,15 @@ use borrow.Author.Needs.{needs}
 use Rattle.text.specs.Limits.{stateLimit}
 use Rattle.text.specs.Laws.DecidesLaws.{decides-true, decides-false}
 use Rattle.sets.specs.Inner.Sets.{Member}
-use Rattle.weak_books.specs.Inner.Opened.{OpensIn}
-use Rattle.weak_books.specs.Laws.OpeningsLaws.{none-start, none-next, lowest-within}
-use Rattle.weak_books.proofs.openings.lowest_opening.Statement.{statement}
-use Rattle.weak_books.proofs.openings.lowest_opening.Tie as tie
+use Rattle.weak_books.specs.Inner.OpensTo.{OpensTo}
+use Rattle.weak_books.specs.Laws.FirstsLaws.{none-start, none-next, lowest-within}
+use Rattle.weak_books.proofs.firsts.lowest_opening.Statement.{statement}
+use Rattle.weak_books.proofs.firsts.lowest_opening.Tie as tie
 
 abbrev Inv-loop : tie.InvT-loop
 Inv-loop keys lower p q t₀ t =
     (t ≤ stateLimit) × (t < stateLimit → Member keys (p .0) t)
-    × ((u : ℕ) → u < t → ¬ (OpensIn keys lower (p .0) (q .0) u))
+    × ((u : ℕ) → u < t → ¬ (OpensTo (Member keys) (Member lower) (p .0) (q .0) u))
 
 abbrev μ-loop : tie.MeasureT-loop
 μ-loop keys lower p q t₀ t = stateLimit - t
@@ -44,7 +44,8 @@ returns-2 c =
       none-before = inv .2;
       opens = λ l. record {
         opening = inv .1 l;
-        answers = decides-true (c .before .is-within2 .result) _ (c .before .is-within2 .ensures) (c .if2 .taken);
+        answers =
+            decides-true (c .before .is-within2 .result) _ (c .before .is-within2 .ensures) (c .if2 .taken) .within;
       };
     }
 

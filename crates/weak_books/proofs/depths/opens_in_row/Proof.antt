@@ -2,8 +2,8 @@
 use Rattle.text.specs.Laws.DecidesLaws.{decides-passed, decides-refused, decides-iff}
 use Rattle.weak_books.specs.Laws.HeldEntryLaws.{within-of-none, none-of-within}
 use borrow.Author.Needs.{needs}
-use Rattle.weak_books.proofs.depths.opens.Statement.{statement}
-use Rattle.weak_books.proofs.depths.opens.Tie as tie
+use Rattle.weak_books.proofs.depths.opens_in_row.Statement.{statement}
+use Rattle.weak_books.proofs.depths.opens_in_row.Tie as tie
 
 returns : tie.Need-returns
 returns c = search needs
@@ -49,8 +49,8 @@ returns-3 c =
     (λ none. record { opening = opening; answers = within-of-none held lower without none })
     (λ o. none-of-within held lower without (o .answers)) (c .is-empty .ensures)
 
-pub opens-spec : {M : Type 1} → statement M
-opens-spec =
+pub opens-in-row-spec : {M : Type 1} → statement M
+opens-in-row-spec =
     tie.close
     (tie.spec
     returns
