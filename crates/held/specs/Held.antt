@@ -21,9 +21,13 @@ labelCount = actionLimit + 1
 abbrev pub rowCount : ℕ
 rowCount = 2 * labelCount
 
--- The sets of the pool. Set 0 has no member.
+-- The sets of the pool that slots have. Set 0 has no member.
 abbrev pub poolSets : ℕ
 poolSets = 2560
+
+-- Behind them the pool has a set for each row.
+abbrev pub rowSet : ℕ → ℕ
+rowSet row = poolSets + row
 
 -- A row has a slot for each state.
 abbrev pub slotPlace : ℕ → ℕ → ℕ
@@ -36,6 +40,11 @@ LabelIn labels count a = (i : ℕ) × (i < count) × (getD labels i 0 ≡ a)
 -- x is a member of the set of p in this row.
 abbrev pub HeldAt : List ℕ → List ℕ → ℕ → ℕ → ℕ → Type 0
 HeldAt slots pool row p x = Member pool (getD slots (slotPlace row p) 0) x
+
+-- The set of a row is that of the states with a set of their own in it, and each of these sets has a member.
+pub record Occupied (slots pool : List ℕ) : Type 0 where
+  pub marked : (row p : ℕ) → p < stateLimit → ¬ (getD slots (slotPlace row p) 0 ≡ 0) → Member pool (rowSet row) p
+  pub some : (row p : ℕ) → Member pool (rowSet row) p → (x : ℕ) × HeldAt slots pool row p x
 
 -- The first if the test holds, and else the second.
 abbrev pub chosen : Bool → ℕ → ℕ → ℕ
@@ -71,6 +80,7 @@ pub record HeldList (n : ℕ) (labels : List ℕ) (count : ℕ) (slots pool : Li
   pub rising : (i j : ℕ) → i < j → j < count → getD labels i 0 < getD labels j 0
   pub slot-lt : (i : ℕ) → getD slots i 0 < poolSets
   pub none : (x : ℕ) → ¬ (Member pool 0 x)
+  pub occupied : Occupied slots pool
   pub state-lt : (i p q : ℕ) → i < count → p < stateLimit → HeldAt slots pool (targetRow (getD labels i 0)) p q
       → (p < n) × (q < n)
   pub turned : (i : ℕ) → i < count → Turned slots pool (targetRow (getD labels i 0)) (sourceRow (getD labels i 0))

@@ -6,6 +6,7 @@ use lib.Dec.{ltb, eqb}
 use lib.ListN.{getD}
 use Rattle.lts.specs.Tests.{any}
 use Rattle.lts.specs.Decided.{answers?}
+use Rattle.lts.specs.Weak.{silentLabel}
 use Rattle.text.specs.Limits.{stateLimit}
 use Rattle.sets.specs.Inner.Sets.{wordBits}
 use Rattle.held.specs.Held.{slotPlace, targetRow}
@@ -23,6 +24,10 @@ abbrev pub heldMove? : List ℕ → ℕ → List ℕ → List ℕ → ℕ → �
 heldMove? labels count slots pool p a q =
     ltb p stateLimit && (labelIn? labels count a && member? pool (getD slots (slotPlace (targetRow a) p) 0) q)
 
--- One round of the game with the held moves: labels are bytes.
+-- All labels are below it: the silent one is the greatest.
+abbrev pub labelLimit : ℕ
+labelLimit = silentLabel + 1
+
+-- One round of the game with the held moves.
 abbrev pub heldRound : ℕ → List ℕ → ℕ → List ℕ → List ℕ → (ℕ → ℕ → Bool) → ℕ → ℕ → Bool
-heldRound n labels count slots pool = answers? n 256 (heldMove? labels count slots pool)
+heldRound n labels count slots pool = answers? n labelLimit (heldMove? labels count slots pool)

@@ -15,17 +15,15 @@ use text::Action;
 use text::limits::ACTION_LIMIT;
 use text::limits::MOVES_LENGTH;
 use text::limits::ROW;
+use text::limits::SILENT_ACTION;
 use text::limits::STATE_LIMIT;
 ghost use Prim.Native.Nat.{_+_, _*_, _≤_, _<_};
 ghost use Rattle.lts.specs.Weak.{silentLabel};
 ghost use Rattle.text.specs.Limits.{stateLimit, actionLimit};
 ghost use Rattle.silent.specs.Labelled.{LabelList, LabelMove};
 ghost use Rattle.silent.specs.Inner.Targets.{OwnNumbers, Targets};
-ghost use Rattle.held.specs.Held.{poolSets, HeldLabel, HeldList, HeldAs};
-ghost use Rattle.held.specs.Inner.Slots.{Pooled, LabelsKept, HeldTo};
-
-// The label of silent moves.
-const SILENT_LABEL: u16 = 255;
+ghost use Rattle.held.specs.Held.{poolSets, slotPlace, HeldLabel, HeldList, HeldAs};
+ghost use Rattle.held.specs.Inner.Slots.{Pooled, FreeFrom, LabelsKept, HeldTo};
 
 // While no more sets are in use, there is room for two rows, of the targets and of the sources.
 const ROOM: u16 = POOL_SETS - 2 * STATE_LIMIT;
@@ -54,12 +52,14 @@ fn hold_label(
     requires { ⌜ OwnNumbers n (now own) ⌝ }
     requires { ⌜ Targets (LabelMove n (now from) (now sources) (now targets)) silentLabel (now there) ⌝ }
     requires { ⌜ Targets (LabelMove n (now from) (now targets) (now sources)) silentLabel (now back) ⌝ }
-    requires { ⌜ (a .0 < actionLimit) × (used + 2 * stateLimit ≤ poolSets) × Pooled used (now slots) (now pool) ⌝ }
+    requires { ⌜ (a .0 < actionLimit) × (used + 2 * stateLimit ≤ poolSets) × Pooled used (now slots) (now pool)
+        × FreeFrom (slotPlace (2 * a .0) 0) (now slots) ⌝ }
     ensures { λ r. ⌜ HeldLabel (LabelMove n (now (from .entry)) (now (sources .entry)) (now (targets .entry)))
         (now (slots .exit)) (now (pool .exit)) (a .0) ⌝ }
     ensures { λ r. ⌜ LabelsKept (a .0) (now (slots .entry)) (now (pool .entry)) (now (slots .exit))
         (now (pool .exit)) ⌝ }
-    ensures { λ r. ⌜ (0 < r) × Pooled r (now (slots .exit)) (now (pool .exit)) ⌝ }
+    ensures { λ r. ⌜ Pooled r (now (slots .exit)) (now (pool .exit))
+        × FreeFrom (slotPlace (2 * (a .0 + 1)) 0) (now (slots .exit)) ⌝ }
 {
     let mut sets = [0u64; SETS_LENGTH];
     let row = target_row(a.0);
@@ -89,7 +89,8 @@ fn hold_actions(
     requires { ⌜ Pooled 1 (now slots) (now pool) ⌝ }
     ensures { λ r. ⌜ (0 < r .used → HeldTo (LabelMove n (now (from .entry)) (now (sources .entry))
         (now (targets .entry))) actionLimit (now (labels .exit)) (r .count) (now (slots .exit)) (now (pool .exit))
-        × Pooled (r .used) (now (slots .exit)) (now (pool .exit))) ⌝ }
+        × Pooled (r .used) (now (slots .exit)) (now (pool .exit))
+        × FreeFrom (slotPlace (2 * actionLimit) 0) (now (slots .exit))) ⌝ }
 {
     let mut used = 1;
     let mut count = 0;
@@ -159,9 +160,9 @@ pub fn hold_labels(
     if ROOM < held.used {
         return 0;
     }
-    let row = target_row(SILENT_LABEL);
+    let row = target_row(SILENT_ACTION);
     let next = hold_row(&there, row, held.used, slots, pool);
     hold_row(&back, row + 1, next, slots, pool);
-    put(labels, held.count as usize, SILENT_LABEL);
+    put(labels, held.count as usize, SILENT_ACTION);
     held.count + 1
 }

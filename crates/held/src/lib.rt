@@ -5,11 +5,14 @@ pub mod slots;
 // The labels: the actions, and that of the silent moves.
 pub const LABEL_COUNT: usize = text::limits::ACTION_LIMIT as usize + 1;
 
-// Two rows for each label, the targets and the sources, and a slot in them for each state.
-pub const SLOTS_LENGTH: usize = 2 * LABEL_COUNT * text::limits::ROW;
+// Two rows for each label, the targets and the sources.
+const ROW_COUNT: usize = 2 * LABEL_COUNT;
 
-// The sets of the pool: enough for two of each of 1,024 steps, or for all sets of 9 labels among 128 states.
+// A slot in them for each state.
+pub const SLOTS_LENGTH: usize = ROW_COUNT * text::limits::ROW;
+
+// The sets that slots have: enough for two of each of 1,024 steps, or for all sets of 9 labels among 128 states.
 pub const POOL_SETS: u16 = 2560;
 
-// Two words for each.
-pub const POOL_LENGTH: usize = 5120;
+// Two words for each of them, and for one set more of each row.
+pub const POOL_LENGTH: usize = 2 * (POOL_SETS as usize + ROW_COUNT);

@@ -1,13 +1,13 @@
 // The sets of a pool, found by their slots.
 use crate::POOL_LENGTH;
+use crate::POOL_SETS;
 use crate::SLOTS_LENGTH;
 use comparing::lists::wide;
 use comparing::stores::put;
 use sets::SETS_LENGTH;
 use sets::set::Set;
-use sets::set::either;
+use sets::set::insert;
 use sets::set::is_empty;
-use sets::set::only;
 use sets::set::put_set;
 use sets::set::set_at;
 use text::State;
@@ -19,11 +19,11 @@ ghost use mathlib.Core.Path.{_≡_};
 ghost use Prim.Native.Nat.{ℕ, _+_, _≤_, _<_};
 ghost use lib.ListN.{getD};
 ghost use Rattle.lts.specs.Weak.{silentLabel};
-ghost use Rattle.text.specs.Decides.{Decides};
 ghost use Rattle.text.specs.Limits.{stateLimit, actionLimit};
+ghost use Rattle.sets.specs.Inner.Sets.{Member};
 ghost use Rattle.sets.specs.Inner.SetValues.{SetOf};
-ghost use Rattle.held.specs.Held.{rowCount, poolSets, slotPlace, targetRow, HeldAt};
-ghost use Rattle.held.specs.Inner.Slots.{Pooled, Separate, RowsKept, RowHeld, SetHeld, MemberAdded};
+ghost use Rattle.held.specs.Held.{rowCount, poolSets, rowSet, slotPlace, targetRow, HeldAt};
+ghost use Rattle.held.specs.Inner.Slots.{Pooled, FreeFrom, Separate, RowsKept, RowHeld, SetHeld, MemberAdded};
 
 // The row of the targets of moves with the label a.
 pub fn target_row(a: u16) -> u16
@@ -53,16 +53,23 @@ pub fn held(slots: &[u16; SLOTS_LENGTH], pool: &[u64; POOL_LENGTH], row: u16, p:
     set_at(pool, wide(slots[at]))
 }
 
-// Whether p has a set of its own in a row. If not, its set there has no member.
-pub fn is_held(slots: &[u16; SLOTS_LENGTH], row: u16, p: State) -> bool
-    requires { ⌜ (row < rowCount) × (p .0 < stateLimit) ⌝ }
-    ensures { λ r. ⌜ Decides r (¬ (getD (now (slots .entry)) (slotPlace row (p .0)) 0 ≡ 0)) ⌝ }
+// The number, in the pool, of the set of a row's states.
+fn row_set(row: u16) -> usize
+    requires { ⌜ row < rowCount ⌝ }
+    ensures { λ r. ⌜ r ≡ rowSet row ⌝ }
 {
-    let at = slot_place(row, p);
-    slots[at] != 0
+    POOL_SETS as usize + row as usize
 }
 
-// Gives p in a row a free set for s, and yields the next free set; no members need none.
+// The states that have a set of their own in a row.
+pub fn occupied(pool: &[u64; POOL_LENGTH], row: u16) -> Set
+    requires { ⌜ row < rowCount ⌝ }
+    ensures { λ r. ⌜ SetOf (Member (now (pool .entry)) (rowSet row)) r ⌝ }
+{
+    set_at(pool, row_set(row))
+}
+
+// Gives p in a row, where it has none, a free set for s, and yields the next free set; no members need none.
 fn hold_set(
     row: u16,
     p: State,
@@ -72,22 +79,22 @@ fn hold_set(
     pool: &mut [u64; POOL_LENGTH],
 ) -> u16
     requires { ⌜ (row < rowCount) × (p .0 < stateLimit) × (used < poolSets) ⌝ }
-    requires { ⌜ Pooled used (now slots) (now pool) ⌝ }
+    requires { ⌜ Pooled used (now slots) (now pool) × FreeFrom (slotPlace row (p .0)) (now slots) ⌝ }
     ensures { λ r. ⌜ SetHeld row (p .0) s (now (slots .entry)) (now (pool .entry)) (now (slots .exit))
         (now (pool .exit)) ⌝ }
-    ensures { λ r. ⌜ (used ≤ r) × (r ≤ used + 1) × Pooled r (now (slots .exit)) (now (pool .exit)) ⌝ }
+    ensures { λ r. ⌜ (used ≤ r) × (r ≤ used + 1) × Pooled r (now (slots .exit)) (now (pool .exit))
+        × FreeFrom (slotPlace row (p .0) + 1) (now (slots .exit)) ⌝ }
 {
-    let at = slot_place(row, p);
     if is_empty(s) {
-        put(slots, at, 0);
         return used;
     }
-    put(slots, at, used);
+    put(slots, slot_place(row, p), used);
     put_set(pool, used as usize, s);
+    insert(pool, row_set(row), p.0);
     used + 1
 }
 
-// Gives each state in a row its set of a list. Yields the next free set.
+// Gives each state in a row, the first without sets, its set of a list. Yields the next free set.
 pub fn hold_row(
     sets: &[u64; SETS_LENGTH],
     row: u16,
@@ -95,10 +102,12 @@ pub fn hold_row(
     slots: &mut [u16; SLOTS_LENGTH],
     pool: &mut [u64; POOL_LENGTH],
 ) -> u16
-    requires { ⌜ (row < rowCount) × (used + stateLimit ≤ poolSets) × Pooled used (now slots) (now pool) ⌝ }
+    requires { ⌜ (row < rowCount) × (used + stateLimit ≤ poolSets) × Pooled used (now slots) (now pool)
+        × FreeFrom (slotPlace row 0) (now slots) ⌝ }
     ensures { λ r. ⌜ RowHeld (now (sets .entry)) row stateLimit (now (slots .exit)) (now (pool .exit)) ⌝ }
     ensures { λ r. ⌜ RowsKept row (now (slots .entry)) (now (pool .entry)) (now (slots .exit)) (now (pool .exit)) ⌝ }
-    ensures { λ r. ⌜ (used ≤ r) × (r ≤ used + stateLimit) × Pooled r (now (slots .exit)) (now (pool .exit)) ⌝ }
+    ensures { λ r. ⌜ (used ≤ r) × (r ≤ used + stateLimit) × Pooled r (now (slots .exit)) (now (pool .exit))
+        × FreeFrom (slotPlace (row + 1) 0) (now (slots .exit)) ⌝ }
 {
     let mut next = used;
     for p in 0..STATE_LIMIT {
@@ -127,10 +136,10 @@ pub fn add_held(
     let slot = wide(slots[at]);
     if slot == 0 {
         put(slots, at, used);
-        put_set(pool, used as usize, only(x.0));
+        insert(pool, used as usize, x.0);
+        insert(pool, row_set(row), p.0);
         return used + 1;
     }
-    let s = set_at(pool, slot);
-    put_set(pool, slot, either(s, only(x.0)));
+    insert(pool, slot, x.0);
     used
 }

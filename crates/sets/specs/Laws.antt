@@ -3,6 +3,7 @@ pub mod BitsLaws
 pub mod EndsLaws
 pub mod MasksLaws
 pub mod OperationsLaws
+pub mod SearchLaws
 pub mod SetValuesLaws
 pub mod SetsLaws
 pub mod WalkLaws

@@ -1,6 +1,7 @@
 // Sets of numbers below 128 as the bits of two words. A list has one set for each state.
 pub mod set;
 
+use crate::set::insert;
 use text::State;
 use text::limits::ROW;
 ghost use mathlib.Core.Bool.{true, false};
@@ -60,9 +61,7 @@ pub fn add_member(sets: &mut [u64], k: State, x: u16)
     requires { ⌜ (k .0 < stateLimit) × (x < stateLimit) ⌝ }
     ensures { λ _. ⌜ Joined (k .0) (λ y. y ≡ x) (now (sets .entry)) (now (sets .exit)) ⌝ }
 {
-    let at = word_place(k) + (x / WORD_BITS) as usize;
-    let bit = 1u64 << (x % WORD_BITS);
-    sets[at] |= bit;
+    insert(sets, k.0 as usize, x);
 }
 
 // Adds the members of set j of other sets to set k.

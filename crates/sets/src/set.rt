@@ -6,7 +6,7 @@ ghost use lib.Count.{ones};
 ghost use lib.ListN.{length};
 ghost use Rattle.text.specs.Decides.{Decides};
 ghost use Rattle.text.specs.Limits.{stateLimit};
-ghost use Rattle.sets.specs.Inner.Sets.{Member};
+ghost use Rattle.sets.specs.Inner.Sets.{Member, Joined};
 ghost use Rattle.sets.specs.Inner.SetValues.{In, SetOf, Least, GreatestOf, SetPut};
 
 // The bits of a word.
@@ -146,4 +146,14 @@ pub fn put_set(sets: &mut [u64], k: usize, s: Set)
     let at = 2 * k;
     sets[at] = s.0;
     sets[at + 1] = s.1;
+}
+
+// Adds x to set k of a list.
+pub fn insert(sets: &mut [u64], k: usize, x: u16)
+    requires { ⌜ (2 * k + 1 < length (now sets)) × (x < stateLimit) ⌝ }
+    ensures { λ _. ⌜ Joined k (λ y. y ≡ x) (now (sets .entry)) (now (sets .exit)) ⌝ }
+{
+    let at = 2 * k + (x / WORD_BITS) as usize;
+    let bit = 1u64 << (x % WORD_BITS);
+    sets[at] |= bit;
 }

@@ -2,11 +2,13 @@
 use held::LABEL_COUNT;
 use held::POOL_LENGTH;
 use held::SLOTS_LENGTH;
-use held::slots::is_held;
+use held::slots::occupied;
 use held::slots::target_row;
 use sets::SETS_LENGTH;
 use sets::add_member;
 use sets::set::below;
+use sets::set::drop_least;
+use sets::set::least;
 use sets::set::put_set;
 use text::State;
 use text::limits::ROW;
@@ -21,14 +23,16 @@ ghost use Rattle.splitters.specs.Inner.Splitters.{Into, RowNoted};
 const FEW: u16 = 16;
 
 // Notes the label of number i, whose sources stand in this row, for each state that its moves lead to.
-fn note_label(slots: &[u16; SLOTS_LENGTH], row: u16, i: u16, into: &mut [u64; SETS_LENGTH])
+fn note_label(pool: &[u64; POOL_LENGTH], row: u16, i: u16, into: &mut [u64; SETS_LENGTH])
     requires { ⌜ (row < rowCount) × (i < stateLimit) ⌝ }
-    ensures { λ _. ⌜ RowNoted (now (slots .entry)) row i stateLimit (now (into .entry)) (now (into .exit)) ⌝ }
+    ensures { λ _. ⌜ RowNoted (now (pool .entry)) row i (now (into .entry)) (now (into .exit)) ⌝ }
 {
-    for q in 0..STATE_LIMIT {
-        if is_held(slots, row, State(q)) {
-            add_member(into, State(q), i);
-        }
+    let mut left = occupied(pool, row);
+    let mut q = least(left);
+    while q < STATE_LIMIT {
+        add_member(into, State(q), i);
+        left = drop_least(left);
+        q = least(left);
     }
 }
 
@@ -58,7 +62,7 @@ fn note_each(
     for i in 0..count {
         let at = i as usize;
         let row = target_row(labels[at]) + 1;
-        note_label(slots, row, i, into);
+        note_label(pool, row, i, into);
     }
 }
 

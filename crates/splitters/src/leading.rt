@@ -2,22 +2,25 @@
 use held::POOL_LENGTH;
 use held::SLOTS_LENGTH;
 use held::slots::held;
+use held::slots::occupied;
 use sets::SETS_LENGTH;
 use sets::set::Set;
 use sets::set::both;
 use sets::set::drop_least;
 use sets::set::either;
 use sets::set::greatest;
+use sets::set::is_empty;
 use sets::set::least;
 use sets::set::none;
 use sets::set::set_at;
 use sets::set::without;
 use text::State;
 use text::limits::STATE_LIMIT;
-ghost use Prim.Native.Nat.{ℕ, _<_};
+ghost use Prim.Native.Nat.{ℕ, _+_, _<_};
 ghost use lib.ListN.{getD};
+ghost use Rattle.sets.specs.Inner.Sets.{Member};
 ghost use Rattle.sets.specs.Inner.SetValues.{In, SetOf};
-ghost use Rattle.held.specs.Held.{rowCount, poolSets, Turned};
+ghost use Rattle.held.specs.Held.{rowCount, poolSets, Turned, Occupied};
 ghost use Rattle.splitters.specs.Inner.Splitters.{InSome, LeadsInto, LedFrom};
 
 // What the members of a set have together, in their sets of this row.
@@ -34,6 +37,21 @@ pub fn joint(slots: &[u16; SLOTS_LENGTH], pool: &[u64; POOL_LENGTH], row: u16, s
         t = least(left);
     }
     found
+}
+
+// The states with a move into a set: `row` has the targets, and the next one the sources. If the set has all targets,
+// they are those with any move.
+pub fn sources(slots: &[u16; SLOTS_LENGTH], pool: &[u64; POOL_LENGTH], row: u16, set: Set) -> Set
+    requires { ⌜ (row + 1 < rowCount) × ((i : ℕ) → getD (now slots) i 0 < poolSets) ⌝ }
+    requires { ⌜ Turned (now slots) (now pool) row (row + 1) ⌝ }
+    requires { ⌜ Occupied (now slots) (now pool) × ((x : ℕ) → ¬ (Member (now pool) 0 x)) ⌝ }
+    ensures { λ r. ⌜ SetOf (LedFrom (now (slots .entry)) (now (pool .entry)) (row + 1) set) r ⌝ }
+{
+    let targets = occupied(pool, row + 1);
+    if is_empty(without(targets, set)) {
+        return occupied(pool, row);
+    }
+    joint(slots, pool, row + 1, both(set, targets))
 }
 
 // What the members of a set have together, in their sets of a list.

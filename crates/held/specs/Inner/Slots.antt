@@ -9,20 +9,25 @@ use Rattle.text.specs.Limits.{stateLimit}
 use Rattle.sets.specs.Inner.Sets.{Member}
 use Rattle.sets.specs.Inner.SetValues.{In}
 use Rattle.sets.specs.declared.set.Set.{Set}
-use Rattle.held.specs.Held.{rowCount, poolSets, slotPlace, targetRow, sourceRow, HeldAt, HeldLabel}
+use Rattle.held.specs.Held.{rowCount, poolSets, slotPlace, targetRow, sourceRow, HeldAt, HeldLabel, Occupied}
 
--- The sets from `used` on are free, and set 0 has no member.
+-- The sets from `used` on are free, set 0 has no member, and the set of each row has its states.
 pub record Pooled (used : ℕ) (slots pool : List ℕ) : Type 0 where
   pub some : 0 < used
   pub used-le : used ≤ poolSets
   pub slot-lt : (i : ℕ) → getD slots i 0 < used
   pub none : (x : ℕ) → ¬ (Member pool 0 x)
+  pub occupied : Occupied slots pool
 
 -- The same, and no two slots have one set, and free sets have no member: so a set can grow by itself.
 pub record Separate (used : ℕ) (slots pool : List ℕ) : Type 0 where
   pub pooled : Pooled used slots pool
   pub own : (i j : ℕ) → 0 < getD slots i 0 → getD slots i 0 ≡ getD slots j 0 → i ≡ j
   pub free : (k x : ℕ) → used ≤ k → k < poolSets → ¬ (Member pool k x)
+
+-- The slots from this place on have no set: rows are filled in their order, each once.
+pub record FreeFrom (place : ℕ) (slots : List ℕ) : Type 0 where
+  pub free : (i : ℕ) → place ≤ i → getD slots i 0 ≡ 0
 
 -- The sets of all rows but this one are as they were.
 pub record RowsKept (row : ℕ) (slots pool slots′ pool′ : List ℕ) : Type 0 where

@@ -1,30 +1,24 @@
--- Held moves stay among n states, and tests decide them, so that they make a game; where they are just some moves, they
--- give these the same ranks. Document 02, (vii). Assumes nothing.
+-- Held moves stay among n states, and tests decide them, so that they make a game. Document 02, (vii).
+-- Assumes nothing.
 use mathlib.Core.Bool.{Bool, _&&_}
 use mathlib.Core.List.{List}
-use mathlib.Core.Logic.{_⊎_, inl, inr, ⊎-elim, _↔_}
+use mathlib.Core.Logic.{_⊎_, ⊎-elim}
 use mathlib.Core.Path.{_≡_, sym, subst}
 use Prim.Native.Nat.{ℕ, _+_, _*_, _/_, _%_, _^_, _<_}
 use native.Mathlib.Omega.{arith}
-use lib.Dec.{T, T-not, ltb, ltb→lt, lt→ltb, eqb, eqb→eq}
+use lib.Dec.{T, ltb, ltb→lt, lt→ltb, eqb, eqb→eq}
 use lib.ListN.{getD}
-use Rattle.lts.specs.TestsLaws.{T-cases, T-eqb, and-intro, and-left, and-right, any→Some, Some→any}
-use Rattle.lts.specs.Alike.{Moves, Separated, Rank}
-use Rattle.lts.specs.AgreeLaws.{rank-same, separated-same}
+use Rattle.lts.specs.TestsLaws.{T-eqb, and-intro, and-left, and-right, any→Some, Some→any}
 use Rattle.lts.specs.Game.{Game}
 use Rattle.lts.specs.Decided.{Decided}
 use Rattle.lts.specs.DecidedLaws.{decided-game}
 use Rattle.lts.specs.Weak.{silentLabel}
 use Rattle.text.specs.Limits.{stateLimit, actionLimit}
 use Rattle.sets.specs.Inner.Sets.{wordBits, Member}
-use Rattle.held.specs.Held.{LabelIn, slotPlace, targetRow, HeldAt, HeldList, HeldMove, HeldAs}
+use Rattle.held.specs.Held.{LabelIn, slotPlace, targetRow, HeldAt, HeldList, HeldMove}
 use Rattle.held.specs.HeldTests.{member?, labelIn?, heldMove?, heldRound}
 
 -- ---- tests
-
--- What a test decides holds or not.
-of-test : {P : Type 0} (b : Bool) → (T b → P) → (P → T b) → P ⊎ ¬ P
-of-test b f g = ⊎-elim (λ t. inl (f t)) (λ t. inr (λ p. T-not b t (g p))) (T-cases b)
 
 module _ (sets : List ℕ) (k x : ℕ) where
   abbrev bit? : Bool
@@ -48,9 +42,6 @@ module _ (labels : List ℕ) (count : ℕ) where
 
   LabelIn→labelIn? : (a : ℕ) → LabelIn labels count a → T (labelIn? labels count a)
   LabelIn→labelIn? a x = Some→any count (λ i. eqb (getD labels i 0) a) (x .0) (x .1) (T-eqb (x .2))
-
-  pub label-or-not : (a : ℕ) → LabelIn labels count a ⊎ ¬ (LabelIn labels count a)
-  label-or-not a = of-test (labelIn? labels count a) (labelIn?→LabelIn a) (LabelIn→labelIn? a)
 
   module _ (slots pool : List ℕ) where
     -- Short names: the set of the targets, and the test of a label and a target.
@@ -80,11 +71,6 @@ module _ (labels : List ℕ) (count : ℕ) where
         (and-intro (labelIn? labels count a) (member? pool (setOf p a) q)
         (LabelIn→labelIn? a (m .number, m .number-lt, m .label-is)) (Member→member? pool (setOf p a) q (m .held)))
 
-    pub heldMove-or-not : (p a q : ℕ) → HeldMove labels count slots pool p a q
-        ⊎ ¬ (HeldMove labels count slots pool p a q)
-    heldMove-or-not p a q =
-        of-test (heldMove? labels count slots pool p a q) (heldMove?→HeldMove p a q) (HeldMove→heldMove? p a q)
-
 -- ---- bounds, and the game
 
 module _ {n count : ℕ} {labels slots pool : List ℕ} (L : HeldList n labels count slots pool) where
@@ -102,7 +88,7 @@ module _ {n count : ℕ} {labels slots pool : List ℕ} (L : HeldList n labels c
   heldMove-label m = subst (λ (b : ℕ). (b < actionLimit) ⊎ (b ≡ silentLabel)) (m .label-is)
       (L .label (m .number) (m .number-lt))
 
-  pub decided-held : Decided (HeldMove labels count slots pool) n 256 (heldMove? labels count slots pool)
+  pub decided-held : Decided (HeldMove labels count slots pool) n labelLimit (heldMove? labels count slots pool)
   decided-held = record {
     move?→Move = heldMove?→HeldMove labels count slots pool;
     Move→move? = HeldMove→heldMove? labels count slots pool;
@@ -113,16 +99,4 @@ module _ {n count : ℕ} {labels slots pool : List ℕ} (L : HeldList n labels c
 
   pub heldMove-game : Game (HeldMove labels count slots pool) n (heldRound n labels count slots pool)
   heldMove-game =
-      decided-game (HeldMove labels count slots pool) n 256 (heldMove? labels count slots pool) decided-held
-
--- ---- the moves that are held
-
-module _ {Move : Moves} {count : ℕ} {labels slots pool : List ℕ} (H : HeldAs Move labels count slots pool) where
-  pub rank-of-held : (p q : ℕ) {k : ℕ} → Rank (HeldMove labels count slots pool) p q k → Rank Move p q k
-  rank-of-held = rank-same (H .sound) (H .complete)
-
-  pub held-of-rank : (p q : ℕ) {k : ℕ} → Rank Move p q k → Rank (HeldMove labels count slots pool) p q k
-  held-of-rank = rank-same (H .complete) (H .sound)
-
-  pub separated-of-held : (p q k : ℕ) → Separated (HeldMove labels count slots pool) p q k ↔ Separated Move p q k
-  separated-of-held = separated-same (H .sound) (H .complete)
+      decided-game (HeldMove labels count slots pool) n labelLimit (heldMove? labels count slots pool) decided-held

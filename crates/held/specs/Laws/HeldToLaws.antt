@@ -15,7 +15,7 @@ use Rattle.silent.specs.Laws.LabelledLaws.{labelMove-source-lt, labelMove-targe
 use Rattle.held.specs.Held.{targetRow, sourceRow, HeldLabel, Turned, HeldList, HeldAs}
 use Rattle.held.specs.Inner.Slots.{Pooled, LabelsKept, HeldTo}
 use Rattle.held.specs.Laws.RowsLaws.{targetRow-action, targetRow-after}
-use Rattle.held.specs.Laws.SlotsLaws.{PutAt}
+use Rattle.held.specs.Laws.PoolLaws.{PutAt}
 use Rattle.held.specs.Laws.LabelRowsLaws.{AmongStates, heldLabel-kept, labelMove-among}
 
 pub heldTo-zero : {Move : Moves} {labels slots pool : List ℕ} → HeldTo Move 0 labels 0 slots pool
@@ -136,6 +136,7 @@ module _ {n count : ℕ} {from sources targets labels labels′ slots slots′ p
     rising = all-held .rising;
     slot-lt = λ i. omega (arith, pooled .slot-lt i, pooled .used-le);
     none = pooled .none;
+    occupied = pooled .occupied;
     state-lt = λ i p q l k x.
         let m = all-held .held i l .target-only p q k x in
         (labelMove-source-lt L m, labelMove-target-lt L m);

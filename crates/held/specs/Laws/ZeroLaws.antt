@@ -5,6 +5,7 @@ use Prim.Native.Nat.{ℕ}
 use native.Mathlib.Omega.{arith}
 use lib.ListN.{getD}
 use Rattle.sets.specs.Inner.Sets.{Empty}
+use Rattle.held.specs.Held.{rowSet, slotPlace}
 use Rattle.held.specs.Inner.Slots.{Pooled, Separate}
 
 module _ {slots pool : List ℕ} (z : (i : ℕ) → getD slots i 0 ≡ 0) (E : Empty pool) where
@@ -14,6 +15,10 @@ module _ {slots pool : List ℕ} (z : (i : ℕ) → getD slots i 0 ≡ 0) (E : E
     used-le = omega arith;
     slot-lt = λ i. omega (arith, z i);
     none = E .none 0;
+    occupied = record {
+      marked = λ row p l d. absurd (d (z (slotPlace row p)));
+      some = λ row p m. absurd (E .none (rowSet row) p m);
+    };
   }
 
   pub separate-zero : Separate 1 slots pool

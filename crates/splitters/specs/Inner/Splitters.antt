@@ -13,7 +13,7 @@ use Rattle.comparing.specs.Inner.Numbered.{Same}
 use Rattle.sets.specs.Inner.Sets.{Member}
 use Rattle.sets.specs.Inner.SetValues.{In}
 use Rattle.sets.specs.declared.set.Set.{Set}
-use Rattle.held.specs.Held.{slotPlace, targetRow, sourceRow, HeldAt}
+use Rattle.held.specs.Held.{rowSet, slotPlace, targetRow, sourceRow, HeldAt}
 use Rattle.ranking.specs.Inner.ClassList.{Classes, Refined, RoundSeparates}
 use Rattle.ranking.specs.Inner.TableWrites.{RanksUpTo, Outside}
 use Rattle.splitters.specs.Inner.Partition.{Partition, home, HomesKept}
@@ -50,9 +50,9 @@ pub record Into (labels : List ℕ) (count : ℕ) (slots into : List ℕ) : Type
   pub noted : (i q : ℕ) → i < count → q < stateLimit
       → ¬ (getD slots (slotPlace (sourceRow (getD labels i 0)) q) 0 ≡ 0) → Member into q i
 
--- The sets have got this number for each state below `to` with a set of its own in the row, and have kept theirs.
-pub record RowNoted (slots : List ℕ) (row i to : ℕ) (entry exit : List ℕ) : Type 0 where
-  pub noted : (q : ℕ) → q < to → ¬ (getD slots (slotPlace row q) 0 ≡ 0) → Member exit q i
+-- The sets have got this number for each state of the set of the row, and have kept theirs.
+pub record RowNoted (pool : List ℕ) (row i : ℕ) (entry exit : List ℕ) : Type 0 where
+  pub noted : (q : ℕ) → Member pool (rowSet row) q → Member exit q i
   pub kept : (q x : ℕ) → Member entry q x → Member exit q x
 
 -- i is in the set, of the list, of some member of `of`.

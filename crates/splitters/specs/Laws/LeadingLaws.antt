@@ -9,9 +9,10 @@ use Rattle.lts.specs.TestsLaws.{eq-or-not}
 use Rattle.text.specs.Limits.{stateLimit}
 use Rattle.sets.specs.Inner.Sets.{Member}
 use Rattle.sets.specs.Inner.SetValues.{In, SetOf, Least, GreatestOf}
-use Rattle.sets.specs.Laws.SetValuesLaws.{in-or-not}
+use Rattle.sets.specs.Laws.SetValuesLaws.{setOf-map, in-or-not}
 use Rattle.sets.specs.declared.set.Set.{Set}
-use Rattle.held.specs.Held.{HeldAt, Turned}
+use Rattle.held.specs.Held.{rowSet, HeldAt, Turned, Occupied}
+use Rattle.held.specs.Laws.OccupiedLaws.{occupied-held}
 use Rattle.splitters.specs.Inner.Splitters.{InSome, LeadsInto, LedFrom}
 use Rattle.splitters.specs.Laws.WalkLaws.{none-of-least}
 
@@ -61,6 +62,36 @@ module _ {slots pool : List ℕ} {row : ℕ} {set : Set} where
       all : {t : ℕ} (x : ℕ) → In found x ⊎ In left t → In found x
       all x (inl i) = i
       all {t} x (inr i) = absurd (none-of-least l h t i)
+
+module _ {slots pool : List ℕ} {row : ℕ} {set : Set} (O : Occupied slots pool) (none : (x : ℕ) → ¬ (Member pool 0 x))
+  where
+    -- Only members with a set of their own have something.
+    pub ledFrom-both : {own common found : Set} → SetOf (Member pool (rowSet row)) own
+        → SetOf (λ x. In set x × In own x) common → SetOf (LedFrom slots pool row common) found
+        → SetOf (LedFrom slots pool row set) found
+    ledFrom-both o b = setOf-map
+        (λ x m. record { target = m .target; in-set = b .only (m .target) (m .in-set) .0; held = m .held })
+        (λ x m.
+        let own = o .all (m .target) (occupied-held row (m .target) x O none (m .in-set .member-lt) (m .held)) in
+        record { target = m .target; in-set = b .all (m .target) (m .in-set, own); held = m .held })
+
+    -- All of these are members: what they have are the states with a set of their own in the row turned round.
+    pub ledFrom-all : {back : ℕ} {own more found : Set} → Turned slots pool back row
+        → SetOf (Member pool (rowSet row)) own → SetOf (λ x. In own x × ¬ (In set x)) more
+        → ((x : ℕ) → ¬ (In more x)) → SetOf (Member pool (rowSet back)) found → SetOf (LedFrom slots pool row set) found
+    ledFrom-all {back} {own} turned o w empty f = record {
+      all = λ p m. f .all p (occupied-held back p (m .target) O none (m .held .member-lt)
+          (turned .again p (m .target) (m .in-set .member-lt) (m .held)));
+      only = λ p i.
+          let (t, h) = O .some back p (f .only p i) in
+          let led = turned .there p t (i .member-lt) h in
+          let k = o .all t (occupied-held row t p O none (h .member-lt) led) in
+          record { target = t; in-set = inside t k (in-or-not set t); held = led };
+    }
+      where
+        inside : (t : ℕ) → In own t → In set t ⊎ ¬ (In set t) → In set t
+        inside t k (inl i) = i
+        inside t k (inr d) = absurd (empty t (w .all t (k, d)))
 
 -- The same of the sets of a list.
 pub record UnionTo (sets : List ℕ) (of left found : Set) : Type 0 where

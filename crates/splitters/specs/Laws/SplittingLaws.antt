@@ -15,7 +15,7 @@ use Rattle.splitters.specs.Inner.Partition.{Partition, Split, TwoParts}
 use Rattle.splitters.specs.Inner.Splitting.{LeftOf}
 use Rattle.splitters.specs.Laws.SplitLaws.{SidesKept, split-refl, split-none, split-trans}
 use Rattle.splitters.specs.Laws.SplitLaws.{split-map, split-iff}
-use Rattle.splitters.specs.Laws.WalkLaws.{some-of-not-none}
+use Rattle.sets.specs.Laws.SearchLaws.{some-of-not-none}
 
 -- The states of a class are in its set.
 in-whole : {n c classes : ℕ} {class members : List ℕ} {together whole : Set}

@@ -1,15 +1,16 @@
 -- The actions below a that have steps are held and listed.
 use mathlib.Core.Logic.{⊎-elim}
 use mathlib.Core.Path.{_≡_, refl, subst}
-use Prim.Native.Nat.{ℕ, _-_, _≤_, _<_}
+use Prim.Native.Nat.{ℕ, _*_, _-_, _≤_, _<_}
 use native.Mathlib.Omega.{arith}
 use lib.ListN.{length}
 use borrow.Author.Needs.{needs}
 use Rattle.text.specs.Limits.{actionLimit}
 use Rattle.silent.specs.Labelled.{LabelMove}
 use Rattle.silent.specs.Laws.LabelledLaws.{labelMove-none}
-use Rattle.held.specs.Inner.Slots.{Pooled, HeldTo}
-use Rattle.held.specs.Laws.SlotsLaws.{put-of-set}
+use Rattle.held.specs.Held.{slotPlace}
+use Rattle.held.specs.Inner.Slots.{Pooled, FreeFrom, HeldTo}
+use Rattle.held.specs.Laws.PoolLaws.{put-of-set, freeFrom-le}
 use Rattle.held.specs.Laws.LabelRowsLaws.{labelMove-among}
 use Rattle.held.specs.Laws.HeldToLaws.{heldTo-zero, heldTo-none, heldTo-suc}
 use Rattle.held.proofs.labels.hold_actions.Statement.{statement}
@@ -18,13 +19,16 @@ use Rattle.held.proofs.labels.hold_actions.Tie as tie
 abbrev Inv-loop : tie.InvT-loop
 Inv-loop n from sources targets own there back labels₀ slots₀ pool₀ used₀ count₀ a₀ labels slots pool used count a =
     (a ≤ actionLimit) × HeldTo (LabelMove n from sources targets) a labels count slots pool × Pooled used slots pool
+    × FreeFrom (slotPlace (2 * a) 0) slots
 
 abbrev μ-loop : tie.MeasureT-loop
 μ-loop n from sources targets own there back labels₀ slots₀ pool₀ used₀ count₀ a₀ labels slots pool used count a =
     actionLimit - a
 
 loop-holds : tie.Need-loop-holds Inv-loop μ-loop
-loop-holds c = (omega arith, heldTo-zero, c .pre .1 .1 .1 .1)
+loop-holds c =
+    let P = c .pre .1 .1 .1 .1 in
+    (omega arith, heldTo-zero, P, record { free = λ i l. omega (arith, P .slot-lt i) })
 
 cast-of : tie.Need-cast-of Inv-loop μ-loop
 cast-of c = search needs
@@ -51,7 +55,8 @@ hold-label-requires : tie.Need-hold-label-requires Inv-loop μ-loop
 hold-label-requires c κs =
     let else = c .before .before in
     let in-loop = else .before .before .before .before in
-    let pre = in-loop .before .before .pre in (
+    let pre = in-loop .before .before .pre in
+    let inv = in-loop .before .loop .inv in (
       pre .0,
       (
         pre .1 .0,
@@ -59,7 +64,7 @@ hold-label-requires c κs =
           pre .1 .1 .0,
           (
             pre .1 .1 .1 .0,
-            (in-loop .loop-test .taken, omega (arith, else .if2 .left), in-loop .before .loop .inv .2),
+            (in-loop .loop-test .taken, omega (arith, else .if2 .left), inv .2, inv .3),
           ),
         ),
       ),
@@ -94,11 +99,12 @@ loop-again c =
     let P = put-of-set refl fits (w .6 .ensures) in
     let h = heldTo-suc (inv .1) (labelMove-among (pre .0)) (inv .0) (omega arith) (λ p b q i j m. omega (arith, i, j)) P
     (made .0) (made .1 .0) in
-    rw (w .7, w .8, w .9, w .10, w .11) (omega (arith, l), h, made .1 .1 .1))
+    rw (w .7, w .8, w .9, w .10, w .11) (omega (arith, l), h, made .1 .1 .0, made .1 .1 .1))
     (λ w. rw (w .1, w .2, w .3, w .4, w .5) (
       omega (arith, l),
       heldTo-none (inv .1) (labelMove-none l (w .0 .left)),
       inv .2,
+      freeFrom-le (omega arith) (inv .3),
     ))
     (c .if1 .came)
 
@@ -113,6 +119,7 @@ returns-2 c =
       subst (λ (x : ℕ). HeldTo Move x (at-loop .loop .labels) (at-loop .loop .count) (at-loop .loop .slots)
           (at-loop .loop .pool)) e (inv .1),
       inv .2,
+      freeFrom-le (omega (arith, e)) (inv .3),
     )
 
 pub hold-actions-spec : {M : Type 1} → statement M

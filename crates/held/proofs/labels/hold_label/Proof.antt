@@ -3,6 +3,8 @@ use mathlib.Core.Logic.{inl}
 use native.Mathlib.Omega.{arith}
 use borrow.Author.Needs.{needs}
 use Rattle.silent.specs.Laws.TurnedLaws.{labelList-turned}
+use Rattle.held.specs.Laws.PoolLaws.{freeFrom-le}
+use Rattle.held.specs.Laws.RowsLaws.{targetRow-action}
 use Rattle.held.specs.Laws.LabelRowsLaws.{heldLabel-of-rows, labelsKept-of-rows}
 use Rattle.held.proofs.labels.hold_label.Statement.{statement}
 use Rattle.held.proofs.labels.hold_label.Tie as tie
@@ -16,7 +18,12 @@ low-targets-requires c κs =
     (pre .0, (pre .1 .0, (pre .1 .1 .1 .1 .0, pre .1 .1 .0)))
 
 hold-row-requires : tie.Need-hold-row-requires
-hold-row-requires c κs = search needs
+hold-row-requires c κs =
+    let row = c .before .before .before .before .before in
+    let pre = row .before .pre .1 .1 .1 .1 in
+    let at = row .target-row .ensures in
+    let e = targetRow-action (row .before .args .a .0) (pre .0) in
+    (omega (arith, at .1), omega (arith, pre .1), pre .2, freeFrom-le (omega (arith, e, at .0)) (pre .3))
 
 low-targets-requires-2 : tie.Need-low-targets-requires-2
 low-targets-requires-2 c κs =
@@ -32,7 +39,7 @@ hold-row-requires-2 c κs =
     let row = held .before .before .before .before .before .before in
     let pre = row .before .pre .1 .1 .1 .1 in
     let made = held .hold-row .ensures .1 .1 in
-    (row .target-row .ensures .1, omega (arith, made .1, pre .1), made .2)
+    (row .target-row .ensures .1, omega (arith, made .1, pre .1), made .2, made .3)
 
 returns : tie.Need-returns
 returns c =
@@ -43,10 +50,11 @@ returns c =
     let pre = row .before .pre in
     let e = row .target-row .ensures in
     let first = held .hold-row .ensures in
-    let next = c .hold-row2 .ensures in (
+    let next = c .hold-row2 .ensures in
+    let at = targetRow-action (row .before .args .a .0) (pre .1 .1 .1 .1 .0) in (
       heldLabel-of-rows (pre .0) (e .0) (e .1) (there .low-targets .ensures) (back .low-targets2 .ensures) (first .0)
           (next .1 .0) (next .0),
-      (labelsKept-of-rows (e .0) (first .1 .0) (next .1 .0), (next .1 .1 .2 .some, next .1 .1 .2)),
+      (labelsKept-of-rows (e .0) (first .1 .0) (next .1 .0), (next .1 .1 .2, freeFrom-le (omega (arith, e .0, at)) (next .1 .1 .3))),
     )
 
 pub hold-label-spec : {M : Type 1} → statement M

@@ -4,8 +4,10 @@ use mathlib.Core.Path.{refl}
 use Prim.Native.Nat.{_<_}
 use native.Mathlib.Omega.{arith}
 use borrow.Author.Needs.{needs}
+use Rattle.lts.specs.Weak.{silentLabel}
 use Rattle.silent.specs.Laws.TurnedLaws.{labelList-turned}
-use Rattle.held.specs.Laws.SlotsLaws.{put-of-set}
+use Rattle.held.specs.Laws.PoolLaws.{put-of-set, freeFrom-le}
+use Rattle.held.specs.Laws.RowsLaws.{targetRow-silent}
 use Rattle.held.specs.Laws.LabelRowsLaws.{heldLabel-of-rows, labelsKept-of-rows}
 use Rattle.held.specs.Laws.HeldToLaws.{heldAs-of-silent, heldList-of-silent}
 use Rattle.held.proofs.labels.hold_labels.Statement.{statement}
@@ -75,7 +77,10 @@ hold-row-requires : tie.Need-hold-row-requires
 hold-row-requires c κs =
     let row = c .before .before .before in
     let held = actions row .hold-actions .ensures (some row) in
-    (omega (arith, row .target-row .ensures .1), omega (arith, row .before .if2 .left), held .1)
+    let at = row .target-row .ensures in
+    let e = targetRow-silent silentLabel (omega arith) in
+    let room = row .before .if2 .left in
+    (omega (arith, at .1), omega (arith, room), held .1, freeFrom-le (omega (arith, e, at .0)) (held .2))
 
 add-hold-row : tie.Need-add-hold-row
 add-hold-row c = search needs
@@ -85,7 +90,7 @@ hold-row-requires-2 c κs =
     let first = c .before .before .before in
     let row = first .before .before .before .before in
     let made = first .hold-row .ensures .1 .1 in
-    (row .target-row .ensures .1, omega (arith, row .before .if2 .left, made .1), made .2)
+    (row .target-row .ensures .1, omega (arith, row .before .if2 .left, made .1), made .2, made .3)
 
 cast-put : tie.Need-cast-put
 cast-put c = search needs

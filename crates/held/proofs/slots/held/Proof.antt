@@ -4,7 +4,7 @@ use Prim.Native.Nat.{ℕ}
 use native.Mathlib.Omega.{arith}
 use lib.ListN.{getD}
 use borrow.Author.Needs.{needs}
-use Rattle.held.specs.Laws.SlotsLaws.{setOf-number}
+use Rattle.held.specs.Laws.PoolLaws.{setOf-number}
 use Rattle.held.proofs.slots.held.Statement.{statement}
 use Rattle.held.proofs.slots.held.Tie as tie
 

@@ -49,8 +49,9 @@ loop-less c = search needs
 loop-again : tie.Need-loop-again Inv-loop μ-loop
 loop-again c =
     let row = c .before .before in
+    let at-loop = row .before .before .before in
     let r = ap (λ (x : ℕ). x + 1) (row .target-row .ensures .0) in
-    into-next r (row .before .before .before .loop .inv) (c .note-label .ensures)
+    into-next (at-loop .before .pre .occupied) r (at-loop .loop .inv) (c .note-label .ensures)
 
 returns : tie.Need-returns Inv-loop μ-loop
 returns c = into-end (c .loop-test .left) (c .before .loop .inv)

@@ -1,45 +1,62 @@
--- Each state below q to which moves of the row lead has got the label.
-use mathlib.Core.Logic.{⊎-elim}
+-- Each state of the row's set that is gone through has got the label, and the others are left.
 use Prim.Native.Nat.{_-_}
+use native.Mathlib.Omega.{arith}
 use Rattle.text.specs.Limits.{stateLimit}
-use Rattle.text.specs.Laws.DecidesLaws.{decides-false}
-use Rattle.splitters.specs.Inner.Splitters.{RowNoted}
-use Rattle.splitters.specs.Laws.IncomingLaws.{rowNoted-zero, rowNoted-skip, rowNoted-add, rowNoted-end}
+use Rattle.sets.specs.Inner.SetValues.{Least}
+use Rattle.splitters.specs.Laws.IncomingLaws.{NotedBut, notedBut-start, notedBut-next, rowNoted-end}
+use Rattle.splitters.specs.Laws.WalkLaws.{least-after}
 use borrow.Author.Needs.{needs}
 use Rattle.splitters.proofs.incoming.note_label.Statement.{statement}
 use Rattle.splitters.proofs.incoming.note_label.Tie as tie
 
 abbrev Inv-loop : tie.InvT-loop
-Inv-loop slots row i into₀ q₀ into q = RowNoted slots row i q into₀ into
+Inv-loop pool row i into₀ left₀ q₀ into left q = Least left q × NotedBut pool row i left into₀ into
 
 abbrev μ-loop : tie.MeasureT-loop
-μ-loop slots row i into₀ q₀ into q = stateLimit - q
+μ-loop pool row i into₀ left₀ q₀ into left q = stateLimit - q
+
+-- ---- places of the function
+
+abbrev turn : tie.After-least2 Inv-loop μ-loop → tie.At-loop Inv-loop μ-loop
+turn c = c .before .before .before .before .before
+
+-- ---- needs
+
+occupied-requires : tie.Need-occupied-requires Inv-loop μ-loop
+occupied-requires c κs = search needs
+
+least-requires : tie.Need-least-requires Inv-loop μ-loop
+least-requires c κs = search needs
 
 loop-holds : tie.Need-loop-holds Inv-loop μ-loop
-loop-holds c = rowNoted-zero
-
-is-held-requires : tie.Need-is-held-requires Inv-loop μ-loop
-is-held-requires c κs = search needs
+loop-holds c = (c .least .ensures, notedBut-start (c .before .occupied .ensures))
 
 add-member-requires : tie.Need-add-member-requires Inv-loop μ-loop
 add-member-requires c κs = search needs
 
-add-q : tie.Need-add-q Inv-loop μ-loop
-add-q c = search needs
+drop-least-requires : tie.Need-drop-least-requires Inv-loop μ-loop
+drop-least-requires c κs = search needs
+
+least-requires-2 : tie.Need-least-requires-2 Inv-loop μ-loop
+least-requires-2 c κs = search needs
 
 loop-less : tie.Need-loop-less Inv-loop μ-loop
-loop-less c = search needs
+loop-less c =
+    let inv = turn c .loop .inv .0 in
+    let later = least-after inv (omega arith) (c .before .drop-least .ensures _ inv .only) (c .least2 .ensures) in
+    omega (arith, later, c .least2 .ensures .least-le)
 
 loop-again : tie.Need-loop-again Inv-loop μ-loop
 loop-again c =
-    let inv = c .before .before .before .loop .inv in
-    ⊎-elim
-    (λ w. rw (w .3) (rowNoted-add (w .2 .ensures) inv))
-    (λ w. rw (w .1) (rowNoted-skip (decides-false _ _ (c .before .is-held .ensures) (w .0 .left)) inv))
-    (c .if1 .came)
+    let inv = turn c .loop .inv in (
+      c .least2 .ensures,
+      notedBut-next (inv .1) (c .before .before .add-member .ensures) (c .before .drop-least .ensures _ (inv .0)),
+    )
 
 returns : tie.Need-returns Inv-loop μ-loop
-returns c = rowNoted-end (c .loop-test .left) (c .before .loop .inv)
+returns c =
+    let inv = c .before .loop .inv in
+    rowNoted-end (inv .1) (inv .0) (omega arith)
 
 pub note-label-spec : {M : Type 1} → statement M
 note-label-spec =
@@ -47,10 +64,12 @@ note-label-spec =
     (tie.spec
     Inv-loop
     μ-loop
+    occupied-requires
+    least-requires
     loop-holds
-    is-held-requires
     add-member-requires
-    add-q
+    drop-least-requires
+    least-requires-2
     loop-less
     loop-again
     returns)

@@ -1,17 +1,17 @@
 -- The word of x takes the bit of x.
-use mathlib.Core.Path.{ap}
-use Prim.Native.Nat.{ℕ, _+_, _/_, _%_, _<_}
+use mathlib.Core.Path.{refl}
+use Prim.Native.Nat.{_+_, _*_, _/_, _%_, _<_}
 use native.Mathlib.Omega.{arith}
 use lib.ListN.{length}
 use Rattle.sets.specs.Inner.Sets.{wordBits}
 use Rattle.sets.specs.Laws.BitsLaws.{one-shl}
 use Rattle.sets.specs.Laws.SetsLaws.{joined-one}
 use borrow.Author.Needs.{needs}
-use Rattle.sets.proofs.add_member.Statement.{statement}
-use Rattle.sets.proofs.add_member.Tie as tie
+use Rattle.sets.proofs.set.insert.Statement.{statement}
+use Rattle.sets.proofs.set.insert.Tie as tie
 
-word-place-requires : tie.Need-word-place-requires
-word-place-requires c κs = search needs
+mul-at : tie.Need-mul-at
+mul-at c = search needs
 
 cast-at : tie.Need-cast-at
 cast-at c = search needs
@@ -39,17 +39,16 @@ same-length c = search needs
 
 returns : tie.Need-returns
 returns c =
-    let start = c .before .before .before in
-    let at = c .before .word-place in
-    let e = ap (λ (x : ℕ). x + start .args .x / wordBits) (at .ensures) in
-    let l : at .result + start .args .x / wordBits < length (start .args .sets .now) = omega arith in
-    rw (one-shl (start .args .x % wordBits) (omega arith)) (joined-one e (start .pre .1 .1) l)
+    let start = c .before in
+    let x = start .args .x in
+    let l : 2 * start .args .k + x / wordBits < length (start .args .sets .now) = omega arith in
+    rw (one-shl (x % wordBits) (omega arith)) (joined-one refl (start .pre .1) l)
 
-pub add-member-spec : {M : Type 1} → statement M
-add-member-spec =
+pub insert-spec : {M : Type 1} → statement M
+insert-spec =
     tie.close
     (tie.spec
-    word-place-requires
+    mul-at
     cast-at
     add-at
     cast-bit
