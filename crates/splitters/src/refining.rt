@@ -1,8 +1,8 @@
 // One round's work on a partition: it is split by the moves with each label to each new class.
 use crate::Parts;
 use crate::dividing::split;
-use crate::leading::joint;
 use crate::leading::leading;
+use crate::leading::sources;
 use crate::leading::union;
 use comparing::lists::wide;
 use held::LABEL_COUNT;
@@ -22,7 +22,8 @@ use text::limits::ROW;
 ghost use Prim.Native.Nat.{ℕ, _+_, _≤_, _<_};
 ghost use lib.ListN.{getD};
 ghost use Rattle.text.specs.Limits.{stateLimit};
-ghost use Rattle.held.specs.Held.{rowCount, poolSets, Turned, HeldList};
+ghost use Rattle.sets.specs.Inner.Sets.{Member};
+ghost use Rattle.held.specs.Held.{rowCount, poolSets, Turned, Occupied, HeldList};
 ghost use Rattle.splitters.specs.Inner.Partition.{Partition, SplitTwice};
 ghost use Rattle.splitters.specs.Inner.Splitters.{LeadsInto, Into, UsedClass, UsedLabels, UsedSplit, Fresh};
 
@@ -45,13 +46,14 @@ fn split_moves(
     requires { ⌜ Partition n (now class) (now members) (parts .classes) (parts .together) ⌝ }
     requires { ⌜ (row + 1 < rowCount) × ((i : ℕ) → getD (now slots) i 0 < poolSets) ⌝ }
     requires { ⌜ Turned (now slots) (now pool) row (row + 1) ⌝ }
+    requires { ⌜ Occupied (now slots) (now pool) × ((x : ℕ) → ¬ (Member (now pool) 0 x)) ⌝ }
     ensures { λ r. ⌜ Partition n (now (class .exit)) (now (members .exit)) (r .classes) (r .together)
         × (parts .classes ≤ r .classes) ⌝ }
     ensures { λ r. ⌜ SplitTwice n old (LeadsInto (now (slots .entry)) (now (pool .entry)) row fresh)
         (LeadsInto (now (slots .entry)) (now (pool .entry)) row rest) (now (class .entry)) (now (origin .entry))
         (now (class .exit)) (now (origin .exit)) ⌝ }
 {
-    let from = both(joint(slots, pool, row + 1, fresh), parts.together);
+    let from = both(sources(slots, pool, row, fresh), parts.together);
     if is_empty(from) {
         return parts;
     }

@@ -26,7 +26,7 @@ ghost use Rattle.held.specs.Held.{HeldList, HeldMove};
 ghost use Rattle.ranking.specs.Inner.TableWrites.{SeparatedBy};
 ghost use Rattle.splitters.specs.Inner.Partition.{ClassSets};
 ghost use Rattle.books.specs.Inner.Filling.{EntryWritten};
-ghost use Rattle.weak_books.specs.Inner.Bounds.{labelLimit};
+ghost use Rattle.held.specs.HeldTests.{labelLimit};
 ghost use Rattle.weak_books.specs.Inner.Entering.{openingEntry, PairEntered, Entered, Beside, Parted};
 
 // Writes the entry of p and q: the first side opens, or where it cannot, the second.

@@ -19,7 +19,7 @@ ghost use lib.ListN.{getD};
 ghost use Rattle.text.specs.Limits.{stateLimit};
 ghost use Rattle.held.specs.Held.{rowCount, poolSets, HeldAt, HeldList, HeldMove};
 ghost use Rattle.splitters.specs.Inner.Partition.{ClassSets};
-ghost use Rattle.weak_books.specs.Inner.Bounds.{labelLimit};
+ghost use Rattle.held.specs.HeldTests.{labelLimit};
 ghost use Rattle.weak_books.specs.Inner.OpensTo.{LowestTo};
 ghost use Rattle.weak_books.specs.Inner.Entering.{Apart, FirstApart};
 

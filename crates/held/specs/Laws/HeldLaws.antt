@@ -16,7 +16,7 @@ use Rattle.lts.specs.Weak.{silentLabel}
 use Rattle.text.specs.Limits.{stateLimit, actionLimit}
 use Rattle.sets.specs.Inner.Sets.{wordBits, Member}
 use Rattle.held.specs.Held.{LabelIn, slotPlace, targetRow, HeldAt, HeldList, HeldMove}
-use Rattle.held.specs.HeldTests.{member?, labelIn?, heldMove?, heldRound}
+use Rattle.held.specs.HeldTests.{member?, labelIn?, heldMove?, labelLimit, heldRound}
 
 -- ---- tests
 

@@ -11,7 +11,7 @@ use Rattle.text.specs.Limits.{stateLimit, pairPlace, bookLength}
 use Rattle.text.specs.Lists.{Past}
 use Rattle.sets.specs.Inner.Sets.{Member}
 use Rattle.books.specs.Books.{entryNumber}
-use Rattle.weak_books.specs.Inner.Bounds.{labelLimit}
+use Rattle.held.specs.HeldTests.{labelLimit}
 use Rattle.weak_books.specs.Inner.OpensTo.{OpensTo, LowestTo}
 
 -- ---- one label, by sets: set p of the keys has the targets of p, and set t of the lower ones what is lower beside t

@@ -5,7 +5,7 @@ use Prim.Native.Nat.{ℕ, _<_}
 use native.Mathlib.Omega.{arith}
 use Rattle.lts.specs.Weak.{silentLabel}
 use Rattle.text.specs.Limits.{actionLimit}
-use Rattle.weak_books.specs.Inner.Bounds.{labelLimit}
+use Rattle.held.specs.HeldTests.{labelLimit}
 
 pub label-lt : {a : ℕ} → (a < actionLimit) ⊎ (a ≡ silentLabel) → a < labelLimit
 label-lt (inl l) = omega (arith, l)

@@ -14,7 +14,7 @@ use Rattle.ranking.specs.Table.{Ranks}
 use Rattle.sets.specs.Inner.Sets.{Member}
 use Rattle.books.specs.Books.{entryNumber}
 use Rattle.books.specs.Inner.Filling.{BookEmpty}
-use Rattle.weak_books.specs.Inner.Bounds.{labelLimit}
+use Rattle.held.specs.HeldTests.{labelLimit}
 use Rattle.weak_books.specs.Inner.RankSets.{AtRank, LowerSets}
 use Rattle.weak_books.specs.Inner.Opened.{OpenedBelow, none, OpenedTo, OnlyAt, OpenedBefore}
 use Rattle.weak_books.specs.Laws.OpenedLaws.{openedBelow-same}

@@ -21,7 +21,7 @@ use Rattle.books.specs.Books.{entryNumber, BookFilled}
 use Rattle.books.specs.Inner.Filling.{PairOwn}
 use Rattle.silent.specs.Labelled.{LabelList, LabelMove}
 use Rattle.silent.specs.Laws.LabelledLaws.{labelMove-label}
-use Rattle.weak_books.specs.Inner.Bounds.{labelLimit}
+use Rattle.held.specs.HeldTests.{labelLimit}
 use Rattle.weak_books.specs.Inner.Opened.{OpenedBelow, none, first, OpenedBefore}
 use Rattle.weak_books.specs.Inner.Turned.{EntryTurned, AllTurned}
 use Rattle.weak_books.specs.Laws.BoundsLaws.{label-lt}

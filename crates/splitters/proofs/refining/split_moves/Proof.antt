@@ -26,15 +26,12 @@ cut : (c : tie.After-is-empty) → CutTo (begin c .args .n) (begin c .args .clas
     (c .before .both .result)
 cut c =
     let P = begin c .pre in
-    cutTo-fresh (P .1 .1 .1) (P .0 .0) (P .1 .0) (c .before .before .joint .ensures) (c .before .both .ensures)
+    cutTo-fresh (P .1 .1 .1 .0) (P .0 .0) (P .1 .0) (c .before .before .sources .ensures) (c .before .both .ensures)
 
 -- ---- needs
 
-add-joint : tie.Need-add-joint
-add-joint c = search needs
-
-joint-requires : tie.Need-joint-requires
-joint-requires c κs = search needs
+sources-requires : tie.Need-sources-requires
+sources-requires c κs = search needs
 
 both-requires : tie.Need-both-requires
 both-requires c κs = search needs
@@ -76,7 +73,7 @@ add-leading c = omega (arith, begin (tested (split-at (c .before .before))) .pre
 leading-requires : tie.Need-leading-requires
 leading-requires c κs =
     let P = begin (tested (split-at (c .before .before))) .pre .1 .1 in
-    ((omega (arith, P .0 .0), omega (arith, P .0 .0), P .0 .1), P .1)
+    ((omega (arith, P .0 .0), omega (arith, P .0 .0), P .0 .1), P .1 .0)
 
 split-requires-2 : tie.Need-split-requires-2
 split-requires-2 c κs =
@@ -101,8 +98,7 @@ pub split-moves-spec : {M : Type 1} → statement M
 split-moves-spec =
     tie.close
     (tie.spec
-    add-joint
-    joint-requires
+    sources-requires
     both-requires
     is-empty-requires
     returns
