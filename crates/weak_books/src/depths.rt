@@ -31,12 +31,14 @@ ghost use Rattle.text.specs.Decides.{Decides};
 ghost use Rattle.text.specs.Limits.{stateLimit, actionLimit, tableLength, bookLength};
 ghost use Rattle.books.specs.Books.{entryNumber, bookOf};
 ghost use Rattle.books.specs.Checks.{checkedOutcome, CheckDone};
-ghost use Rattle.held.specs.Held.{labelCount, rowCount, poolSets, HeldList, HeldMove};
+ghost use Rattle.sets.specs.Inner.Sets.{Member};
+ghost use Rattle.held.specs.Held.{labelCount, rowCount, poolSets, HeldAt, HeldList, HeldMove};
 ghost use Rattle.weak_books.specs.Inner.Depths.{depthCount, OnChain, AtDepth, Chained, LowerBy};
-ghost use Rattle.weak_books.specs.Inner.Depths.{LowerAdded, OpensIn, FirstOf, Flagged};
+ghost use Rattle.weak_books.specs.Inner.Depths.{LowerAdded, FirstOf, Flagged};
+ghost use Rattle.weak_books.specs.Inner.OpensTo.{OpensTo};
 
 // One place for each value of a byte.
-const BYTE_VALUES: usize = 256;
+pub const BYTE_VALUES: usize = 256;
 
 // So many answers are tested one by one no slower than by sets.
 const FEW: u32 = 3;
@@ -66,7 +68,7 @@ fn chain_entries(book: &[u8], head: &mut [u16; BYTE_VALUES], link: &mut [u16; TA
 }
 
 // Flags the labels of the list.
-fn flag_labels(labels: &[u16; LABEL_COUNT], count: u16, flags: &mut [u16; BYTE_VALUES])
+pub fn flag_labels(labels: &[u16; LABEL_COUNT], count: u16, flags: &mut [u16; BYTE_VALUES])
     requires { ⌜ (count ≤ labelCount) × ((i : ℕ) → i < count → getD (now labels) i 0 < depthCount)
         × ((a : ℕ) → getD (now flags) a 0 ≡ 0) ⌝ }
     ensures { λ _. ⌜ Flagged (now (labels .entry)) count (now (flags .exit)) ⌝ }
@@ -89,8 +91,8 @@ fn opens(
 ) -> bool
     requires { ⌜ (p .0 < stateLimit) × (q .0 < stateLimit) × (row < rowCount)
         × ((i : ℕ) → getD (now slots) i 0 < poolSets) ⌝ }
-    ensures { λ r. ⌜ Decides r (OpensIn (now (slots .entry)) (now (pool .entry)) row (now (lower .entry)) (p .0) (q .0)
-        (t .0)) ⌝ }
+    ensures { λ r. ⌜ Decides r (OpensTo (HeldAt (now (slots .entry)) (now (pool .entry)) row)
+        (Member (now (lower .entry))) (p .0) (q .0) (t .0)) ⌝ }
 {
     if t.0 >= STATE_LIMIT {
         return false;

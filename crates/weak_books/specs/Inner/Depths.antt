@@ -9,7 +9,6 @@ use Rattle.lts.specs.Book.{Present, LowerEntry, SoundAt}
 use Rattle.text.specs.Limits.{stateLimit, pairPlace}
 use Rattle.books.specs.Books.{entryNumber, bookOf}
 use Rattle.sets.specs.Inner.Sets.{Member}
-use Rattle.held.specs.Held.{HeldAt}
 
 -- The depths that a byte can have.
 abbrev pub depthCount : ℕ
@@ -42,11 +41,6 @@ pub record Pairs (R : Relation) (sets : List ℕ) : Type 0 where
 pub record LowerBy (book : List ℕ) (depth : ℕ) (there back : List ℕ) : Type 0 where
   pub firsts : Pairs (LowerEntry (bookOf book) depth) there
   pub seconds : Pairs (λ t u. LowerEntry (bookOf book) depth u t) back
-
--- p opens to t against q in this row: each answer is a member of set t of the lower ones.
-pub record OpensIn (slots pool : List ℕ) (row : ℕ) (lower : List ℕ) (p q t : ℕ) : Type 0 where
-  pub opening : HeldAt slots pool row p t
-  pub answers : (u : ℕ) → HeldAt slots pool row q u → Member lower t u
 
 -- Both lists have got the pair of entry k if P holds of it, and no other member.
 pub record LowerAdded (P : ℕ → Type 0) (there back there′ back′ : List ℕ) : Type 0 where
