@@ -68,7 +68,7 @@ fn chain_entries(book: &[u8], head: &mut [u16; BYTE_VALUES], link: &mut [u16; TA
 }
 
 // Flags the labels of the list.
-fn flag_labels(labels: &[u16; LABEL_COUNT], count: u16, flags: &mut [u16; BYTE_VALUES])
+pub fn flag_labels(labels: &[u16; LABEL_COUNT], count: u16, flags: &mut [u16; BYTE_VALUES])
     requires { ⌜ (count ≤ labelCount) × ((i : ℕ) → i < count → getD (now labels) i 0 < byteValues)
         × ((a : ℕ) → getD (now flags) a 0 ≡ 0) ⌝ }
     ensures { λ _. ⌜ Flagged (now (labels .entry)) count (now (flags .exit)) ⌝ }

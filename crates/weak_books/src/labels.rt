@@ -1,9 +1,10 @@
-// Table and book of steps by label, and the test of a book: by sets, or label by label where these have no room, and
-// the test also where no opening has many answers.
+// Table and book of steps by label, and the test of a book: by sets, or label by label where these have no room. By
+// sets a book is tested depth by depth where an opening has many answers, and else entry by entry.
 use crate::book::fill_label_book;
 use crate::check::check_label_book;
 use crate::depths::check_held_book;
 use crate::depths::is_wide;
+use crate::entries::check_entries;
 use crate::filling::fill_held_book;
 use books::check::Checked;
 use held::LABEL_COUNT;
@@ -87,6 +88,7 @@ pub fn check_books(
         if is_wide(n, &labels, count, &slots, &pool) {
             return check_held_book(n, &labels, count, &slots, &pool, book);
         }
+        return check_entries(n, &labels, count, &slots, &pool, book);
     }
     check_label_book(n, from, sources, targets, book)
 }

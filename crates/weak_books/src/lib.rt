@@ -4,6 +4,7 @@ pub mod book;
 pub mod check;
 pub mod depths;
 pub mod entering;
+pub mod entries;
 pub mod filling;
 pub mod firsts;
 pub mod labels;

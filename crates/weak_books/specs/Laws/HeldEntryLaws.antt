@@ -1,6 +1,7 @@
--- An entry is tested by sets: its action is a listed label, and each answer to its opening is one of the lower ones.
+-- An entry is tested by the moves as sets: its action is a listed label, and each answer to its opening leads to an
+-- entry of lower depth.
 -- Document 02, (v) and (vii). Assumes nothing.
-use mathlib.Core.Bool.{Bool}
+use mathlib.Core.Bool.{Bool, true, false}
 use mathlib.Core.List.{List}
 use mathlib.Core.Logic.{_⊎_, inl, inr}
 use mathlib.Core.Path.{_≡_, sym, ap, _∙_, subst}
@@ -16,7 +17,8 @@ use Rattle.text.specs.Decides.{Decides}
 use Rattle.text.specs.Limits.{stateLimit, actionLimit, tableLength}
 use Rattle.text.specs.Laws.DecidesLaws.{decides-iff}
 use Rattle.books.specs.Books.{entryNumber, bookOf}
-use Rattle.books.specs.Laws.EntryLaws.{bookOf-number, bad-side, sound-first, sound-second}
+use Rattle.books.specs.Inner.Sides.{BySide}
+use Rattle.books.specs.Laws.EntryLaws.{bookOf-number, sound-absent, bad-side, sound-first, sound-second}
 use Rattle.sets.specs.declared.set.Set.{Set}
 use Rattle.sets.specs.Inner.Sets.{Member}
 use Rattle.sets.specs.Inner.SetValues.{In, SetOf}
@@ -54,22 +56,33 @@ module _ {labels slots pool : List ℕ} {count row a : ℕ} (listed : LabelIn la
   held-of-move : {p q : ℕ} → HeldMove labels count slots pool p a q → HeldAt slots pool row p q
   held-of-move {p} {q} m = subst (λ (y : ℕ). HeldAt slots pool y p q) (sym row-is) (m .held)
 
-  -- Set t of the lower ones has what t leads to.
-  opens-of-held : {lower : List ℕ} {Leads : Relation} {p q t : ℕ} → Pairs Leads lower → p < stateLimit
-      → OpensTo (HeldAt slots pool row) (Member lower) p q t → Opens (HeldMove labels count slots pool) Leads p q a t
-  opens-of-held {t = t} L lp o = record {
+  opens-of-held : {Leads : Relation} {p q t : ℕ} → p < stateLimit → OpensTo (HeldAt slots pool row) Leads p q t
+      → Opens (HeldMove labels count slots pool) Leads p q a t
+  opens-of-held lp o = record {
     opening = move-of-held lp (o .opening);
-    answers = λ u m. L .only t u (o .opening .member-lt) (o .answers u (held-of-move m));
+    answers = λ u m. o .answers u (held-of-move m);
   }
 
-  held-of-opens : {lower : List ℕ} {Leads : Relation} {p q t : ℕ} → Pairs Leads lower → q < stateLimit
-      → Opens (HeldMove labels count slots pool) Leads p q a t → OpensTo (HeldAt slots pool row) (Member lower) p q t
-  held-of-opens {t = t} L lq o =
-      let h = held-of-move (o .opening) in
-      record {
-        opening = h;
-        answers = λ u m. L .all t u (h .member-lt) (m .member-lt) (o .answers u (move-of-held lq m));
-      }
+  held-of-opens : {Leads : Relation} {p q t : ℕ} → q < stateLimit
+      → Opens (HeldMove labels count slots pool) Leads p q a t → OpensTo (HeldAt slots pool row) Leads p q t
+  held-of-opens lq o = record {
+    opening = held-of-move (o .opening);
+    answers = λ u m. o .answers u (move-of-held lq m);
+  }
+
+-- Set t of the lower ones has what t leads to.
+module _ (slots pool : List ℕ) (row : ℕ) {lower : List ℕ} {Leads : Relation} (L : Pairs Leads lower) {p q t : ℕ} where
+  leads-of-lower : OpensTo (HeldAt slots pool row) (Member lower) p q t → OpensTo (HeldAt slots pool row) Leads p q t
+  leads-of-lower o = record {
+    opening = o .opening;
+    answers = λ u m. L .only t u (o .opening .member-lt) (o .answers u m);
+  }
+
+  lower-of-leads : OpensTo (HeldAt slots pool row) Leads p q t → OpensTo (HeldAt slots pool row) (Member lower) p q t
+  lower-of-leads o = record {
+    opening = o .opening;
+    answers = λ u m. L .all t u (o .opening .member-lt) (m .member-lt) (o .answers u m);
+  }
 
 -- ---- flags
 
@@ -156,21 +169,40 @@ module _ (labels : List ℕ) (count : ℕ) (slots pool book : List ℕ) (k : ℕ
       → getD flags a 0 ≡ 0 → ¬ (SoundAt Move (bookOf book) p q)
   entry-unflagged F = unflagged-bad (bookOf book) p q read F entry-is
 
+  pub entry-absent : entryNumber book k .side ≡ 0 → SoundAt Move (bookOf book) p q
+  entry-absent = sound-absent Move (bookOf book) p q read entry-is
+
+  -- The first side opens, or the second: whether it does was decided by the entries of lower depth,
+  module _ {row : ℕ} (l : k < tableLength) (listed : LabelIn labels count a)
+      (row-is : row ≡ targetRow a) (r : Bool) where
+    pub entry-first-opens : entryNumber book k .side ≡ 1
+        → Decides r (OpensTo (HeldAt slots pool row)
+        (BySide true (LowerEntry (bookOf book) (entryNumber book k .depth))) p q t)
+        → Decides r (SoundAt Move (bookOf book) p q)
+    entry-first-opens s d = sound-first Move (bookOf book) p q read entry-is s r
+        (decides-iff r (opens-of-held listed row-is (omega (arith, l))) (held-of-opens listed row-is (omega arith)) d)
+
+    pub entry-second-opens : entryNumber book k .side ≡ 2
+        → Decides r (OpensTo (HeldAt slots pool row)
+        (BySide false (LowerEntry (bookOf book) (entryNumber book k .depth))) q p t)
+        → Decides r (SoundAt Move (bookOf book) p q)
+    entry-second-opens s d = sound-second Move (bookOf book) p q read entry-is s r
+        (decides-iff r (opens-of-held listed row-is (omega arith)) (held-of-opens listed row-is (omega (arith, l))) d)
+
+  -- or by their sets.
   pub entry-first : {there back : List ℕ} {row : ℕ} → entryNumber book k .side ≡ 1 → k < tableLength
       → LabelIn labels count a → row ≡ targetRow a
       → LowerBy book (entryNumber book k .depth) there back → (r : Bool)
       → Decides r (OpensTo (HeldAt slots pool row) (Member there) p q t) → Decides r (SoundAt Move (bookOf book) p q)
-  entry-first s l listed row-is L r d = sound-first Move (bookOf book) p q read entry-is s r
-      (decides-iff r (opens-of-held listed row-is (L .firsts) (omega (arith, l)))
-      (held-of-opens listed row-is (L .firsts) (omega arith)) d)
+  entry-first {row = row} s l listed row-is L r d = entry-first-opens l listed row-is r s
+      (decides-iff r (leads-of-lower slots pool row (L .firsts)) (lower-of-leads slots pool row (L .firsts)) d)
 
   pub entry-second : {there back : List ℕ} {row : ℕ} → entryNumber book k .side ≡ 2 → k < tableLength
       → LabelIn labels count a → row ≡ targetRow a
       → LowerBy book (entryNumber book k .depth) there back → (r : Bool)
       → Decides r (OpensTo (HeldAt slots pool row) (Member back) q p t) → Decides r (SoundAt Move (bookOf book) p q)
-  entry-second s l listed row-is L r d = sound-second Move (bookOf book) p q read entry-is s r
-      (decides-iff r (opens-of-held listed row-is (L .seconds) (omega arith))
-      (held-of-opens listed row-is (L .seconds) (omega (arith, l))) d)
+  entry-second {row = row} s l listed row-is L r d = entry-second-opens l listed row-is r s
+      (decides-iff r (leads-of-lower slots pool row (L .seconds)) (lower-of-leads slots pool row (L .seconds)) d)
 
   pub entry-other : Present (entryNumber book k) → ¬ (entryNumber book k .side ≡ 1) → ¬ (entryNumber book k .side ≡ 2)
       → ¬ (SoundAt Move (bookOf book) p q)

@@ -31,11 +31,22 @@ returns c =
     let some = c .before .before .before .before .before .before .before .before .before in
     checkDone-of-held (some .before .hold-labels .ensures .1 (some .if1 .taken)) (c .check-held-book .ensures)
 
+check-entries-requires : tie.Need-check-entries-requires
+check-entries-requires c κs =
+    let some = c .before .before .before .before .before .before .before .before in
+    let held = some .before in
+    (held .hold-labels .ensures .0 (some .if1 .taken), held .before .before .before .before .before .pre .1)
+
+returns-2 : tie.Need-returns-2
+returns-2 c =
+    let some = c .before .before .before .before .before .before .before .before .before in
+    checkDone-of-held (some .before .hold-labels .ensures .1 (some .if1 .taken)) (c .check-entries .ensures)
+
 check-label-book-requires : tie.Need-check-label-book-requires
 check-label-book-requires c κs = search needs
 
-returns-2 : tie.Need-returns-2
-returns-2 c = search needs
+returns-3 : tie.Need-returns-3
+returns-3 c = search needs
 
 pub check-books-spec : {M : Type 1} → statement M
 check-books-spec =
@@ -45,5 +56,7 @@ check-books-spec =
     is-wide-requires
     check-held-book-requires
     returns
+    check-entries-requires
+    returns-2
     check-label-book-requires
-    returns-2)
+    returns-3)
