@@ -12,4 +12,3 @@ pub mod RoundLaws
 pub mod SplitLaws
 pub mod SplittingLaws
 pub mod StableLaws
-pub mod WalkLaws

@@ -2,12 +2,11 @@
 -- Assumes nothing.
 use mathlib.Core.Logic.{_⊎_, inl, inr}
 use mathlib.Core.Path.{_≡_, sym, subst}
-use Prim.Native.Nat.{ℕ, zero, suc, _≤_, _<_}
+use Prim.Native.Nat.{ℕ, _-_, _≤_, _<_}
 use native.Mathlib.Omega.{arith}
 use Rattle.text.specs.Limits.{stateLimit}
-use Rattle.lts.specs.TestsLaws.{lt-suc-cases, lt-or-le}
+use Rattle.lts.specs.TestsLaws.{lt-or-le}
 use Rattle.sets.specs.Inner.SetValues.{In, SetOf, Least}
-use Rattle.sets.specs.Laws.SetValuesLaws.{in-or-not}
 use Rattle.sets.specs.declared.set.Set.{Set}
 
 -- The least member of what is left comes later,
@@ -27,28 +26,11 @@ pub least-rises : {a gone b : Set} {x y : ℕ} → Least a x → In gone x → S
 least-rises {gone = gone} h g s =
     least-after h (g .member-lt) (λ z i. (s .only z i .0, λ e. s .only z i .1 (subst (In gone) (sym e) g)))
 
--- The walk is at its end.
+-- The walk comes nearer to its end,
+pub walk-nearer : {a b : Set} {x y : ℕ} → Least a x → x < stateLimit → SetOf (λ z. In a z × ¬ (z ≡ x)) b → Least b y
+    → stateLimit - y < stateLimit - x
+walk-nearer h l s k = omega (arith, least-after h l (s .only) k, l)
+
+-- and is there.
 pub none-of-least : {s : Set} {x : ℕ} → Least s x → stateLimit ≤ x → (y : ℕ) → ¬ (In s y)
 none-of-least h l y m = h .none-before y (omega (arith, l, m .member-lt)) m
-
--- A set that is not without members has one.
-pub some-of-not-none : (s : Set) → ¬ ((x : ℕ) → ¬ (In s x)) → (x : ℕ) × In s x
-some-of-not-none s f = last (search-to stateLimit)
-  where
-    search-to : (m : ℕ) → ((x : ℕ) × In s x) ⊎ ((x : ℕ) → x < m → ¬ (In s x))
-    search-to zero = inr (λ x l. absurd (omega (arith, l)))
-    search-to (suc m) = go (search-to m) (in-or-not s m)
-      where
-        go : ((x : ℕ) × In s x) ⊎ ((x : ℕ) → x < m → ¬ (In s x)) → In s m ⊎ ¬ (In s m)
-            → ((x : ℕ) × In s x) ⊎ ((x : ℕ) → x < suc m → ¬ (In s x))
-        go (inl h) _ = inl h
-        go (inr h) (inl i) = inl (m, i)
-        go (inr h) (inr d) = inr (λ x l. below x (lt-suc-cases l))
-          where
-            below : (x : ℕ) → (x ≡ m) ⊎ (x < m) → ¬ (In s x)
-            below x (inl e) i = d (subst (In s) e i)
-            below x (inr l) i = h x l i
-
-    last : ((x : ℕ) × In s x) ⊎ ((x : ℕ) → x < stateLimit → ¬ (In s x)) → (x : ℕ) × In s x
-    last (inl h) = h
-    last (inr h) = absurd (f (λ x i. h x (i .member-lt) i))

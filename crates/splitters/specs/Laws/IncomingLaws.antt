@@ -12,7 +12,7 @@ use Rattle.sets.specs.Inner.SetValues.{In, SetOf, Least}
 use Rattle.sets.specs.declared.set.Set.{Set}
 use Rattle.held.specs.Held.{rowSet, slotPlace, sourceRow, Occupied}
 use Rattle.splitters.specs.Inner.Splitters.{Into, RowNoted}
-use Rattle.splitters.specs.Laws.WalkLaws.{none-of-least}
+use Rattle.sets.specs.Laws.WalkLaws.{none-of-least}
 
 -- ---- one label
 

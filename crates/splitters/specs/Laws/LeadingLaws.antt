@@ -14,7 +14,7 @@ use Rattle.sets.specs.declared.set.Set.{Set}
 use Rattle.held.specs.Held.{rowSet, HeldAt, Turned, Occupied}
 use Rattle.held.specs.Laws.OccupiedLaws.{occupied-held}
 use Rattle.splitters.specs.Inner.Splitters.{InSome, LeadsInto, LedFrom}
-use Rattle.splitters.specs.Laws.WalkLaws.{none-of-least}
+use Rattle.sets.specs.Laws.WalkLaws.{none-of-least}
 
 -- ---- all that members of a set have
 

@@ -16,7 +16,7 @@ use Rattle.sets.specs.Laws.SetValuesLaws.{in-or-not}
 use Rattle.sets.specs.declared.set.Set.{Set}
 use Rattle.held.specs.Held.{targetRow, HeldAt, HeldList, HeldMove}
 use Rattle.splitters.specs.Inner.Partition.{ClassSets}
-use Rattle.splitters.specs.Laws.WalkLaws.{least-rises}
+use Rattle.sets.specs.Laws.WalkLaws.{least-rises}
 use Rattle.weak_books.specs.declared.opening.Opening.{Opening}
 use Rattle.weak_books.specs.Inner.Entering.{Apart, NoneOpens, Tried, FirstApart}
 use Rattle.weak_books.specs.Inner.OpensTo.{OpensTo, LowestTo}

@@ -5,7 +5,7 @@ use native.Mathlib.Omega.{arith}
 use Rattle.text.specs.Limits.{stateLimit}
 use Rattle.sets.specs.Inner.SetValues.{Least}
 use Rattle.splitters.specs.Inner.Partition.{Moved}
-use Rattle.splitters.specs.Laws.WalkLaws.{walk-nearer, none-of-least}
+use Rattle.sets.specs.Laws.WalkLaws.{walk-nearer, none-of-least}
 use Rattle.splitters.specs.Laws.DividingLaws.{moved-none, moved-other}
 use borrow.Author.Needs.{needs}
 use Rattle.splitters.proofs.dividing.move_states.Statement.{statement}

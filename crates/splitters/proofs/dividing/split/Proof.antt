@@ -9,7 +9,7 @@ use Rattle.splitters.specs.Inner.Splitting.{LeftOf}
 use Rattle.splitters.specs.Laws.SplitLaws.{split-none}
 use Rattle.splitters.specs.Laws.SplittingLaws.{leftOf-together, split-together, class-of-left-lt}
 use Rattle.splitters.specs.Laws.SplittingLaws.{whole-has, leftOf-less, split-less}
-use Rattle.splitters.specs.Laws.WalkLaws.{least-rises, none-of-least}
+use Rattle.sets.specs.Laws.WalkLaws.{least-rises, none-of-least}
 use borrow.Author.Needs.{needs}
 use Rattle.splitters.proofs.dividing.split.Statement.{statement}
 use Rattle.splitters.proofs.dividing.split.Tie as tie

@@ -4,7 +4,7 @@ use native.Mathlib.Omega.{arith}
 use Rattle.text.specs.Limits.{stateLimit}
 use Rattle.sets.specs.Inner.SetValues.{Least}
 use Rattle.splitters.specs.Laws.IncomingLaws.{NotedBut, notedBut-start, notedBut-next, rowNoted-end}
-use Rattle.splitters.specs.Laws.WalkLaws.{least-after}
+use Rattle.sets.specs.Laws.WalkLaws.{least-after}
 use borrow.Author.Needs.{needs}
 use Rattle.splitters.proofs.incoming.note_label.Statement.{statement}
 use Rattle.splitters.proofs.incoming.note_label.Tie as tie

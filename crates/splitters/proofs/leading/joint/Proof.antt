@@ -4,7 +4,7 @@ use native.Mathlib.Omega.{arith}
 use Rattle.text.specs.Limits.{stateLimit}
 use Rattle.sets.specs.Inner.SetValues.{Least}
 use Rattle.splitters.specs.Laws.LeadingLaws.{JointTo, jointTo-start, jointTo-next, jointTo-end}
-use Rattle.splitters.specs.Laws.WalkLaws.{least-after}
+use Rattle.sets.specs.Laws.WalkLaws.{least-after}
 use borrow.Author.Needs.{needs}
 use Rattle.splitters.proofs.leading.joint.Statement.{statement}
 use Rattle.splitters.proofs.leading.joint.Tie as tie

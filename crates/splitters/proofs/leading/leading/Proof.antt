@@ -6,7 +6,7 @@ use Rattle.text.specs.Limits.{stateLimit}
 use Rattle.sets.specs.Inner.SetValues.{Least}
 use Rattle.splitters.specs.Laws.LeadingLaws.{LeadingTo, leadingTo-start, leadingTo-next, leadingTo-end}
 use Rattle.splitters.specs.Laws.LeadingLaws.{Tells, tells-none, tells-some, tells-eq}
-use Rattle.splitters.specs.Laws.WalkLaws.{least-after}
+use Rattle.sets.specs.Laws.WalkLaws.{least-after}
 use borrow.Author.Needs.{needs}
 use Rattle.splitters.proofs.leading.leading.Statement.{statement}
 use Rattle.splitters.proofs.leading.leading.Tie as tie

@@ -6,7 +6,7 @@ use Rattle.sets.specs.Inner.SetValues.{Least}
 use Rattle.splitters.specs.Inner.Partition.{Partition}
 use Rattle.splitters.specs.Inner.Splitters.{UsedSplit}
 use Rattle.splitters.specs.Laws.RefiningLaws.{UsedBut, usedBut-start, usedBut-next, usedBut-end, turned-row}
-use Rattle.splitters.specs.Laws.WalkLaws.{walk-nearer}
+use Rattle.sets.specs.Laws.WalkLaws.{walk-nearer}
 use borrow.Author.Needs.{needs}
 use Rattle.splitters.proofs.refining.refine_class.Statement.{statement}
 use Rattle.splitters.proofs.refining.refine_class.Tie as tie

@@ -7,7 +7,7 @@ use Rattle.lts.specs.TestsLaws.{eq-or-not, both-or-not}
 use Rattle.text.specs.Limits.{stateLimit}
 use Rattle.sets.specs.Inner.SetValues.{In, Least}
 use Rattle.held.specs.Held.{HeldMove}
-use Rattle.splitters.specs.Laws.WalkLaws.{least-after}
+use Rattle.sets.specs.Laws.WalkLaws.{least-after}
 use Rattle.weak_books.specs.Inner.Entering.{Entered, Beside, Done}
 use Rattle.weak_books.specs.Laws.EnteringLaws.{entered-pair, done-start, done-next, done-end}
 use Rattle.weak_books.specs.Laws.EnteringLaws.{pair-beside}

@@ -5,7 +5,7 @@ use borrow.Author.Needs.{needs}
 use Rattle.text.specs.Limits.{stateLimit}
 use Rattle.sets.specs.Inner.SetValues.{In, Least}
 use Rattle.held.specs.Held.{HeldMove}
-use Rattle.splitters.specs.Laws.WalkLaws.{least-after}
+use Rattle.sets.specs.Laws.WalkLaws.{least-after}
 use Rattle.weak_books.specs.Inner.Entering.{Entered, Parted, Done}
 use Rattle.weak_books.specs.Laws.EnteringLaws.{done-start, done-next, done-end, beside-or-not, parted-of-beside}
 use Rattle.weak_books.specs.Laws.EnteringLaws.{beside-of-parted}

@@ -11,7 +11,7 @@ use Rattle.books.specs.Books.{bookOf}
 use Rattle.books.specs.Inner.Sides.{BySide}
 use Rattle.sets.specs.declared.set.Set.{Set}
 use Rattle.sets.specs.Inner.SetValues.{In, SetOf, Least}
-use Rattle.splitters.specs.Laws.WalkLaws.{least-after, none-of-least}
+use Rattle.sets.specs.Laws.WalkLaws.{least-after, none-of-least}
 use borrow.Author.Needs.{needs}
 use Rattle.weak_books.proofs.entries.answers_lower.Statement.{statement}
 use Rattle.weak_books.proofs.entries.answers_lower.Tie as tie
