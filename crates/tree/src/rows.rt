@@ -34,7 +34,7 @@ fn write_entries(rows: &mut [u8; TABLE_LENGTH], c: Class, s: Set, v: u8)
     }
 }
 
-// Writes, for each class but class 0, when it was divided off: into the entries of its origin and the states that it had
+// Writes for each class but class 0 when it was divided off, into the entries of its origin and the states that it had
 // then.
 pub fn write_parts(
     rows: &mut [u8; TABLE_LENGTH],
@@ -53,7 +53,7 @@ pub fn write_parts(
     }
 }
 
-// Copies row c out.
+// Copies row c into an array of its own.
 fn take_row(rows: &[u8; TABLE_LENGTH], c: Class, row: &mut [u8; ROW])
     requires { ⌜ c .0 < stateLimit ⌝ }
     ensures { λ _. ⌜ RowTaken (c .0) stateLimit (now (rows .entry)) (now (row .exit)) ⌝ }
@@ -64,7 +64,7 @@ fn take_row(rows: &[u8; TABLE_LENGTH], c: Class, row: &mut [u8; ROW])
     }
 }
 
-// The earlier of two rounds; 0 stands for never.
+// The earlier of two rounds. 0 stands for never.
 fn earlier(o: u8, w: u8) -> u8
     ensures { λ r. ⌜ r ≡ meet o w ⌝ }
 {
@@ -77,7 +77,7 @@ fn earlier(o: u8, w: u8) -> u8
     w
 }
 
-// An entry that is there already stays.
+// An entry that has a round keeps it; another one gets the earlier of two rounds.
 fn fill_entry(v: u8, o: u8, w: u8) -> u8
     ensures { λ r. ⌜ r ≡ filled v o w ⌝ }
 {
@@ -102,7 +102,7 @@ fn fill_row(rows: &mut [u8; TABLE_LENGTH], c: Class, above: &[u8; ROW], w: u8)
     }
 }
 
-// Fills the rows of all classes but class 0, that of its origin before that of a class.
+// Fills the rows of all classes but class 0. The row of its origin is filled before that of a class.
 pub fn fill_rows(
     rows: &mut [u8; TABLE_LENGTH],
     classes: u16,

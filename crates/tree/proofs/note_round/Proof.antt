@@ -1,3 +1,4 @@
+-- The classes from `from` up to c have the round.
 use Prim.Native.Nat.{_+_, _-_, _≤_}
 use native.Mathlib.Omega.{arith}
 use Rattle.tree.specs.Inner.Rows.{RoundNoted}
@@ -5,44 +6,34 @@ use Rattle.tree.specs.Laws.EntriesLaws.{roundNoted-none, roundNoted-suc,
 use borrow.Author.Needs.{needs}
 use Rattle.tree.proofs.note_round.Statement.{statement}
 use Rattle.tree.proofs.note_round.Tie as tie
-use Rattle.tree.proofs.note_round.Reads as reads
-use Rattle.tree.proofs.note_round.Lts as lts
-use Rattle.tree.proofs.put.Reads as put-reads
 
 abbrev Inv-loop : tie.InvT-loop
-Inv-loop when₀ from to k c₀ when c = 
+Inv-loop when₀ from to k c₀ when c =
     (from ≤ c) × (c ≤ to + (from - to)) × RoundNoted from c k when₀ when
 
 abbrev μ-loop : tie.MeasureT-loop
 μ-loop when₀ from to k c₀ when c = to - c
 
--- src/lib.rt:26:5
 loop-holds : tie.Need-loop-holds Inv-loop μ-loop
 loop-holds c = (omega arith, omega arith, roundNoted-none _)
 
--- src/lib.rt:27:19
 cast-put : tie.Need-cast-put Inv-loop μ-loop
 cast-put c = search needs
 
--- src/lib.rt:27:9
 put-requires : tie.Need-put-requires Inv-loop μ-loop
 put-requires c κs = search needs
 
--- src/lib.rt:26:9
 add-c : tie.Need-add-c Inv-loop μ-loop
 add-c c = search needs
 
--- src/lib.rt:26:5
 loop-less : tie.Need-loop-less Inv-loop μ-loop
 loop-less c = search needs
 
--- src/lib.rt:26:5
 loop-again : tie.Need-loop-again Inv-loop μ-loop
 loop-again c =
     let inv = c .before .before .before .loop .inv in
     (omega arith, omega arith, roundNoted-suc (inv .0) (omega arith) (inv .2) (c .put .ensures))
 
--- src/lib.rt:22:1
 returns : tie.Need-returns Inv-loop μ-loop
 returns c =
     let inv = c .before .loop .inv in

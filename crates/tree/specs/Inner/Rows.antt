@@ -15,7 +15,7 @@ pub record RoundNoted (from to round : ℕ) (entry exit : List ℕ) : Type 0 whe
   pub noted : (c : ℕ) → from ≤ c → c < to → getD exit c 0 ≡ round
   pub kept : (c : ℕ) → (c < from) ⊎ (to ≤ c) → getD exit c 0 ≡ getD entry c 0
 
--- The entries of class c and the states that P holds of have these values, and no other has changed.
+-- The entries of row c at the states that P holds of have these values, and no other has changed.
 pub record EntriesWritten (c : ℕ) (P : ℕ → Type 0) (value : ℕ → ℕ) (entry exit : List ℕ) : Type 0 where
   pub written : (x : ℕ) → x < stateLimit → P x → entryOf exit c x ≡ value x
   pub kept : (d x : ℕ) → x < stateLimit → ¬ ((d ≡ c) × P x) → entryOf exit d x ≡ entryOf entry d x
@@ -33,7 +33,7 @@ PartEntry to origin fresh when entry exit c x =
     ((e : ℕ) × InPart to origin fresh c x e × (entryOf exit c x ≡ getD when e 0))
     ⊎ (((e : ℕ) → ¬ (InPart to origin fresh c x e)) × (entryOf exit c x ≡ entryOf entry c x))
 
--- All entries are so.
+-- This holds of all entries.
 pub record PartsWritten (to : ℕ) (origin fresh when entry exit : List ℕ) : Type 0 where
   pub found : (c x : ℕ) → x < stateLimit → PartEntry to origin fresh when entry exit c x
 
@@ -41,7 +41,7 @@ pub record PartsWritten (to : ℕ) (origin fresh when entry exit : List ℕ) : T
 pub record RowTaken (c m : ℕ) (rows row : List ℕ) : Type 0 where
   pub taken : (x : ℕ) → x < m → getD row x 0 ≡ entryOf rows c x
 
--- An entry that is there already stays; another one becomes the meet.
+-- An entry that has a round keeps it; another one gets the meet of two rounds.
 abbrev pub filled : ℕ → ℕ → ℕ → ℕ
 filled zero o w = meet o w
 filled (suc v) o w = suc v
@@ -54,7 +54,7 @@ pub record RowsFilled (to : ℕ) (members origin when entry exit : List ℕ) : T
       → entryOf exit c x ≡ filled (entryOf entry c x) (entryOf exit (getD origin c 0) x) (getD when c 0)
   pub kept : (c x : ℕ) → x < stateLimit → (c ≡ 0) ⊎ (to ≤ c) → entryOf exit c x ≡ entryOf entry c x
 
--- The rows of the first m of n states are those of their classes.
+-- The rows of the first m of n states are those of their classes, and no entry outside the states has changed.
 pub record RowsCopied (m n : ℕ) (class rows entry exit : List ℕ) : Type 0 where
   pub copied : (p x : ℕ) → p < m → x < n → entryOf exit p x ≡ entryOf rows (getD class p 0) x
   pub outside : Outside n entry exit

@@ -11,7 +11,7 @@ use Rattle.sets.specs.Inner.Sets.{Member}
 use Rattle.sets.specs.Inner.SetValues.{In, SetOf}
 use Rattle.sets.specs.Laws.SetValuesLaws.{in-or-not}
 use Rattle.sets.specs.declared.set.Set.{Set}
-use Rattle.ranking.specs.Inner.TableWrites.{entryOf, Outside}
+use Rattle.ranking.specs.Inner.TableWrites.{entryOf}
 use Rattle.ranking.specs.Laws.TableWritesLaws.{outside-refl, outside-trans}
 use Rattle.tree.specs.Inner.Rows.{EntriesWritten, InPart, PartEntry, PartsWritten, RowTaken, filled}
 use Rattle.tree.specs.Inner.Rows.{RowsFilled, RowsCopied}
@@ -53,12 +53,14 @@ partsWritten-suc {to} {s} {origin} {fresh} {when} {t} {u} {w} p h m f = record {
         last (inl j) = d (sym (j .0), m .all x (j .1))
         last (inr j) = g e j
 
-    stays : (c x : ℕ) → x < stateLimit → ¬ ((c ≡ getD origin to 0) × In s x) → PartEntry to origin fresh when t u c x → PartEntry (to + 1) origin fresh when t w c x
+    stays : (c x : ℕ) → x < stateLimit → ¬ ((c ≡ getD origin to 0) × In s x)
+        → PartEntry to origin fresh when t u c x → PartEntry (to + 1) origin fresh when t w c x
     stays c x l d (inl (e, i, v)) = inl (e, inPart-lt (omega (arith, i .part-lt)) i, f .kept c x l d ∙ v)
     stays c x l d (inr (g, v)) = inr (none c x d g, f .kept c x l d ∙ v)
 
-    go : (c x : ℕ) → x < stateLimit → PartEntry to origin fresh when t u c x → (c ≡ getD origin to 0) ⊎ ¬ (c ≡ getD origin to 0)
-        → In s x ⊎ ¬ (In s x) → PartEntry (to + 1) origin fresh when t w c x
+    go : (c x : ℕ) → x < stateLimit → PartEntry to origin fresh when t u c x
+        → (c ≡ getD origin to 0) ⊎ ¬ (c ≡ getD origin to 0) → In s x ⊎ ¬ (In s x)
+        → PartEntry (to + 1) origin fresh when t w c x
     go c x l r (inl d) (inl i) = inl (
       to,
       record { part-pos = p; part-lt = omega arith; origin-is = sym d; member = m .only x i },
@@ -153,8 +155,9 @@ rowsFilled-end {m} {to} {members} {origin} {when} {t} {u} l k h = record {
 pub rowsCopied-zero : {n : ℕ} {class rows : List ℕ} (t : List ℕ) → RowsCopied 0 n class rows t t
 rowsCopied-zero t = record { copied = λ p x l _. absurd (omega arith); outside = outside-refl t }
 
-pub rowsCopied-suc : {m n c : ℕ} {class rows t u w : List ℕ} → c ≡ getD class m 0 → m < n → n ≤ stateLimit → RowsCopied m n class rows t u
-    → EntriesWritten m (λ x. x < n) (entryOf rows c) u w → RowsCopied (m + 1) n class rows t w
+pub rowsCopied-suc : {m n c : ℕ} {class rows t u w : List ℕ} → c ≡ getD class m 0 → m < n → n ≤ stateLimit
+    → RowsCopied m n class rows t u → EntriesWritten m (λ x. x < n) (entryOf rows c) u w
+    → RowsCopied (m + 1) n class rows t w
 rowsCopied-suc {m} {n} {c} {class} {rows} {t} {u} {w} at l k h f = record {
   copied = λ p x a b. copied p x a b (eq-or-not p m);
   outside = outside-trans (h .outside) (record { kept = λ p x a d. f .kept p x a (λ g. beyond (g .0) (g .1) d) });

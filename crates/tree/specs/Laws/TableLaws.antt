@@ -21,8 +21,8 @@ module _ {n classes : ℕ} {class members origin fresh when t u w : List ℕ} {a
     (U : UnderSets n classes class origin fresh) (A : Apart classes origin when apart)
     (zeros : (c x : ℕ) → entryOf t c x ≡ 0) (P : PartsWritten classes origin fresh when t u)
     (F : RowsFilled classes members origin when u w) where
-  -- The entry that the parts have written of class c and a state of class y: the round where y is under c and not c, and
-  -- 0 elsewhere.
+  -- What the parts have written of class c and a state of class y: the round where y is under c and not c itself, and 0
+  -- elsewhere.
   abbrev Written : ℕ → ℕ → ℕ → Type 0
   Written c y v = ((v ≡ apart c y) × (0 < v)) ⊎ ((v ≡ 0) × (¬ (y ≡ c) → ¬ (Under origin c y)))
 
@@ -37,11 +37,14 @@ module _ {n classes : ℕ} {class members origin fresh when t u w : List ℕ} {a
             v ∙ sym round ∙ ap (λ (d : ℕ). apart d (getD class x 0)) (i .origin-is),
             omega (arith, v, T .when-pos e (i .part-pos) (i .part-lt)),
           )
-      go (inr (f, v)) = inr (v ∙ zeros c x, λ d under.
-          let e = part-of-under under d in
-          let l : e .0 < classes = omega (arith, under-le T (M .class-lt x k) (e .3), M .class-lt x k) in
-          f (e .0)
-          (record { part-pos = e .1; part-lt = l; origin-is = e .2; member = U .all (e .0) x (e .1) l k (e .3) }))
+      go (inr (f, v)) = inr (
+        v ∙ zeros c x,
+        λ d under.
+            let e = part-of-under under d in
+            let l : e .0 < classes = omega (arith, under-le T (M .class-lt x k) (e .3), M .class-lt x k) in
+            f (e .0)
+            (record { part-pos = e .1; part-lt = l; origin-is = e .2; member = U .all (e .0) x (e .1) l k (e .3) }),
+      )
 
   -- Row 0 has what the parts have written: all classes are under class 0.
   first-row : {c x : ℕ} → c ≡ 0 → c < classes → x < n → entryOf w c x ≡ apart c (getD class x 0)

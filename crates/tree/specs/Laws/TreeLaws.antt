@@ -1,9 +1,9 @@
--- The round that separated class c from another one, y. Where y is under c, it is the round when the part of c that y is
--- under was divided off; where it is not, it is the meet of the round that separated y from c's origin and the round when
--- c was divided off. Assumes nothing.
+-- The round that separated class c from another one, y. Where y is under c, it is the round when the part of c that y
+-- is under was divided off; where it is not, it is the meet of the round that separated y from c's origin and the round
+-- when c was divided off. Assumes nothing.
 use mathlib.Core.List.{List}
 use mathlib.Core.Logic.{_⊎_, inl, inr}
-use mathlib.Core.Path.{_≡_, refl, sym, ap, _∙_, subst}
+use mathlib.Core.Path.{_≡_, refl, sym, ap, _∙_}
 use Prim.Native.Nat.{ℕ, zero, suc, _≤_, _<_}
 use native.Mathlib.Nat.{min-eq-left, min-eq-right, eq-zero-or-pos}
 use native.Mathlib.Omega.{arith}

@@ -1,3 +1,4 @@
+-- The first x entries are copied.
 use mathlib.Core.Path.{_≡_, refl}
 use Prim.Native.Nat.{ℕ, _-_, _*_, _≤_, _<_}
 use native.Mathlib.Omega.{arith}
@@ -9,8 +10,6 @@ use Rattle.tree.specs.Laws.EntriesLaws.{entriesWritten-none, entriesWrit
 use borrow.Author.Needs.{needs}
 use Rattle.tree.proofs.filling.copy_row.Statement.{statement}
 use Rattle.tree.proofs.filling.copy_row.Tie as tie
-use Rattle.tree.proofs.filling.copy_row.Reads as reads
-use Rattle.tree.proofs.filling.copy_row.Lts as lts
 
 abbrev Inv-loop : tie.InvT-loop
 Inv-loop table₀ n rows at from x₀ table x =
@@ -21,51 +20,39 @@ Inv-loop table₀ n rows at from x₀ table x =
 abbrev μ-loop : tie.MeasureT-loop
 μ-loop table₀ n rows at from x₀ table x = n - x
 
--- src/filling.rt:24:20
 cast-at : tie.Need-cast-at Inv-loop μ-loop
 cast-at c = search needs
 
--- src/filling.rt:24:14
 mul-at : tie.Need-mul-at Inv-loop μ-loop
 mul-at c = search needs
 
--- src/filling.rt:25:22
 cast-from : tie.Need-cast-from Inv-loop μ-loop
 cast-from c = search needs
 
--- src/filling.rt:25:16
 mul-from : tie.Need-mul-from Inv-loop μ-loop
 mul-from c = search needs
 
--- src/filling.rt:26:5
 loop-holds : tie.Need-loop-holds Inv-loop μ-loop
 loop-holds c = (omega arith, refl, λ p d _ _. entriesWritten-none _ (λ y l. omega (arith, l)))
 
--- src/filling.rt:27:30
 add-table : tie.Need-add-table Inv-loop μ-loop
 add-table c = search needs
 
--- src/filling.rt:27:25
 element-copy-out-table : tie.Need-element-copy-out-table Inv-loop μ-loop
 element-copy-out-table c = search needs
 
--- src/filling.rt:27:15
 add-table-2 : tie.Need-add-table-2 Inv-loop μ-loop
 add-table-2 c = search needs
 
--- src/filling.rt:27:9
 slice-write-table : tie.Need-slice-write-table Inv-loop μ-loop
 slice-write-table c = search needs
 
--- src/filling.rt:26:9
 add-x : tie.Need-add-x Inv-loop μ-loop
 add-x c = search needs
 
--- src/filling.rt:26:5
 loop-less : tie.Need-loop-less Inv-loop μ-loop
 loop-less c = search needs
 
--- src/filling.rt:26:5
 loop-again : tie.Need-loop-again Inv-loop μ-loop
 loop-again c =
     let inv = c .before .before .loop .inv in
@@ -75,11 +62,9 @@ loop-again c =
       λ p d e f. entriesWritten-copy rows d e f (omega arith) (omega arith) (inv .2 p d e f) refl,
     )
 
--- src/filling.rt:19:1
 same-length : tie.Need-same-length Inv-loop μ-loop
 same-length c = search needs
 
--- src/filling.rt:19:1
 returns : tie.Need-returns Inv-loop μ-loop
 returns c =
     let inv = c .before .loop .inv in

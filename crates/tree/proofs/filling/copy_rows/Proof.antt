@@ -1,3 +1,4 @@
+-- The rows of the first p states are copied.
 use mathlib.Core.Path.{_≡_, refl, _∙_}
 use Prim.Native.Nat.{_-_, _≤_}
 use native.Mathlib.Omega.{arith}
@@ -7,10 +8,6 @@ use Rattle.tree.specs.Laws.RowsLaws.{rowsCopied-zero, rowsCopied-suc}
 use borrow.Author.Needs.{needs}
 use Rattle.tree.proofs.filling.copy_rows.Statement.{statement}
 use Rattle.tree.proofs.filling.copy_rows.Tie as tie
-use Rattle.tree.proofs.filling.copy_rows.Reads as reads
-use Rattle.tree.proofs.filling.copy_rows.Lts as lts
-use Rattle.comparing.proofs.lists.class_at.Reads as class-at-reads
-use Rattle.tree.proofs.filling.copy_row.Reads as copy-row-reads
 
 abbrev Inv-loop : tie.InvT-loop
 Inv-loop table₀ n class rows p₀ table p =
@@ -19,15 +16,12 @@ Inv-loop table₀ n class rows p₀ table p =
 abbrev μ-loop : tie.MeasureT-loop
 μ-loop table₀ n class rows p₀ table p = n - p
 
--- src/filling.rt:39:5
 loop-holds : tie.Need-loop-holds Inv-loop μ-loop
 loop-holds c = (omega arith, refl, rowsCopied-zero _)
 
--- src/filling.rt:40:53
 class-at-requires : tie.Need-class-at-requires Inv-loop μ-loop
 class-at-requires c κs = search needs
 
--- src/filling.rt:40:9
 copy-row-requires : tie.Need-copy-row-requires Inv-loop μ-loop
 copy-row-requires c κs =
     let at = c .before .before .before in
@@ -37,15 +31,12 @@ copy-row-requires c κs =
       (omega arith, omega (arith, lt, c .class-at .ensures)),
     )
 
--- src/filling.rt:39:9
 add-p : tie.Need-add-p Inv-loop μ-loop
 add-p c = search needs
 
--- src/filling.rt:39:5
 loop-less : tie.Need-loop-less Inv-loop μ-loop
 loop-less c = search needs
 
--- src/filling.rt:39:5
 loop-again : tie.Need-loop-again Inv-loop μ-loop
 loop-again c =
     let copied = c .before .before in
@@ -53,14 +44,13 @@ loop-again c =
     let inv = at .loop .inv in (
       omega arith,
       copied .copy-row .kept .0 ∙ inv .1,
-      rowsCopied-suc (copied .before .class-at .ensures) (omega arith) (omega arith) (inv .2) (copied .copy-row .ensures),
+      rowsCopied-suc (copied .before .class-at .ensures) (omega arith) (omega arith) (inv .2)
+          (copied .copy-row .ensures),
     )
 
--- src/filling.rt:33:1
 same-length : tie.Need-same-length Inv-loop μ-loop
 same-length c = c .before .loop .inv .1
 
--- src/filling.rt:33:1
 returns : tie.Need-returns Inv-loop μ-loop
 returns c =
     let inv = c .before .loop .inv in

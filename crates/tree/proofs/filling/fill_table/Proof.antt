@@ -1,8 +1,8 @@
--- The rows of the classes say when they were separated from the states' classes, and each state has the row of its class.
+-- The row of a class says when it was separated from each state's, and each state has the row of its class.
 use mathlib.Core.Path.{_∙_}
 use native.Mathlib.Omega.{arith}
 use Rattle.text.specs.Laws.ListLaws.{getD-zeros}
-use Rattle.text.specs.Limits.{pairPlace}
+use Rattle.text.specs.Limits.{tableLength, pairPlace}
 use Rattle.tree.specs.Laws.TableLaws.{row-is-apart}
 use borrow.Author.Needs.{needs}
 use Rattle.tree.proofs.filling.fill_table.Statement.{statement}
@@ -35,7 +35,7 @@ returns c =
     let M = pre .1 .1 .0 in (
       λ apart A p q lp lq.
           copied .copy-rows .ensures .copied p q lp lq
-          ∙ row-is-apart (pre .0 .0) (pre .1 .0) M (pre .1 .1 .1) A (λ d x. getD-zeros 16384 (pairPlace d x))
+          ∙ row-is-apart (pre .0 .0) (pre .1 .0) M (pre .1 .1 .1) A (λ d x. getD-zeros tableLength (pairPlace d x))
           (written .write-parts .ensures) (filled .fill-rows .ensures) _ (M .class-lt p lp) q lq,
       copied .copy-rows .ensures .outside,
     )

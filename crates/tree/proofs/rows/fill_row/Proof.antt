@@ -1,3 +1,4 @@
+-- The first x entries are filled, and none after them has changed.
 use mathlib.Core.Path.{_≡_, refl}
 use Prim.Native.Nat.{ℕ, _-_, _*_, _≤_, _<_}
 use native.Mathlib.Omega.{arith}
@@ -9,10 +10,6 @@ use Rattle.tree.specs.Laws.EntriesLaws.{entriesWritten-none, entriesWrit
 use borrow.Author.Needs.{needs}
 use Rattle.tree.proofs.rows.fill_row.Statement.{statement}
 use Rattle.tree.proofs.rows.fill_row.Tie as tie
-use Rattle.tree.proofs.rows.fill_row.Reads as reads
-use Rattle.tree.proofs.rows.fill_row.Lts as lts
-use Rattle.tree.proofs.put.Reads as put-reads
-use Rattle.tree.proofs.rows.fill_entry.Reads as fill-entry-reads
 
 abbrev Inv-loop : tie.InvT-loop
 Inv-loop rows₀ above w at x₀ rows x =
@@ -23,51 +20,39 @@ Inv-loop rows₀ above w at x₀ rows x =
 abbrev μ-loop : tie.MeasureT-loop
 μ-loop rows₀ above w at x₀ rows x = stateLimit - x
 
--- src/rows.rt:94:20
 cast-at : tie.Need-cast-at Inv-loop μ-loop
 cast-at c = search needs
 
--- src/rows.rt:94:14
 mul-at : tie.Need-mul-at Inv-loop μ-loop
 mul-at c = search needs
 
--- src/rows.rt:95:5
 loop-holds : tie.Need-loop-holds Inv-loop μ-loop
 loop-holds c = (omega arith, λ d _. entriesWritten-none _ (λ y p. omega (arith, p)))
 
--- src/rows.rt:96:33
 add-fill-entry : tie.Need-add-fill-entry Inv-loop μ-loop
 add-fill-entry c = search needs
 
--- src/rows.rt:96:28
 element-copy-out-fill-entry : tie.Need-element-copy-out-fill-entry Inv-loop μ-loop
 element-copy-out-fill-entry c = search needs
 
--- src/rows.rt:96:42
 element-copy-out-fill-entry-2 : tie.Need-element-copy-out-fill-entry-2 Inv-loop μ-loop
 element-copy-out-fill-entry-2 c = search needs
 
--- src/rows.rt:96:13
 fill-entry-requires : tie.Need-fill-entry-requires Inv-loop μ-loop
 fill-entry-requires c κs = search needs
 
--- src/rows.rt:97:19
 add-put : tie.Need-add-put Inv-loop μ-loop
 add-put c = search needs
 
--- src/rows.rt:97:9
 put-requires : tie.Need-put-requires Inv-loop μ-loop
 put-requires c κs = search needs
 
--- src/rows.rt:95:9
 add-x : tie.Need-add-x Inv-loop μ-loop
 add-x c = search needs
 
--- src/rows.rt:95:5
 loop-less : tie.Need-loop-less Inv-loop μ-loop
 loop-less c = search needs
 
--- src/rows.rt:95:5
 loop-again : tie.Need-loop-again Inv-loop μ-loop
 loop-again c =
     let inv = c .before .before .before .before .before .before .loop .inv in
@@ -78,7 +63,6 @@ loop-again c =
           (c .put .ensures) (c .before .before .fill-entry .ensures),
     )
 
--- src/rows.rt:90:1
 returns : tie.Need-returns Inv-loop μ-loop
 returns c =
     let inv = c .before .loop .inv in

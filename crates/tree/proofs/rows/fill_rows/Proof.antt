@@ -1,3 +1,4 @@
+-- The rows below c are filled. The row of an origin comes before, and stands.
 use Prim.Native.Nat.{_+_, _-_, _≤_, _<_}
 use native.Mathlib.Omega.{arith}
 use Rattle.tree.specs.Inner.Rows.{RowsFilled}
@@ -5,12 +6,6 @@ use Rattle.tree.specs.Laws.RowsLaws.{rowsFilled-one, rowsFilled-suc, row
 use borrow.Author.Needs.{needs}
 use Rattle.tree.proofs.rows.fill_rows.Statement.{statement}
 use Rattle.tree.proofs.rows.fill_rows.Tie as tie
-use Rattle.tree.proofs.rows.fill_rows.Reads as reads
-use Rattle.tree.proofs.rows.fill_rows.Lts as lts
-use Rattle.sets.proofs.set.set_at.Reads as set-at-reads
-use Rattle.tree.proofs.rows.fill_row.Reads as fill-row-reads
-use Rattle.tree.proofs.rows.take_row.Reads as take-row-reads
-use Rattle.tree.proofs.rows.write_entries.Reads as write-entries-reads
 
 abbrev Inv-loop : tie.InvT-loop
 Inv-loop rows₀ classes members origin when above₀ c₀ rows above c =
@@ -19,53 +14,41 @@ Inv-loop rows₀ classes members origin when above₀ c₀ rows above c =
 abbrev μ-loop : tie.MeasureT-loop
 μ-loop rows₀ classes members origin when above₀ c₀ rows above c = classes - c
 
--- src/rows.rt:118:5
 loop-holds : tie.Need-loop-holds Inv-loop μ-loop
 loop-holds c = (omega arith, omega arith, rowsFilled-one _)
 
--- src/rows.rt:119:18
 cast-at : tie.Need-cast-at Inv-loop μ-loop
 cast-at c = search needs
 
--- src/rows.rt:120:30
 mul-t12 : tie.Need-mul-t12 Inv-loop μ-loop
 mul-t12 c = search needs
 
--- src/rows.rt:120:30
 element-copy-out-t15 : tie.Need-element-copy-out-t15 Inv-loop μ-loop
 element-copy-out-t15 c = search needs
 
--- src/rows.rt:120:9
 take-row-requires : tie.Need-take-row-requires Inv-loop μ-loop
 take-row-requires c κs =
     let at = c .before .before .before .before in
     omega (arith, at .before .pre .1 (at .loop .c) (at .loop .inv .0) (omega arith))
 
--- src/rows.rt:121:42
 element-copy-out-fill-row : tie.Need-element-copy-out-fill-row Inv-loop μ-loop
 element-copy-out-fill-row c = search needs
 
--- src/rows.rt:121:9
 fill-row-requires : tie.Need-fill-row-requires Inv-loop μ-loop
 fill-row-requires c κs = search needs
 
--- src/rows.rt:122:39
 set-at-requires : tie.Need-set-at-requires Inv-loop μ-loop
 set-at-requires c κs = search needs
 
--- src/rows.rt:122:9
 write-entries-requires : tie.Need-write-entries-requires Inv-loop μ-loop
 write-entries-requires c κs = search needs
 
--- src/rows.rt:118:9
 add-c : tie.Need-add-c Inv-loop μ-loop
 add-c c = search needs
 
--- src/rows.rt:118:5
 loop-less : tie.Need-loop-less Inv-loop μ-loop
 loop-less c = search needs
 
--- src/rows.rt:118:5
 loop-again : tie.Need-loop-again Inv-loop μ-loop
 loop-again c =
     let filled = c .before .before .before .before in
@@ -79,7 +62,6 @@ loop-again c =
           (filled .fill-row .ensures) (c .before .set-at .ensures) (c .write-entries .ensures),
     )
 
--- src/rows.rt:106:1
 returns : tie.Need-returns Inv-loop μ-loop
 returns c =
     let inv = c .before .loop .inv in

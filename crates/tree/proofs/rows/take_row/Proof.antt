@@ -1,3 +1,4 @@
+-- The first x entries are copied.
 use mathlib.Core.Path.{_≡_, refl}
 use Prim.Native.Nat.{ℕ, _-_, _*_, _≤_}
 use native.Mathlib.Omega.{arith}
@@ -7,9 +8,6 @@ use Rattle.tree.specs.Laws.EntriesLaws.{rowTaken-zero, rowTaken-suc}
 use borrow.Author.Needs.{needs}
 use Rattle.tree.proofs.rows.take_row.Statement.{statement}
 use Rattle.tree.proofs.rows.take_row.Tie as tie
-use Rattle.tree.proofs.rows.take_row.Reads as reads
-use Rattle.tree.proofs.rows.take_row.Lts as lts
-use Rattle.tree.proofs.put.Reads as put-reads
 
 abbrev Inv-loop : tie.InvT-loop
 Inv-loop rows row₀ from x₀ row x =
@@ -18,45 +16,35 @@ Inv-loop rows row₀ from x₀ row x =
 abbrev μ-loop : tie.MeasureT-loop
 μ-loop rows row₀ from x₀ row x = stateLimit - x
 
--- src/rows.rt:59:22
 cast-from : tie.Need-cast-from Inv-loop μ-loop
 cast-from c = search needs
 
--- src/rows.rt:59:16
 mul-from : tie.Need-mul-from Inv-loop μ-loop
 mul-from c = search needs
 
--- src/rows.rt:60:5
 loop-holds : tie.Need-loop-holds Inv-loop μ-loop
 loop-holds c = (omega arith, λ d _. rowTaken-zero)
 
--- src/rows.rt:61:26
 add-put : tie.Need-add-put Inv-loop μ-loop
 add-put c = search needs
 
--- src/rows.rt:61:21
 element-copy-out-put : tie.Need-element-copy-out-put Inv-loop μ-loop
 element-copy-out-put c = search needs
 
--- src/rows.rt:61:9
 put-requires : tie.Need-put-requires Inv-loop μ-loop
 put-requires c κs = search needs
 
--- src/rows.rt:60:9
 add-x : tie.Need-add-x Inv-loop μ-loop
 add-x c = search needs
 
--- src/rows.rt:60:5
 loop-less : tie.Need-loop-less Inv-loop μ-loop
 loop-less c = search needs
 
--- src/rows.rt:60:5
 loop-again : tie.Need-loop-again Inv-loop μ-loop
 loop-again c =
     let inv = c .before .before .before .before .loop .inv in
     (omega arith, λ d e. rowTaken-suc e (omega arith) (inv .1 d e) (c .put .ensures))
 
--- src/rows.rt:55:1
 returns : tie.Need-returns Inv-loop μ-loop
 returns c =
     let inv = c .before .loop .inv in

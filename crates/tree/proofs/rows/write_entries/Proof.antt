@@ -1,3 +1,4 @@
+-- The entries of the states that are not left are written.
 use mathlib.Core.Path.{_≡_, refl}
 use Prim.Native.Nat.{ℕ, _-_, _*_}
 use native.Mathlib.Omega.{arith}
@@ -9,11 +10,6 @@ use Rattle.tree.specs.Laws.EntriesLaws.{entriesWritten-none, entriesWrit
 use borrow.Author.Needs.{needs}
 use Rattle.tree.proofs.rows.write_entries.Statement.{statement}
 use Rattle.tree.proofs.rows.write_entries.Tie as tie
-use Rattle.tree.proofs.rows.write_entries.Reads as reads
-use Rattle.tree.proofs.rows.write_entries.Lts as lts
-use Rattle.sets.proofs.set.drop_least.Reads as drop-least-reads
-use Rattle.sets.proofs.set.least.Reads as least-reads
-use Rattle.tree.proofs.put.Reads as put-reads
 
 abbrev Inv-loop : tie.InvT-loop
 Inv-loop rows₀ v at left₀ x₀ rows left x =
@@ -23,53 +19,42 @@ Inv-loop rows₀ v at left₀ x₀ rows left x =
 abbrev μ-loop : tie.MeasureT-loop
 μ-loop rows₀ v at left₀ x₀ rows left x = stateLimit - x
 
--- src/rows.rt:25:20
 abbrev turn : tie.After-least2 Inv-loop μ-loop → tie.At-loop Inv-loop μ-loop
 turn c = c .before .before .before .before .before
 
 cast-at : tie.Need-cast-at Inv-loop μ-loop
 cast-at c = search needs
 
--- src/rows.rt:25:14
 mul-at : tie.Need-mul-at Inv-loop μ-loop
 mul-at c = search needs
 
--- src/rows.rt:27:9
 least-requires : tie.Need-least-requires Inv-loop μ-loop
 least-requires c κs = search needs
 
--- src/rows.rt:28:5
 loop-holds : tie.Need-loop-holds Inv-loop μ-loop
 loop-holds c = (c .least .ensures, λ y i. i, λ d _. entriesWritten-none _ (λ y p. p .1 (p .0)))
 
--- src/rows.rt:29:24
 cast-put : tie.Need-cast-put Inv-loop μ-loop
 cast-put c = search needs
 
--- src/rows.rt:29:19
 add-put : tie.Need-add-put Inv-loop μ-loop
 add-put c = search needs
 
--- src/rows.rt:29:9
 put-requires : tie.Need-put-requires Inv-loop μ-loop
 put-requires c κs = search needs
 
--- src/rows.rt:30:9
 drop-least-requires : tie.Need-drop-least-requires Inv-loop μ-loop
 drop-least-requires c κs = search needs
 
--- src/rows.rt:31:9
 least-requires-2 : tie.Need-least-requires-2 Inv-loop μ-loop
 least-requires-2 c κs = search needs
 
--- src/rows.rt:28:5
 loop-less : tie.Need-loop-less Inv-loop μ-loop
 loop-less c =
     let inv = turn c .loop .inv .0 in
     let later = least-after inv (omega arith) (c .before .drop-least .ensures _ inv .only) (c .least2 .ensures) in
     omega (arith, later, c .least2 .ensures .least-le)
 
--- src/rows.rt:28:5
 loop-again : tie.Need-loop-again Inv-loop μ-loop
 loop-again c =
     let inv = turn c .loop .inv in
@@ -80,7 +65,6 @@ loop-again c =
       λ d e. entriesWritten-other e (omega arith) x-in rest (inv .2 d e) (c .before .before .put .ensures),
     )
 
--- src/rows.rt:21:1
 returns : tie.Need-returns Inv-loop μ-loop
 returns c =
     let inv = c .before .loop .inv in

@@ -1,3 +1,4 @@
+-- The parts below e are written.
 use Prim.Native.Nat.{_+_, _-_, _≤_, _<_}
 use native.Mathlib.Omega.{arith}
 use Rattle.tree.specs.Inner.Rows.{PartsWritten}
@@ -5,10 +6,6 @@ use Rattle.tree.specs.Laws.RowsLaws.{partsWritten-one, partsWritten-suc,
 use borrow.Author.Needs.{needs}
 use Rattle.tree.proofs.rows.write_parts.Statement.{statement}
 use Rattle.tree.proofs.rows.write_parts.Tie as tie
-use Rattle.tree.proofs.rows.write_parts.Reads as reads
-use Rattle.tree.proofs.rows.write_parts.Lts as lts
-use Rattle.sets.proofs.set.set_at.Reads as set-at-reads
-use Rattle.tree.proofs.rows.write_entries.Reads as write-entries-reads
 
 abbrev Inv-loop : tie.InvT-loop
 Inv-loop rows₀ classes origin fresh when e₀ rows e =
@@ -17,52 +14,41 @@ Inv-loop rows₀ classes origin fresh when e₀ rows e =
 abbrev μ-loop : tie.MeasureT-loop
 μ-loop rows₀ classes origin fresh when e₀ rows e = classes - e
 
--- src/rows.rt:50:5
 loop-holds : tie.Need-loop-holds Inv-loop μ-loop
 loop-holds c = (omega arith, omega arith, partsWritten-one _)
 
--- src/rows.rt:51:18
 cast-at : tie.Need-cast-at Inv-loop μ-loop
 cast-at c = search needs
 
--- src/rows.rt:52:35
 mul-t11 : tie.Need-mul-t11 Inv-loop μ-loop
 mul-t11 c = search needs
 
--- src/rows.rt:52:35
 element-copy-out-t14 : tie.Need-element-copy-out-t14 Inv-loop μ-loop
 element-copy-out-t14 c = search needs
 
--- src/rows.rt:52:48
 set-at-requires : tie.Need-set-at-requires Inv-loop μ-loop
 set-at-requires c κs = search needs
 
--- src/rows.rt:52:67
 element-copy-out-write-entries : tie.Need-element-copy-out-write-entries Inv-loop μ-loop
 element-copy-out-write-entries c = search needs
 
--- src/rows.rt:52:9
 write-entries-requires : tie.Need-write-entries-requires Inv-loop μ-loop
 write-entries-requires c κs =
     let at = c .before .before .before .before .before .before in
     at .before .pre .1 (at .loop .e) (at .loop .inv .0) (omega arith)
 
--- src/rows.rt:50:9
 add-e : tie.Need-add-e Inv-loop μ-loop
 add-e c = search needs
 
--- src/rows.rt:50:5
 loop-less : tie.Need-loop-less Inv-loop μ-loop
 loop-less c = search needs
 
--- src/rows.rt:50:5
 loop-again : tie.Need-loop-again Inv-loop μ-loop
 loop-again c =
     let inv = c .before .before .before .before .before .before .before .loop .inv in
     let s = c .before .before .set-at .ensures in
     (omega arith, omega arith, partsWritten-suc (inv .0) (inv .2) s (c .write-entries .ensures))
 
--- src/rows.rt:39:1
 returns : tie.Need-returns Inv-loop μ-loop
 returns c =
     let inv = c .before .loop .inv in
