@@ -1,4 +1,5 @@
 -- Laws of partitions, of splits and of rounds. Assumes nothing.
+pub mod ApartLaws
 pub mod CutLaws
 pub mod DividingLaws
 pub mod FreshLaws
@@ -12,3 +13,4 @@ pub mod RoundLaws
 pub mod SplitLaws
 pub mod SplittingLaws
 pub mod StableLaws
+pub mod UnderLaws

@@ -25,7 +25,8 @@ ghost use Rattle.text.specs.Limits.{stateLimit};
 ghost use Rattle.sets.specs.Inner.Sets.{Member};
 ghost use Rattle.held.specs.Held.{rowCount, poolSets, Turned, Occupied, HeldList};
 ghost use Rattle.splitters.specs.Inner.Partition.{Partition, SplitTwice};
-ghost use Rattle.splitters.specs.Inner.Splitters.{LeadsInto, Into, UsedClass, UsedLabels, UsedSplit, Fresh};
+ghost use Rattle.splitters.specs.Inner.Splitters.{LeadsInto, Into, UsedClass, UsedLabels, UsedSplit};
+ghost use Rattle.splitters.specs.Inner.Splitters.{Fresh, SetsKept};
 
 // Splits the classes by the moves into the set `fresh`, and those with such a move by the moves into the set `rest`; if
 // each state of `fresh` is one of `rest`, each such move is one into `rest` already.
@@ -185,7 +186,7 @@ pub fn note_fresh(
     requires { ⌜ (classes ≤ stateLimit)
         × ((j : ℕ) → first ≤ j → j < classes → getD (now origin) j 0 < stateLimit) ⌝ }
     ensures { λ _. ⌜ Fresh first classes (now (members .entry)) (now (origin .entry)) (now (fresh .exit))
-        (now (rest .exit)) ⌝ }
+        (now (rest .exit)) × SetsKept first (now (fresh .entry)) (now (fresh .exit)) ⌝ }
 {
     let mut j = first;
     while j < classes {

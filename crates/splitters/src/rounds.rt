@@ -1,4 +1,4 @@
-// The rounds.
+// The rounds: each grows the splitting tree of the classes, and the table is filled from it after the last.
 use crate::Parts;
 use crate::incoming::note_labels;
 use crate::refining::note_fresh;
@@ -12,6 +12,8 @@ use sets::set::below;
 use sets::set::put_set;
 use text::limits::ROW;
 use text::limits::TABLE_LENGTH;
+use tree::filling::fill_table;
+use tree::note_round;
 ghost use mathlib.Core.List.{List};
 ghost use mathlib.Core.Path.{_≡_};
 ghost use Prim.Native.Nat.{ℕ, _+_, _≤_, _<_};
@@ -19,12 +21,12 @@ ghost use lib.ListN.{length, getD};
 ghost use Rattle.text.specs.Limits.{stateLimit, tableLength};
 ghost use Rattle.held.specs.Held.{HeldList, HeldMove};
 ghost use Rattle.ranking.specs.Table.{Ranked};
-ghost use Rattle.ranking.specs.Inner.TableWrites.{RanksUpTo, Finished};
+ghost use Rattle.ranking.specs.Inner.TableWrites.{Finished};
 ghost use Rattle.splitters.specs.Inner.Partition.{Partition};
 ghost use Rattle.splitters.specs.Inner.Splitters.{Into, Ready, Rounded};
 
 // One round after k of them: divides the classes by the moves to the classes from `first` on, which the round before
-// made, and writes its number for each two states that it separates. The lists `fresh` and `rest` are for its own use.
+// made, and notes its number for those that it makes itself. The list `rest` is for its own use.
 pub fn round(
     n: u16,
     labels: &[u16; LABEL_COUNT],
@@ -40,20 +42,19 @@ pub fn round(
     origin: &mut [u16; ROW],
     fresh: &mut [u64; SETS_LENGTH],
     rest: &mut [u64; SETS_LENGTH],
-    table: &mut [u8],
+    when: &mut [u8; ROW],
 ) -> Parts
     requires { ⌜ HeldList n (now labels) count (now slots) (now pool)
         × Into (now labels) count (now slots) (now into) ⌝ }
-    requires { ⌜ Ready (HeldMove (now labels) count (now slots) (now pool)) n k first (now class) (now members)
-        (now origin) (parts .classes) (parts .together) (now table) ⌝ }
-    requires { ⌜ tableLength ≤ length (now table) ⌝ }
+    requires { ⌜ (k < parts .classes) × Ready (HeldMove (now labels) count (now slots) (now pool)) n k first (now class)
+        (now members) (now origin) (now fresh) (now when) (parts .classes) (parts .together) ⌝ }
     ensures { λ r. ⌜ Rounded (HeldMove (now (labels .entry)) count (now (slots .entry)) (now (pool .entry))) n k
-        (now (class .entry)) (now (class .exit)) (now (members .exit)) (now (origin .exit)) (parts .classes)
-        (r .classes) (r .together) (now (table .entry)) (now (table .exit)) ⌝ }
+        (now (class .entry)) (now (class .exit)) (now (members .exit)) (now (origin .exit)) (now (fresh .exit))
+        (now (when .exit)) (parts .classes) (r .classes) (r .together) ⌝ }
 {
     let old = parts.classes;
     note_fresh(first, old, members, origin, fresh, rest);
-    refine(
+    let next = refine(
         n,
         labels,
         count,
@@ -64,13 +65,13 @@ pub fn round(
         old,
         fresh,
         rest,
-        k + 1,
         parts,
         class,
         members,
         origin,
-        table,
-    )
+    );
+    note_round(when, old, next.classes, k + 1);
+    next
 }
 
 // All states in one class.
@@ -98,7 +99,6 @@ fn rounds(
 ) -> u8
     requires { ⌜ HeldList n (now labels) count (now slots) (now pool) ⌝ }
     requires { ⌜ tableLength ≤ length (now table) ⌝ }
-    requires { ⌜ RanksUpTo (HeldMove (now labels) count (now slots) (now pool)) n 0 (now table) ⌝ }
     ensures { λ r. ⌜ Finished (HeldMove (now (labels .entry)) count (now (slots .entry)) (now (pool .entry))) n r
         (now (table .entry)) (now (table .exit)) ⌝ }
 {
@@ -108,6 +108,7 @@ fn rounds(
     let mut fresh = [0u64; SETS_LENGTH];
     let mut rest = [0u64; SETS_LENGTH];
     let mut into = [0u64; SETS_LENGTH];
+    let mut when = [0u8; ROW];
     note_labels(n, labels, count, slots, pool, &mut into);
     let mut parts = one_class(n, &mut members);
     let mut first = 0;
@@ -129,7 +130,7 @@ fn rounds(
             &mut origin,
             &mut fresh,
             &mut rest,
-            table,
+            &mut when,
         );
         if next.classes == old {
             break k;
@@ -138,6 +139,16 @@ fn rounds(
         parts = next;
         k += 1;
     };
+    fill_table(
+        n,
+        parts.classes,
+        &class,
+        &members,
+        &origin,
+        &fresh,
+        &when,
+        table,
+    );
     last
 }
 

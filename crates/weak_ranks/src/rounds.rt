@@ -22,7 +22,7 @@ ghost use Rattle.silent.specs.Labelled.{LabelList, LabelMove};
 ghost use Rattle.silent.specs.Inner.Keys.{Keys};
 ghost use Rattle.ranking.specs.Table.{Ranked};
 ghost use Rattle.ranking.specs.Inner.ClassList.{Classes, Refined, Changed, RoundSeparates};
-ghost use Rattle.ranking.specs.Inner.TableWrites.{Outside, RanksUpTo, Finished};
+ghost use Rattle.ranking.specs.Inner.TableWrites.{entryOf, Outside, RanksUpTo, Finished};
 ghost use Rattle.weak_ranks.specs.Inner.Dividing.{LeadClasses, LabelBelow, DividedUnder};
 
 // Divides the classes by the moves under each action.
@@ -121,12 +121,12 @@ pub fn weak_round(
     requires { ⌜ (k < n) × LeadClasses n (now class)
         × Classes (LabelMove n (now from) (now sources) (now targets)) n k (now class) ⌝ }
     requires { ⌜ tableLength ≤ length (now table) ⌝ }
-    requires { ⌜ RanksUpTo (LabelMove n (now from) (now sources) (now targets)) n k (now table) ⌝ }
+    requires { ⌜ RanksUpTo (LabelMove n (now from) (now sources) (now targets)) n k (entryOf (now table)) ⌝ }
     ensures { λ r. ⌜ LeadClasses n (now (class .exit))
         × Classes (LabelMove n (now (from .entry)) (now (sources .entry)) (now (targets .entry))) n (k + 1)
         (now (class .exit)) ⌝ }
     ensures { λ r. ⌜ RanksUpTo (LabelMove n (now (from .entry)) (now (sources .entry)) (now (targets .entry))) n (k + 1)
-        (now (table .exit)) ⌝ }
+        (entryOf (now (table .exit))) ⌝ }
     ensures { λ r. ⌜ Outside n (now (table .entry)) (now (table .exit)) ⌝ }
     ensures { λ r. ⌜ RoundSeparates (LabelMove n (now (from .entry)) (now (sources .entry)) (now (targets .entry))) n k
         r ⌝ }
@@ -150,7 +150,7 @@ fn weak_rounds(
 ) -> u8
     requires { ⌜ LabelList n (now from) (now sources) (now targets) ⌝ }
     requires { ⌜ tableLength ≤ length (now table) ⌝ }
-    requires { ⌜ RanksUpTo (LabelMove n (now from) (now sources) (now targets)) n 0 (now table) ⌝ }
+    requires { ⌜ RanksUpTo (LabelMove n (now from) (now sources) (now targets)) n 0 (entryOf (now table)) ⌝ }
     ensures { λ r. ⌜ Finished (LabelMove n (now (from .entry)) (now (sources .entry)) (now (targets .entry))) n r
         (now (table .entry)) (now (table .exit)) ⌝ }
 {

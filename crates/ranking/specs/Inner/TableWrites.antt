@@ -31,11 +31,10 @@ pub record PairWritten (p q round : ℕ) (entry exit : List ℕ) : Type 0 where
   pub kept : (x y : ℕ) → y < stateLimit → ¬ ((x ≡ p) × (y ≡ q)) → ¬ ((x ≡ q) × (y ≡ p))
       → entryOf exit x y ≡ entryOf entry x y
 
--- Entries of separated pairs of the n states have the round's number, and no other has changed.
-pub record RoundWritten (n : ℕ) (class next : List ℕ) (round : ℕ) (entry exit : List ℕ) : Type 0 where
-  pub written : (p q : ℕ) → p < n → q < n → SeparatedBy class next p q → entryOf exit p q ≡ round
-  pub kept : (p q : ℕ) → p < n → q < n → ¬ (SeparatedBy class next p q) → entryOf exit p q ≡ entryOf entry p q
-  pub outside : Outside n entry exit
+-- Of the entries of the n states those of separated pairs are the round's number, and the others as they were.
+pub record RoundWritten (n : ℕ) (class next : List ℕ) (round : ℕ) (entry exit : ℕ → ℕ → ℕ) : Type 0 where
+  pub written : (p q : ℕ) → p < n → q < n → SeparatedBy class next p q → exit p q ≡ round
+  pub kept : (p q : ℕ) → p < n → q < n → ¬ (SeparatedBy class next p q) → exit p q ≡ entry p q
 
 -- ---- row by row
 
@@ -63,13 +62,13 @@ pub record RowsWritten (class next : List ℕ) (round : ℕ) (table list : List 
 abbrev pub RankUpTo : Moves → ℕ → ℕ → ℕ → ℕ → Type 0
 RankUpTo Move k p q v = ((v ≡ 0) × Alike Move k p q) ⊎ ((v ≤ k) × Separated Move p q v)
 
--- The table says so of each two of the n states.
-pub record RanksUpTo (Move : Moves) (n k : ℕ) (table : List ℕ) : Type 0 where
-  pub found : (p q : ℕ) → p < n → q < n → RankUpTo Move k p q (entryOf table p q)
+-- The entries say so of each two of the n states.
+pub record RanksUpTo (Move : Moves) (n k : ℕ) (entry : ℕ → ℕ → ℕ) : Type 0 where
+  pub found : (p q : ℕ) → p < n → q < n → RankUpTo Move k p q (entry p q)
 
 -- The table after the rounds: each of the first `last` separated a pair, and the next one none.
 pub record Finished (Move : Moves) (n last : ℕ) (entry exit : List ℕ) : Type 0 where
-  pub ranks : RanksUpTo Move n (last + 1) exit
+  pub ranks : RanksUpTo Move n (last + 1) (entryOf exit)
   pub separates : (k : ℕ) → k < last → Separates Move n k
   pub settled : Settled Move n last
   pub outside : Outside n entry exit

@@ -1,4 +1,4 @@
--- The table starts right for round 0, and after the last round it keeps Rank's promise: what no round separated is
+-- Entries start right for round 0, and after the last round the table keeps Rank's promise: what no round separated is
 -- bisimilar, and the last separating round is the greatest rank. Document 01, operation 3. Assumes nothing.
 use mathlib.Core.Path.{_≡_, refl, sym, _∙_, subst}
 use mathlib.Core.Logic.{_⊎_, inl, inr}
@@ -24,14 +24,20 @@ use Rattle.ranking.specs.Laws.ClassListLaws.{classes-suc}
 use Rattle.ranking.specs.Inner.TableWrites.{entryOf, RoundWritten, RankUpTo, RanksUpTo, Finished}
 use Rattle.ranking.specs.Laws.TableWritesLaws.{ranksUpTo-suc}
 
--- ---- the cleared table
+-- ---- before any round
 
-pub ranksUpTo-zero : (Move : Moves) {n : ℕ} {t u : List ℕ} → n ≤ stateLimit → Cleared 0 tableLength t u
-    → RanksUpTo Move n 0 u
+pub ranksUpTo-zero : (Move : Moves) {n : ℕ} {entry : ℕ → ℕ → ℕ} → ((p q : ℕ) → p < n → q < n → entry p q ≡ 0)
+    → RanksUpTo Move n 0 entry
 unfolding Alike
-ranksUpTo-zero Move l C = record { found = λ p q lp lq. inl (C .given (pairPlace p q) (omega arith), tt) }
+ranksUpTo-zero Move z = record { found = λ p q lp lq. inl (z p q lp lq, tt) }
 
 -- ---- one round
+
+pub ranksUpTo-same : {Move : Moves} {n k : ℕ} {t u : ℕ → ℕ → ℕ} → ((p q : ℕ) → p < n → q < n → u p q ≡ t p q)
+    → RanksUpTo Move n k t → RanksUpTo Move n k u
+ranksUpTo-same {Move} {k = k} e U = record {
+  found = λ p q lp lq. subst (RankUpTo Move k p q) (sym (e p q lp lq)) (U .found p q lp lq);
+}
 
 module _ {Move : Moves} {n : ℕ} (target-lt : (p a q : ℕ) → p < n → Move p a q → q < n) {class next : List ℕ} {k : ℕ}
     (C : Classes Move n k class) (R : Refined Move n class next) where
@@ -41,7 +47,7 @@ module _ {Move : Moves} {n : ℕ} (target-lt : (p a q : ℕ) → p < n → Move 
   pub round-classes : Classes Move n (k + 1) next
   round-classes = subst (λ (j : ℕ). Classes Move n j next) (sym (add-one k)) D
 
-  pub round-ranks : {t u : List ℕ} → RoundWritten n class next (k + 1) t u → RanksUpTo Move n k t
+  pub round-ranks : {t u : ℕ → ℕ → ℕ} → RoundWritten n class next (k + 1) t u → RanksUpTo Move n k t
       → RanksUpTo Move n (k + 1) u
   round-ranks {t} {u} W U = subst (λ (j : ℕ). RanksUpTo Move n j u) (sym (add-one k))
       (ranksUpTo-suc C D (subst (λ (j : ℕ). RoundWritten n class next j t u) (add-one k) W) U)

@@ -1,5 +1,5 @@
--- A round that writes its number for each pair that it separates makes the table right one round further; and the rows
--- of the states that changed their class hold every such pair. Document 01, operation 3. Assumes nothing.
+-- A round that writes its number for each pair that it separates makes the entries right one round further; and the
+-- rows of the states that changed their class hold every such pair. Document 01, operation 3. Assumes nothing.
 use mathlib.Core.Path.{_≡_, refl, sym, ap, _∙_, subst}
 use mathlib.Core.Logic.{_⊎_, inl, inr, ⊎-elim}
 use mathlib.Core.List.{List}
@@ -168,28 +168,27 @@ entry-of-separated {class} {next} {t} {changed} {round} {n} C r p q lp lq h =
 
 pub roundWritten-of-rows : {n changes round : ℕ} {class next changed t u : List ℕ}
     → Changed n class next changed changes → Written n class next round t u
-    → RowsWritten class next round u changed changes n → RoundWritten n class next round t u
+    → RowsWritten class next round u changed changes n → RoundWritten n class next round (entryOf t) (entryOf u)
 roundWritten-of-rows C W R = record {
   written = entry-of-separated C R;
   kept = λ p q lp lq d. ⊎-elim (λ e. e) (λ h. absurd (d (h .0))) (W .inside p q lp lq);
-  outside = W .outside;
 }
 
 -- ---- a round
 
--- The table is right one round further.
-pub ranksUpTo-suc : {Move : Moves} {n k : ℕ} {class next t u : List ℕ} → Classes Move n k class
+-- The entries are right one round further.
+pub ranksUpTo-suc : {Move : Moves} {n k : ℕ} {class next : List ℕ} {t u : ℕ → ℕ → ℕ} → Classes Move n k class
     → Classes Move n (suc k) next → RoundWritten n class next (suc k) t u → RanksUpTo Move n k t
     → RanksUpTo Move n (suc k) u
 ranksUpTo-suc {Move} {n} {k} {class} {next} {t} {u} C D W U =
     record { found = λ p q lp lq. go p q lp lq (U .found p q lp lq) }
   where
-    new : (p q : ℕ) → p < n → q < n → entryOf t p q ≡ 0 → Alike Move k p q → Same next p q ⊎ ¬ (Same next p q)
-        → RankUpTo Move (suc k) p q (entryOf u p q)
+    new : (p q : ℕ) → p < n → q < n → t p q ≡ 0 → Alike Move k p q → Same next p q ⊎ ¬ (Same next p q)
+        → RankUpTo Move (suc k) p q (u p q)
     new p q lp lq z h (inl e) =
         inl (W .kept p q lp lq (λ s. s .not-same-after e) ∙ z, D .alike-of-same p q lp lq e)
     new p q lp lq z h (inr d) =
-        let e : entryOf u p q ≡ suc k = W .written p q lp lq (record {
+        let e : u p q ≡ suc k = W .written p q lp lq (record {
           same-before = C .same-of-alike p q lp lq h;
           not-same-after = d;
         }) in
@@ -199,10 +198,10 @@ ranksUpTo-suc {Move} {n} {k} {class} {next} {t} {u} C D W U =
         } in
         inr (omega (arith, e), subst (Separated Move p q) (sym e) x)
 
-    go : (p q : ℕ) → p < n → q < n → RankUpTo Move k p q (entryOf t p q) → RankUpTo Move (suc k) p q (entryOf u p q)
+    go : (p q : ℕ) → p < n → q < n → RankUpTo Move k p q (t p q) → RankUpTo Move (suc k) p q (u p q)
     go p q lp lq (inl (z, h)) = new p q lp lq z h (eq-or-not (getD next p 0) (getD next q 0))
     go p q lp lq (inr (l, x)) =
         let apart : ¬ (SeparatedBy class next p q) = λ s. x .not-alike
-        (alike-le Move p q (entryOf t p q) k l (C .alike-of-same p q lp lq (s .same-before))) in
+        (alike-le Move p q (t p q) k l (C .alike-of-same p q lp lq (s .same-before))) in
         let e = W .kept p q lp lq apart in
         inr (omega (arith, e, l), subst (Separated Move p q) (sym e) x)

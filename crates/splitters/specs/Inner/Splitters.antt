@@ -8,6 +8,7 @@ use mathlib.Core.Path.{_≡_}
 use Prim.Native.Nat.{ℕ, _+_, _-_, _≤_, _<_}
 use lib.ListN.{getD}
 use Rattle.lts.specs.Alike.{Moves}
+use Rattle.lts.specs.Game.{Separates}
 use Rattle.text.specs.Limits.{stateLimit}
 use Rattle.comparing.specs.Inner.Numbered.{Same}
 use Rattle.sets.specs.Inner.Sets.{Member}
@@ -15,7 +16,8 @@ use Rattle.sets.specs.Inner.SetValues.{In}
 use Rattle.sets.specs.declared.set.Set.{Set}
 use Rattle.held.specs.Held.{rowSet, slotPlace, targetRow, sourceRow, HeldAt}
 use Rattle.ranking.specs.Inner.ClassList.{Classes, Refined, RoundSeparates}
-use Rattle.ranking.specs.Inner.TableWrites.{RanksUpTo, Outside}
+use Rattle.ranking.specs.Inner.TableWrites.{RanksUpTo}
+use Rattle.tree.specs.Inner.Tree.{Tree, Apart, UnderSets}
 use Rattle.splitters.specs.Inner.Partition.{Partition, home, HomesKept}
 
 -- Classes from `first` on are new, and have noted what they were a part of. States of one class have moves together to
@@ -30,6 +32,11 @@ pub record Fresh (first classes : ℕ) (members origin fresh rest : List ℕ) : 
   pub fresh-all : (j p : ℕ) → first ≤ j → j < classes → Member members j p → Member fresh j p
   pub rest-in : (j p : ℕ) → first ≤ j → j < classes → Member rest j p → Member members (getD origin j 0) p
   pub rest-all : (j p : ℕ) → first ≤ j → j < classes → Member members (getD origin j 0) p → Member rest j p
+
+-- The sets of a list below `to` are as they were.
+pub record SetsKept (to : ℕ) (entry exit : List ℕ) : Type 0 where
+  pub kept : (j p : ℕ) → j < to → Member entry j p → Member exit j p
+  pub only : (j p : ℕ) → j < to → Member exit j p → Member entry j p
 
 -- ---- sets of states
 
@@ -102,24 +109,42 @@ pub record UsedSplit (n old : ℕ) (slots pool : List ℕ) (Used : ℕ → ℕ �
 
 -- ---- rounds
 
+-- The round that separated the classes of two states.
+abbrev pub apartOf : (ℕ → ℕ → ℕ) → List ℕ → ℕ → ℕ → ℕ
+apartOf apart class p q = apart (getD class p 0) (getD class q 0)
+
+-- The splitting tree after k rounds, and the rounds that separated its classes. Those from `first` on are new, and
+-- nothing was divided off them; the states under each of the others are noted.
+pub record Grown (n k first classes : ℕ) (class origin fresh when : List ℕ) : Type 0 where
+  pub tree : Tree classes origin when
+  pub origin-old : (c : ℕ) → 0 < c → c < classes → getD origin c 0 < first
+  pub when-le : (c : ℕ) → 0 < c → c < classes → getD when c 0 ≤ k
+  pub under : UnderSets n first class origin fresh
+  pub apart : ℕ → ℕ → ℕ
+  pub apart-is : Apart classes origin when apart
+
 -- What a round finds after k of them: the classes of k-alike states, and the ranks up to k.
-pub record Ready (Move : Moves) (n k first : ℕ) (class members origin : List ℕ) (classes : ℕ) (together : Set)
-    (table : List ℕ) : Type 0 where
+pub record Ready (Move : Moves) (n k first : ℕ) (class members origin fresh when : List ℕ) (classes : ℕ)
+    (together : Set) : Type 0 where
   pub are-classes : Classes Move n k class
   pub partition : Partition n class members classes together
   pub stable : Stable Move n first class origin
   pub origin-lt : (j : ℕ) → first ≤ j → j < classes → getD origin j 0 < classes
   pub first-le : first ≤ classes
-  pub rounds-lt : k < classes
-  pub ranks : RanksUpTo Move n k table
+  pub grown : Grown n k first classes class origin fresh when
+  pub ranks : RanksUpTo Move n k (apartOf (grown .apart) class)
 
--- What it leaves: the same one round later, unless it separates nothing, and which of the two. Only the entries of two
--- states have changed.
-pub record Rounded (Move : Moves) (n k : ℕ) (class next members origin : List ℕ) (classes classes′ : ℕ) (together : Set)
-    (entry exit : List ℕ) : Type 0 where
+-- What it leaves: the same one round later, where the further classes are new. There are any exactly if it separates a
+-- pair.
+pub record Rounded (Move : Moves) (n k : ℕ) (class next members origin fresh when : List ℕ) (classes classes′ : ℕ)
+    (together : Set) : Type 0 where
   pub refined : Refined Move n class next
-  pub classes-le : classes ≤ classes′
-  pub ranks : RanksUpTo Move n (k + 1) exit
-  pub outside : Outside n entry exit
   pub separates : RoundSeparates Move n k (classes′ - classes)
-  pub ready : classes < classes′ → Ready Move n (k + 1) classes next members origin classes′ together exit
+  pub ready : Ready Move n (k + 1) classes next members origin fresh when classes′ together
+
+-- After k rounds, each of which separated a pair: what a further one finds. Each made a class, so there are more than k.
+pub record Rounds (Move : Moves) (n k first : ℕ) (class members origin fresh when : List ℕ) (classes : ℕ)
+    (together : Set) : Type 0 where
+  pub ready : Ready Move n k first class members origin fresh when classes together
+  pub rounds-lt : k < classes
+  pub separates : (j : ℕ) → j < k → Separates Move n j

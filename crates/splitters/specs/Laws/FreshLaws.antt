@@ -10,7 +10,7 @@ use Rattle.lts.specs.TestsLaws.{eq-or-not}
 use Rattle.sets.specs.Inner.Sets.{Member}
 use Rattle.sets.specs.Inner.SetValues.{SetOf, SetPut}
 use Rattle.sets.specs.declared.set.Set.{Set}
-use Rattle.splitters.specs.Inner.Splitters.{Fresh}
+use Rattle.splitters.specs.Inner.Splitters.{Fresh, SetsKept}
 
 -- Set k of the list, from `first` up to j, has the members that Is k holds of.
 pub record Noted (Is : ℕ → ℕ → Type 0) (first j : ℕ) (sets : List ℕ) : Type 0 where
@@ -49,4 +49,16 @@ fresh-of-noted l f g = record {
   fresh-all = λ k p a h. f .all k p a (omega (arith, l, h));
   rest-in = λ k p a h. g .only k p a (omega (arith, l, h));
   rest-all = λ k p a h. g .all k p a (omega (arith, l, h));
+}
+
+-- ---- the sets before them
+
+pub setsKept-refl : {to : ℕ} (sets : List ℕ) → SetsKept to sets sets
+setsKept-refl sets = record { kept = λ j p l m. m; only = λ j p l m. m }
+
+pub setsKept-put : {to k : ℕ} {s : Set} {t u w : List ℕ} → to ≤ k → SetsKept to t u → SetPut k s u w
+    → SetsKept to t w
+setsKept-put l f a = record {
+  kept = λ j p h m. a .kept j p (λ e. omega (arith, e, l, h)) (f .kept j p h m);
+  only = λ j p h m. f .only j p h (a .only j p (λ e. omega (arith, e, l, h)) m);
 }

@@ -1,8 +1,8 @@
--- The cleared table is right for round 0, and what the rounds leave keeps the promise.
+-- The table is cleared, and what the rounds leave keeps the promise.
 use mathlib.Core.Path.{_∙_}
 use native.Mathlib.Omega.{arith}
 use Rattle.held.specs.Laws.HeldLaws.{heldMove-game}
-use Rattle.ranking.specs.Laws.RoundsLaws.{ranksUpTo-zero, ranked-of-finished}
+use Rattle.ranking.specs.Laws.RoundsLaws.{ranked-of-finished}
 use borrow.Author.Needs.{needs}
 use Rattle.splitters.proofs.rounds.rank_held.Statement.{statement}
 use Rattle.splitters.proofs.rounds.rank_held.Tie as tie
@@ -21,8 +21,7 @@ rounds-requires : tie.Need-rounds-requires
 rounds-requires c κs =
     let cleared = c .before .before .before in
     let P = begin cleared .pre in
-    let C = cleared .clear .ensures in
-    (P .0, (omega (arith, P .1, C .past .same-length), ranksUpTo-zero _ (P .0 .states-le) C))
+    (P .0, omega (arith, P .1, cleared .clear .ensures .past .same-length))
 
 same-length : tie.Need-same-length
 same-length c = search needs

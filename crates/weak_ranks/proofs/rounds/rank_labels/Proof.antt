@@ -1,6 +1,7 @@
 -- The cleared table is right for round 0, and what the rounds leave keeps the promise.
 use mathlib.Core.Path.{_∙_}
 use native.Mathlib.Omega.{arith}
+use Rattle.text.specs.Limits.{pairPlace}
 use Rattle.silent.specs.Laws.LabelledLaws.{labelMove-game}
 use Rattle.ranking.specs.Laws.RoundsLaws.{ranksUpTo-zero, ranked-of-finished}
 use borrow.Author.Needs.{needs}
@@ -24,7 +25,8 @@ weak-rounds-requires c κs =
       P .0,
       (
         omega (arith, P .1, cleared .clear .kept .0),
-        ranksUpTo-zero _ (P .0 .states-le) (cleared .clear .ensures),
+        ranksUpTo-zero _
+            (λ p q lp lq. cleared .clear .ensures .given (pairPlace p q) (omega (arith, lp, lq, P .0 .states-le))),
       ),
     )
 

@@ -48,13 +48,13 @@ returns c =
     let C = P .1 .0 .2 in
     let refined = refining listed .refine .ensures in
     let H = listed .list-changed .ensures in
-    let written = c .before .before .write-rows .ensures in
-    let W = roundWritten-of-rows H (written .0) (written .1) in (
+    let written = c .before .before .write-rows .ensures in (
       (refined .0, round-classes (λ p a q _ m. labelMove-target-lt L m) C (refined .1)),
       (
-        round-ranks (λ p a q _ m. labelMove-target-lt L m) C (refined .1) W (P .1 .1 .1),
+        round-ranks (λ p a q _ m. labelMove-target-lt L m) C (refined .1)
+            (roundWritten-of-rows H (written .0) (written .1)) (P .1 .1 .1),
         (
-          W .outside,
+          written .0 .outside,
           leads-separate (λ p a q _ m. labelMove-target-lt L m) C (refined .1) A (refined .0) H,
         ),
       ),

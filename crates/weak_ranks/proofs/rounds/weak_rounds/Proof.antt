@@ -14,7 +14,7 @@ use Rattle.text.specs.Laws.ListLaws.{getD-zeros}
 use Rattle.silent.specs.Labelled.{LabelMove}
 use Rattle.silent.specs.Laws.LabelledLaws.{labelMove-game}
 use Rattle.ranking.specs.Inner.ClassList.{Classes}
-use Rattle.ranking.specs.Inner.TableWrites.{Outside, RanksUpTo}
+use Rattle.ranking.specs.Inner.TableWrites.{entryOf, Outside, RanksUpTo}
 use Rattle.ranking.specs.Laws.ClassListLaws.{classes-zero}
 use Rattle.ranking.specs.Laws.TableWritesLaws.{outside-refl, outside-trans}
 use Rattle.weak_ranks.specs.Inner.Dividing.{LeadClasses}
@@ -26,7 +26,7 @@ use Rattle.weak_ranks.proofs.rounds.weak_rounds.Tie as tie
 record Rounds (Move : Moves) (n k : ℕ) (entry table class : List ℕ) : Type 0 where
   pub leads : LeadClasses n class
   pub are-classes : Classes Move n k class
-  pub ranks : RanksUpTo Move n k table
+  pub ranks : RanksUpTo Move n k (entryOf table)
   pub separates : (j : ℕ) → j < k → Separates Move n j
   pub outside : Outside n entry table
   pub table-length : length table ≡ length entry
