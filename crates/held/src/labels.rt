@@ -2,6 +2,7 @@
 use crate::LABEL_COUNT;
 use crate::POOL_LENGTH;
 use crate::POOL_SETS;
+use crate::SEEN_LENGTH;
 use crate::SLOTS_LENGTH;
 use crate::slots::hold_row;
 use crate::slots::target_row;
@@ -47,6 +48,7 @@ fn hold_label(
     used: u16,
     slots: &mut [u16; SLOTS_LENGTH],
     pool: &mut [u64; POOL_LENGTH],
+    seen: &mut [u16; SEEN_LENGTH],
 ) -> u16
     requires { ⌜ LabelList n (now from) (now sources) (now targets) ⌝ }
     requires { ⌜ OwnNumbers n (now own) ⌝ }
@@ -64,9 +66,9 @@ fn hold_label(
     let mut sets = [0u64; SETS_LENGTH];
     let row = target_row(a.0);
     low_targets(n, from, sources, targets, own, there, a, &mut sets);
-    let next = hold_row(&sets, row, used, slots, pool);
+    let next = hold_row(&sets, row, used, slots, pool, seen);
     low_targets(n, from, targets, sources, own, back, a, &mut sets);
-    hold_row(&sets, row + 1, next, slots, pool)
+    hold_row(&sets, row + 1, next, slots, pool, seen)
 }
 
 // Holds the moves with each action that has a step, and lists these, as long as there is room.
@@ -81,6 +83,7 @@ fn hold_actions(
     labels: &mut [u16; LABEL_COUNT],
     slots: &mut [u16; SLOTS_LENGTH],
     pool: &mut [u64; POOL_LENGTH],
+    seen: &mut [u16; SEEN_LENGTH],
 ) -> Holding
     requires { ⌜ LabelList n (now from) (now sources) (now targets) ⌝ }
     requires { ⌜ OwnNumbers n (now own) ⌝ }
@@ -112,6 +115,7 @@ fn hold_actions(
                 used,
                 slots,
                 pool,
+                seen,
             );
             put(labels, count as usize, a);
             count += 1;
@@ -139,6 +143,7 @@ pub fn hold_labels(
     let mut own = [0u16; ROW];
     let mut there = [0u64; SETS_LENGTH];
     let mut back = [0u64; SETS_LENGTH];
+    let mut seen = [0u16; SEEN_LENGTH];
     own_numbers(n, &mut own);
     silent_targets(n, from, sources, targets, &own, &mut there);
     silent_targets(n, from, targets, sources, &own, &mut back);
@@ -153,6 +158,7 @@ pub fn hold_labels(
         labels,
         slots,
         pool,
+        &mut seen,
     );
     if held.used == 0 {
         return 0;
@@ -161,8 +167,8 @@ pub fn hold_labels(
         return 0;
     }
     let row = target_row(SILENT_ACTION);
-    let next = hold_row(&there, row, held.used, slots, pool);
-    hold_row(&back, row + 1, next, slots, pool);
+    let next = hold_row(&there, row, held.used, slots, pool, &mut seen);
+    hold_row(&back, row + 1, next, slots, pool, &mut seen);
     put(labels, held.count as usize, SILENT_ACTION);
     held.count + 1
 }

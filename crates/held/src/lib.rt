@@ -11,8 +11,12 @@ const ROW_COUNT: usize = 2 * LABEL_COUNT;
 // A slot in them for each state.
 pub const SLOTS_LENGTH: usize = ROW_COUNT * text::limits::ROW;
 
-// The sets that slots have: enough for two of each of 1,024 steps, or for all sets of 9 labels among 128 states.
+// The sets that slots have: enough for two of each of 1,024 steps, or for all sets of 9 labels among 128 states, and
+// for those of more labels where equal sets are shared.
 pub const POOL_SETS: u16 = 2560;
 
 // Two words for each of them, and for one set more of each row.
 pub const POOL_LENGTH: usize = 2 * (POOL_SETS as usize + ROW_COUNT);
+
+// The places at which a shared set is looked for.
+const SEEN_LENGTH: usize = 1024;

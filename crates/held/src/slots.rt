@@ -1,6 +1,7 @@
 // The sets of a pool, found by their slots.
 use crate::POOL_LENGTH;
 use crate::POOL_SETS;
+use crate::SEEN_LENGTH;
 use crate::SLOTS_LENGTH;
 use comparing::lists::wide;
 use comparing::stores::put;
@@ -23,7 +24,8 @@ ghost use Rattle.text.specs.Limits.{stateLimit, actionLimit};
 ghost use Rattle.sets.specs.Inner.Sets.{Member};
 ghost use Rattle.sets.specs.Inner.SetValues.{SetOf};
 ghost use Rattle.held.specs.Held.{rowCount, poolSets, rowSet, slotPlace, targetRow, HeldAt};
-ghost use Rattle.held.specs.Inner.Slots.{Pooled, FreeFrom, Separate, RowsKept, RowHeld, SetHeld, MemberAdded};
+ghost use Rattle.held.specs.Inner.Slots.{seenLength, Pooled, FreeFrom, Separate, Shared, MemberAdded};
+ghost use Rattle.held.specs.Inner.Slots.{RowsKept, RowHeld, SetHeld};
 
 // The row of the targets of moves with the label a.
 pub fn target_row(a: u16) -> u16
@@ -69,7 +71,53 @@ pub fn occupied(pool: &[u64; POOL_LENGTH], row: u16) -> Set
     set_at(pool, row_set(row))
 }
 
-// Gives p in a row, where it has none, a free set for s, and yields the next free set; no members need none.
+// The place in `seen` of a set, by all its bits: the second word comes onto the first, turned by 3, and then higher
+// bits come onto lower ones.
+fn seen_place(s: Set) -> usize
+    ensures { λ r. ⌜ r < seenLength ⌝ }
+{
+    let words = s.0 ^ (s.1 >> 3) ^ (s.1 << 61);
+    let halves = words ^ (words >> 32);
+    let quarters = halves ^ (halves >> 17);
+    let bits = quarters ^ (quarters >> 9);
+    bits as usize % SEEN_LENGTH
+}
+
+// The number of a set that is s, or 0. What `seen` says is tested, so it may be anything.
+fn find_same(pool: &[u64; POOL_LENGTH], s: Set, used: u16, seen: &[u16; SEEN_LENGTH]) -> u16
+    requires { ⌜ used ≤ poolSets ⌝ }
+    ensures { λ r. ⌜ (0 < r → (r < used) × SetOf (Member (now (pool .entry)) r) s) ⌝ }
+{
+    let at = seen_place(s);
+    let number = seen[at];
+    if used <= number {
+        return 0;
+    }
+    let there = set_at(pool, wide(number));
+    if there.0 != s.0 {
+        return 0;
+    }
+    if there.1 != s.1 {
+        return 0;
+    }
+    number
+}
+
+// Yields the number of a set that is s: one that was seen, or else the first free one, which becomes s.
+fn share(s: Set, used: u16, pool: &mut [u64; POOL_LENGTH], seen: &mut [u16; SEEN_LENGTH]) -> u16
+    requires { ⌜ used < poolSets ⌝ }
+    ensures { λ r. ⌜ Shared used r s (now (pool .entry)) (now (pool .exit)) ⌝ }
+{
+    let same = find_same(pool, s, used, seen);
+    if 0 < same {
+        return same;
+    }
+    put(seen, seen_place(s), used);
+    put_set(pool, used as usize, s);
+    used
+}
+
+// Gives p in a row, where it has none, a set for s, and yields the next free set; no members need none.
 fn hold_set(
     row: u16,
     p: State,
@@ -77,6 +125,7 @@ fn hold_set(
     used: u16,
     slots: &mut [u16; SLOTS_LENGTH],
     pool: &mut [u64; POOL_LENGTH],
+    seen: &mut [u16; SEEN_LENGTH],
 ) -> u16
     requires { ⌜ (row < rowCount) × (p .0 < stateLimit) × (used < poolSets) ⌝ }
     requires { ⌜ Pooled used (now slots) (now pool) × FreeFrom (slotPlace row (p .0)) (now slots) ⌝ }
@@ -88,9 +137,12 @@ fn hold_set(
     if is_empty(s) {
         return used;
     }
-    put(slots, slot_place(row, p), used);
-    put_set(pool, used as usize, s);
+    let number = share(s, used, pool, seen);
+    put(slots, slot_place(row, p), number);
     insert(pool, row_set(row), p.0);
+    if number < used {
+        return used;
+    }
     used + 1
 }
 
@@ -101,6 +153,7 @@ pub fn hold_row(
     used: u16,
     slots: &mut [u16; SLOTS_LENGTH],
     pool: &mut [u64; POOL_LENGTH],
+    seen: &mut [u16; SEEN_LENGTH],
 ) -> u16
     requires { ⌜ (row < rowCount) × (used + stateLimit ≤ poolSets) × Pooled used (now slots) (now pool)
         × FreeFrom (slotPlace row 0) (now slots) ⌝ }
@@ -112,7 +165,7 @@ pub fn hold_row(
     let mut next = used;
     for p in 0..STATE_LIMIT {
         let s = set_at(sets, p as usize);
-        next = hold_set(row, State(p), s, next, slots, pool);
+        next = hold_set(row, State(p), s, next, slots, pool, seen);
     }
     next
 }

@@ -7,7 +7,7 @@ use lib.ListN.{getD}
 use Rattle.lts.specs.Alike.{Moves}
 use Rattle.text.specs.Limits.{stateLimit}
 use Rattle.sets.specs.Inner.Sets.{Member}
-use Rattle.sets.specs.Inner.SetValues.{In}
+use Rattle.sets.specs.Inner.SetValues.{In, SetOf}
 use Rattle.sets.specs.declared.set.Set.{Set}
 use Rattle.held.specs.Held.{rowCount, poolSets, slotPlace, targetRow, sourceRow, HeldAt, HeldLabel, Occupied}
 
@@ -28,6 +28,21 @@ pub record Separate (used : ℕ) (slots pool : List ℕ) : Type 0 where
 -- The slots from this place on have no set: rows are filled in their order, each once.
 pub record FreeFrom (place : ℕ) (slots : List ℕ) : Type 0 where
   pub free : (i : ℕ) → place ≤ i → getD slots i 0 ≡ 0
+
+-- The places at which a shared set is looked for. Any numbers may stand there.
+abbrev pub seenLength : ℕ
+seenLength = 1024
+
+-- All sets but k are as they were.
+pub record OthersKept (k : ℕ) (pool pool′ : List ℕ) : Type 0 where
+  pub there : (j x : ℕ) → ¬ (j ≡ k) → Member pool j x → Member pool′ j x
+  pub back : (j x : ℕ) → ¬ (j ≡ k) → Member pool′ j x → Member pool j x
+
+-- Set `number` is s, one in use or the first free one, and only the free one may have changed.
+pub record Shared (used number : ℕ) (s : Set) (pool pool′ : List ℕ) : Type 0 where
+  pub number-le : number ≤ used
+  pub members : SetOf (Member pool′ number) s
+  pub kept : OthersKept used pool pool′
 
 -- The sets of all rows but this one are as they were.
 pub record RowsKept (row : ℕ) (slots pool slots′ pool′ : List ℕ) : Type 0 where

@@ -12,7 +12,7 @@ use Rattle.held.specs.Held.{poolSets, rowSet, slotPlace}
 use Rattle.held.specs.Inner.Slots.{Separate, MemberAdded}
 use Rattle.held.specs.Laws.PoolLaws.{PutAt, kept-of-joined}
 use Rattle.held.specs.Laws.OccupiedLaws.{occupied-kept}
-use Rattle.held.specs.Laws.SlotsLaws.{pooled-new}
+use Rattle.held.specs.Laws.SlotsLaws.{pooled-put}
 
 -- ---- into a free set
 
@@ -50,7 +50,8 @@ module _ {used p x : ℕ} {slots slots′ pool pool′ pool″ : List ℕ} (row 
 
   pub separate-new : p < stateLimit → Separate (used + 1) slots′ pool″
   separate-new lp = record {
-    pooled = pooled-new row (D .pooled) l lp S (kept-of-joined J) (J .joined x refl) M;
+    pooled = pooled-put row (D .pooled) l (omega arith) (omega arith) (omega arith) lp S (kept-of-joined J)
+        (J .joined x refl) M;
     own = λ i j k e. own i j k e (eq-or-not i (slotPlace row p)) (eq-or-not j (slotPlace row p));
     free = λ k y m n h. D .free k y (omega (arith, m)) n (kept-of-joined J .back k y (λ e. omega (arith, e, m))
         (kept-of-joined M .back k y (λ e. omega (arith, e, n)) h));

@@ -10,7 +10,8 @@ use Rattle.lts.specs.TestsLaws.{eq-or-not}
 use Rattle.text.specs.Limits.{stateLimit}
 use Rattle.sets.specs.Inner.Sets.{Member, Joined}
 use Rattle.held.specs.Held.{poolSets, rowSet, slotPlace, HeldAt, Occupied}
-use Rattle.held.specs.Laws.PoolLaws.{PutAt, OthersKept}
+use Rattle.held.specs.Inner.Slots.{OthersKept}
+use Rattle.held.specs.Laws.PoolLaws.{PutAt}
 
 -- A state whose set in a row has a member is in the set of the row.
 pub occupied-held : {slots pool : List ℕ} (row p x : ℕ) → Occupied slots pool → ((y : ℕ) → ¬ (Member pool 0 y))

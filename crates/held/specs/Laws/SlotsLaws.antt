@@ -1,29 +1,30 @@
--- A slot gets a free set of the pool, and the sets of all other slots stay; so a row is filled. Assumes nothing.
+-- A slot gets a set of the pool, and the sets of all other slots stay; so a row is filled. Assumes nothing.
 use mathlib.Core.List.{List}
 use mathlib.Core.Logic.{_⊎_, inl, inr}
 use mathlib.Core.Path.{_≡_, sym, ap, subst}
-use Prim.Native.Nat.{ℕ, _+_, _<_}
+use Prim.Native.Nat.{ℕ, _+_, _≤_, _<_}
 use native.Mathlib.Omega.{arith}
 use lib.ListN.{getD}
 use Rattle.lts.specs.TestsLaws.{eq-or-not}
 use Rattle.text.specs.Limits.{stateLimit}
 use Rattle.sets.specs.Inner.Sets.{Member, Joined}
-use Rattle.sets.specs.Inner.SetValues.{In, SetOf, SetPut}
+use Rattle.sets.specs.Inner.SetValues.{In, SetOf}
 use Rattle.sets.specs.declared.set.Set.{Set}
 use Rattle.held.specs.Held.{poolSets, rowSet, slotPlace, HeldAt}
-use Rattle.held.specs.Inner.Slots.{Pooled, FreeFrom, RowsKept, RowHeld, SetHeld}
-use Rattle.held.specs.Laws.PoolLaws.{PutAt, OthersKept, kept-of-joined}
+use Rattle.held.specs.Inner.Slots.{Pooled, FreeFrom, OthersKept, Shared, RowsKept, RowHeld, SetHeld}
+use Rattle.held.specs.Laws.PoolLaws.{PutAt, kept-of-joined}
 use Rattle.held.specs.Laws.OccupiedLaws.{occupied-kept, occupied-put}
 
 -- ---- a set is given
 
--- The slot of p gets the first free set, which has got a member, and p comes into the set of its row.
-pub pooled-new : {used p x : ℕ} {slots slots′ pool pool′ pool″ : List ℕ} (row : ℕ) → Pooled used slots pool
-    → used < poolSets → p < stateLimit → PutAt (slotPlace row p) used slots slots′ → OthersKept used pool pool′ → Member pool′ used x
-    → Joined (rowSet row) (λ q. q ≡ p) pool′ pool″ → Pooled (used + 1) slots′ pool″
-pooled-new {used} {p} {slots = slots} {slots′} row P l lp S K own J = record {
-  some = omega arith;
-  used-le = omega (arith, l);
+-- The slot of p gets a set that has a member, one in use or the first free one, and p comes into the set of its row.
+pub pooled-put : {used next number p x : ℕ} {slots slots′ pool pool′ pool″ : List ℕ} (row : ℕ) → Pooled used slots pool
+    → used < poolSets → used ≤ next → next ≤ used + 1 → number < next → p < stateLimit
+    → PutAt (slotPlace row p) number slots slots′ → OthersKept used pool pool′ → Member pool′ number x
+    → Joined (rowSet row) (λ q. q ≡ p) pool′ pool″ → Pooled next slots′ pool″
+pooled-put {used} {next} {number} {p} {slots = slots} {slots′} row P l from to n lp S K own J = record {
+  some = omega (arith, n);
+  used-le = omega (arith, l, to);
   slot-lt = λ j. slot-lt j (eq-or-not j (slotPlace row p));
   none = λ x m. P .none x (K .back 0 x (λ e. omega (arith, e, P .some))
       (kept-of-joined J .back 0 x (λ e. omega (arith, e)) m));
@@ -31,33 +32,35 @@ pooled-new {used} {p} {slots = slots} {slots′} row P l lp S K own J = record {
       (λ i x. K .there (getD slots i 0) x (λ e. omega (arith, e, P .slot-lt i)))) row lp S J own;
 }
   where
-    slot-lt : (j : ℕ) → (j ≡ slotPlace row p) ⊎ ¬ (j ≡ slotPlace row p) → getD slots′ j 0 < used + 1
-    slot-lt j (inl e) = omega (arith, ap (λ (y : ℕ). getD slots′ y 0) e, S .put)
-    slot-lt j (inr d) = omega (arith, S .kept j d, P .slot-lt j)
+    slot-lt : (j : ℕ) → (j ≡ slotPlace row p) ⊎ ¬ (j ≡ slotPlace row p) → getD slots′ j 0 < next
+    slot-lt j (inl e) = omega (arith, ap (λ (y : ℕ). getD slots′ y 0) e, S .put, n)
+    slot-lt j (inr d) = omega (arith, S .kept j d, P .slot-lt j, from)
 
 module _ {used row p : ℕ} {s : Set} {slots pool : List ℕ} (P : Pooled used slots pool) where
   -- No members need no set.
   pub setHeld-none : ((x : ℕ) → ¬ (In s x)) → FreeFrom (slotPlace row p) slots → SetHeld row p s slots pool slots pool
   setHeld-none f free = record {
     all = λ x i. absurd (f x i);
-    only = λ x m. absurd (P .none x (subst (λ (j : ℕ). Member pool j x) (free .free (slotPlace row p) (omega arith)) m));
+    only = λ x m. absurd (P .none x
+        (subst (λ (j : ℕ). Member pool j x) (free .free (slotPlace row p) (omega arith)) m));
     there = λ i x d m. m;
     back = λ i x d m. m;
   }
 
-  pub setHeld-new : {slots′ pool′ pool″ : List ℕ} → used < poolSets → PutAt (slotPlace row p) used slots slots′
-      → SetPut used s pool pool′ → OthersKept (rowSet row) pool′ pool″ → SetHeld row p s slots pool slots′ pool″
-  setHeld-new {pool″ = pool″} l S Q K = record {
-    all = λ x i. subst (λ (j : ℕ). Member pool″ j x) (sym (S .put)) (K .there used x own (Q .put .only x i));
-    only = λ x m. Q .put .all x (K .back used x own (subst (λ (j : ℕ). Member pool″ j x) (S .put) m));
+  pub setHeld-put : {number : ℕ} {slots′ pool′ pool″ : List ℕ} → used < poolSets
+      → PutAt (slotPlace row p) number slots slots′ → Shared used number s pool pool′
+      → OthersKept (rowSet row) pool′ pool″ → SetHeld row p s slots pool slots′ pool″
+  setHeld-put {number} {pool″ = pool″} l S Q K = record {
+    all = λ x i. subst (λ (j : ℕ). Member pool″ j x) (sym (S .put)) (K .there number x own (Q .members .only x i));
+    only = λ x m. Q .members .all x (K .back number x own (subst (λ (j : ℕ). Member pool″ j x) (S .put) m));
     there = λ i x d m. subst (λ (j : ℕ). Member pool″ j x) (sym (S .kept i d))
-        (K .there (getD slots i 0) x (other i) (Q .kept (getD slots i 0) x (old i) m));
-    back = λ i x d m. Q .only (getD slots i 0) x (old i)
+        (K .there (getD slots i 0) x (other i) (Q .kept .there (getD slots i 0) x (old i) m));
+    back = λ i x d m. Q .kept .back (getD slots i 0) x (old i)
         (K .back (getD slots i 0) x (other i) (subst (λ (j : ℕ). Member pool″ j x) (S .kept i d) m));
   }
     where
-      own : ¬ (used ≡ rowSet row)
-      own e = omega (arith, e, l)
+      own : ¬ (number ≡ rowSet row)
+      own e = omega (arith, e, l, Q .number-le)
 
       old : (i : ℕ) → ¬ (getD slots i 0 ≡ used)
       old i e = omega (arith, e, P .slot-lt i)

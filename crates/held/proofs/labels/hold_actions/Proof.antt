@@ -17,12 +17,14 @@ use Rattle.held.proofs.labels.hold_actions.Statement.{statement}
 use Rattle.held.proofs.labels.hold_actions.Tie as tie
 
 abbrev Inv-loop : tie.InvT-loop
-Inv-loop n from sources targets own there back labels₀ slots₀ pool₀ used₀ count₀ a₀ labels slots pool used count a =
+Inv-loop n from sources targets own there back labels₀ slots₀ pool₀ seen₀ used₀ count₀ a₀
+    labels slots pool seen used count a =
     (a ≤ actionLimit) × HeldTo (LabelMove n from sources targets) a labels count slots pool × Pooled used slots pool
     × FreeFrom (slotPlace (2 * a) 0) slots
 
 abbrev μ-loop : tie.MeasureT-loop
-μ-loop n from sources targets own there back labels₀ slots₀ pool₀ used₀ count₀ a₀ labels slots pool used count a =
+μ-loop n from sources targets own there back labels₀ slots₀ pool₀ seen₀ used₀ count₀ a₀
+    labels slots pool seen used count a =
     actionLimit - a
 
 loop-holds : tie.Need-loop-holds Inv-loop μ-loop
@@ -53,7 +55,7 @@ returns c = λ l. absurd (omega (arith, l))
 
 hold-label-requires : tie.Need-hold-label-requires Inv-loop μ-loop
 hold-label-requires c κs =
-    let else = c .before .before in
+    let else = c .before .before .before in
     let in-loop = else .before .before .before .before in
     let pre = in-loop .before .before .pre in
     let inv = in-loop .before .loop .inv in (
@@ -94,13 +96,13 @@ loop-again c =
     let l = in-loop .loop-test .taken in
     ⊎-elim
     (λ w.
-    let made = w .4 .ensures in
-    let fits : at-loop .loop .count < length (at-loop .loop .labels) = omega (arith, w .5, inv .1 .count-le, l) in
-    let P = put-of-set refl fits (w .6 .ensures) in
+    let made = w .5 .ensures in
+    let fits : at-loop .loop .count < length (at-loop .loop .labels) = omega (arith, w .6, inv .1 .count-le, l) in
+    let P = put-of-set refl fits (w .7 .ensures) in
     let h = heldTo-suc (inv .1) (labelMove-among (pre .0)) (inv .0) (omega arith) (λ p b q i j m. omega (arith, i, j)) P
     (made .0) (made .1 .0) in
-    rw (w .7, w .8, w .9, w .10, w .11) (omega (arith, l), h, made .1 .1 .0, made .1 .1 .1))
-    (λ w. rw (w .1, w .2, w .3, w .4, w .5) (
+    rw (w .8, w .9, w .10, w .12, w .13) (omega (arith, l), h, made .1 .1 .0, made .1 .1 .1))
+    (λ w. rw (w .1, w .2, w .3, w .5, w .6) (
       omega (arith, l),
       heldTo-none (inv .1) (labelMove-none l (w .0 .left)),
       inv .2,

@@ -19,7 +19,7 @@ low-targets-requires c κs =
 
 hold-row-requires : tie.Need-hold-row-requires
 hold-row-requires c κs =
-    let row = c .before .before .before .before .before in
+    let row = c .before .before .before .before .before .before in
     let pre = row .before .pre .1 .1 .1 .1 in
     let at = row .target-row .ensures in
     let e = targetRow-action (row .before .args .a .0) (pre .0) in
@@ -27,7 +27,7 @@ hold-row-requires c κs =
 
 low-targets-requires-2 : tie.Need-low-targets-requires-2
 low-targets-requires-2 c κs =
-    let pre = c .before .before .before .before .before .before .before .before .pre in
+    let pre = c .before .before .before .before .before .before .before .before .before .pre in
     (labelList-turned (pre .0), (pre .1 .0, (pre .1 .1 .1 .1 .0, pre .1 .1 .1 .0)))
 
 add-hold-row : tie.Need-add-hold-row
@@ -35,17 +35,17 @@ add-hold-row c = search needs
 
 hold-row-requires-2 : tie.Need-hold-row-requires-2
 hold-row-requires-2 c κs =
-    let held = c .before .before .before .before .before in
-    let row = held .before .before .before .before .before .before in
+    let held = c .before .before .before .before .before .before in
+    let row = held .before .before .before .before .before .before .before in
     let pre = row .before .pre .1 .1 .1 .1 in
     let made = held .hold-row .ensures .1 .1 in
     (row .target-row .ensures .1, omega (arith, made .1, pre .1), made .2, made .3)
 
 returns : tie.Need-returns
 returns c =
-    let back = c .before .before .before .before in
+    let back = c .before .before .before .before .before in
     let held = back .before .before in
-    let there = held .before .before .before .before in
+    let there = held .before .before .before .before .before in
     let row = there .before .before in
     let pre = row .before .pre in
     let e = row .target-row .ensures in
@@ -54,7 +54,10 @@ returns c =
     let at = targetRow-action (row .before .args .a .0) (pre .1 .1 .1 .1 .0) in (
       heldLabel-of-rows (pre .0) (e .0) (e .1) (there .low-targets .ensures) (back .low-targets2 .ensures) (first .0)
           (next .1 .0) (next .0),
-      (labelsKept-of-rows (e .0) (first .1 .0) (next .1 .0), (next .1 .1 .2, freeFrom-le (omega (arith, e .0, at)) (next .1 .1 .3))),
+      (
+        labelsKept-of-rows (e .0) (first .1 .0) (next .1 .0),
+        (next .1 .1 .2, freeFrom-le (omega (arith, e .0, at)) (next .1 .1 .3)),
+      ),
     )
 
 pub hold-label-spec : {M : Type 1} → statement M

@@ -25,10 +25,14 @@ abbrev there : tie.After-silent-targets2 → tie.After-silent-targets
 there c = c .before .before .before
 
 abbrev back : tie.After-hold-actions → tie.After-silent-targets2
-back c = c .before .before .before .before .before .before .before
+back c = c .before .before .before .before .before .before .before .before
 
 abbrev actions : tie.After-target-row → tie.After-hold-actions
 actions c = c .before .before .before .before .before
+
+-- The row of the silent label's targets.
+abbrev silent : tie.After-hold-row2 → tie.After-target-row
+silent c = c .before .before .before .before .before .before .before .before .before .before
 
 -- There was room for all actions.
 some : (c : tie.After-target-row) → 0 < actions c .hold-actions .result .used
@@ -54,7 +58,7 @@ silent-targets-requires-2 c κs =
 
 hold-actions-requires : tie.Need-hold-actions-requires
 hold-actions-requires c κs =
-    let turned = c .before .before .before .before .before .before in
+    let turned = c .before .before .before .before .before .before .before in
     let made = own (there turned) in
     let pre = start made .pre in (
       pre .0,
@@ -75,7 +79,7 @@ target-row-requires c κs = inr refl
 
 hold-row-requires : tie.Need-hold-row-requires
 hold-row-requires c κs =
-    let row = c .before .before .before in
+    let row = c .before .before .before .before in
     let held = actions row .hold-actions .ensures (some row) in
     let at = row .target-row .ensures in
     let e = targetRow-silent silentLabel (omega arith) in
@@ -87,8 +91,8 @@ add-hold-row c = search needs
 
 hold-row-requires-2 : tie.Need-hold-row-requires-2
 hold-row-requires-2 c κs =
-    let first = c .before .before .before in
-    let row = first .before .before .before .before in
+    let first = c .before .before .before .before in
+    let row = first .before .before .before .before .before in
     let made = first .hold-row .ensures .1 .1 in
     (row .target-row .ensures .1, omega (arith, row .before .if2 .left, made .1), made .2, made .3)
 
@@ -97,21 +101,21 @@ cast-put c = search needs
 
 put-requires : tie.Need-put-requires
 put-requires c κs =
-    let row = c .before .before .before .before .before .before .before .before .before .before in
+    let row = silent (c .before .before) in
     let held = actions row .hold-actions .ensures (some row) in
     omega (arith, c .before .put-arg, held .0 .count-le)
 
 add-result : tie.Need-add-result
 add-result c =
-    let row = c .before .before .before .before .before .before .before .before .before .before .before .before in
+    let row = silent (c .before .before .before .before) in
     let held = actions row .hold-actions .ensures (some row) in
     omega (arith, held .0 .count-le)
 
 returns-3 : tie.Need-returns-3
 returns-3 c =
     let next = c .before .before .before .before in
-    let first = next .before .before .before .before in
-    let row = first .before .before .before .before in
+    let first = next .before .before .before .before .before in
+    let row = first .before .before .before .before .before in
     let turned = back (actions row) in
     let pre = start (own (there turned)) .pre in
     let held = actions row .hold-actions .ensures (some row) in

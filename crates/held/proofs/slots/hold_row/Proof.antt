@@ -11,12 +11,12 @@ use Rattle.held.proofs.slots.hold_row.Statement.{statement}
 use Rattle.held.proofs.slots.hold_row.Tie as tie
 
 abbrev Inv-loop : tie.InvT-loop
-Inv-loop sets row used slots₀ pool₀ next₀ p₀ slots pool next p =
+Inv-loop sets row used slots₀ pool₀ seen₀ next₀ p₀ slots pool seen next p =
     (p ≤ stateLimit) × RowHeld sets row p slots pool × RowsKept row slots₀ pool₀ slots pool × (used ≤ next)
     × (next ≤ used + p) × Pooled next slots pool × FreeFrom (slotPlace row p) slots
 
 abbrev μ-loop : tie.MeasureT-loop
-μ-loop sets row used slots₀ pool₀ next₀ p₀ slots pool next p = stateLimit - p
+μ-loop sets row used slots₀ pool₀ seen₀ next₀ p₀ slots pool seen next p = stateLimit - p
 
 loop-holds : tie.Need-loop-holds Inv-loop μ-loop
 loop-holds c = (omega arith, rowHeld-zero, rowsKept-refl _ _ _, omega arith, omega arith, c .pre .2, c .pre .3)
@@ -29,7 +29,7 @@ set-at-requires c κs = search needs
 
 hold-set-requires : tie.Need-hold-set-requires Inv-loop μ-loop
 hold-set-requires c κs =
-    let in-loop = c .before .before .before .before in
+    let in-loop = c .before .before .before .before .before in
     let pre = in-loop .before .before .pre in
     let inv = in-loop .before .loop .inv in
     let l = in-loop .loop-test .taken in
@@ -43,12 +43,12 @@ loop-less c = search needs
 
 loop-again : tie.Need-loop-again Inv-loop μ-loop
 loop-again c =
-    let in-loop = c .before .before .before .before .before in
+    let in-loop = c .before .before .before .before .before .before in
     let inv = in-loop .before .loop .inv in
     let l = in-loop .loop-test .taken in
     let made = c .hold-set .ensures in (
       omega (arith, l),
-      rowHeld-suc (made .0) (c .before .before .before .set-at .ensures) (inv .1),
+      rowHeld-suc (made .0) (c .before .before .before .before .set-at .ensures) (inv .1),
       rowsKept-suc (made .0) l (inv .2),
       omega (arith, inv .3, made .1 .0),
       omega (arith, inv .4, made .1 .1),
