@@ -33,6 +33,13 @@ rowSet row = poolSets + row
 abbrev pub slotPlace : ℕ → ℕ → ℕ
 slotPlace row p = stateLimit * row + p
 
+-- How many slots there are, and how many words of sets.
+abbrev pub slotsLength : ℕ
+slotsLength = rowCount * stateLimit
+
+abbrev pub poolLength : ℕ
+poolLength = 2 * rowSet rowCount
+
 -- The label a is one of the first `count` of the list.
 abbrev pub LabelIn : List ℕ → ℕ → ℕ → Type 0
 LabelIn labels count a = (i : ℕ) × (i < count) × (getD labels i 0 ≡ a)

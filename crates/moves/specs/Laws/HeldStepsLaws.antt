@@ -60,6 +60,7 @@ module _ {s : List ℕ} {m : Model} (st : Stored s m) {labels slots pool : List 
     rising = L .rising;
     slot-lt = λ i. omega (arith, S .pooled .slot-lt i, S .pooled .used-le);
     none = S .pooled .none;
+    occupied = S .pooled .occupied;
     state-lt = λ i p q l lp h.
         let x = all .target-only _ p q (label-lt i l) lp h in (
           omega (arith, x .low-at .source-is, st .source-lt (x .number) (x .number-lt)),

@@ -12,6 +12,7 @@ use Rattle.lts.specs.TestsLaws.{eq-or-not}
 use Rattle.text.specs.Limits.{stateLimit, actionLimit}
 use Rattle.text.specs.Model.{Model}
 use Rattle.model.specs.System.{action, view}
+use Rattle.model.specs.Inner.Stored.{Stored}
 use Rattle.sets.specs.Inner.Sets.{Member, Empty}
 use Rattle.held.specs.Held.{slotPlace, targetRow, sourceRow, HeldAt}
 use Rattle.held.specs.Inner.Slots.{MemberAdded}
@@ -92,6 +93,13 @@ lowBefore-suc x = record { number = x .number; number-lt = omega (arith, x .numb
 
 lowBefore-last : {m : Model} {j a p q : ℕ} → LowAt m j a p q → LowBefore m (j + 1) a p q
 lowBefore-last {j = j} x = record { number = j; number-lt = omega arith; low-at = x }
+
+pub lowAt-states : {s : List ℕ} {m : Model} {j a p q : ℕ} → Stored s m → j < length (m .steps) → LowAt m j a p q
+    → (p < stateLimit) × (q < stateLimit)
+lowAt-states {j = j} st l x = (
+  omega (arith, x .source-is, st .source-lt j l, st .states-le),
+  omega (arith, x .target-is, st .target-lt j l, st .states-le),
+)
 
 -- One step, one source, action and target.
 lowAt-same : {m : Model} {j a b p r q s : ℕ} → a ≡ b → p ≡ r → q ≡ s → LowAt m j a p q → LowAt m j b r s

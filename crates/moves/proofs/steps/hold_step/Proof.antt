@@ -13,7 +13,7 @@ use Rattle.model.specs.System.{action}
 use Rattle.model.specs.Laws.System.StoredLaws.{stored-source, stored-action, stored-target}
 use Rattle.model.specs.Laws.System.RolesLaws.{low-of-role, role-of-low}
 use Rattle.moves.specs.Inner.Holding.{LowAt}
-use Rattle.moves.specs.Laws.HoldingLaws.{lowHeld-skip, lowHeld-more}
+use Rattle.moves.specs.Laws.HoldingLaws.{lowAt-states, lowHeld-skip, lowHeld-more}
 use Rattle.moves.proofs.steps.hold_step.Statement.{statement}
 use Rattle.moves.proofs.steps.hold_step.Tie as tie
 
@@ -54,15 +54,11 @@ action-lt c =
     let pre = begin c .pre in
     omega (arith, action-is c, pre .0 .action-lt _ (pre .1 .1 .0 .0), pre .0 .actions-le)
 
-source-lt : (c : tie.After-target) → c .before .source .result .0 < stateLimit
-source-lt c =
+states-lt : (c : tie.After-target)
+    → (c .before .source .result .0 < stateLimit) × (c .target .result .0 < stateLimit)
+states-lt c =
     let pre = begin (acted c) .pre in
-    omega (arith, low-at c .source-is, pre .0 .source-lt _ (pre .1 .1 .0 .0), pre .0 .states-le)
-
-target-lt : (c : tie.After-target) → c .target .result .0 < stateLimit
-target-lt c =
-    let pre = begin (acted c) .pre in
-    omega (arith, low-at c .target-is, pre .0 .target-lt _ (pre .1 .1 .0 .0), pre .0 .states-le)
+    lowAt-states (pre .0) (pre .1 .1 .0 .0) (low-at c)
 
 -- ---- needs
 
@@ -98,8 +94,8 @@ add-held-requires c κs =
     let row = c .before .before .target-row .ensures in (
       (
         omega (arith, row .1),
-        source-lt known,
-        target-lt known,
+        states-lt known .0,
+        states-lt known .1,
         omega (arith, pre .1 .1 .0 .0, pre .1 .1 .0 .1, pre .0 .steps-le),
       ),
       pre .1 .1 .0 .2,
@@ -116,8 +112,8 @@ add-held-requires-2 c κs =
     let first = c .before .before .add-held .ensures in (
       (
         row .1,
-        target-lt known,
-        source-lt known,
+        states-lt known .1,
+        states-lt known .0,
         omega (arith, first .1 .1, pre .1 .1 .0 .0, pre .1 .1 .0 .1, pre .0 .steps-le),
       ),
       first .1 .2,
@@ -131,7 +127,7 @@ returns-2 c =
     let first = c .before .before .before .add-held .ensures in
     let second = c .add-held2 .ensures in (
       (omega (arith, first .1 .1, second .1 .1, pre .1 .1 .0 .1), second .1 .2),
-      lowHeld-more (low-at known) (action-lt (acted known)) (source-lt known) (target-lt known) (pre .1 .1 .1) row
+      lowHeld-more (low-at known) (action-lt (acted known)) (states-lt known .0) (states-lt known .1) (pre .1 .1 .1) row
           (first .0) (second .0),
     )
 

@@ -1,10 +1,8 @@
 -- Where no action is silent no step is, and the ranks of the low steps are the ranks.
-use Prim.Native.Nat.{_*_}
 use borrow.Author.Needs.{needs}
-use Rattle.text.specs.Limits.{stateLimit}
 use Rattle.text.specs.Laws.ListLaws.{getD-zeros}
 use Rattle.sets.specs.Laws.SetsLaws.{empty-zeros}
-use Rattle.held.specs.Held.{rowCount, poolSets}
+use Rattle.held.specs.Held.{slotsLength, poolLength}
 use Rattle.held.specs.Laws.ZeroLaws.{pooled-zero, separate-zero}
 use Rattle.moves.specs.Laws.HoldingLaws.{lowHeld-zero}
 use Rattle.moves.specs.Laws.LabelsLaws.{ranked-of-steps}
@@ -17,7 +15,7 @@ some-silent-requires c κs = search needs
 fill-label-table-requires : tie.Need-fill-label-table-requires
 fill-label-table-requires c κs =
     let pre = c .before .before .before .before .before .before .before .before .before .pre in
-    (pre .0, (pre .1 .0, (pre .1 .1, pooled-zero (getD-zeros (stateLimit * rowCount)) (empty-zeros (2 * poolSets)))))
+    (pre .0, (pre .1 .0, (pre .1 .1, pooled-zero (getD-zeros slotsLength) (empty-zeros poolLength))))
 
 same-length : tie.Need-same-length
 same-length c = search needs
@@ -28,8 +26,8 @@ returns c = search needs
 rank-low-requires : tie.Need-rank-low-requires
 rank-low-requires c κs =
     let pre = c .before .before .before .before .before .before .before .before .before .pre in
-    let none = empty-zeros (2 * poolSets) in
-    (pre .0, (pre .1 .0, (pre .1 .1, (separate-zero (getD-zeros (stateLimit * rowCount)) none, lowHeld-zero none))))
+    let none = empty-zeros poolLength in
+    (pre .0, (pre .1 .0, (pre .1 .1, (separate-zero (getD-zeros slotsLength) none, lowHeld-zero none))))
 
 same-length-2 : tie.Need-same-length-2
 same-length-2 c = search needs

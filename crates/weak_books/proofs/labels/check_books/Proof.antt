@@ -1,10 +1,8 @@
 -- What is found of the book by the moves that are held is found by the steps that they are held for.
-use Prim.Native.Nat.{_*_}
 use borrow.Author.Needs.{needs}
-use Rattle.text.specs.Limits.{stateLimit}
 use Rattle.text.specs.Laws.ListLaws.{getD-zeros}
 use Rattle.sets.specs.Laws.SetsLaws.{empty-zeros}
-use Rattle.held.specs.Held.{rowCount, poolSets}
+use Rattle.held.specs.Held.{slotsLength, poolLength}
 use Rattle.held.specs.Laws.ZeroLaws.{pooled-zero}
 use Rattle.weak_books.specs.Laws.HeldBooksLaws.{checkDone-of-held}
 use Rattle.weak_books.proofs.labels.check_books.Statement.{statement}
@@ -13,7 +11,7 @@ use Rattle.weak_books.proofs.labels.check_books.Tie as tie
 hold-labels-requires : tie.Need-hold-labels-requires
 hold-labels-requires c κs =
     let pre = c .before .before .before .before .pre in
-    (pre .0, pooled-zero (getD-zeros (rowCount * stateLimit)) (empty-zeros (2 * poolSets)))
+    (pre .0, pooled-zero (getD-zeros slotsLength) (empty-zeros poolLength))
 
 is-wide-requires : tie.Need-is-wide-requires
 is-wide-requires c κs =

@@ -1,11 +1,9 @@
 -- The moves that are held have the ranks and the book of the steps that they are held for.
-use Prim.Native.Nat.{_*_}
 use native.Mathlib.Omega.{arith}
 use borrow.Author.Needs.{needs}
-use Rattle.text.specs.Limits.{stateLimit}
 use Rattle.text.specs.Laws.ListLaws.{getD-zeros}
 use Rattle.sets.specs.Laws.SetsLaws.{empty-zeros}
-use Rattle.held.specs.Held.{rowCount, poolSets}
+use Rattle.held.specs.Held.{slotsLength, poolLength}
 use Rattle.held.specs.Laws.ZeroLaws.{pooled-zero}
 use Rattle.ranking.specs.Laws.RankedLaws.{ranked-entry-le}
 use Rattle.splitters.specs.Laws.HeldRanksLaws.{ranked-of-held}
@@ -16,7 +14,7 @@ use Rattle.weak_books.proofs.labels.fill_books.Tie as tie
 hold-labels-requires : tie.Need-hold-labels-requires
 hold-labels-requires c κs =
     let pre = c .before .before .before .before .before .pre in
-    (pre .0, pooled-zero (getD-zeros (rowCount * stateLimit)) (empty-zeros (2 * poolSets)))
+    (pre .0, pooled-zero (getD-zeros slotsLength) (empty-zeros poolLength))
 
 fill-held-book-requires : tie.Need-fill-held-book-requires
 fill-held-book-requires c κs =
