@@ -86,8 +86,7 @@ split-moves-requires c κs =
     let L = P .1 .1 .0 in
     let inv = at-loop .loop .inv in
     let at = row .target-row .ensures in
-    let l : at-loop .loop .i < begin at-loop .args .count = omega (arith, turn row .loop-test) in
-    (
+    let l : at-loop .loop .i < begin at-loop .args .count = omega (arith, turn row .loop-test) in (
       (L .states-le, omega (arith, P .0 .1, inv .1)),
       (inv .2, ((at .1, L .slot-lt), (turned-row L l (at .0), (L .occupied, L .none)))),
     )
