@@ -249,9 +249,9 @@ fn the_stack(text: &[u8]) {
         let most = match name {
             "till_reach" | "till_run" | "till_write" => KB,
             "till_read" => 9 * KB,
-            "till_book" => 100 * KB,
-            "till_check" => 124 * KB,
-            _ => 90 * KB,
+            "till_book" => 118 * KB,
+            "till_check" => 128 * KB,
+            _ => 108 * KB,
         };
         let bytes: usize = bytes.parse().expect("a number");
         assert!(0 < bytes && bytes < most, "{line}");
