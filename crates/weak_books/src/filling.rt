@@ -1,5 +1,5 @@
-// Table and book of the moves that are held, round by round: an entry is found in the round that separates its pair,
-// while the classes before that round still stand.
+// Table and book of the moves that are held: an entry of the book is found in the round that separates its pair, while
+// the classes before that round still stand, and the table is filled after the last round.
 use crate::entering::enter_round;
 use held::LABEL_COUNT;
 use held::POOL_LENGTH;
@@ -13,13 +13,14 @@ use splitters::rounds::round;
 use text::limits::BOOK_LENGTH;
 use text::limits::ROW;
 use text::limits::TABLE_LENGTH;
-ghost use Prim.Native.Nat.{_≤_};
+use tree::filling::fill_table;
+ghost use Prim.Native.Nat.{_≤_, _<_};
 ghost use lib.ListN.{length};
 ghost use Rattle.text.specs.Limits.{tableLength, bookLength};
 ghost use Rattle.text.specs.Lists.{Past};
 ghost use Rattle.held.specs.Held.{HeldList, HeldMove};
 ghost use Rattle.ranking.specs.Table.{Ranked};
-ghost use Rattle.ranking.specs.Inner.TableWrites.{RanksUpTo, Finished};
+ghost use Rattle.ranking.specs.Inner.TableWrites.{Finished};
 ghost use Rattle.books.specs.Books.{BookFilled};
 ghost use Rattle.splitters.specs.Inner.Splitters.{Into, Ready, Rounded};
 ghost use Rattle.weak_books.specs.Inner.Entering.{RoundEntered, BookUpTo};
@@ -40,17 +41,17 @@ fn book_round(
     origin: &mut [u16; ROW],
     fresh: &mut [u64; SETS_LENGTH],
     rest: &mut [u64; SETS_LENGTH],
-    table: &mut [u8],
+    when: &mut [u8; ROW],
     book: &mut [u8],
 ) -> Parts
     requires { ⌜ HeldList n (now labels) count (now slots) (now pool)
         × Into (now labels) count (now slots) (now into) ⌝ }
-    requires { ⌜ Ready (HeldMove (now labels) count (now slots) (now pool)) n k first (now class) (now members)
-        (now origin) (parts .classes) (parts .together) (now table) ⌝ }
-    requires { ⌜ (tableLength ≤ length (now table)) × (bookLength ≤ length (now book)) ⌝ }
+    requires { ⌜ (k < parts .classes) × Ready (HeldMove (now labels) count (now slots) (now pool)) n k first (now class)
+        (now members) (now origin) (now fresh) (now when) (parts .classes) (parts .together) ⌝ }
+    requires { ⌜ bookLength ≤ length (now book) ⌝ }
     ensures { λ r. ⌜ Rounded (HeldMove (now (labels .entry)) count (now (slots .entry)) (now (pool .entry))) n k
-        (now (class .entry)) (now (class .exit)) (now (members .exit)) (now (origin .exit)) (parts .classes)
-        (r .classes) (r .together) (now (table .entry)) (now (table .exit)) ⌝ }
+        (now (class .entry)) (now (class .exit)) (now (members .exit)) (now (origin .exit)) (now (fresh .exit))
+        (now (when .exit)) (parts .classes) (r .classes) (r .together) ⌝ }
     ensures { λ r. ⌜ RoundEntered (HeldMove (now (labels .entry)) count (now (slots .entry)) (now (pool .entry))) n k
         (now (class .entry)) (now (class .exit)) (parts .classes) (r .classes) (now (book .entry))
         (now (book .exit)) ⌝ }
@@ -72,7 +73,7 @@ fn book_round(
         origin,
         fresh,
         rest,
-        table,
+        when,
     );
     if next.classes == parts.classes {
         return next;
@@ -106,7 +107,6 @@ fn book_rounds(
 ) -> u8
     requires { ⌜ HeldList n (now labels) count (now slots) (now pool) ⌝ }
     requires { ⌜ (tableLength ≤ length (now table)) × (bookLength ≤ length (now book)) ⌝ }
-    requires { ⌜ RanksUpTo (HeldMove (now labels) count (now slots) (now pool)) n 0 (now table) ⌝ }
     requires { ⌜ BookUpTo (HeldMove (now labels) count (now slots) (now pool)) n 0 (now book) ⌝ }
     ensures { λ r. ⌜ Finished (HeldMove (now (labels .entry)) count (now (slots .entry)) (now (pool .entry))) n r
         (now (table .entry)) (now (table .exit)) ⌝ }
@@ -119,6 +119,7 @@ fn book_rounds(
     let mut fresh = [0u64; SETS_LENGTH];
     let mut rest = [0u64; SETS_LENGTH];
     let mut into = [0u64; SETS_LENGTH];
+    let mut when = [0u8; ROW];
     note_labels(n, labels, count, slots, pool, &mut into);
     let mut parts = one_class(n, &mut members);
     let mut first = 0;
@@ -140,7 +141,7 @@ fn book_rounds(
             &mut origin,
             &mut fresh,
             &mut rest,
-            table,
+            &mut when,
             book,
         );
         if next.classes == old {
@@ -150,6 +151,16 @@ fn book_rounds(
         parts = next;
         k += 1;
     };
+    fill_table(
+        n,
+        parts.classes,
+        &class,
+        &members,
+        &origin,
+        &fresh,
+        &when,
+        table,
+    );
     last
 }
 

@@ -21,7 +21,7 @@ ghost use Rattle.held.specs.Held.{rowCount, poolSets, HeldAt, HeldList, HeldMov
 ghost use Rattle.splitters.specs.Inner.Partition.{ClassSets};
 ghost use Rattle.held.specs.HeldTests.{labelLimit};
 ghost use Rattle.weak_books.specs.Inner.OpensTo.{LowestTo};
-ghost use Rattle.weak_books.specs.Inner.Entering.{Apart, FirstApart};
+ghost use Rattle.weak_books.specs.Inner.Entering.{OtherClass, FirstApart};
 
 // A label and a target, which is 128 where there is no opening.
 pub struct Opening {
@@ -45,7 +45,7 @@ fn lowest_apart(
     requires { ⌜ ((x y : ℕ) → x < stateLimit → HeldAt (now slots) (now pool) row x y → y < n) ⌝ }
     requires { ⌜ ClassSets n (now class) (now members) ⌝ }
     ensures { λ r. ⌜ LowestTo (HeldAt (now (slots .entry)) (now (pool .entry)) row)
-        (Apart (now (class .entry))) (p .0) (q .0) r ⌝ }
+        (OtherClass (now (class .entry))) (p .0) (q .0) r ⌝ }
 {
     let answers = held(slots, pool, row, q);
     let mut left = without(held(slots, pool, row, p), answers);

@@ -142,7 +142,7 @@ pub record Rounded (Move : Moves) (n k : ℕ) (class next members origin fresh w
   pub separates : RoundSeparates Move n k (classes′ - classes)
   pub ready : Ready Move n (k + 1) classes next members origin fresh when classes′ together
 
--- After k rounds, each of which separated a pair: what a further one finds. Each made a class, so there are more than k.
+-- After k rounds, each of which separated a pair, so that there are more than k classes: what a further one finds.
 pub record Rounds (Move : Moves) (n k first : ℕ) (class members origin fresh when : List ℕ) (classes : ℕ)
     (together : Set) : Type 0 where
   pub ready : Ready Move n k first class members origin fresh when classes together

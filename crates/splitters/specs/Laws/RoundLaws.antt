@@ -189,8 +189,8 @@ rounds-zero e z o P = record {
   separates = λ j l. absurd (omega (arith, l));
 }
 
-pub rounds-suc : {Move : Moves} {n k first : ℕ} {class members origin fresh when : List ℕ} {classes : ℕ} {together : Set}
-    → Rounds Move n k first class members origin fresh when classes together
+pub rounds-suc : {Move : Moves} {n k first : ℕ} {class members origin fresh when : List ℕ} {classes : ℕ}
+    {together : Set} → Rounds Move n k first class members origin fresh when classes together
     → {next members′ origin′ fresh′ when′ : List ℕ} {classes′ : ℕ} {together′ : Set}
     → Rounded Move n k class next members′ origin′ fresh′ when′ classes classes′ together′ → classes < classes′
     → Rounds Move n (k + 1) classes next members′ origin′ fresh′ when′ classes′ together′

@@ -5,9 +5,8 @@ use mathlib.Core.Logic.{_⊎_}
 use mathlib.Core.Path.{_≡_}
 use Prim.Native.Nat.{ℕ, _+_, _≤_, _<_}
 use lib.Dec.{ltb}
-use lib.ListN.{length, getD}
+use lib.ListN.{getD}
 use Rattle.lts.specs.Alike.{Moves, Alike, Separated}
-use Rattle.lts.specs.Game.{Separates}
 use Rattle.lts.specs.Book.{Entry, Opens, FirstPlay, OwnEntry, noEntry}
 use Rattle.text.specs.Limits.{stateLimit, pairPlace, bookLength}
 use Rattle.text.specs.Lists.{Past}
@@ -15,30 +14,30 @@ use Rattle.comparing.specs.Inner.Numbered.{Same}
 use Rattle.sets.specs.Inner.SetValues.{In}
 use Rattle.sets.specs.declared.set.Set.{Set}
 use Rattle.held.specs.Held.{targetRow, HeldAt}
-use Rattle.ranking.specs.Inner.TableWrites.{SeparatedBy, Outside}
-use Rattle.splitters.specs.Inner.Splitters.{Ready}
+use Rattle.ranking.specs.Inner.TableWrites.{SeparatedBy}
+use Rattle.splitters.specs.Inner.Splitters.{Rounds}
 use Rattle.books.specs.Books.{entryNumber}
 use Rattle.weak_books.specs.Inner.OpensTo.{OpensTo}
 use Rattle.weak_books.specs.declared.opening.Opening.{Opening}
 
 -- t and u are of two classes.
-abbrev pub Apart : List ℕ → ℕ → ℕ → Type 0
-Apart class t u = ¬ (Same class t u)
+abbrev pub OtherClass : List ℕ → ℕ → ℕ → Type 0
+OtherClass class t u = ¬ (Same class t u)
 
 -- p has no opening with the first i labels of the list.
 pub record NoneOpens (labels : List ℕ) (i : ℕ) (slots pool class : List ℕ) (p q : ℕ) : Type 0 where
-  pub none : (j t : ℕ) → j < i → ¬ (OpensTo (HeldAt slots pool (targetRow (getD labels j 0))) (Apart class) p q t)
+  pub none : (j t : ℕ) → j < i → ¬ (OpensTo (HeldAt slots pool (targetRow (getD labels j 0))) (OtherClass class) p q t)
 
 -- Of the targets `all`, those that are not left have an answer of their class.
 pub record Tried (class : List ℕ) (answers all left : Set) : Type 0 where
   pub left-in : (t : ℕ) → In left t → In all t
-  pub gone : (t : ℕ) → In all t → ¬ (In left t) → ¬ ((u : ℕ) → In answers u → Apart class t u)
+  pub gone : (t : ℕ) → In all t → ¬ (In left t) → ¬ ((u : ℕ) → In answers u → OtherClass class t u)
 
 -- The first opening of p against q all of whose answers are of other classes, by label and then by target; its target
 -- is 128 if there is none.
 pub record FirstApart (Move : Moves) (class : List ℕ) (p q : ℕ) (o : Opening) : Type 0 where
-  pub opens : o .target < stateLimit → Opens Move (Apart class) p q (o .label) (o .target)
-  pub first : (b u : ℕ) → Opens Move (Apart class) p q b u
+  pub opens : o .target < stateLimit → Opens Move (OtherClass class) p q (o .label) (o .target)
+  pub first : (b u : ℕ) → Opens Move (OtherClass class) p q b u
       → (o .target < stateLimit) × ((o .label < b) ⊎ ((o .label ≡ b) × (o .target ≤ u)))
 
 -- The entry of the one side's opening, or of the other's.
@@ -53,7 +52,7 @@ openingEntry first second depth = sideEntry (ltb (first .target) stateLimit) fir
 -- The entry of p and q, of this depth, where the answers lead to two classes.
 pub record EntryApart (Move : Moves) (class : List ℕ) (depth p q : ℕ) (e : Entry) : Type 0 where
   pub depth-is : e .depth ≡ depth
-  pub opening : FirstPlay Move (Apart class) p q (e .side) (e .action) (e .target)
+  pub opening : FirstPlay Move (OtherClass class) p q (e .side) (e .action) (e .target)
 
 -- Both entries of p and q are so, and no other has changed.
 pub record PairEntered (Move : Moves) (class : List ℕ) (depth p q : ℕ) (entry exit : List ℕ) : Type 0 where
@@ -102,12 +101,9 @@ pub record BookUpTo (Move : Moves) (n k : ℕ) (book : List ℕ) : Type 0 where
   pub outside : (p q : ℕ) → p < stateLimit → q < stateLimit → (n ≤ p) ⊎ (n ≤ q)
       → entryNumber book (pairPlace p q) ≡ noEntry
 
--- After k rounds: what a further one finds, and what these have left in the table and in the book.
-pub record Booked (Move : Moves) (n k first : ℕ) (table₀ table book₀ book class members origin : List ℕ) (classes : ℕ)
+-- After k rounds: what a further one finds, and what these have left in the book.
+pub record Booked (Move : Moves) (n k first : ℕ) (book₀ book class members origin fresh when : List ℕ) (classes : ℕ)
     (together : Set) : Type 0 where
-  pub ready : Ready Move n k first class members origin classes together table
-  pub separates : (j : ℕ) → j < k → Separates Move n j
-  pub outside : Outside n table₀ table
-  pub table-length : length table ≡ length table₀
+  pub rounds : Rounds Move n k first class members origin fresh when classes together
   pub entries : BookUpTo Move n k book
   pub past : Past bookLength book₀ book

@@ -18,10 +18,10 @@ use Rattle.text.specs.Limits.{stateLimit, pairPlace, bookLength}
 use Rattle.text.specs.Lists.{Past}
 use Rattle.comparing.specs.Inner.Numbered.{Same}
 use Rattle.ranking.specs.Inner.ClassList.{Classes}
-use Rattle.ranking.specs.Inner.TableWrites.{entryOf, SeparatedBy, RankUpTo, RanksUpTo}
+use Rattle.ranking.specs.Inner.TableWrites.{SeparatedBy, RankUpTo, RanksUpTo}
 use Rattle.books.specs.Books.{entryNumber, BookFilled}
 use Rattle.books.specs.Inner.Filling.{BookEmpty}
-use Rattle.weak_books.specs.Inner.Entering.{Apart, EntryApart, Entered, Parted, BookUpTo}
+use Rattle.weak_books.specs.Inner.Entering.{OtherClass, EntryApart, Entered, Parted, BookUpTo}
 
 -- ---- plays of n states
 
@@ -50,21 +50,21 @@ module _ {Move : Moves} {n : ℕ} (target-lt : (p a q : ℕ) → p < n → Move 
 
 -- ---- one round
 
-module _ {Move : Moves} {n k : ℕ} {class table : List ℕ} (C : Classes Move n k class)
-    (U : RanksUpTo Move n k table) where
-  lower-of-apart : (t u : ℕ) → t < n → u < n → Apart class t u → LowerRank Move (k + 1) t u
+module _ {Move : Moves} {n k : ℕ} {class : List ℕ} {rank : ℕ → ℕ → ℕ} (C : Classes Move n k class)
+    (U : RanksUpTo Move n k rank) where
+  lower-of-apart : (t u : ℕ) → t < n → u < n → OtherClass class t u → LowerRank Move (k + 1) t u
   lower-of-apart t u lt lu d = go (U .found t u lt lu)
     where
-      go : RankUpTo Move k t u (entryOf table t u) → LowerRank Move (k + 1) t u
+      go : RankUpTo Move k t u (rank t u) → LowerRank Move (k + 1) t u
       go (inl h) = absurd (d (C .same-of-alike t u lt lu (h .1)))
       go (inr (l, x)) = record {
-        rank = entryOf table t u;
-        rank-is = rank-of-separated Move t u (entryOf table t u) x;
-        rank-pos = separated-pos Move t u (entryOf table t u) x;
+        rank = rank t u;
+        rank-is = rank-of-separated Move t u (rank t u) x;
+        rank-pos = separated-pos Move t u (rank t u) x;
         rank-lt = omega (arith, l);
       }
 
-  apart-of-lower : (t u : ℕ) → t < n → u < n → LowerRank Move (k + 1) t u → Apart class t u
+  apart-of-lower : (t u : ℕ) → t < n → u < n → LowerRank Move (k + 1) t u → OtherClass class t u
   apart-of-lower t u lt lu h e =
       separated-of-rank Move t u (h .rank) (h .rank-pos) (h .rank-is) .not-alike
       (alike-le Move t u (h .rank) k (omega (arith, h .rank-lt)) (C .alike-of-same t u lt lu e))
@@ -87,7 +87,7 @@ module _ {Move : Moves} {n k : ℕ} {class table : List ℕ} (C : Classes Move n
           same : Same class p q
           same = C .same-of-alike p q lp lq (x .alike-before k (omega arith))
 
-          apart : Apart next p q
+          apart : OtherClass next p q
           apart e = x .not-alike (D .alike-of-same p q lp lq e)
 
           go : (q < p) ⊎ (p ≤ q) → (p < q) ⊎ (q ≤ p) → Parted n class next p q ⊎ Parted n class next q p

@@ -1,10 +1,9 @@
--- Round by round the table gets the ranks and the book the entries. Document 02, (v) and (vii). Assumes nothing.
+-- Round by round the book gets the entries. Document 02, (v) and (vii). Assumes nothing.
 use mathlib.Core.List.{List}
-use mathlib.Core.Path.{_≡_, refl, sym, _∙_, subst}
+use mathlib.Core.Path.{_≡_, refl, sym, subst}
 use Prim.Native.Nat.{ℕ, _+_, _≤_, _<_}
 use native.Mathlib.Omega.{arith}
-use lib.ListN.{length, getD}
-use borrow.Author.Count.{below-more}
+use lib.ListN.{getD}
 use Rattle.lts.specs.Alike.{Moves, Answers}
 use Rattle.text.specs.Limits.{stateLimit, bookLength}
 use Rattle.text.specs.Lists.{Past}
@@ -13,11 +12,10 @@ use Rattle.comparing.specs.Inner.Numbered.{Same}
 use Rattle.sets.specs.Inner.Sets.{Member}
 use Rattle.sets.specs.declared.set.Set.{Set}
 use Rattle.ranking.specs.Inner.ClassList.{Refined}
-use Rattle.ranking.specs.Inner.TableWrites.{SeparatedBy, RanksUpTo, Finished}
-use Rattle.ranking.specs.Laws.TableWritesLaws.{outside-refl, outside-trans}
+use Rattle.ranking.specs.Inner.TableWrites.{SeparatedBy}
 use Rattle.splitters.specs.Inner.Partition.{Partition, ClassSets}
-use Rattle.splitters.specs.Inner.Splitters.{Rounded}
-use Rattle.splitters.specs.Laws.RoundLaws.{ready-zero}
+use Rattle.splitters.specs.Inner.Splitters.{Rounded, Rounds}
+use Rattle.splitters.specs.Laws.RoundLaws.{rounds-suc}
 use Rattle.weak_books.specs.Inner.Entering.{Entered, Parted, RoundEntered, BookUpTo, Booked}
 use Rattle.weak_books.specs.Laws.BookUpToLaws.{bookUpTo-suc}
 
@@ -29,18 +27,10 @@ classSets-of-partition {n} {class} {members} limit P = record {
   only = λ p q lp m. let h = P .member-only (getD class p 0) q (P .class-lt p lp) m in (h .0, sym (h .1));
 }
 
-pub booked-zero : {Move : Moves} {n : ℕ} {table book class members origin : List ℕ} {classes : ℕ} {together : Set}
-    → classes ≡ 1 → ((p : ℕ) → getD class p 0 ≡ 0) → ((j : ℕ) → getD origin j 0 ≡ 0)
-    → Partition n class members classes together → RanksUpTo Move n 0 table → BookUpTo Move n 0 book
-    → Booked Move n 0 0 table table book book class members origin classes together
-booked-zero {table = table} {book} {origin = origin} e z o P U B = record {
-  ready = ready-zero origin e z o P U;
-  separates = λ j l. absurd (omega (arith, l));
-  outside = outside-refl table;
-  table-length = refl;
-  entries = B;
-  past = past-refl book;
-}
+pub booked-zero : {Move : Moves} {n : ℕ} {book class members origin fresh when : List ℕ} {classes : ℕ} {together : Set}
+    → Rounds Move n 0 0 class members origin fresh when classes together → BookUpTo Move n 0 book
+    → Booked Move n 0 0 book book class members origin fresh when classes together
+booked-zero {book = book} Z B = record { rounds = Z; entries = B; past = past-refl book }
 
 -- What a round separates does not answer each other.
 pub separated-not-answers : {Move : Moves} {n : ℕ} {class next : List ℕ} → Refined Move n class next → (p q : ℕ)
@@ -58,37 +48,24 @@ module _ {Move : Moves} {n k : ℕ} {class next : List ℕ} {classes classes′ 
       → RoundEntered Move n k class next classes classes′ book book
   roundEntered-stays e = record { stays = λ _. refl; entered = λ l. absurd (omega (arith, e, l)) }
 
-module _ {Move : Moves} {n k first : ℕ} {table₀ table book₀ book class members origin : List ℕ} {classes : ℕ}
-    {together : Set} (B : Booked Move n k first table₀ table book₀ book class members origin classes together)
-    {table′ book′ next members′ origin′ : List ℕ} {classes′ : ℕ} {together′ : Set}
-    (R : Rounded Move n k class next members′ origin′ classes classes′ together′ table table′)
-    (E : RoundEntered Move n k class next classes classes′ book book′) where
+module _ {Move : Moves} {n k first : ℕ} {book₀ book class members origin fresh when : List ℕ} {classes : ℕ}
+    {together : Set} (B : Booked Move n k first book₀ book class members origin fresh when classes together)
+    {book′ next : List ℕ} {classes′ : ℕ} (E : RoundEntered Move n k class next classes classes′ book book′) where
   -- With its entries, a round that separates a pair leaves the same one round later.
-  pub booked-suc : ((p a q : ℕ) → p < n → Move p a q → q < n) → n ≤ stateLimit → classes < classes′
-      → length table′ ≡ length table
-      → Booked Move n (k + 1) classes table₀ table′ book₀ book′ next members′ origin′ classes′ together′
-  booked-suc target-lt states-le more e =
-      let Y = R .ready more in
+  pub booked-suc : {members′ origin′ fresh′ when′ : List ℕ} {together′ : Set}
+      → Rounded Move n k class next members′ origin′ fresh′ when′ classes classes′ together′
+      → ((p a q : ℕ) → p < n → Move p a q → q < n) → n ≤ stateLimit → classes < classes′
+      → Booked Move n (k + 1) classes book₀ book′ next members′ origin′ fresh′ when′ classes′ together′
+  booked-suc R target-lt states-le more =
+      let Y = B .rounds .ready in
       let W = E .entered more in
       record {
-        ready = Y;
-        separates = below-more _ k (B .separates) (R .separates .separates (omega (arith, more)));
-        outside = outside-trans (B .outside) (R .outside);
-        table-length = e ∙ B .table-length;
-        entries = bookUpTo-suc (B .ready .are-classes) (B .ready .ranks) target-lt states-le (Y .are-classes) W
-            (B .entries);
+        rounds = rounds-suc (B .rounds) R more;
+        entries = bookUpTo-suc (Y .are-classes) (Y .ranks) target-lt states-le (R .ready .are-classes) W (B .entries);
         past = past-trans (B .past) (W .past);
       }
 
-  -- Another one is the last.
-  pub finished-of-booked : classes′ ≡ classes → Finished Move n k table₀ table′
-  finished-of-booked e = record {
-    ranks = R .ranks;
-    separates = B .separates;
-    settled = R .separates .settled (omega (arith, e));
-    outside = outside-trans (B .outside) (R .outside);
-  }
-
+  -- Another one leaves the book as it was.
   pub entries-of-booked : classes′ ≡ classes → BookUpTo Move n k book′ × Past bookLength book₀ book′
   entries-of-booked e =
       subst (λ (b : List ℕ). BookUpTo Move n k b × Past bookLength book₀ b) (sym (E .stays e)) (B .entries, B .past)

@@ -20,7 +20,7 @@ use Rattle.text.specs.Laws.ListsLaws.{past-trans}
 use Rattle.comparing.specs.Inner.Numbered.{Same}
 use Rattle.books.specs.Inner.Filling.{EntryWritten}
 use Rattle.weak_books.specs.declared.opening.Opening.{Opening}
-use Rattle.weak_books.specs.Inner.Entering.{Apart, FirstApart, sideEntry, openingEntry, EntryApart, PairEntered}
+use Rattle.weak_books.specs.Inner.Entering.{OtherClass, FirstApart, sideEntry, openingEntry, EntryApart, PairEntered}
 use Rattle.weak_books.specs.Laws.FilledLaws.{action-lowest, target-lowest}
 
 -- ---- the entry of two openings
@@ -50,7 +50,7 @@ answers-sym Move class h = record {
 -- An opening of either side.
 abbrev EitherOpens : Moves → List ℕ → ℕ → ℕ → Type 0
 EitherOpens Move class p q =
-    ((a : ℕ) × (t : ℕ) × Opens Move (Apart class) p q a t) ⊎ ((a : ℕ) × (t : ℕ) × Opens Move (Apart class) q p a t)
+    ((a : ℕ) × (t : ℕ) × Opens Move (OtherClass class) p q a t) ⊎ ((a : ℕ) × (t : ℕ) × Opens Move (OtherClass class) q p a t)
 
 either-opens : {Move : Moves} {n : ℕ} {round : (ℕ → ℕ → Bool) → ℕ → ℕ → Bool} → Game Move n round → (class : List ℕ)
     {p q : ℕ} → ¬ (Answers Move (Same class) p q) → EitherOpens Move class p q
@@ -87,8 +87,8 @@ module _ {Move : Moves} {class : List ℕ} {p q : ℕ} {one other : Opening}
   }
 
   -- The second side opens where the first does not.
-  only-second : stateLimit ≤ one .target → (s b u : ℕ) → Plays Move (Apart class) p q s b u
-      → (s ≡ 2) × Opens Move (Apart class) q p b u
+  only-second : stateLimit ≤ one .target → (s b u : ℕ) → Plays Move (OtherClass class) p q s b u
+      → (s ≡ 2) × Opens Move (OtherClass class) q p b u
   only-second l s b u (first-opens e o) = absurd (omega (arith, l, F .first b u o .0))
   only-second l s b u (second-opens e o) = (e, opens-map (λ m. m) (λ u m. m) (λ x y d e. d (sym e)) o)
 

@@ -18,7 +18,7 @@ use Rattle.held.specs.Held.{targetRow, HeldAt, HeldList, HeldMove}
 use Rattle.splitters.specs.Inner.Partition.{ClassSets}
 use Rattle.sets.specs.Laws.WalkLaws.{least-rises}
 use Rattle.weak_books.specs.declared.opening.Opening.{Opening}
-use Rattle.weak_books.specs.Inner.Entering.{Apart, NoneOpens, Tried, FirstApart}
+use Rattle.weak_books.specs.Inner.Entering.{OtherClass, NoneOpens, Tried, FirstApart}
 use Rattle.weak_books.specs.Inner.OpensTo.{OpensTo, LowestTo}
 
 -- ---- one row
@@ -44,7 +44,7 @@ module _ {n : ℕ} {class members : List ℕ} {t : ℕ} {answers alike joint : S
     gone = λ x i d f. go x i d f (in-or-not left x) (in-or-not alike x);
   }
     where
-      go : (x : ℕ) → In all x → ¬ (In left′ x) → ((u : ℕ) → In answers u → Apart class x u)
+      go : (x : ℕ) → In all x → ¬ (In left′ x) → ((u : ℕ) → In answers u → OtherClass class x u)
           → In left x ⊎ ¬ (In left x) → In alike x ⊎ ¬ (In alike x) → ⊥
       go x i d f (inr h) _ = T .gone x i h f
       go x i d f (inl h) (inr g) = d (L .all x (h, g))
@@ -62,8 +62,8 @@ target-of-tried {t = t} P L T least l = P .only t (L .only t (T .left-in t (leas
 module _ {Target : Relation} {p q : ℕ} {targets answers all : Set} (P : SetOf (Target p) targets)
     (Q : SetOf (Target q) answers) (L : SetOf (λ x. In targets x × ¬ (In answers x)) all) {class : List ℕ} {left : Set}
     {t : ℕ} (T : Tried class answers all left) (least : Least left t) where
-  lowestTo-of-tried : (t < stateLimit → (u : ℕ) → In answers u → Apart class t u)
-      → LowestTo Target (Apart class) p q t
+  lowestTo-of-tried : (t < stateLimit → (u : ℕ) → In answers u → OtherClass class t u)
+      → LowestTo Target (OtherClass class) p q t
   lowestTo-of-tried apart = record {
     lowest-le = least .least-le;
     none-before = λ u l o. T .gone u (L .all u (P .all u (o .opening), λ i. o .answers u (Q .only u i) refl))
@@ -75,13 +75,13 @@ module _ {Target : Relation} {p q : ℕ} {targets answers all : Set} (P : SetOf 
   }
 
   -- No target is left.
-  pub lowestTo-none : ¬ (t < stateLimit) → LowestTo Target (Apart class) p q t
+  pub lowestTo-none : ¬ (t < stateLimit) → LowestTo Target (OtherClass class) p q t
   lowestTo-none d = lowestTo-of-tried (λ l. absurd (d l))
 
   -- No answer is of the class of t.
   pub lowestTo-here : {n : ℕ} {members : List ℕ} {alike joint : Set} → ClassSets n class members → t < n
       → SetOf (Member members (getD class t 0)) alike → SetOf (λ x. In alike x × In answers x) joint
-      → ((u : ℕ) → Target q u → u < n) → ((u : ℕ) → ¬ (In joint u)) → LowestTo Target (Apart class) p q t
+      → ((u : ℕ) → Target q u → u < n) → ((u : ℕ) → ¬ (In joint u)) → LowestTo Target (OtherClass class) p q t
   lowestTo-here C lt A J small none =
       lowestTo-of-tried (λ _ u i e. none u (J .all u (A .all u (C .alike t u lt (small u (Q .only u i)) e), i)))
 
@@ -106,7 +106,7 @@ pub noneOpens-at : {labels slots pool class : List ℕ} {p q i j : ℕ} → i �
 noneOpens-at {labels} {slots} {pool} {class} {p} {q} e = subst (λ (i : ℕ). NoneOpens labels i slots pool class p q) e
 
 pub noneOpens-suc : {labels slots pool class : List ℕ} {p q i t : ℕ} → NoneOpens labels i slots pool class p q
-    → LowestTo (HeldAt slots pool (targetRow (getD labels i 0))) (Apart class) p q t → ¬ (t < stateLimit)
+    → LowestTo (HeldAt slots pool (targetRow (getD labels i 0))) (OtherClass class) p q t → ¬ (t < stateLimit)
     → NoneOpens labels (i + 1) slots pool class p q
 noneOpens-suc {labels} {slots} {pool} {class} {p} {q} {i} N low d = record {
   none = λ j u l o. ⊎-elim
@@ -114,7 +114,7 @@ noneOpens-suc {labels} {slots} {pool} {class} {p} {q} {i} N low d = record {
       (λ k.
       let e : j ≡ i = omega (arith, k, l) in
       low .none-before u (omega (arith, d, o .opening .member-lt))
-      (subst (λ (x : ℕ). OpensTo (HeldAt slots pool (targetRow (getD labels x 0))) (Apart class) p q u) e o))
+      (subst (λ (x : ℕ). OpensTo (HeldAt slots pool (targetRow (getD labels x 0))) (OtherClass class) p q u) e o))
       (lt-or-le j i);
 }
 
@@ -153,16 +153,16 @@ module _ {n : ℕ} {labels : List ℕ} {count : ℕ} {slots pool : List ℕ} {p 
 
   pub firstApart-of-lowest : {class : List ℕ} {i : ℕ} {o : Opening} → i < count
       → NoneOpens labels i slots pool class p q → o .label ≡ getD labels i 0
-      → LowestTo (HeldAt slots pool (targetRow (getD labels i 0))) (Apart class) p q (o .target)
+      → LowestTo (HeldAt slots pool (targetRow (getD labels i 0))) (OtherClass class) p q (o .target)
       → o .target < stateLimit → FirstApart (HeldMove labels count slots pool) class p q o
   firstApart-of-lowest {class} {i} {o} l N e low small = record {
     opens = λ _.
-        subst (λ (a : ℕ). Opens (HeldMove labels count slots pool) (Apart class) p q a (o .target)) (sym e)
+        subst (λ (a : ℕ). Opens (HeldMove labels count slots pool) (OtherClass class) p q a (o .target)) (sym e)
         (opens-of-row l (low .opens small));
     first = λ b u x. (small, go b u x (lt-or-le (x .opening .number) i) (lt-or-le i (x .opening .number)));
   }
     where
-      go : (b u : ℕ) (x : Opens (HeldMove labels count slots pool) (Apart class) p q b u)
+      go : (b u : ℕ) (x : Opens (HeldMove labels count slots pool) (OtherClass class) p q b u)
           → (x .opening .number < i) ⊎ (i ≤ x .opening .number) → (i < x .opening .number) ⊎ (x .opening .number ≤ i)
           → (o .label < b) ⊎ ((o .label ≡ b) × (o .target ≤ u))
       go b u x (inl k) _ = absurd (N .none (x .opening .number) u k (row-of-opens x))
@@ -173,6 +173,6 @@ module _ {n : ℕ} {labels : List ℕ} {count : ℕ} {slots pool : List ℕ} {p 
           let m = x .opening in
           let same : m .number ≡ i = omega (arith, k, j) in
           let f : getD labels i 0 ≡ b = subst (λ (y : ℕ). getD labels y 0 ≡ b) same (m .label-is) in
-          let r = subst (λ (y : ℕ). OpensTo (HeldAt slots pool (targetRow (getD labels y 0))) (Apart class) p q u) same
+          let r = subst (λ (y : ℕ). OpensTo (HeldAt slots pool (targetRow (getD labels y 0))) (OtherClass class) p q u) same
           (row-of-opens x) in
           inr (e ∙ f, ⊎-elim (λ h. absurd (low .none-before u h r)) (λ h. h) (lt-or-le u (o .target)))

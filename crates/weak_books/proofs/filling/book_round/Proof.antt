@@ -1,6 +1,5 @@
 -- The entries are those of the pairs that the round separates: such states do not answer each other inside the classes
 -- before it.
-use Prim.Native.Nat.{_<_}
 use native.Mathlib.Omega.{arith}
 use borrow.Author.Needs.{needs}
 use Rattle.weak_books.specs.Laws.BookedLaws.{classSets-of-partition, separated-not-answers}
@@ -11,34 +10,26 @@ use Rattle.weak_books.proofs.filling.book_round.Tie as tie
 -- ---- places of the function
 
 abbrev begin : tie.After-round → tie.Start
-begin c = c .before .before .before .before .before .before .before .before .before .before .before
+begin c = c .before .before .before .before .before .before .before .before .before .before
 
 abbrev playing : tie.Else1 → tie.After-round
-playing c = c .before .before .before .before .before
-
--- Where entries are written, there is a further class.
-more : (c : tie.Else1) → begin (playing c) .args .parts .classes < playing c .round .result .classes
-more c = omega (arith, c .if1 .left, playing c .round .ensures .classes-le)
+playing c = c .before .before .before
 
 -- ---- needs
 
 round-requires : tie.Need-round-requires
 round-requires c κs =
-    let P = c .before .before .before .before .before .before .before .before .before .before .pre in
-    (P .0, (P .1 .0, P .1 .1 .0))
-
-same-length : tie.Need-same-length
-same-length c = search needs
+    let P = c .before .before .before .before .before .before .before .before .before .pre in
+    (P .0, P .1 .0)
 
 returns : tie.Need-returns
 returns c =
-    (c .before .before .before .before .before .round .ensures, roundEntered-stays (c .if1 .taken))
+    (c .before .before .before .round .ensures, roundEntered-stays (c .if1 .taken))
 
 add-enter-round : tie.Need-add-enter-round
 add-enter-round c =
     let P = begin (playing (c .before .before .before .before)) .pre in
-    let Y = P .1 .0 in
-    omega (arith, Y .rounds-lt, Y .partition .classes-le, P .0 .0 .states-le)
+    omega (arith, P .1 .0 .0, P .1 .0 .1 .partition .classes-le, P .0 .0 .states-le)
 
 enter-round-requires : tie.Need-enter-round-requires
 enter-round-requires c κs =
@@ -46,13 +37,13 @@ enter-round-requires c κs =
     let played = playing else in
     let P = begin played .pre in
     let limit = P .0 .0 .states-le in
-    let old = P .1 .0 .partition in
+    let old = P .1 .0 .1 .partition in
     let after = played .round .ensures in (
-      P .1 .1 .1,
+      P .1 .1,
       (
         P .0 .0,
         (
-          (classSets-of-partition limit old, classSets-of-partition limit (after .ready (more else) .partition)),
+          (classSets-of-partition limit old, classSets-of-partition limit (after .ready .partition)),
           (
             (old .together-lt, old .together-all),
             separated-not-answers (after .refined),
@@ -61,11 +52,8 @@ enter-round-requires c κs =
       ),
     )
 
-same-length-2 : tie.Need-same-length-2
-same-length-2 c = search needs
-
-same-length-3 : tie.Need-same-length-3
-same-length-3 c = search needs
+same-length : tie.Need-same-length
+same-length c = search needs
 
 returns-2 : tie.Need-returns-2
 returns-2 c =
@@ -78,10 +66,8 @@ book-round-spec =
     tie.close
     (tie.spec
     round-requires
-    same-length
     returns
     add-enter-round
     enter-round-requires
-    same-length-2
-    same-length-3
+    same-length
     returns-2)

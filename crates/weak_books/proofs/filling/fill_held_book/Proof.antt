@@ -1,10 +1,10 @@
--- The cleared table and book are right for round 0, and what the rounds leave keeps the promise.
+-- The cleared book is right for round 0, and what the rounds leave keeps the promise.
 use mathlib.Core.Path.{_∙_}
 use native.Mathlib.Omega.{arith}
 use borrow.Author.Needs.{needs}
 use Rattle.text.specs.Laws.ListsLaws.{past-trans}
 use Rattle.held.specs.Laws.HeldLaws.{heldMove-game}
-use Rattle.ranking.specs.Laws.RoundsLaws.{ranksUpTo-zero, ranked-of-finished}
+use Rattle.ranking.specs.Laws.RoundsLaws.{ranked-of-finished}
 use Rattle.books.specs.Laws.RowsLaws.{empty-of-cleared}
 use Rattle.weak_books.specs.Laws.BookUpToLaws.{bookUpTo-zero, bookFilled-of-settled}
 use Rattle.weak_books.proofs.filling.fill_held_book.Statement.{statement}
@@ -31,12 +31,11 @@ book-rounds-requires c κs =
     let cleared = c .before .before .before .before in
     let P = begin (ranking cleared) .pre in
     let T = ranking cleared .clear .ensures in
-    let B = cleared .clear2 .ensures in
-    let limit = P .0 .states-le in (
+    let B = cleared .clear2 .ensures in (
       P .0,
       (
         (omega (arith, P .1 .0, T .past .same-length), omega (arith, P .1 .1, B .past .same-length)),
-        (ranksUpTo-zero _ limit T, bookUpTo-zero limit (empty-of-cleared B)),
+        bookUpTo-zero (P .0 .states-le) (empty-of-cleared B),
       ),
     )
 

@@ -52,7 +52,8 @@ same-length c = c .before .loop .inv .1
 returns : tie.Need-returns Inv-loop μ-loop
 returns c =
     let inv = c .before .loop .inv in
-    rowAtRank-at (c .before .before .before .before .args .table .now) (omega (arith, inv .0, c .loop-test .left)) (inv .2)
+    rowAtRank-at (c .before .before .before .before .args .table .now) (omega (arith, inv .0, c .loop-test .left))
+    (inv .2)
 
 pub row-at-rank-spec : {M : Type 1} → statement M
 row-at-rank-spec =
