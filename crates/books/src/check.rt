@@ -10,8 +10,8 @@ use text::limits::ENTRY_SIZE;
 use text::limits::GROUPS_LENGTH;
 use text::limits::INDEX_LENGTH;
 use text::limits::MOVES_LENGTH;
-use text::limits::ROW;
 use text::limits::SILENT_ACTION;
+use text::limits::STATE_LIMIT;
 use text::limits::TABLE_LENGTH;
 ghost use mathlib.Core.Path.{_≡_};
 ghost use Prim.Native.Nat.{ℕ, _≤_, _<_};
@@ -23,7 +23,7 @@ ghost use Rattle.lts.specs.Book.{LowerEntry, Opens, SoundAt};
 ghost use Rattle.books.specs.Books.{bookOf};
 ghost use Rattle.books.specs.Checks.{checkedOutcome, CheckDone, StillMove};
 ghost use Rattle.books.specs.Inner.Groups.{Indexed, Groups};
-ghost use Rattle.books.specs.Inner.Sides.{BySide, leadPlace, SoundTo};
+ghost use Rattle.books.specs.Inner.Sides.{BySide, leadPlace, RowSoundTo, SoundTo};
 ghost use Rattle.books.specs.Inner.Still.{Still, Unanswered, UnansweredBy};
 
 // What is found of a book: that it is sound, or the number of the first bad entry.
@@ -157,26 +157,30 @@ fn stays(n: u16, p: State, q: State, t: State) -> bool
     true
 }
 
-// Whether an entry of p and q whose action no step has is sound: its opening is silent, of zero steps, and without an
-// answer. An answer of zero steps would lead to this very entry.
-fn sound_still(n: u16, p: State, q: State, side: u8, a: u16, t: State) -> bool
-    ensures { λ r. ⌜ Decides r (UnansweredBy n (p .0) (q .0) side a (t .0)) ⌝ }
+// Whether the entry of p and q has a silent opening of zero steps without an answer. An answer of zero steps would lead
+// to this very entry.
+fn sound_still(n: u16, book: &[u8], p: State, q: State) -> bool
+    requires { ⌜ (p .0 < stateLimit) × (q .0 < stateLimit) × (bookLength ≤ length (now book)) ⌝ }
+    ensures { λ r. ⌜ Decides r (UnansweredBy n (p .0) (q .0) (bookOf (now (book .entry)) (p .0) (q .0))) ⌝ }
 {
+    let at = ENTRY_SIZE * pair_place(p, q);
+    let side = book[at];
+    let a = byte_value(book[at + 1]);
     if a != SILENT_ACTION {
         return false;
     }
+    let t = byte_value(book[at + 2]);
     if side == 1 {
-        return stays(n, p, q, t);
+        return stays(n, p, q, State(t));
     }
     if side == 2 {
-        return stays(n, q, p, t);
+        return stays(n, q, p, State(t));
     }
     false
 }
 
-// Whether the entry of p and q is sound.
-fn sound_at(
-    n: u16,
+// Whether the entry of p and q is sound where only the steps are moves.
+fn sound_by_steps(
     groups: &[u16; GROUPS_LENGTH],
     targets: &[u16; MOVES_LENGTH],
     book: &[u8],
@@ -185,7 +189,7 @@ fn sound_at(
 ) -> bool
     requires { ⌜ Groups (now groups) (now targets) ⌝ }
     requires { ⌜ (p .0 < stateLimit) × (q .0 < stateLimit) × (bookLength ≤ length (now book)) ⌝ }
-    ensures { λ r. ⌜ Decides r (SoundAt (Still (Indexed (now (groups .entry)) (now (targets .entry))) n)
+    ensures { λ r. ⌜ Decides r (SoundAt (Indexed (now (groups .entry)) (now (targets .entry)))
         (bookOf (now (book .entry))) (p .0) (q .0)) ⌝ }
 {
     let at = ENTRY_SIZE * pair_place(p, q);
@@ -194,10 +198,10 @@ fn sound_at(
         return true;
     }
     let a = byte_value(book[at + 1]);
-    let t = byte_value(book[at + 2]);
     if a >= ACTION_LIMIT {
-        return sound_still(n, p, q, side, a, State(t));
+        return false;
     }
+    let t = byte_value(book[at + 2]);
     let depth = book[at + 3];
     if side == 1 {
         return opens(
@@ -228,6 +232,49 @@ fn sound_at(
     false
 }
 
+// Whether the entry of p and q is sound. Silent openings are tested last, for few entries have one.
+fn sound_at(
+    n: u16,
+    groups: &[u16; GROUPS_LENGTH],
+    targets: &[u16; MOVES_LENGTH],
+    book: &[u8],
+    p: State,
+    q: State,
+) -> bool
+    requires { ⌜ Groups (now groups) (now targets) ⌝ }
+    requires { ⌜ (p .0 < stateLimit) × (q .0 < stateLimit) × (bookLength ≤ length (now book)) ⌝ }
+    ensures { λ r. ⌜ Decides r (SoundAt (Still (Indexed (now (groups .entry)) (now (targets .entry))) n)
+        (bookOf (now (book .entry))) (p .0) (q .0)) ⌝ }
+{
+    if sound_by_steps(groups, targets, book, p, q) {
+        return true;
+    }
+    sound_still(n, book, p, q)
+}
+
+// The first q whose entry beside p is bad, or the limit if none is.
+fn first_bad_beside(
+    n: u16,
+    groups: &[u16; GROUPS_LENGTH],
+    targets: &[u16; MOVES_LENGTH],
+    book: &[u8],
+    p: State,
+) -> u16
+    requires { ⌜ Groups (now groups) (now targets) ⌝ }
+    requires { ⌜ (p .0 < stateLimit) × (bookLength ≤ length (now book)) ⌝ }
+    ensures { λ r. ⌜ RowSoundTo (Still (Indexed (now (groups .entry)) (now (targets .entry))) n) (now (book .entry))
+        (p .0) r ⌝ }
+{
+    let mut q = 0;
+    while q < STATE_LIMIT {
+        if !sound_at(n, groups, targets, book, p, State(q)) {
+            return q;
+        }
+        q += 1;
+    }
+    q
+}
+
 // The number of the first bad entry, or of all entries if none is bad.
 fn first_bad(
     n: u16,
@@ -239,16 +286,15 @@ fn first_bad(
     requires { ⌜ bookLength ≤ length (now book) ⌝ }
     ensures { λ r. ⌜ SoundTo (Still (Indexed (now (groups .entry)) (now (targets .entry))) n) (now (book .entry)) r ⌝ }
 {
-    let mut k = 0;
-    while k < TABLE_LENGTH {
-        let p = State((k / ROW) as u16);
-        let q = State((k % ROW) as u16);
-        if !sound_at(n, groups, targets, book, p, q) {
-            return k;
+    let mut p = 0;
+    while p < STATE_LIMIT {
+        let q = first_bad_beside(n, groups, targets, book, State(p));
+        if q < STATE_LIMIT {
+            return pair_place(State(p), State(q));
         }
-        k += 1;
+        p += 1;
     }
-    k
+    TABLE_LENGTH
 }
 
 // Tests a book of the moves, where no step is silent.

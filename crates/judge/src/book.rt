@@ -8,11 +8,13 @@ use text::limits::STORE_LENGTH;
 use text::limits::TABLE_LENGTH;
 ghost use Prim.Native.Nat.{ℕ, _≤_};
 ghost use lib.ListN.{length};
-ghost use Rattle.lts.specs.Weak.{Tick};
+ghost use Rattle.lts.specs.Weak.{Tick, LowStep};
 ghost use Rattle.model.specs.StoredModel.{modelAt};
 ghost use Rattle.model.specs.System.{view};
 ghost use Rattle.model.specs.Inner.Stored.{Stored};
 ghost use Rattle.text.specs.Limits.{tableLength, bookLength};
+ghost use Rattle.ranking.specs.Table.{Ranks};
+ghost use Rattle.books.specs.Books.{BookFilled};
 ghost use Rattle.judge.specs.BookPromise.{bookOutcome, BookPromise, BookDone};
 
 // What Book answers.
@@ -37,7 +39,25 @@ fn book_labels(store: &[u16], table: &mut [u8], book: &mut [u8])
     weak_books::labels::fill_books(n, &from, &sources, &targets, table, book);
 }
 
-// The same of a good store without silent steps.
+// Fills the book of a good store's low steps, whose ranks the table has.
+fn fill_steps(store: &[u16], table: &[u8], book: &mut [u8])
+    requires { ⌜ Stored (now store) (modelAt (now store)) ⌝ }
+    requires { ⌜ Ranks (LowStep (view (modelAt (now store)))) (modelAt (now store) .head .states) (now table)
+        × (tableLength ≤ length (now table)) ⌝ }
+    requires { ⌜ bookLength ≤ length (now book) ⌝ }
+    ensures { λ _. ⌜ BookFilled (LowStep (view (modelAt (now (store .entry)))))
+        (modelAt (now (store .entry)) .head .states) (now (book .entry)) (now (book .exit)) ⌝ }
+{
+    let mut first = [0u16; INDEX_LENGTH];
+    let mut actions = [0u16; MOVES_LENGTH];
+    let mut targets = [0u16; MOVES_LENGTH];
+    moves::moves::list_store_moves(store, &mut first, &mut actions, &mut targets);
+    let n = model::store::states(store);
+    books::book::fill_book(n, &first, &actions, &targets, table, book);
+}
+
+// Book on a good store without silent steps. Where no round separates two states the book is empty, and no step is
+// listed.
 fn book_steps(store: &[u16], table: &mut [u8], book: &mut [u8])
     requires { ⌜ Stored (now store) (modelAt (now store)) ⌝ }
     requires { ⌜ (tableLength ≤ length (now table)) × (bookLength ≤ length (now book)) ⌝ }
@@ -46,14 +66,13 @@ fn book_steps(store: &[u16], table: &mut [u8], book: &mut [u8])
         (now (table .exit)) (now (book .exit)) ⌝ }
 {
     let mut roles = [0u16; ROLES_LENGTH];
-    let mut first = [0u16; INDEX_LENGTH];
-    let mut actions = [0u16; MOVES_LENGTH];
-    let mut targets = [0u16; MOVES_LENGTH];
     model::index::roles(store, &mut roles);
-    moves::table::fill_plain_table(store, &roles, table);
-    moves::moves::list_store_moves(store, &mut first, &mut actions, &mut targets);
-    let n = model::store::states(store);
-    books::book::fill_book(n, &first, &actions, &targets, table, book);
+    let last = moves::table::fill_plain_table(store, &roles, table);
+    if last == 0 {
+        ranking::table::clear(book, BOOK_LENGTH);
+        return;
+    }
+    fill_steps(store, table, book);
 }
 
 // Book on a good store.

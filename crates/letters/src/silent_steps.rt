@@ -1,5 +1,6 @@
 // Whether a silent step of a model can be reached.
 use crate::branch::Found;
+use moves::labels::some_silent;
 use moves::moves::is_silent;
 use text::Step;
 ghost use Prim.Native.Nat.{_≤_, _<_};
@@ -33,7 +34,7 @@ fn is_silent_step(store: &[u16], roles: &[u16], distances: &[u16], j: Step) -> b
     true
 }
 
-// The first silent step that can be reached.
+// The first silent step that can be reached. Where no action is silent, no step is looked at.
 pub fn first_silent(store: &[u16], roles: &[u16], distances: &[u16]) -> Found
     requires { ⌜ Stored (now store) (modelAt (now store)) ⌝ }
     requires { ⌜ (actionLimit ≤ length (now roles))
@@ -41,6 +42,9 @@ pub fn first_silent(store: &[u16], roles: &[u16], distances: &[u16]) -> Found
     requires { ⌜ (distancesLength ≤ length (now distances)) × DistanceList (modelAt (now store)) (now distances) ⌝ }
     ensures { λ r. ⌜ FoundFirst (SilentStep (modelAt (now (store .entry)))) r ⌝ }
 {
+    if !some_silent(store, roles) {
+        return Found::Nothing;
+    }
     let n = model::store::steps(store);
     let mut j = 0;
     while j < n {

@@ -23,13 +23,18 @@ pub record LowerNumber (book : List ℕ) (depth k : ℕ) : Type 0 where
   pub present : Present (entryNumber book k)
   pub depth-lt : entryNumber book k .depth < depth
 
--- The entries before entry k are sound.
-abbrev pub SoundBefore : Moves → List ℕ → ℕ → Type 0
-SoundBefore Move book k =
-    (p q : ℕ) → p < stateLimit → q < stateLimit → pairPlace p q < k → SoundAt Move (bookOf book) p q
+-- The entries of p before that of p and q are sound, and that one is bad if there is one.
+pub record RowSoundTo (Move : Moves) (book : List ℕ) (p q : ℕ) : Type 0 where
+  pub number-le : q ≤ stateLimit
+  pub sound : (y : ℕ) → y < q → SoundAt Move (bookOf book) p y
+  pub bad : q < stateLimit → ¬ (SoundAt Move (bookOf book) p q)
+
+-- The entries of the numbers below p are sound.
+abbrev pub RowsSound : Moves → List ℕ → ℕ → Type 0
+RowsSound Move book p = (x y : ℕ) → x < p → y < stateLimit → SoundAt Move (bookOf book) x y
 
 -- The entries before entry k are sound, and entry k is bad if there is one.
 pub record SoundTo (Move : Moves) (book : List ℕ) (k : ℕ) : Type 0 where
   pub number-le : k ≤ tableLength
-  pub sound : SoundBefore Move book k
+  pub sound : (p q : ℕ) → p < stateLimit → q < stateLimit → pairPlace p q < k → SoundAt Move (bookOf book) p q
   pub bad : (p q : ℕ) → p < stateLimit → q < stateLimit → pairPlace p q ≡ k → ¬ (SoundAt Move (bookOf book) p q)

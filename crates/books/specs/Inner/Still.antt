@@ -2,6 +2,7 @@
 use mathlib.Core.Path.{_≡_}
 use Prim.Native.Nat.{ℕ, _≤_, _<_}
 use Rattle.lts.specs.Alike.{Moves}
+use Rattle.lts.specs.Book.{Entry}
 use Rattle.lts.specs.Weak.{silentLabel}
 
 -- A move of Move, or the silent move of zero steps that each of n states has.
@@ -15,7 +16,7 @@ pub record Unanswered (n p q t : ℕ) : Type 0 where
   pub target-is : t ≡ p
   pub other-le : n ≤ q
 
--- The same of the side with this number, under the silent label.
-pub data UnansweredBy (n p q side a t : ℕ) : Type 0 where
-  first-stays : a ≡ silentLabel → side ≡ 1 → Unanswered n p q t → UnansweredBy n p q side a t
-  second-stays : a ≡ silentLabel → side ≡ 2 → Unanswered n q p t → UnansweredBy n p q side a t
+-- The same of the side that the entry names, under the silent label.
+pub data UnansweredBy (n p q : ℕ) (e : Entry) : Type 0 where
+  first-stays : e .action ≡ silentLabel → e .side ≡ 1 → Unanswered n p q (e .target) → UnansweredBy n p q e
+  second-stays : e .action ≡ silentLabel → e .side ≡ 2 → Unanswered n q p (e .target) → UnansweredBy n p q e

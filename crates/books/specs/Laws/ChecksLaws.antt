@@ -1,11 +1,12 @@
 -- The entries are tested one by one: the first bad one is told, or all are sound.
 -- Document 02, (v). Assumes nothing.
 use mathlib.Core.List.{List}
-use mathlib.Core.Logic.{_⊎_, inl, inr}
+use mathlib.Core.Logic.{⊎-elim}
 use mathlib.Core.Path.{_≡_, refl, sym, ap, _∙_, subst}
-use Prim.Native.Nat.{ℕ, _+_, _/_, _%_, _<_}
+use Prim.Native.Nat.{ℕ, _+_, _/_, _%_, _≤_, _<_}
 use native.Mathlib.Omega.{arith}
-use Rattle.lts.specs.TestsLaws.{eq-or-not, eq-of-not-lt}
+use borrow.Author.Count.{below-more}
+use Rattle.lts.specs.TestsLaws.{lt-or-le, eq-of-not-lt}
 use Rattle.lts.specs.Alike.{Moves}
 use Rattle.lts.specs.Book.{SoundAt}
 use Rattle.lts.specs.BookLaws.{soundAt-same}
@@ -14,7 +15,7 @@ use Rattle.text.specs.Limits.{stateLimit, tableLength, pairPlace}
 use Rattle.books.specs.Books.{bookOf}
 use Rattle.books.specs.declared.check.Checked.the-variants as checked
 use Rattle.books.specs.Checks.{checkedOutcome, FirstBad, CheckDone, accepted, refused}
-use Rattle.books.specs.Inner.Sides.{SoundBefore, SoundTo}
+use Rattle.books.specs.Inner.Sides.{RowSoundTo, RowsSound, SoundTo}
 
 -- Entry k is that of k / 128 and k % 128, and of no others.
 pub at-number : (P : ℕ → ℕ → Type 0) {k : ℕ} → P (k / stateLimit) (k % stateLimit) → (p q : ℕ) → q < stateLimit
@@ -25,30 +26,35 @@ at-number P {k} h p q lq e =
     subst (P p) eq (subst (λ (x : ℕ). P x (k % stateLimit)) ep h)
 
 module _ (Move : Moves) (book : List ℕ) where
-  pub soundBefore-zero : SoundBefore Move book 0
-  soundBefore-zero p q lp lq l = absurd (omega arith)
+  pub rowsSound-zero : RowsSound Move book 0
+  rowsSound-zero x y l = absurd (omega arith)
 
-  pub soundBefore-add-one : {k : ℕ} → SoundAt Move (bookOf book) (k / stateLimit) (k % stateLimit)
-      → SoundBefore Move book k → SoundBefore Move book (k + 1)
-  soundBefore-add-one {k} h s p q lp lq l = go (eq-or-not (pairPlace p q) k)
-    where
-      go : (pairPlace p q ≡ k) ⊎ ¬ (pairPlace p q ≡ k) → SoundAt Move (bookOf book) p q
-      go (inl e) = at-number (SoundAt Move (bookOf book)) h p q lq e
-      go (inr d) = s p q lp lq (omega (arith, d, l))
+  pub rowsSound-add-one : {p q : ℕ} → RowSoundTo Move book p q → stateLimit ≤ q → RowsSound Move book p
+      → RowsSound Move book (p + 1)
+  rowsSound-add-one {p} row whole s x y lx ly =
+      below-more (λ z. SoundAt Move (bookOf book) z y) p (λ z l. s z y l ly) (row .sound y (omega (arith, whole, ly))) x
+      lx
 
-  pub soundTo-bad : {k : ℕ} → k < tableLength → ¬ (SoundAt Move (bookOf book) (k / stateLimit) (k % stateLimit))
-      → SoundBefore Move book k → SoundTo Move book k
-  soundTo-bad {k} l h s = record {
+  pub soundTo-bad : {p q k : ℕ} → k ≡ pairPlace p q → p < stateLimit → q < stateLimit → RowSoundTo Move book p q
+      → RowsSound Move book p → SoundTo Move book k
+  soundTo-bad {p} {q} {k} e lp lq row s = record {
     number-le = omega arith;
-    sound = s;
-    bad = λ p q lp lq e. at-number (λ x y. ¬ (SoundAt Move (bookOf book) x y)) h p q lq e;
+    sound = λ x y lx ly l. ⊎-elim (λ h. s x y h ly) (λ h. in-row x y (omega (arith, l, h, e, lq)) (omega (arith, l, h, e, lq))) (lt-or-le x p);
+    bad = λ x y lx ly l. at-place x y (omega (arith, l, e, lq, ly)) (omega (arith, l, e, lq, ly));
   }
+    where
+      in-row : (x y : ℕ) → p ≡ x → y < q → SoundAt Move (bookOf book) x y
+      in-row x y i l = subst (λ (z : ℕ). SoundAt Move (bookOf book) z y) i (row .sound y l)
 
-  pub soundTo-all : {k : ℕ} → k ≡ tableLength → SoundBefore Move book k → SoundTo Move book k
-  soundTo-all {k} e s = record {
+      at-place : (x y : ℕ) → p ≡ x → q ≡ y → ¬ (SoundAt Move (bookOf book) x y)
+      at-place x y i j = subst (λ (z : ℕ). ¬ (SoundAt Move (bookOf book) z y)) i
+          (subst (λ (z : ℕ). ¬ (SoundAt Move (bookOf book) p z)) j (row .bad lq))
+
+  pub soundTo-all : {p : ℕ} → stateLimit ≤ p → RowsSound Move book p → SoundTo Move book tableLength
+  soundTo-all {p} l s = record {
     number-le = omega arith;
-    sound = s;
-    bad = λ p q lp lq d. absurd (omega arith);
+    sound = λ x y lx ly _. s x y (omega (arith, l, lx)) ly;
+    bad = λ x y lx ly e. absurd (omega arith);
   }
 
 -- ---- what is told

@@ -3,13 +3,13 @@
 use mathlib.Core.Bool.{Bool, true, false}
 use mathlib.Core.List.{List}
 use mathlib.Core.Path.{_≡_, sym, ap, _∙_, subst}
-use Prim.Native.Nat.{ℕ}
+use Prim.Native.Nat.{ℕ, _<_}
 use native.Mathlib.Omega.{arith}
 use Rattle.lts.specs.Alike.{Moves}
 use Rattle.lts.specs.BookLaws.{opens-of-first, opens-of-second, no-other-side}
 use Rattle.lts.specs.Book.{Entry, Book, Present, Opens, Plays, first-opens, second-opens, LowerEntry, SoundAt}
 use Rattle.text.specs.Decides.{Decides}
-use Rattle.text.specs.Limits.{pairPlace}
+use Rattle.text.specs.Limits.{actionLimit, pairPlace}
 use Rattle.text.specs.Laws.DecidesLaws.{decides-iff}
 use Rattle.books.specs.Books.{entryNumber, bookOf}
 use Rattle.books.specs.Inner.Sides.{BySide}
@@ -65,3 +65,12 @@ module _ (Move : Moves) (book : Book) (p q : ℕ) (e : Entry) (entry-is : book p
       → Decides r (SoundAt Move book p q)
   sound-second s r d = subst (λ (x : Entry). Decides r (SoundEntry x)) (sym entry-is)
       (decides-iff r (λ o _. second-opens s o) (λ h. opens-of-second s (h (λ z. absurd (omega (arith, s, z))))) d)
+
+  -- Moves have only actions below the limit.
+  pub sound-action-lt : ((x a y : ℕ) → Move x a y → a < actionLimit) → SoundAt Move book p q → ¬ (e .side ≡ 0)
+      → e .action < actionLimit
+  sound-action-lt action-lt h z = go (subst SoundEntry entry-is h z)
+    where
+      go : Plays Move (LowerEntry book (e .depth)) p q (e .side) (e .action) (e .target) → e .action < actionLimit
+      go (first-opens _ o) = action-lt _ _ _ (o .opening)
+      go (second-opens _ o) = action-lt _ _ _ (o .opening)

@@ -12,6 +12,7 @@ use Rattle.lts.specs.OwnBookLaws.{entry-ext}
 use Rattle.text.specs.Limits.{stateLimit, pairPlace, entrySize, bookLength}
 use Rattle.text.specs.Inner.Clearing.{Cleared}
 use Rattle.text.specs.Laws.ListsLaws.{past-refl, past-trans}
+use Rattle.ranking.specs.Table.{Below, Greatest}
 use Rattle.books.specs.Books.{entryNumber, bookOf, BookFilled}
 use Rattle.books.specs.Inner.Filling.{PairOwn, PairFilled, RowFilled, RowsFilled, RowEmpty, BookEmpty}
 
@@ -95,3 +96,15 @@ module _ {Move : Moves} where
     pub bookFilled : {book book′ book″ : List ℕ} → Cleared 0 bookLength book book′ → RowsFilled Move n n book′ book″
         → BookFilled Move n book book″
     bookFilled c x = record { own = own-of-rows (empty-of-cleared c) x; past = past-trans (c .past) (x .past) }
+
+    -- Where no rank is above 0, the book that is cleared is our own.
+    pub bookFilled-of-alike : {book book′ : List ℕ} → Greatest Move (Below n) 0 → Cleared 0 bookLength book book′
+        → BookFilled Move n book book′
+    bookFilled-of-alike alike c = record {
+      own = record {
+        apart = λ p q r lp lq rank pos. absurd (omega (arith, alike .bound p q r lp lq rank, pos));
+        together = λ p q lp lq rank. empty-of-cleared c (pairPlace p q) (omega arith);
+        outside = λ p q lp lq h. empty-of-cleared c (pairPlace p q) (omega arith);
+      };
+      past = c .past;
+    }

@@ -3,7 +3,7 @@
 -- Assumes nothing.
 use mathlib.Core.Bool.{Bool}
 use mathlib.Core.List.{List}
-use mathlib.Core.Logic.{_⊎_, inl, inr}
+use mathlib.Core.Logic.{_⊎_, inl, inr, ⊎-elim}
 use mathlib.Core.Path.{_≡_, refl, sym, subst}
 use Prim.Native.Nat.{ℕ, _<_}
 use native.Mathlib.Omega.{arith}
@@ -11,7 +11,7 @@ use Rattle.lts.specs.Agree.{Agree}
 use Rattle.lts.specs.Alike.{Moves, Relation}
 use Rattle.lts.specs.Book.{Entry, Book, Opens, Plays, first-opens, second-opens, LowerEntry, SoundAt}
 use Rattle.lts.specs.BookLaws.{opens-map}
-use Rattle.lts.specs.Weak.{silentLabel, stay, low, silent}
+use Rattle.lts.specs.Weak.{silentLabel, low, silent}
 use Rattle.lts.specs.WeakLaws.{silent-source-lt, weak-agree-all}
 use Rattle.text.specs.Decides.{Decides}
 use Rattle.text.specs.Limits.{actionLimit}
@@ -22,88 +22,102 @@ use Rattle.books.specs.Checks.{StillMove}
 use Rattle.books.specs.Inner.Groups.{IndexOf, Indexed}
 use Rattle.books.specs.Inner.Still.{Still, moves, stays, Unanswered, UnansweredBy, first-stays, second-stays}
 
--- ---- an opening that stays, by its side
+-- ---- whether an entry that was read stays unanswered
 
-module _ {n p q side a t : ℕ} where
-  pub unanswered-action : UnansweredBy n p q side a t → a ≡ silentLabel
-  unanswered-action (first-stays e _ _) = e
-  unanswered-action (second-stays e _ _) = e
+module _ (n : ℕ) (book : Book) (p q : ℕ) (e : Entry) (entry-is : book p q ≡ e) where
+  pub not-silent : ¬ (e .action ≡ silentLabel) → ¬ (UnansweredBy n p q (book p q))
+  not-silent other u = go (subst (UnansweredBy n p q) entry-is u)
+    where
+      go : ¬ (UnansweredBy n p q e)
+      go (first-stays a _ _) = other a
+      go (second-stays a _ _) = other a
 
-  pub unanswered-side : UnansweredBy n p q side a t → (side ≡ 1) ⊎ (side ≡ 2)
-  unanswered-side (first-stays _ s _) = inl s
-  unanswered-side (second-stays _ s _) = inr s
+  pub no-side : ¬ (e .side ≡ 1) → ¬ (e .side ≡ 2) → ¬ (UnansweredBy n p q (book p q))
+  no-side first second u = go (subst (UnansweredBy n p q) entry-is u)
+    where
+      go : ¬ (UnansweredBy n p q e)
+      go (first-stays _ s _) = first s
+      go (second-stays _ s _) = second s
 
-  pub unanswered-of-first : side ≡ 1 → UnansweredBy n p q side a t → Unanswered n p q t
-  unanswered-of-first e (first-stays _ _ u) = u
-  unanswered-of-first e (second-stays _ s _) = absurd (omega (arith, e, s))
+  unanswered-of-first : e .side ≡ 1 → UnansweredBy n p q e → Unanswered n p q (e .target)
+  unanswered-of-first s (first-stays _ _ u) = u
+  unanswered-of-first s (second-stays _ z _) = absurd (omega (arith, s, z))
 
-  pub unanswered-of-second : side ≡ 2 → UnansweredBy n p q side a t → Unanswered n q p t
-  unanswered-of-second e (first-stays _ s _) = absurd (omega (arith, e, s))
-  unanswered-of-second e (second-stays _ _ u) = u
+  unanswered-of-second : e .side ≡ 2 → UnansweredBy n p q e → Unanswered n q p (e .target)
+  unanswered-of-second s (first-stays _ z _) = absurd (omega (arith, s, z))
+  unanswered-of-second s (second-stays _ _ u) = u
+
+  pub unanswered-first : e .action ≡ silentLabel → e .side ≡ 1 → (r : Bool) → Decides r (Unanswered n p q (e .target))
+      → Decides r (UnansweredBy n p q (book p q))
+  unanswered-first a s r d = subst (λ (x : Entry). Decides r (UnansweredBy n p q x)) (sym entry-is)
+      (decides-iff r (first-stays a s) (unanswered-of-first s) d)
+
+  pub unanswered-second : e .action ≡ silentLabel → e .side ≡ 2 → (r : Bool)
+      → Decides r (Unanswered n q p (e .target)) → Decides r (UnansweredBy n p q (book p q))
+  unanswered-second a s r d = subst (λ (x : Entry). Decides r (UnansweredBy n p q x)) (sym entry-is)
+      (decides-iff r (second-stays a s) (unanswered-of-second s) d)
 
 -- ---- an opening
 
-module _ (Move : Moves) (n : ℕ) where
+module _ (Move : Moves) (n : ℕ) (action-lt : (x a y : ℕ) → Move x a y → a < actionLimit) where
+  -- Beside a move of Move the answers are those of Move.
   move-of-still : {x a y : ℕ} → a < actionLimit → Still Move n x a y → Move x a y
   move-of-still l (moves m) = m
   move-of-still l (stays e _ _) = absurd (omega (arith, l, e))
 
-  -- With the action of a step the moves are those of Move.
-  pub opens-still : (R : Relation) (p q a t : ℕ) → a < actionLimit → (r : Bool) → Decides r (Opens Move R p q a t)
-      → Decides r (Opens (Still Move n) R p q a t)
-  opens-still R p q a t l r d =
-      decides-iff r (opens-map moves (λ u. move-of-still l) (λ x y h. h))
-      (opens-map (move-of-still l) (λ u. moves) (λ x y h. h)) d
+  opens-still : {R : Relation} {p q a t : ℕ} → Opens Move R p q a t → Opens (Still Move n) R p q a t
+  opens-still o = opens-map moves (λ u. move-of-still (action-lt _ _ _ (o .opening))) (λ x y h. h) o
 
-module _ (Move : Moves) (n : ℕ) (action-lt : (x a y : ℕ) → Move x a y → a < actionLimit) where
-  -- With another action an opening stays, if at all.
-  still-opening : {x a y : ℕ} → ¬ (a < actionLimit) → Still Move n x a y → (a ≡ silentLabel) × (x < n) × (x ≡ y)
-  still-opening l (moves m) = absurd (l (action-lt _ _ _ m))
-  still-opening l (stays e k s) = (e, k, s)
-
+  -- Beside one that stays they stay too.
   opens-of-unanswered : {R : Relation} {p q a t : ℕ} → a ≡ silentLabel → Unanswered n p q t
       → Opens (Still Move n) R p q a t
   opens-of-unanswered {R} {p} {q} {a} {t} e s = record {
     opening = stays e (s .opener-lt) (sym (s .target-is));
-    answers = λ u m.
-        let k = still-opening (omega (arith, e)) m in
-        absurd (omega (arith, k .1, s .other-le));
+    answers = λ u m. absurd (no-answer m);
   }
+    where
+      no-answer : {u : ℕ} → ¬ (Still Move n q a u)
+      no-answer (moves m) = omega (arith, e, action-lt _ _ _ m)
+      no-answer (stays _ l _) = omega (arith, l, s .other-le)
 
-  unanswered-of-opens : {R : Relation} {p q a t : ℕ} → ¬ (a < actionLimit) → ¬ (R p q)
-      → Opens (Still Move n) R p q a t → (a ≡ silentLabel) × Unanswered n p q t
-  unanswered-of-opens {R} {p} {q} {a} {t} l self o =
-      let k = still-opening l (o .opening) in
-      let other : ¬ (q < n) = λ l. self (subst (λ (x : ℕ). R x q) (sym (k .2)) (o .answers q (stays (k .0) l refl))) in
-      (k .0, record { opener-lt = k .1; target-is = sym (k .2); other-le = omega (arith, other) })
+  opens-cases : {R : Relation} {p q a t : ℕ} → ¬ (R p q) → Opens (Still Move n) R p q a t
+      → Opens Move R p q a t ⊎ ((a ≡ silentLabel) × Unanswered n p q t)
+  opens-cases {R} {p} {q} {a} {t} self o = go (o .opening)
+    where
+      go : Still Move n p a t → Opens Move R p q a t ⊎ ((a ≡ silentLabel) × Unanswered n p q t)
+      go (moves m) = inl (record { opening = m; answers = λ u w. o .answers u (moves w) })
+      go (stays e l s) =
+          let none : ¬ (q < n) = λ k. self (subst (λ (x : ℕ). R x q) (sym s) (o .answers q (stays e k refl))) in
+          inr (e, record { opener-lt = l; target-is = sym s; other-le = omega (arith, none) })
 
-  -- ---- an entry that was read
+  -- ---- an entry
 
-  module _ (book : Book) (p q : ℕ) (e : Entry) (entry-is : book p q ≡ e) where
-    not-below-itself : ¬ (LowerEntry book (e .depth) p q)
-    not-below-itself h = subst (λ (x : Entry). x .depth < e .depth → ⊥) (sym entry-is) (λ l. omega arith) (h .depth-lt)
+  module _ (book : Book) (p q : ℕ) where
+    pub sound-of-steps : SoundAt Move book p q → SoundAt (Still Move n) book p q
+    sound-of-steps h present = go (h present)
+      where
+        go : {R : Relation} {side a t : ℕ} → Plays Move R p q side a t → Plays (Still Move n) R p q side a t
+        go (first-opens s o) = first-opens s (opens-still o)
+        go (second-opens s o) = second-opens s (opens-still o)
 
-    abbrev PlaysEntry : Entry → Type 0
-    PlaysEntry x = Plays (Still Move n) (LowerEntry book (x .depth)) p q (x .side) (x .action) (x .target)
+    pub sound-of-unanswered : UnansweredBy n p q (book p q) → SoundAt (Still Move n) book p q
+    sound-of-unanswered (first-stays a s u) present = first-opens s (opens-of-unanswered a u)
+    sound-of-unanswered (second-stays a s u) present = second-opens s (opens-of-unanswered a u)
 
-    plays-of-unanswered : UnansweredBy n p q (e .side) (e .action) (e .target) → PlaysEntry e
-    plays-of-unanswered (first-stays a s u) = first-opens s (opens-of-unanswered a u)
-    plays-of-unanswered (second-stays a s u) = second-opens s (opens-of-unanswered a u)
+    -- An entry that is sound, but not by steps, stays unanswered.
+    pub unanswered-of-sound : ¬ (SoundAt Move book p q) → SoundAt (Still Move n) book p q
+        → UnansweredBy n p q (book p q)
+    unanswered-of-sound bad h = go (h (λ s. bad (λ present. absurd (present s))))
+      where
+        self : ¬ (LowerEntry book (book p q .depth) p q)
+        self l = omega (arith, l .depth-lt)
 
-    unanswered-of-plays : ¬ (e .action < actionLimit) → PlaysEntry e
-        → UnansweredBy n p q (e .side) (e .action) (e .target)
-    unanswered-of-plays l (first-opens s o) =
-        let k = unanswered-of-opens l not-below-itself o in
-        first-stays (k .0) s (k .1)
-    unanswered-of-plays l (second-opens s o) =
-        let k = unanswered-of-opens l not-below-itself o in
-        second-stays (k .0) s (k .1)
-
-    -- An entry whose action no step has is sound just where it stays unanswered.
-    pub sound-still : ¬ (e .side ≡ 0) → ¬ (e .action < actionLimit) → (r : Bool)
-        → Decides r (UnansweredBy n p q (e .side) (e .action) (e .target)) → Decides r (SoundAt (Still Move n) book p q)
-    sound-still z l r d = decides-iff r (λ u _. subst PlaysEntry (sym entry-is) (plays-of-unanswered u))
-        (λ s. unanswered-of-plays l (subst (λ (x : Entry). ¬ (x .side ≡ 0) → PlaysEntry x) entry-is s z)) d
+        go : Plays (Still Move n) (LowerEntry book (book p q .depth)) p q (book p q .side) (book p q .action)
+            (book p q .target) → UnansweredBy n p q (book p q)
+        go (first-opens s o) = ⊎-elim (λ x. absurd (bad (λ _. first-opens s x))) (λ k. first-stays (k .0) s (k .1))
+            (opens-cases self o)
+        go (second-opens s o) = ⊎-elim (λ x. absurd (bad (λ _. second-opens s x))) (λ k. second-stays (k .0) s (k .1))
+            (opens-cases self o)
 
 -- ---- of listed moves
 

@@ -1,68 +1,57 @@
--- The entries before entry k are sound.
-use Prim.Native.Nat.{_≤_, _-_}
-use native.Mathlib.Omega.{arith}
-use Rattle.text.specs.Limits.{tableLength}
-use Rattle.text.specs.Laws.DecidesLaws.{decides-passed, decides-refused}
+-- The entries of the numbers below p are sound.
+use Prim.Native.Nat.{_-_}
+use Rattle.text.specs.Limits.{stateLimit}
 use Rattle.books.specs.Inner.Groups.{Indexed}
-use Rattle.books.specs.Inner.Sides.{SoundBefore}
+use Rattle.books.specs.Inner.Sides.{RowsSound}
 use Rattle.books.specs.Inner.Still.{Still}
-use Rattle.books.specs.Laws.ChecksLaws.{soundBefore-zero, soundBefore-add-one, soundTo-bad, soundTo-all}
+use Rattle.books.specs.Laws.ChecksLaws.{rowsSound-zero, rowsSound-add-one, soundTo-bad, soundTo-all}
 use borrow.Author.Needs.{needs}
 use Rattle.books.proofs.check.first_bad.Statement.{statement}
 use Rattle.books.proofs.check.first_bad.Tie as tie
 
 abbrev Inv-loop : tie.InvT-loop
-Inv-loop n groups targets book k₀ k =
-    (k ≤ tableLength) × SoundBefore (Still (Indexed groups targets) n) book k
+Inv-loop n groups targets book p₀ p = RowsSound (Still (Indexed groups targets) n) book p
 
 abbrev μ-loop : tie.MeasureT-loop
-μ-loop n groups targets book k₀ k = tableLength - k
+μ-loop n groups targets book p₀ p = stateLimit - p
 
 loop-holds : tie.Need-loop-holds Inv-loop μ-loop
 loop-holds c =
     let a = c .before .args in
-    (omega arith, soundBefore-zero (Still (Indexed (a .groups .now) (a .targets .now)) (a .n)) (a .book .now))
+    rowsSound-zero (Still (Indexed (a .groups .now) (a .targets .now)) (a .n)) (a .book .now)
 
-cast-t10 : tie.Need-cast-t10 Inv-loop μ-loop
-cast-t10 c = search needs
+first-bad-beside-requires : tie.Need-first-bad-beside-requires Inv-loop μ-loop
+first-bad-beside-requires c κs = search needs
 
-cast-t10-2 : tie.Need-cast-t10-2 Inv-loop μ-loop
-cast-t10-2 c = search needs
-
-sound-at-requires : tie.Need-sound-at-requires Inv-loop μ-loop
-sound-at-requires c κs =
-    let P = c .before .before .before .pre in
-    (P .0, (omega arith, omega arith, P .1))
+pair-place-requires : tie.Need-pair-place-requires Inv-loop μ-loop
+pair-place-requires c κs = search needs
 
 returns : tie.Need-returns Inv-loop μ-loop
 returns c =
-    let tested = c .before .sound-at in
-    let at-loop = c .before .before .before in
+    let tested = c .before .before in
+    let at-loop = tested .before .before in
     let a = at-loop .before .before .args in
-    soundTo-bad (Still (Indexed (a .groups .now) (a .targets .now)) (a .n)) (a .book .now) (omega arith)
-    (decides-refused (tested .result) _ (tested .ensures) (c .if1 .taken)) (at-loop .loop .inv .1)
+    soundTo-bad (Still (Indexed (a .groups .now) (a .targets .now)) (a .n)) (a .book .now) (c .pair-place .ensures)
+    (tested .before .loop-test .taken) (c .before .if1 .taken) (tested .first-bad-beside .ensures) (at-loop .loop .inv)
 
-add-k : tie.Need-add-k Inv-loop μ-loop
-add-k c = search needs
+add-p : tie.Need-add-p Inv-loop μ-loop
+add-p c = search needs
 
 loop-less : tie.Need-loop-less Inv-loop μ-loop
 loop-less c = search needs
 
 loop-again : tie.Need-loop-again Inv-loop μ-loop
 loop-again c =
-    let tested = c .before .sound-at in
     let at-loop = c .before .before .before in
     let a = at-loop .before .before .args in
-    let here = decides-passed (tested .result) _ (tested .ensures) (c .if1 .left) in
-    let more = soundBefore-add-one (Still (Indexed (a .groups .now) (a .targets .now)) (a .n)) (a .book .now) here
-    (at-loop .loop .inv .1) in
-    (omega arith, more)
+    rowsSound-add-one (Still (Indexed (a .groups .now) (a .targets .now)) (a .n)) (a .book .now)
+    (c .before .first-bad-beside .ensures) (c .if1 .left) (at-loop .loop .inv)
 
 returns-2 : tie.Need-returns-2 Inv-loop μ-loop
 returns-2 c =
     let a = c .before .before .before .args in
-    soundTo-all (Still (Indexed (a .groups .now) (a .targets .now)) (a .n)) (a .book .now) (omega arith)
-    (c .before .loop .inv .1)
+    soundTo-all (Still (Indexed (a .groups .now) (a .targets .now)) (a .n)) (a .book .now) (c .loop-test .left)
+    (c .before .loop .inv)
 
 pub first-bad-spec : {M : Type 1} → statement M
 first-bad-spec =
@@ -71,11 +60,10 @@ first-bad-spec =
     Inv-loop
     μ-loop
     loop-holds
-    cast-t10
-    cast-t10-2
-    sound-at-requires
+    first-bad-beside-requires
+    pair-place-requires
     returns
-    add-k
+    add-p
     loop-less
     loop-again
     returns-2)

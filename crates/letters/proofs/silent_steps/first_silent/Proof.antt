@@ -1,13 +1,15 @@
--- No step below j is a silent one that can be reached.
+-- Where no action is silent, no step is; else no step below j is a silent one that can be reached.
 use mathlib.Core.Path.{_≡_, _∙_}
 use Prim.Native.Nat.{ℕ, _<_, _-_}
 use native.Mathlib.Omega.{arith}
 use lib.ListN.{length}
 use borrow.Author.Count.{below-more}
 use borrow.Author.Needs.{needs}
+use borrow.Author.Tests.{not-true}
 use Rattle.model.specs.StoredModel.{modelAt}
 use Rattle.model.specs.System.{SilentStep}
 use Rattle.text.specs.Laws.DecidesLaws.{decides-true, decides-false}
+use Rattle.model.specs.Laws.System.SilentStepLaws.{noTick-of-no-silentStep}
 use Rattle.model.specs.Laws.System.StoredLaws.{stored-steps}
 use Rattle.text.specs.Laws.FirstLaws.{first-found}
 use Rattle.letters.proofs.silent_steps.first_silent.Statement.{statement}
@@ -20,23 +22,33 @@ Inv-loop store roles distances n j₀ j =
 abbrev μ-loop : tie.MeasureT-loop
 μ-loop store roles distances n j₀ j = n - j
 
+some-silent-requires : tie.Need-some-silent-requires Inv-loop μ-loop
+some-silent-requires c κs = search needs
+
+returns : tie.Need-returns Inv-loop μ-loop
+returns c =
+    let tested = c .before .some-silent in
+    let still = tested .ensures (not-true (tested .result) (c .if1 .taken)) in
+    noTick-of-no-silentStep _ .1 (λ p q _. still p q)
+
 steps-requires : tie.Need-steps-requires Inv-loop μ-loop
 steps-requires c κs = search needs
 
 loop-holds : tie.Need-loop-holds Inv-loop μ-loop
 loop-holds c =
-    (c .steps .ensures ∙ stored-steps (c .before .before .before .before .pre .0), λ i l. absurd (omega arith))
+    let pre = c .before .before .before .before .before .before .pre in
+    (c .steps .ensures ∙ stored-steps (pre .0), λ i l. absurd (omega arith))
 
 is-silent-step-requires : tie.Need-is-silent-step-requires Inv-loop μ-loop
 is-silent-step-requires c κs =
-    let pre = c .before .before .before .before .before .before .pre in
+    let pre = c .before .before .before .before .before .before .before .before .pre in
     let inv = c .before .loop .inv in
     (pre .0, (pre .1 .0, (pre .1 .1, omega (arith, c .loop-test .taken, inv .0))))
 
-returns : tie.Need-returns Inv-loop μ-loop
-returns c =
+returns-2 : tie.Need-returns-2 Inv-loop μ-loop
+returns-2 c =
     let inv = c .before .before .before .loop .inv in
-    first-found (inv .1) (decides-true _ _ (c .before .is-silent-step .ensures) (c .if1 .taken))
+    first-found (inv .1) (decides-true _ _ (c .before .is-silent-step .ensures) (c .if2 .taken))
 
 add-j : tie.Need-add-j Inv-loop μ-loop
 add-j c = search needs
@@ -47,10 +59,10 @@ loop-less c = search needs
 loop-again : tie.Need-loop-again Inv-loop μ-loop
 loop-again c =
     let inv = c .before .before .before .loop .inv in
-    (inv .0, below-more _ _ (inv .1) (decides-false _ _ (c .before .is-silent-step .ensures) (c .if1 .left)))
+    (inv .0, below-more _ _ (inv .1) (decides-false _ _ (c .before .is-silent-step .ensures) (c .if2 .left)))
 
-returns-2 : tie.Need-returns-2 Inv-loop μ-loop
-returns-2 c j x =
+returns-3 : tie.Need-returns-3 Inv-loop μ-loop
+returns-3 c j x =
     let inv = c .before .loop .inv in
     inv .1 j (omega (arith, x .number-lt, inv .0, c .loop-test .left)) x
 
@@ -60,11 +72,13 @@ first-silent-spec =
     (tie.spec
     Inv-loop
     μ-loop
+    some-silent-requires
+    returns
     steps-requires
     loop-holds
     is-silent-step-requires
-    returns
+    returns-2
     add-j
     loop-less
     loop-again
-    returns-2)
+    returns-3)
