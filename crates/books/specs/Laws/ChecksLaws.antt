@@ -39,7 +39,8 @@ module _ (Move : Moves) (book : List ℕ) where
       → RowsSound Move book p → SoundTo Move book k
   soundTo-bad {p} {q} {k} e lp lq row s = record {
     number-le = omega arith;
-    sound = λ x y lx ly l. ⊎-elim (λ h. s x y h ly) (λ h. in-row x y (omega (arith, l, h, e, lq)) (omega (arith, l, h, e, lq))) (lt-or-le x p);
+    sound = λ x y lx ly l. ⊎-elim (λ h. s x y h ly)
+        (λ h. in-row x y (omega (arith, l, h, e, lq)) (omega (arith, l, h, e, lq))) (lt-or-le x p);
     bad = λ x y lx ly l. at-place x y (omega (arith, l, e, lq, ly)) (omega (arith, l, e, lq, ly));
   }
     where

@@ -20,7 +20,8 @@ use Rattle.text.specs.Laws.ListsLaws.{past-trans}
 use Rattle.comparing.specs.Inner.Numbered.{Same}
 use Rattle.books.specs.Inner.Filling.{EntryWritten}
 use Rattle.weak_books.specs.declared.opening.Opening.{Opening}
-use Rattle.weak_books.specs.Inner.Entering.{OtherClass, FirstApart, sideEntry, openingEntry, EntryApart, PairEntered}
+use Rattle.weak_books.specs.Inner.Entering.{OtherClass, FirstApart, sideEntry, openingEntry}
+use Rattle.weak_books.specs.Inner.Entering.{EntryApart, PairEntered}
 use Rattle.weak_books.specs.Laws.FilledLaws.{action-lowest, target-lowest}
 
 -- ---- the entry of two openings
@@ -50,7 +51,8 @@ answers-sym Move class h = record {
 -- An opening of either side.
 abbrev EitherOpens : Moves → List ℕ → ℕ → ℕ → Type 0
 EitherOpens Move class p q =
-    ((a : ℕ) × (t : ℕ) × Opens Move (OtherClass class) p q a t) ⊎ ((a : ℕ) × (t : ℕ) × Opens Move (OtherClass class) q p a t)
+    ((a : ℕ) × (t : ℕ) × Opens Move (OtherClass class) p q a t)
+    ⊎ ((a : ℕ) × (t : ℕ) × Opens Move (OtherClass class) q p a t)
 
 either-opens : {Move : Moves} {n : ℕ} {round : (ℕ → ℕ → Bool) → ℕ → ℕ → Bool} → Game Move n round → (class : List ℕ)
     {p q : ℕ} → ¬ (Answers Move (Same class) p q) → EitherOpens Move class p q

@@ -173,6 +173,6 @@ module _ {n : ℕ} {labels : List ℕ} {count : ℕ} {slots pool : List ℕ} {p 
           let m = x .opening in
           let same : m .number ≡ i = omega (arith, k, j) in
           let f : getD labels i 0 ≡ b = subst (λ (y : ℕ). getD labels y 0 ≡ b) same (m .label-is) in
-          let r = subst (λ (y : ℕ). OpensTo (HeldAt slots pool (targetRow (getD labels y 0))) (OtherClass class) p q u) same
-          (row-of-opens x) in
+          let r = subst (λ (y : ℕ). OpensTo (HeldAt slots pool (targetRow (getD labels y 0))) (OtherClass class) p q u)
+          same (row-of-opens x) in
           inr (e ∙ f, ⊎-elim (λ h. absurd (low .none-before u h r)) (λ h. h) (lt-or-le u (o .target)))

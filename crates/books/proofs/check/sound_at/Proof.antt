@@ -28,7 +28,8 @@ returns-2 c =
     let bad = decides-false (steps .result) _ (steps .ensures) (c .before .if1 .left) in
     decides-iff (c .sound-still .result)
     (sound-of-unanswered Move (a .n) (λ x b y m. m .in-group .action-lt) (bookOf (a .book .now)) (a .p .0) (a .q .0))
-    (unanswered-of-sound Move (a .n) (λ x b y m. m .in-group .action-lt) (bookOf (a .book .now)) (a .p .0) (a .q .0) bad)
+    (unanswered-of-sound Move (a .n) (λ x b y m. m .in-group .action-lt) (bookOf (a .book .now)) (a .p .0) (a .q .0)
+    bad)
     (c .sound-still .ensures)
 
 pub sound-at-spec : {M : Type 1} → statement M
