@@ -5,6 +5,7 @@ pub mod ChainsLaws
 pub mod DepthLaws
 pub mod DepthsLaws
 pub mod EnteringLaws
+pub mod EntriesLaws
 pub mod EntryApartLaws
 pub mod FilledLaws
 pub mod FirstApartLaws

@@ -98,11 +98,11 @@ module _ {Move : Moves} where
     bookFilled c x = record { own = own-of-rows (empty-of-cleared c) x; past = past-trans (c .past) (x .past) }
 
     -- Where no rank is above 0, the book that is cleared is our own.
-    pub bookFilled-of-alike : {book book′ : List ℕ} → Greatest Move (Below n) 0 → Cleared 0 bookLength book book′
-        → BookFilled Move n book book′
-    bookFilled-of-alike alike c = record {
+    pub bookFilled-of-alike : {top : ℕ} {book book′ : List ℕ} → Greatest Move (Below n) top → top ≡ 0
+        → Cleared 0 bookLength book book′ → BookFilled Move n book book′
+    bookFilled-of-alike greatest e c = record {
       own = record {
-        apart = λ p q r lp lq rank pos. absurd (omega (arith, alike .bound p q r lp lq rank, pos));
+        apart = λ p q r lp lq rank pos. absurd (omega (arith, greatest .bound p q r lp lq rank, e, pos));
         together = λ p q lp lq rank. empty-of-cleared c (pairPlace p q) (omega arith);
         outside = λ p q lp lq h. empty-of-cleared c (pairPlace p q) (omega arith);
       };

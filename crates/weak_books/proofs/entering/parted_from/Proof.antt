@@ -1,7 +1,7 @@
 -- The set of the class before without that of the class after.
 use native.Mathlib.Omega.{arith}
 use borrow.Author.Needs.{needs}
-use Rattle.held.specs.Laws.SlotsLaws.{setOf-number}
+use Rattle.held.specs.Laws.PoolLaws.{setOf-number}
 use Rattle.weak_books.specs.Laws.EnteringLaws.{parted-set}
 use Rattle.weak_books.proofs.entering.parted_from.Statement.{statement}
 use Rattle.weak_books.proofs.entering.parted_from.Tie as tie

@@ -3,9 +3,9 @@ use Prim.Native.Nat.{_≤_, _-_}
 use native.Mathlib.Omega.{arith}
 use Rattle.text.specs.Limits.{tableLength}
 use Rattle.text.specs.Laws.DecidesLaws.{decides-passed, decides-refused}
-use Rattle.books.specs.Inner.Sides.{SoundBefore}
-use Rattle.books.specs.Laws.ChecksLaws.{soundBefore-zero, soundBefore-add-one, soundTo-bad, soundTo-all}
 use Rattle.held.specs.Held.{HeldMove}
+use Rattle.weak_books.specs.Laws.EntriesLaws.{SoundBefore, soundBefore-zero, soundBefore-add-one}
+use Rattle.weak_books.specs.Laws.EntriesLaws.{soundTo-of-bad, soundTo-of-all}
 use borrow.Author.Needs.{needs}
 use Rattle.weak_books.proofs.entries.first_bad_in_order.Statement.{statement}
 use Rattle.weak_books.proofs.entries.first_bad_in_order.Tie as tie
@@ -32,7 +32,7 @@ returns c =
     let in-loop = c .before .before in
     let a = in-loop .before .before .before .args in
     let Move = HeldMove (a .labels .now) (a .count) (a .slots .now) (a .pool .now) in
-    soundTo-bad Move (a .book .now) (in-loop .loop-test .taken)
+    soundTo-of-bad Move (a .book .now) (in-loop .loop-test .taken)
     (decides-refused (tested .result) _ (tested .ensures) (c .if1 .taken)) (in-loop .before .loop .inv .1)
 
 add-k : tie.Need-add-k Inv-loop μ-loop
@@ -55,7 +55,7 @@ returns-2 c =
     let at-loop = c .before in
     let a = at-loop .before .before .args in
     let Move = HeldMove (a .labels .now) (a .count) (a .slots .now) (a .pool .now) in
-    soundTo-all Move (a .book .now) (omega arith) (at-loop .loop .inv .1)
+    soundTo-of-all Move (a .book .now) (omega arith) (at-loop .loop .inv .1)
 
 pub first-bad-in-order-spec : {M : Type 1} → statement M
 first-bad-in-order-spec =

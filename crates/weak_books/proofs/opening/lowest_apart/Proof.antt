@@ -5,7 +5,7 @@ use borrow.Author.Needs.{needs}
 use Rattle.text.specs.Limits.{stateLimit}
 use Rattle.text.specs.Laws.DecidesLaws.{decides-true, decides-false}
 use Rattle.sets.specs.Inner.SetValues.{Least}
-use Rattle.held.specs.Laws.SlotsLaws.{setOf-number}
+use Rattle.held.specs.Laws.PoolLaws.{setOf-number}
 use Rattle.weak_books.specs.Inner.Entering.{Tried}
 use Rattle.weak_books.specs.Laws.FirstApartLaws.{tried-start, least-past, tried-next, target-of-tried}
 use Rattle.weak_books.specs.Laws.FirstApartLaws.{lowestTo-here, lowestTo-none}
