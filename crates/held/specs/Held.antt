@@ -23,7 +23,7 @@ rowCount = 2 * labelCount
 
 -- The sets of the pool that slots have. Set 0 has no member.
 abbrev pub poolSets : ℕ
-poolSets = 2560
+poolSets = 2432
 
 -- Behind them the pool has a set for each row.
 abbrev pub rowSet : ℕ → ℕ

@@ -1,3 +1,4 @@
+pub mod MoveSplits
 pub mod Partition
 pub mod Splitters
 pub mod Splitting

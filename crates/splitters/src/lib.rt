@@ -10,3 +10,9 @@ pub struct Parts {
     pub classes: u16,
     pub together: sets::set::Set,
 }
+
+// The last round that separated a pair, and how many classes there are then.
+pub struct RoundsDone {
+    pub last: u8,
+    pub classes: u16,
+}

@@ -25,8 +25,8 @@ ghost use Rattle.text.specs.Limits.{stateLimit};
 ghost use Rattle.sets.specs.Inner.Sets.{Member};
 ghost use Rattle.held.specs.Held.{rowCount, poolSets, Turned, Occupied, HeldList};
 ghost use Rattle.splitters.specs.Inner.Partition.{Partition, SplitTwice};
-ghost use Rattle.splitters.specs.Inner.Splitters.{LeadsInto, Into, UsedClass, UsedLabels, UsedSplit};
-ghost use Rattle.splitters.specs.Inner.Splitters.{Fresh, SetsKept};
+ghost use Rattle.splitters.specs.Inner.Splitters.{Fresh, SetsKept, LeadsInto, Into};
+ghost use Rattle.splitters.specs.Inner.MoveSplits.{UsedClass, UsedLabels, UsedSplit};
 
 // Splits the classes by the moves into the set `fresh`, and those with such a move by the moves into the set `rest`; if
 // each state of `fresh` is one of `rest`, each such move is one into `rest` already.

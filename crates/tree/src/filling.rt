@@ -42,28 +42,29 @@ fn copy_rows(table: &mut [u8], n: u16, class: &[u16; ROW], rows: &[u8; TABLE_LEN
 }
 
 // Fills the table from the splitting tree of n states: the entry of two states is the round that separated their
-// classes.
+// classes. The caller brings that as `apart`, of which its ranks speak; each tree gives one, `apart-exists`
+// (tree/Laws/ApartExistsLaws).
 pub fn fill_table(
     n: u16,
     classes: u16,
     class: &[u16; ROW],
     members: &[u64; SETS_LENGTH],
     origin: &[u16; ROW],
-    fresh: &[u64; SETS_LENGTH],
+    under: &[u64; SETS_LENGTH],
     when: &[u8; ROW],
     table: &mut [u8],
 )
     requires { ⌜ (n ≤ stateLimit) × (classes ≤ stateLimit) × (tableLength ≤ length (now table)) ⌝ }
     requires { ⌜ Tree classes (now origin) (now when) ⌝ }
     requires { ⌜ MemberSets n classes (now class) (now members) × UnderSets n classes (now class) (now origin)
-        (now fresh) ⌝ }
+        (now under) ⌝ }
     ensures { λ _. ⌜ ((apart : ℕ → ℕ → ℕ) → Apart classes (now (origin .entry)) (now (when .entry)) apart
         → (p q : ℕ) → p < n → q < n → entryOf (now (table .exit)) p q
         ≡ apart (getD (now (class .entry)) p 0) (getD (now (class .entry)) q 0)) ⌝ }
     ensures { λ _. ⌜ Outside n (now (table .entry)) (now (table .exit)) ⌝ }
 {
     let mut rows = [0u8; TABLE_LENGTH];
-    write_parts(&mut rows, classes, origin, fresh, when);
+    write_parts(&mut rows, classes, origin, under, when);
     fill_rows(&mut rows, classes, members, origin, when);
     copy_rows(table, n, class, &rows);
 }

@@ -40,16 +40,16 @@ pub fn write_parts(
     rows: &mut [u8; TABLE_LENGTH],
     classes: u16,
     origin: &[u16; ROW],
-    fresh: &[u64; SETS_LENGTH],
+    under: &[u64; SETS_LENGTH],
     when: &[u8; ROW],
 )
     requires { ⌜ (classes ≤ stateLimit) × ((e : ℕ) → 0 < e → e < classes → getD (now origin) e 0 < stateLimit) ⌝ }
-    ensures { λ _. ⌜ PartsWritten classes (now (origin .entry)) (now (fresh .entry)) (now (when .entry))
+    ensures { λ _. ⌜ PartsWritten classes (now (origin .entry)) (now (under .entry)) (now (when .entry))
         (now (rows .entry)) (now (rows .exit)) ⌝ }
 {
     for e in 1..classes {
         let at = e as usize;
-        write_entries(rows, Class(origin[at]), set_at(fresh, at), when[at]);
+        write_entries(rows, Class(origin[at]), set_at(under, at), when[at]);
     }
 }
 

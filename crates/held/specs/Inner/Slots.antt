@@ -9,7 +9,8 @@ use Rattle.text.specs.Limits.{stateLimit}
 use Rattle.sets.specs.Inner.Sets.{Member}
 use Rattle.sets.specs.Inner.SetValues.{In, SetOf}
 use Rattle.sets.specs.declared.set.Set.{Set}
-use Rattle.held.specs.Held.{rowCount, poolSets, slotPlace, targetRow, sourceRow, HeldAt, HeldLabel, Occupied}
+use Rattle.held.specs.Held.{rowCount, poolSets, slotPlace, targetRow, sourceRow}
+use Rattle.held.specs.Held.{LabelIn, HeldAt, HeldLabel, Occupied}
 
 -- The sets from `used` on are free, set 0 has no member, and the set of each row has its states.
 pub record Pooled (used : ℕ) (slots pool : List ℕ) : Type 0 where
@@ -82,5 +83,5 @@ pub record HeldTo (Move : Moves) (to : ℕ) (labels : List ℕ) (count : ℕ) (s
   pub count-le : count ≤ to
   pub label-lt : (i : ℕ) → i < count → getD labels i 0 < to
   pub rising : (i j : ℕ) → i < j → j < count → getD labels i 0 < getD labels j 0
-  pub listed : (p a q : ℕ) → a < to → Move p a q → (i : ℕ) × (i < count) × (getD labels i 0 ≡ a)
+  pub listed : (p a q : ℕ) → a < to → Move p a q → LabelIn labels count a
   pub held : (i : ℕ) → i < count → HeldLabel Move slots pool (getD labels i 0)

@@ -12,7 +12,7 @@ use Rattle.lts.specs.Weak.{silentLabel}
 use Rattle.text.specs.Limits.{actionLimit}
 use Rattle.silent.specs.Labelled.{LabelList, LabelMove}
 use Rattle.silent.specs.Laws.LabelledLaws.{labelMove-source-lt, labelMove-target-lt, labelMove-label, labelMove-between}
-use Rattle.held.specs.Held.{targetRow, sourceRow, HeldLabel, Turned, HeldList, HeldAs}
+use Rattle.held.specs.Held.{LabelIn, targetRow, sourceRow, HeldLabel, Turned, HeldList, HeldAs}
 use Rattle.held.specs.Inner.Slots.{Pooled, LabelsKept, HeldTo}
 use Rattle.held.specs.Laws.RowsLaws.{targetRow-action, targetRow-after}
 use Rattle.held.specs.Laws.PoolLaws.{PutAt}
@@ -38,8 +38,7 @@ module _ {Move : Moves} {to count : ℕ} {labels slots pool : List ℕ} (h : Hel
     held = h .held;
   }
     where
-      listed : (p a q : ℕ) → a < to + 1 → Move p a q → (a ≡ to) ⊎ ¬ (a ≡ to)
-          → (i : ℕ) × (i < count) × (getD labels i 0 ≡ a)
+      listed : (p a q : ℕ) → a < to + 1 → Move p a q → (a ≡ to) ⊎ ¬ (a ≡ to) → LabelIn labels count a
       listed p a q l m (inl e) = absurd (f p q (subst (λ (b : ℕ). Move p b q) e m))
       listed p a q l m (inr d) = h .listed p a q (omega arith) m
 
@@ -78,7 +77,7 @@ module _ {Move : Moves} {to count : ℕ} {labels slots pool : List ℕ} (h : Hel
             omega (arith, before i (omega arith), before j (omega arith), h .rising i j l (omega arith))
 
         listed : (p b q : ℕ) → b < a + 1 → Move p b q → (b < to) ⊎ (to ≤ b) → (b ≡ a) ⊎ ¬ (b ≡ a)
-            → (i : ℕ) × (i < count + 1) × (getD labels′ i 0 ≡ b)
+            → LabelIn labels′ (count + 1) b
         listed p b q l m (inl k) d =
             let x = h .listed p b q k m in
             (x .0, omega (arith, x .1), before (x .0) (x .1) ∙ x .2)

@@ -50,8 +50,8 @@ apartAfter-is old origin′ round apart = record {
 
 -- ---- the tree, one round later
 
-pub tree-after : {n k first old classes : ℕ} {class origin fresh when origin′ when′ : List ℕ}
-    → Grown n k first old class origin fresh when
+pub tree-after : {n k first old classes : ℕ} {class origin under when origin′ when′ : List ℕ}
+    → Grown n k first old class origin under when
     → ((c : ℕ) → c < old → getD origin′ c 0 ≡ getD origin c 0)
     → ((c : ℕ) → old ≤ c → c < classes → getD origin′ c 0 < old) → RoundNoted old classes (k + 1) when when′
     → Tree classes origin′ when′

@@ -49,17 +49,17 @@ pub cutTo-fresh : {slots pool : List ℕ} {row back n : ℕ} {c members : List �
 cutTo-fresh turned k part j b = record {
   all = λ p q lp lq e d m. b .all p (
     j .all p (record {
-      target = m .target;
+      member = m .target;
       in-set = m .in-set;
-      held = turned .there p (m .target) (omega (arith, k, lp)) (m .held);
+      related = turned .there p (m .target) (omega (arith, k, lp)) (m .held);
     }),
     part .together-all p q lp lq e d,
   );
   only = λ p lp i.
       let m = j .only p (b .only p i .0) in
       record {
-        target = m .target;
-        held = turned .again p (m .target) (m .in-set .member-lt) (m .held);
+        target = m .member;
+        held = turned .again p (m .member) (m .in-set .member-lt) (m .related);
         in-set = m .in-set;
       };
 }

@@ -5,28 +5,23 @@ use mathlib.Core.Logic.{_⊎_, inl, inr}
 use mathlib.Core.Path.{_≡_, sym, subst}
 use Prim.Native.Nat.{ℕ, _+_, _≤_, _<_}
 use native.Mathlib.Omega.{arith}
-use lib.ListN.{getD}
+use Rattle.lts.specs.Alike.{Relation}
 use Rattle.lts.specs.TestsLaws.{eq-or-not}
 use Rattle.sets.specs.Inner.Sets.{Member}
 use Rattle.sets.specs.Inner.SetValues.{SetOf, SetPut}
 use Rattle.sets.specs.declared.set.Set.{Set}
-use Rattle.splitters.specs.Inner.Splitters.{Fresh, SetsKept}
+use Rattle.splitters.specs.Inner.Splitters.{SetsOf, SetsKept}
 
--- Set k of the list, from `first` up to j, has the members that Is k holds of.
-pub record Noted (Is : ℕ → ℕ → Type 0) (first j : ℕ) (sets : List ℕ) : Type 0 where
-  pub all : (k p : ℕ) → first ≤ k → k < j → Is k p → Member sets k p
-  pub only : (k p : ℕ) → first ≤ k → k < j → Member sets k p → Is k p
-
-module _ {Is : ℕ → ℕ → Type 0} {first : ℕ} where
-  pub noted-none : {sets : List ℕ} → Noted Is first first sets
-  noted-none = record {
+module _ {Is : Relation} {first : ℕ} where
+  pub setsOf-none : {sets : List ℕ} → SetsOf Is first first sets
+  setsOf-none = record {
     all = λ k p l h. absurd (omega (arith, l, h));
     only = λ k p l h. absurd (omega (arith, l, h));
   }
 
-  pub noted-next : {j : ℕ} {sets sets′ : List ℕ} {s : Set} → Noted Is first j sets → SetOf (Is j) s
-      → SetPut j s sets sets′ → Noted Is first (j + 1) sets′
-  noted-next {j} {sets} {sets′} f m a = record {
+  pub setsOf-suc : {j : ℕ} {sets sets′ : List ℕ} {s : Set} → SetsOf Is first j sets → SetOf (Is j) s
+      → SetPut j s sets sets′ → SetsOf Is first (j + 1) sets′
+  setsOf-suc {j} {sets} {sets′} f m a = record {
     all = λ k p l h i. all k p l h i (eq-or-not k j);
     only = λ k p l h i. only k p l h i (eq-or-not k j);
   }
@@ -41,15 +36,11 @@ module _ {Is : ℕ → ℕ → Type 0} {first : ℕ} where
           (m .only p (a .put .all p (subst (λ (x : ℕ). Member sets′ x p) e i)))
       only k p l h i (inr d) = f .only k p l (omega (arith, h, d)) (a .only k p d i)
 
-pub fresh-of-noted : {first j classes : ℕ} {members origin fresh rest : List ℕ} → classes ≤ j
-    → Noted (Member members) first j fresh → Noted (λ k. Member members (getD origin k 0)) first j rest
-    → Fresh first classes members origin fresh rest
-fresh-of-noted l f g = record {
-  fresh-in = λ k p a h. f .only k p a (omega (arith, l, h));
-  fresh-all = λ k p a h. f .all k p a (omega (arith, l, h));
-  rest-in = λ k p a h. g .only k p a (omega (arith, l, h));
-  rest-all = λ k p a h. g .all k p a (omega (arith, l, h));
-}
+  pub setsOf-le : {j to : ℕ} {sets : List ℕ} → to ≤ j → SetsOf Is first j sets → SetsOf Is first to sets
+  setsOf-le l f = record {
+    all = λ k p a h. f .all k p a (omega (arith, l, h));
+    only = λ k p a h. f .only k p a (omega (arith, l, h));
+  }
 
 -- ---- the sets before them
 

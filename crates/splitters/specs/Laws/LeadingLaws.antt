@@ -5,6 +5,7 @@ use mathlib.Core.Logic.{_⊎_, inl, inr}
 use mathlib.Core.Path.{_≡_, sym, subst}
 use Prim.Native.Nat.{ℕ, _≤_, _<_}
 use native.Mathlib.Omega.{arith}
+use Rattle.lts.specs.Alike.{Relation}
 use Rattle.lts.specs.TestsLaws.{eq-or-not}
 use Rattle.text.specs.Limits.{stateLimit}
 use Rattle.sets.specs.Inner.Sets.{Member}
@@ -13,49 +14,47 @@ use Rattle.sets.specs.Laws.SetValuesLaws.{setOf-map, in-or-not}
 use Rattle.sets.specs.declared.set.Set.{Set}
 use Rattle.held.specs.Held.{rowSet, HeldAt, Turned, Occupied}
 use Rattle.held.specs.Laws.OccupiedLaws.{occupied-held}
-use Rattle.splitters.specs.Inner.Splitters.{InSome, LeadsInto, LedFrom}
+use Rattle.splitters.specs.Inner.Splitters.{SomeMember, LeadsInto, LedFrom}
 use Rattle.sets.specs.Laws.WalkLaws.{none-of-least}
 
 -- ---- all that members of a set have
 
 -- The members of the set but those that are left are gone through.
-pub record JointTo (slots pool : List ℕ) (row : ℕ) (set left found : Set) : Type 0 where
-  pub all : (t x : ℕ) → In set t → HeldAt slots pool row t x → In found x ⊎ In left t
-  pub only : (x : ℕ) → In found x → LedFrom slots pool row set x
+pub record UnionTo (Of : Relation) (set left found : Set) : Type 0 where
+  pub all : (t x : ℕ) → In set t → Of t x → In found x ⊎ In left t
+  pub only : (x : ℕ) → In found x → SomeMember Of set x
   pub left-in : (t : ℕ) → In left t → In set t
 
-module _ {slots pool : List ℕ} {row : ℕ} {set : Set} where
-  pub jointTo-start : {found : Set} → SetOf (λ x. ⊥) found → JointTo slots pool row set set found
-  jointTo-start none = record {
+module _ {Of : Relation} {set : Set} where
+  pub unionTo-start : {found : Set} → SetOf (λ x. ⊥) found → UnionTo Of set set found
+  unionTo-start none = record {
     all = λ t x i h. inr i;
     only = λ x i. absurd (none .only x i);
     left-in = λ t i. i;
   }
 
-  pub jointTo-next : {left left′ found found′ own : Set} {t : ℕ} → JointTo slots pool row set left found → In left t
-      → SetOf (HeldAt slots pool row t) own → SetOf (λ x. In found x ⊎ In own x) found′
-      → SetOf (λ x. In left x × ¬ (x ≡ t)) left′ → JointTo slots pool row set left′ found′
-  jointTo-next {left} {left′} {found} {found′} {own} {t} j i o u w = record {
+  pub unionTo-next : {left left′ found found′ own : Set} {t : ℕ} → UnionTo Of set left found → In left t
+      → SetOf (Of t) own → SetOf (λ x. In found x ⊎ In own x) found′
+      → SetOf (λ x. In left x × ¬ (x ≡ t)) left′ → UnionTo Of set left′ found′
+  unionTo-next {left} {left′} {found} {found′} {own} {t} j i o u w = record {
     all = λ z x m h. all z x h (j .all z x m h) (eq-or-not z t);
     only = λ x m. only x (u .only x m);
     left-in = λ z m. j .left-in z (w .only z m .0);
   }
     where
-      all : (z x : ℕ) → HeldAt slots pool row z x → In found x ⊎ In left z → (z ≡ t) ⊎ ¬ (z ≡ t)
-          → In found′ x ⊎ In left′ z
+      all : (z x : ℕ) → Of z x → In found x ⊎ In left z → (z ≡ t) ⊎ ¬ (z ≡ t) → In found′ x ⊎ In left′ z
       all z x h (inl m) b = inl (u .all x (inl m))
-      all z x h (inr m) (inl e) =
-          inl (u .all x (inr (o .all x (subst (λ (y : ℕ). HeldAt slots pool row y x) e h))))
+      all z x h (inr m) (inl e) = inl (u .all x (inr (o .all x (subst (λ (y : ℕ). Of y x) e h))))
       all z x h (inr m) (inr d) = inr (w .all z (m, d))
 
-      only : (x : ℕ) → In found x ⊎ In own x → LedFrom slots pool row set x
+      only : (x : ℕ) → In found x ⊎ In own x → SomeMember Of set x
       only x (inl m) = j .only x m
-      only x (inr m) = record { target = t; in-set = j .left-in t i; held = o .only x m }
+      only x (inr m) = record { member = t; in-set = j .left-in t i; related = o .only x m }
 
-  pub jointTo-end : {left found : Set} {t : ℕ} → JointTo slots pool row set left found → Least left t → stateLimit ≤ t
-      → SetOf (LedFrom slots pool row set) found
-  jointTo-end {left} {found} j l h = record {
-    all = λ x m. all x (j .all (m .target) x (m .in-set) (m .held));
+  pub unionTo-end : {left found : Set} {t : ℕ} → UnionTo Of set left found → Least left t → stateLimit ≤ t
+      → SetOf (SomeMember Of set) found
+  unionTo-end {left} {found} j l h = record {
+    all = λ x m. all x (j .all (m .member) x (m .in-set) (m .related));
     only = j .only;
   }
     where
@@ -63,78 +62,34 @@ module _ {slots pool : List ℕ} {row : ℕ} {set : Set} where
       all x (inl i) = i
       all {t} x (inr i) = absurd (none-of-least l h t i)
 
-module _ {slots pool : List ℕ} {row : ℕ} {set : Set} (O : Occupied slots pool) (none : (x : ℕ) → ¬ (Member pool 0 x))
-  where
-    -- Only members with a set of their own have something.
-    pub ledFrom-both : {own common found : Set} → SetOf (Member pool (rowSet row)) own
-        → SetOf (λ x. In set x × In own x) common → SetOf (LedFrom slots pool row common) found
-        → SetOf (LedFrom slots pool row set) found
-    ledFrom-both o b = setOf-map
-        (λ x m. record { target = m .target; in-set = b .only (m .target) (m .in-set) .0; held = m .held })
-        (λ x m.
-        let own = o .all (m .target) (occupied-held row (m .target) x O none (m .in-set .member-lt) (m .held)) in
-        record { target = m .target; in-set = b .all (m .target) (m .in-set, own); held = m .held })
+module _ {slots pool : List ℕ} {set : Set} (O : Occupied slots pool) (none : (x : ℕ) → ¬ (Member pool 0 x)) where
+  -- Only members with a set of their own have something.
+  pub ledFrom-both : (row : ℕ) {own common found : Set} → SetOf (Member pool (rowSet row)) own
+      → SetOf (λ x. In set x × In own x) common → SetOf (LedFrom slots pool row common) found
+      → SetOf (LedFrom slots pool row set) found
+  ledFrom-both row o b = setOf-map
+      (λ x m. record { member = m .member; in-set = b .only (m .member) (m .in-set) .0; related = m .related })
+      (λ x m.
+      let own = o .all (m .member) (occupied-held row (m .member) x O none (m .in-set .member-lt) (m .related)) in
+      record { member = m .member; in-set = b .all (m .member) (m .in-set, own); related = m .related })
 
-    -- All of these are members: what they have are the states with a set of their own in the row turned round.
-    pub ledFrom-all : {back : ℕ} {own more found : Set} → Turned slots pool back row
-        → SetOf (Member pool (rowSet row)) own → SetOf (λ x. In own x × ¬ (In set x)) more
-        → ((x : ℕ) → ¬ (In more x)) → SetOf (Member pool (rowSet back)) found → SetOf (LedFrom slots pool row set) found
-    ledFrom-all {back} {own} turned o w empty f = record {
-      all = λ p m. f .all p (occupied-held back p (m .target) O none (m .held .member-lt)
-          (turned .again p (m .target) (m .in-set .member-lt) (m .held)));
-      only = λ p i.
-          let (t, h) = O .some back p (f .only p i) in
-          let led = turned .there p t (i .member-lt) h in
-          let k = o .all t (occupied-held row t p O none (h .member-lt) led) in
-          record { target = t; in-set = inside t k (in-or-not set t); held = led };
-    }
-      where
-        inside : (t : ℕ) → In own t → In set t ⊎ ¬ (In set t) → In set t
-        inside t k (inl i) = i
-        inside t k (inr d) = absurd (empty t (w .all t (k, d)))
-
--- The same of the sets of a list.
-pub record UnionTo (sets : List ℕ) (of left found : Set) : Type 0 where
-  pub all : (q x : ℕ) → In of q → Member sets q x → In found x ⊎ In left q
-  pub only : (x : ℕ) → In found x → InSome sets of x
-  pub left-in : (q : ℕ) → In left q → In of q
-
-module _ {sets : List ℕ} {of : Set} where
-  pub unionTo-start : {found : Set} → SetOf (λ x. ⊥) found → UnionTo sets of of found
-  unionTo-start none = record {
-    all = λ q x i h. inr i;
-    only = λ x i. absurd (none .only x i);
-    left-in = λ q i. i;
-  }
-
-  pub unionTo-next : {left left′ found found′ own : Set} {q : ℕ} → UnionTo sets of left found → In left q
-      → SetOf (Member sets q) own → SetOf (λ x. In found x ⊎ In own x) found′
-      → SetOf (λ x. In left x × ¬ (x ≡ q)) left′ → UnionTo sets of left′ found′
-  unionTo-next {left} {left′} {found} {found′} {own} {q} j i o u w = record {
-    all = λ z x m h. all z x h (j .all z x m h) (eq-or-not z q);
-    only = λ x m. only x (u .only x m);
-    left-in = λ z m. j .left-in z (w .only z m .0);
+  -- All of these are members: what they have are the states with a set of their own in the row turned round.
+  pub ledFrom-all : {row back : ℕ} {own more found : Set} → Turned slots pool back row
+      → SetOf (Member pool (rowSet row)) own → SetOf (λ x. In own x × ¬ (In set x)) more
+      → ((x : ℕ) → ¬ (In more x)) → SetOf (Member pool (rowSet back)) found → SetOf (LedFrom slots pool row set) found
+  ledFrom-all {row} {back} {own} turned o w empty f = record {
+    all = λ p m. f .all p (occupied-held back p (m .member) O none (m .related .member-lt)
+        (turned .again p (m .member) (m .in-set .member-lt) (m .related)));
+    only = λ p i.
+        let (t, h) = O .some back p (f .only p i) in
+        let led = turned .there p t (i .member-lt) h in
+        let k = o .all t (occupied-held row t p O none (h .member-lt) led) in
+        record { member = t; in-set = inside t k (in-or-not set t); related = led };
   }
     where
-      all : (z x : ℕ) → Member sets z x → In found x ⊎ In left z → (z ≡ q) ⊎ ¬ (z ≡ q) → In found′ x ⊎ In left′ z
-      all z x h (inl m) b = inl (u .all x (inl m))
-      all z x h (inr m) (inl e) = inl (u .all x (inr (o .all x (subst (λ (y : ℕ). Member sets y x) e h))))
-      all z x h (inr m) (inr d) = inr (w .all z (m, d))
-
-      only : (x : ℕ) → In found x ⊎ In own x → InSome sets of x
-      only x (inl m) = j .only x m
-      only x (inr m) = record { state = q; in-set = j .left-in q i; member = o .only x m }
-
-  pub unionTo-end : {left found : Set} {q : ℕ} → UnionTo sets of left found → Least left q → stateLimit ≤ q
-      → SetOf (InSome sets of) found
-  unionTo-end {left} {found} j l h = record {
-    all = λ x m. all x (j .all (m .state) x (m .in-set) (m .member));
-    only = j .only;
-  }
-    where
-      all : {q : ℕ} (x : ℕ) → In found x ⊎ In left q → In found x
-      all x (inl i) = i
-      all {q} x (inr i) = absurd (none-of-least l h q i)
+      inside : (t : ℕ) → In own t → In set t ⊎ ¬ (In set t) → In set t
+      inside t k (inl i) = i
+      inside t k (inr d) = absurd (empty t (w .all t (k, d)))
 
 -- ---- those that lead into a goal
 

@@ -13,8 +13,8 @@ use Rattle.sets.specs.Inner.SetValues.{In, SetOf, Least}
 use Rattle.sets.specs.declared.set.Set.{Set}
 use Rattle.held.specs.Held.{slotPlace, targetRow, sourceRow, HeldAt, Turned, HeldList}
 use Rattle.splitters.specs.Inner.Partition.{Partition, SplitTwice}
-use Rattle.splitters.specs.Inner.Splitters.{LeadsInto, Into, InSome, IntoSet, SameMoves, SplitUnder}
-use Rattle.splitters.specs.Inner.Splitters.{UsedClass, UsedLabels, UsedSplit}
+use Rattle.splitters.specs.Inner.Splitters.{LeadsInto, Into, InSome}
+use Rattle.splitters.specs.Inner.MoveSplits.{IntoSet, SameMoves, SplitUnder, UsedClass, UsedLabels, UsedSplit}
 use Rattle.splitters.specs.Laws.SplitLaws.{homesKept-refl, homesKept-trans}
 
 -- ---- splits under the labels and new classes that have been used
@@ -175,9 +175,9 @@ module _ (labels : List ℕ) {n count : ℕ} {slots pool : List ℕ} {old : ℕ}
           let held : ¬ (getD slots (slotPlace (sourceRow (getD labels l 0)) q) 0 ≡ 0) =
           λ z. L .none p (subst (λ (x : ℕ). Member pool x p) z back) in
           d (u .all l (record {
-            state = q;
+            member = q;
             in-set = m .all q f;
-            member = I .noted l q h (f .member-lt) held;
+            related = I .noted l q h (f .member-lt) held;
           }))
 
   module _ {c′ o′ : List ℕ} where

@@ -15,6 +15,7 @@ use Rattle.sets.specs.Inner.Sets.{Member}
 use Rattle.sets.specs.Inner.SetValues.{SetOf, SetPut}
 use Rattle.sets.specs.declared.set.Set.{Set}
 use Rattle.held.specs.Held.{HeldList, HeldMove}
+use Rattle.held.specs.Laws.HeldLaws.{heldMove-target-lt}
 use Rattle.ranking.specs.Inner.ClassList.{Classes, RoundSeparates}
 use Rattle.ranking.specs.Inner.TableWrites.{entryOf, Outside, Finished}
 use Rattle.ranking.specs.Laws.ClassListLaws.{classes-zero, classes-suc, separates-of-separatedBy, settled-of-unchanged}
@@ -22,11 +23,11 @@ use Rattle.ranking.specs.Laws.RoundsLaws.{ranksUpTo-zero, ranksUpTo-same, round
 use Rattle.tree.specs.Inner.Rows.{RoundNoted}
 use Rattle.tree.specs.Inner.Tree.{Tree, Apart, MemberSets}
 use Rattle.splitters.specs.Inner.Partition.{Partition, home, HomesKept}
-use Rattle.splitters.specs.Inner.Splitters.{Fresh, SetsKept, UsedLabels, UsedSplit}
-use Rattle.splitters.specs.Inner.Splitters.{Grown, Ready, Rounded, Rounds}
+use Rattle.splitters.specs.Inner.Splitters.{Fresh, SetsKept, Grown, Ready, Rounded, Rounds, LastRounded}
+use Rattle.splitters.specs.Inner.MoveSplits.{UsedLabels, UsedSplit}
 use Rattle.splitters.specs.Laws.ApartLaws.{apartAfter, apartAfter-is, tree-after, apart-after, roundWritten-after}
 use Rattle.splitters.specs.Laws.HomeLaws.{home-lt, home-before, origin-lt}
-use Rattle.splitters.specs.Laws.StableLaws.{heldMove-target-lt, refined-of-splitUnder, stable-of-refined}
+use Rattle.splitters.specs.Laws.StableLaws.{refined-of-splitUnder, stable-of-refined}
 use Rattle.splitters.specs.Laws.UnderLaws.{underSets-noted, underSets-divided}
 
 -- ---- what a round separates
@@ -60,24 +61,23 @@ module _ {Move : Moves} {n k : ℕ} {class next : List ℕ} (C : Classes Move n 
 
 -- ---- what it finds, and leaves
 
-pub partition-one : {n : ℕ} {class members members′ : List ℕ} {s all : Set} → 0 < n → SetOf (λ x. x < n) s
-    → SetOf (λ x. x < n) all → SetPut 0 s members members′ → ((p : ℕ) → getD class p 0 ≡ 0)
-    → Partition n class members′ 1 all
-partition-one {n} {class} {members′ = members′} some S A M z = record {
+pub partition-one : {n : ℕ} {class members members′ : List ℕ} {all : Set} → 0 < n → SetOf (λ x. x < n) all
+    → SetPut 0 all members members′ → ((p : ℕ) → getD class p 0 ≡ 0) → Partition n class members′ 1 all
+partition-one {n} {class} {members′ = members′} some A M z = record {
   classes-le = some;
   class-lt = λ p lp. omega (arith, z p);
-  member = λ p lp. subst (λ (c : ℕ). Member members′ c p) (sym (z p)) (M .put .only p (S .all p lp));
+  member = λ p lp. subst (λ (c : ℕ). Member members′ c p) (sym (z p)) (M .put .only p (A .all p lp));
   member-only = λ c p l m.
       let e : c ≡ 0 = omega (arith, l) in
-      (S .only p (M .put .all p (subst (λ (d : ℕ). Member members′ d p) e m)), z p ∙ sym e);
+      (A .only p (M .put .all p (subst (λ (d : ℕ). Member members′ d p) e m)), z p ∙ sym e);
   some = λ c l. let e : c ≡ 0 = omega (arith, l) in (0, some, z 0 ∙ sym e);
   together-all = λ p q lp lq e d. A .all p lp;
   together-lt = λ p i. A .only p i;
 }
 
 -- One class has no tree above it.
-grown-zero : {n classes : ℕ} {class origin fresh when : List ℕ} → classes ≡ 1
-    → Grown n 0 0 classes class origin fresh when
+grown-zero : {n classes : ℕ} {class origin under when : List ℕ} → classes ≡ 1
+    → Grown n 0 0 classes class origin under when
 grown-zero e = record {
   tree = record {
     origin-lt = λ c p l. absurd (omega (arith, e, p, l));
@@ -96,10 +96,10 @@ grown-zero e = record {
   };
 }
 
-ready-zero : {Move : Moves} {n : ℕ} {class members origin fresh when : List ℕ} {classes : ℕ} {together : Set}
+ready-zero : {Move : Moves} {n : ℕ} {class members origin under when : List ℕ} {classes : ℕ} {together : Set}
     → classes ≡ 1 → ((p : ℕ) → getD class p 0 ≡ 0) → ((j : ℕ) → getD origin j 0 ≡ 0)
     → Partition n class members classes together
-    → Ready Move n 0 0 class members origin fresh when classes together
+    → Ready Move n 0 0 class members origin under when classes together
 unfolding grown-zero
 ready-zero {Move} e z o P = record {
   are-classes = classes-zero z;
@@ -112,20 +112,20 @@ ready-zero {Move} e z o P = record {
 }
 
 module _ {n : ℕ} {labels : List ℕ} {count : ℕ} {slots pool : List ℕ} (L : HeldList n labels count slots pool)
-    {k first classes : ℕ} {class members origin fresh when fresh′ rest : List ℕ} {together : Set}
-    (Y : Ready (HeldMove labels count slots pool) n k first class members origin fresh when classes together)
-    (F : Fresh first classes members origin fresh′ rest) (K : SetsKept first fresh fresh′) where
+    {k first classes : ℕ} {class members origin under when under′ rest : List ℕ} {together : Set}
+    (Y : Ready (HeldMove labels count slots pool) n k first class members origin under when classes together)
+    (F : Fresh first classes members origin under′ rest) (K : SetsKept first under under′) where
   abbrev Move : Moves
   Move = HeldMove labels count slots pool
 
   target-lt : (p a q : ℕ) → p < n → Move p a q → q < n
-  target-lt p a q _ m = heldMove-target-lt L p a q m
+  target-lt p a q _ m = heldMove-target-lt L m
 
   module _ {classes′ : ℕ} {next members′ origin′ when′ : List ℕ} {together′ : Set}
       (Q : Partition n next members′ classes′ together′) (le : classes ≤ classes′)
-      (S : UsedSplit n classes slots pool (UsedLabels first classes labels count) fresh′ rest class origin next origin′)
+      (S : UsedSplit n classes slots pool (UsedLabels first classes labels count) under′ rest class origin next origin′)
       (N : RoundNoted classes classes′ (k + 1) when when′) where
-    abbrev G : Grown n k first classes class origin fresh when
+    abbrev G : Grown n k first classes class origin under when
     G = Y .grown
 
     new-lt : (c : ℕ) → classes ≤ c → c < classes′ → getD origin′ c 0 < classes
@@ -134,7 +134,7 @@ module _ {n : ℕ} {labels : List ℕ} {count : ℕ} {slots pool : List ℕ} (L 
     before : (p : ℕ) → p < n → home classes origin′ (getD next p 0) ≡ getD class p 0
     before = home-before (Y .partition .class-lt) (S .homes)
 
-    grown-suc : Grown n (k + 1) classes classes′ next origin′ fresh′ when′
+    grown-suc : Grown n (k + 1) classes classes′ next origin′ under′ when′
     grown-suc =
         let kept = S .homes .origin-kept in
         let origin-old : (c : ℕ) → 0 < c → c < classes′ → getD origin′ c 0 < classes = λ c p l.
@@ -154,7 +154,7 @@ module _ {n : ℕ} {labels : List ℕ} {count : ℕ} {slots pool : List ℕ} (L 
               new-lt N;
         }
 
-    pub rounded-of-usedSplit : Rounded (HeldMove labels count slots pool) n k class next members′ origin′ fresh′ when′
+    pub rounded-of-usedSplit : Rounded (HeldMove labels count slots pool) n k class next members′ origin′ under′ when′
         classes classes′ together′
     unfolding grown-suc
     rounded-of-usedSplit =
@@ -179,32 +179,46 @@ module _ {n : ℕ} {labels : List ℕ} {count : ℕ} {slots pool : List ℕ} (L 
 
 -- ---- one round after another
 
-pub rounds-zero : {Move : Moves} {n : ℕ} {class members origin fresh when : List ℕ} {classes : ℕ} {together : Set}
+pub rounds-zero : {Move : Moves} {n : ℕ} {class members origin under when : List ℕ} {classes : ℕ} {together : Set}
     → classes ≡ 1 → ((p : ℕ) → getD class p 0 ≡ 0) → ((j : ℕ) → getD origin j 0 ≡ 0)
     → Partition n class members classes together
-    → Rounds Move n 0 0 class members origin fresh when classes together
+    → Rounds Move n 0 0 class members origin under when classes together
 rounds-zero e z o P = record {
   ready = ready-zero e z o P;
   rounds-lt = omega (arith, e);
   separates = λ j l. absurd (omega (arith, l));
 }
 
-pub rounds-suc : {Move : Moves} {n k first : ℕ} {class members origin fresh when : List ℕ} {classes : ℕ}
-    {together : Set} → Rounds Move n k first class members origin fresh when classes together
-    → {next members′ origin′ fresh′ when′ : List ℕ} {classes′ : ℕ} {together′ : Set}
-    → Rounded Move n k class next members′ origin′ fresh′ when′ classes classes′ together′ → classes < classes′
-    → Rounds Move n (k + 1) classes next members′ origin′ fresh′ when′ classes′ together′
+pub rounds-suc : {Move : Moves} {n k first : ℕ} {class members origin under when : List ℕ} {classes : ℕ}
+    {together : Set} → Rounds Move n k first class members origin under when classes together
+    → {next members′ origin′ under′ when′ : List ℕ} {classes′ : ℕ} {together′ : Set}
+    → Rounded Move n k class next members′ origin′ under′ when′ classes classes′ together′ → classes < classes′
+    → Rounds Move n (k + 1) classes next members′ origin′ under′ when′ classes′ together′
 rounds-suc {k = k} Z R l = record {
   ready = R .ready;
   rounds-lt = omega (arith, l, Z .rounds-lt);
   separates = below-more _ k (Z .separates) (R .separates .separates (omega (arith, l)));
 }
 
+-- The last round makes no further class.
+pub lastRounded-of-rounds : {Move : Moves} {n k first : ℕ} {class members origin under when : List ℕ} {classes : ℕ}
+    {together : Set} → Rounds Move n k first class members origin under when classes together
+    → {next members′ origin′ under′ when′ : List ℕ} {classes′ : ℕ} {together′ : Set}
+    → Rounded Move n k class next members′ origin′ under′ when′ classes classes′ together′ → classes′ ≡ classes
+    → LastRounded Move n k next members′ origin′ under′ when′ classes
+lastRounded-of-rounds {Move} {n} {k} {class = class} {classes = classes} Z {next} {members′} {origin′} {under′} {when′}
+    {together′ = together′} R e = record {
+      before = class;
+      together = together′;
+      rounded = subst (λ (c : ℕ). Rounded Move n k class next members′ origin′ under′ when′ classes c together′) e R;
+      separates = Z .separates;
+    }
+
 -- ---- after the last round
 
 -- The table is filled from what a round leaves that makes no further class.
-module _ {Move : Moves} {n k : ℕ} {class next members origin fresh when : List ℕ} {classes classes′ : ℕ}
-    {together : Set} (R : Rounded Move n k class next members origin fresh when classes classes′ together)
+module _ {Move : Moves} {n k : ℕ} {class next members origin under when : List ℕ} {classes classes′ : ℕ}
+    {together : Set} (R : Rounded Move n k class next members origin under when classes classes′ together)
     (e : classes′ ≡ classes) where
   pub tree-of-last : Tree classes origin when
   tree-of-last = subst (λ (c : ℕ). Tree c origin when) e (R .ready .grown .tree)

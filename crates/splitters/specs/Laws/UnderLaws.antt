@@ -17,21 +17,21 @@ use Rattle.splitters.specs.Laws.HomeLaws.{home-lt, home-le}
 
 -- ---- the sets of the new classes are noted
 
-pub underSets-noted : {n k first classes : ℕ} {class members origin when fresh fresh′ rest : List ℕ} {together : Set}
-    → Grown n k first classes class origin fresh when → first ≤ classes → Partition n class members classes together
-    → Fresh first classes members origin fresh′ rest → SetsKept first fresh fresh′
-    → UnderSets n classes class origin fresh′
+pub underSets-noted : {n k first classes : ℕ} {class members origin when under under′ rest : List ℕ} {together : Set}
+    → Grown n k first classes class origin under when → first ≤ classes → Partition n class members classes together
+    → Fresh first classes members origin under′ rest → SetsKept first under under′
+    → UnderSets n classes class origin under′
 underSets-noted {first = first} {classes} {members = members} {origin} G le P F K = record {
   all = λ c p pos l lp u.
       ⊎-elim
       (λ m. K .kept c p m (G .under .all c p pos m lp u))
       (λ m.
-      F .fresh-all c p m l (subst (λ (d : ℕ). Member members d p) (own c m (P .class-lt p lp) u) (P .member p lp)))
+      F .new-sets .all c p m l (subst (λ (d : ℕ). Member members d p) (own c m (P .class-lt p lp) u) (P .member p lp)))
       (lt-or-le c first);
   only = λ c p pos l m.
       ⊎-elim
       (λ b. G .under .only c p pos b (K .only c p b m))
-      (λ b. let h = P .member-only c p l (F .fresh-in c p b l m) in (h .0, same (h .1)))
+      (λ b. let h = P .member-only c p l (F .new-sets .only c p b l m) in (h .0, same (h .1)))
       (lt-or-le c first);
 }
   where
@@ -75,9 +75,9 @@ module _ {old classes : ℕ} {origin origin′ : List ℕ} (le : old ≤ classes
       off pos (under-old (origin-old x pos k) (subst (Under origin c) (home-le origin′ m) u)))
       (lt-or-le x old)
 
-  pub underSets-divided : {n : ℕ} {class next fresh : List ℕ} → ((p : ℕ) → p < n → getD next p 0 < classes)
-      → ((p : ℕ) → p < n → home old origin′ (getD next p 0) ≡ getD class p 0) → UnderSets n old class origin fresh
-      → UnderSets n old next origin′ fresh
+  pub underSets-divided : {n : ℕ} {class next under : List ℕ} → ((p : ℕ) → p < n → getD next p 0 < classes)
+      → ((p : ℕ) → p < n → home old origin′ (getD next p 0) ≡ getD class p 0) → UnderSets n old class origin under
+      → UnderSets n old next origin′ under
   underSets-divided next-lt before U = record {
     all = λ c p pos l lp u.
         U .all c p pos l lp (subst (Under origin c) (before p lp) (under-before l (next-lt p lp) u));

@@ -21,21 +21,21 @@ pub record EntriesWritten (c : ℕ) (P : ℕ → Type 0) (value : ℕ → ℕ) (
   pub kept : (d x : ℕ) → x < stateLimit → ¬ ((d ≡ c) × P x) → entryOf exit d x ≡ entryOf entry d x
 
 -- Class e, below `to`, was divided off class c, and x is one of the states of e then.
-pub record InPart (to : ℕ) (origin fresh : List ℕ) (c x e : ℕ) : Type 0 where
+pub record InPart (to : ℕ) (origin under : List ℕ) (c x e : ℕ) : Type 0 where
   pub part-pos : 0 < e
   pub part-lt : e < to
   pub origin-is : getD origin e 0 ≡ c
-  pub member : Member fresh e x
+  pub member : Member under e x
 
 -- The entry of c and x is the round when a part of c with x was divided off, and has not changed if there is none.
 abbrev pub PartEntry : ℕ → List ℕ → List ℕ → List ℕ → List ℕ → List ℕ → ℕ → ℕ → Type 0
-PartEntry to origin fresh when entry exit c x =
-    ((e : ℕ) × InPart to origin fresh c x e × (entryOf exit c x ≡ getD when e 0))
-    ⊎ (((e : ℕ) → ¬ (InPart to origin fresh c x e)) × (entryOf exit c x ≡ entryOf entry c x))
+PartEntry to origin under when entry exit c x =
+    ((e : ℕ) × InPart to origin under c x e × (entryOf exit c x ≡ getD when e 0))
+    ⊎ (((e : ℕ) → ¬ (InPart to origin under c x e)) × (entryOf exit c x ≡ entryOf entry c x))
 
 -- This holds of all entries.
-pub record PartsWritten (to : ℕ) (origin fresh when entry exit : List ℕ) : Type 0 where
-  pub found : (c x : ℕ) → x < stateLimit → PartEntry to origin fresh when entry exit c x
+pub record PartsWritten (to : ℕ) (origin under when entry exit : List ℕ) : Type 0 where
+  pub found : (c x : ℕ) → x < stateLimit → PartEntry to origin under when entry exit c x
 
 -- The first m numbers are those of row c.
 pub record RowTaken (c m : ℕ) (rows row : List ℕ) : Type 0 where

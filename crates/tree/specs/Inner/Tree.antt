@@ -38,6 +38,6 @@ pub record MemberSets (n classes : ℕ) (class members : List ℕ) : Type 0 wher
   pub only : (c p : ℕ) → c < classes → Member members c p → (p < n) × (getD class p 0 ≡ c)
 
 -- Set c has just the states whose class is under class c, for each c below `to` but 0.
-pub record UnderSets (n to : ℕ) (class origin fresh : List ℕ) : Type 0 where
-  pub all : (c p : ℕ) → 0 < c → c < to → p < n → Under origin c (getD class p 0) → Member fresh c p
-  pub only : (c p : ℕ) → 0 < c → c < to → Member fresh c p → (p < n) × Under origin c (getD class p 0)
+pub record UnderSets (n to : ℕ) (class origin under : List ℕ) : Type 0 where
+  pub all : (c p : ℕ) → 0 < c → c < to → p < n → Under origin c (getD class p 0) → Member under c p
+  pub only : (c p : ℕ) → 0 < c → c < to → Member under c p → (p < n) × Under origin c (getD class p 0)

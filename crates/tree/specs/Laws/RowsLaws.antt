@@ -18,49 +18,49 @@ use Rattle.tree.specs.Inner.Rows.{RowsFilled, RowsCopied}
 
 -- ---- parts
 
-pub partsWritten-one : {origin fresh when : List ℕ} (t : List ℕ) → PartsWritten 1 origin fresh when t t
+pub partsWritten-one : {origin under when : List ℕ} (t : List ℕ) → PartsWritten 1 origin under when t t
 partsWritten-one t = record {
   found = λ c x _. inr (λ e h. omega (arith, h .part-pos, h .part-lt), refl);
 }
 
-module _ {origin fresh : List ℕ} {c x e : ℕ} where
-  inPart-lt : {m to : ℕ} → e < to → InPart m origin fresh c x e → InPart to origin fresh c x e
+module _ {origin under : List ℕ} {c x e : ℕ} where
+  inPart-lt : {m to : ℕ} → e < to → InPart m origin under c x e → InPart to origin under c x e
   inPart-lt l h = record { part-pos = h .part-pos; part-lt = l; origin-is = h .origin-is; member = h .member }
 
   -- A part is the last one, or one before it.
-  inPart-cases : {to : ℕ} → InPart (to + 1) origin fresh c x e
-      → ((getD origin to 0 ≡ c) × Member fresh to x) ⊎ InPart to origin fresh c x e
+  inPart-cases : {to : ℕ} → InPart (to + 1) origin under c x e
+      → ((getD origin to 0 ≡ c) × Member under to x) ⊎ InPart to origin under c x e
   inPart-cases {to} h = go (eq-or-not e to)
     where
-      go : (e ≡ to) ⊎ ¬ (e ≡ to) → ((getD origin to 0 ≡ c) × Member fresh to x) ⊎ InPart to origin fresh c x e
+      go : (e ≡ to) ⊎ ¬ (e ≡ to) → ((getD origin to 0 ≡ c) × Member under to x) ⊎ InPart to origin under c x e
       go (inl d) = inl
-          (ap (λ (z : ℕ). getD origin z 0) (sym d) ∙ h .origin-is, subst (λ (z : ℕ). Member fresh z x) d (h .member))
+          (ap (λ (z : ℕ). getD origin z 0) (sym d) ∙ h .origin-is, subst (λ (z : ℕ). Member under z x) d (h .member))
       go (inr d) = inr (inPart-lt (omega (arith, h .part-lt, d)) h)
 
 -- The states that class `to` had when it was divided off are written into the row of its origin.
-pub partsWritten-suc : {to : ℕ} {s : Set} {origin fresh when t u w : List ℕ} → 0 < to
-    → PartsWritten to origin fresh when t u → SetOf (Member fresh to) s
-    → EntriesWritten (getD origin to 0) (In s) (λ _. getD when to 0) u w → PartsWritten (to + 1) origin fresh when t w
-partsWritten-suc {to} {s} {origin} {fresh} {when} {t} {u} {w} p h m f = record {
+pub partsWritten-suc : {to : ℕ} {s : Set} {origin under when t u w : List ℕ} → 0 < to
+    → PartsWritten to origin under when t u → SetOf (Member under to) s
+    → EntriesWritten (getD origin to 0) (In s) (λ _. getD when to 0) u w → PartsWritten (to + 1) origin under when t w
+partsWritten-suc {to} {s} {origin} {under} {when} {t} {u} {w} p h m f = record {
   found = λ c x l. go c x l (h .found c x l) (eq-or-not c (getD origin to 0)) (in-or-not s x);
 }
   where
-    none : (c x : ℕ) → ¬ ((c ≡ getD origin to 0) × In s x) → ((e : ℕ) → ¬ (InPart to origin fresh c x e)) → (e : ℕ)
-        → ¬ (InPart (to + 1) origin fresh c x e)
+    none : (c x : ℕ) → ¬ ((c ≡ getD origin to 0) × In s x) → ((e : ℕ) → ¬ (InPart to origin under c x e)) → (e : ℕ)
+        → ¬ (InPart (to + 1) origin under c x e)
     none c x d g e i = last (inPart-cases i)
       where
-        last : ((getD origin to 0 ≡ c) × Member fresh to x) ⊎ InPart to origin fresh c x e → ⊥
+        last : ((getD origin to 0 ≡ c) × Member under to x) ⊎ InPart to origin under c x e → ⊥
         last (inl j) = d (sym (j .0), m .all x (j .1))
         last (inr j) = g e j
 
     stays : (c x : ℕ) → x < stateLimit → ¬ ((c ≡ getD origin to 0) × In s x)
-        → PartEntry to origin fresh when t u c x → PartEntry (to + 1) origin fresh when t w c x
+        → PartEntry to origin under when t u c x → PartEntry (to + 1) origin under when t w c x
     stays c x l d (inl (e, i, v)) = inl (e, inPart-lt (omega (arith, i .part-lt)) i, f .kept c x l d ∙ v)
     stays c x l d (inr (g, v)) = inr (none c x d g, f .kept c x l d ∙ v)
 
-    go : (c x : ℕ) → x < stateLimit → PartEntry to origin fresh when t u c x
+    go : (c x : ℕ) → x < stateLimit → PartEntry to origin under when t u c x
         → (c ≡ getD origin to 0) ⊎ ¬ (c ≡ getD origin to 0) → In s x ⊎ ¬ (In s x)
-        → PartEntry (to + 1) origin fresh when t w c x
+        → PartEntry (to + 1) origin under when t w c x
     go c x l r (inl d) (inl i) = inl (
       to,
       record { part-pos = p; part-lt = omega arith; origin-is = sym d; member = m .only x i },
@@ -70,11 +70,11 @@ partsWritten-suc {to} {s} {origin} {fresh} {when} {t} {u} {w} p h m f = record {
     go c x l r (inr d) _ = stays c x l (λ j. d (j .0)) r
 
 -- All classes but class 0 have been gone through, or there was none.
-pub partsWritten-end : {m to : ℕ} {origin fresh when t u : List ℕ} → to ≤ m → m ≤ to + (1 - to)
-    → PartsWritten m origin fresh when t u → PartsWritten to origin fresh when t u
-partsWritten-end {m} {to} {origin} {fresh} {when} {t} {u} l k h = record { found = λ c x b. go c x (h .found c x b) }
+pub partsWritten-end : {m to : ℕ} {origin under when t u : List ℕ} → to ≤ m → m ≤ to + (1 - to)
+    → PartsWritten m origin under when t u → PartsWritten to origin under when t u
+partsWritten-end {m} {to} {origin} {under} {when} {t} {u} l k h = record { found = λ c x b. go c x (h .found c x b) }
   where
-    go : (c x : ℕ) → PartEntry m origin fresh when t u c x → PartEntry to origin fresh when t u c x
+    go : (c x : ℕ) → PartEntry m origin under when t u c x → PartEntry to origin under when t u c x
     go c x (inl (e, i, v)) = inl (e, inPart-lt (omega (arith, i .part-pos, i .part-lt, k)) i, v)
     go c x (inr (f, v)) = inr (λ e i. f e (inPart-lt (omega (arith, i .part-lt, l)) i), v)
 

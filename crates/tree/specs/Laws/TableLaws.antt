@@ -16,10 +16,10 @@ use Rattle.tree.specs.Inner.Rows.{PartEntry, PartsWritten, filled, RowsF
 use Rattle.tree.specs.Laws.EntriesLaws.{filled-zero, filled-pos}
 use Rattle.tree.specs.Laws.TreeLaws.{part-of-under, under-le, by-rise, under-zero, apart-of-part, apart-of-other}
 
-module _ {n classes : ℕ} {class members origin fresh when t u w : List ℕ} {apart : ℕ → ℕ → ℕ} (ln : n ≤ stateLimit)
+module _ {n classes : ℕ} {class members origin under when t u w : List ℕ} {apart : ℕ → ℕ → ℕ} (ln : n ≤ stateLimit)
     (T : Tree classes origin when) (M : MemberSets n classes class members)
-    (U : UnderSets n classes class origin fresh) (A : Apart classes origin when apart)
-    (zeros : (c x : ℕ) → entryOf t c x ≡ 0) (P : PartsWritten classes origin fresh when t u)
+    (U : UnderSets n classes class origin under) (A : Apart classes origin when apart)
+    (zeros : (c x : ℕ) → entryOf t c x ≡ 0) (P : PartsWritten classes origin under when t u)
     (F : RowsFilled classes members origin when u w) where
   -- What the parts have written of class c and a state of class y: the round where y is under c and not c itself, and 0
   -- elsewhere.
@@ -29,7 +29,7 @@ module _ {n classes : ℕ} {class members origin fresh when t u w : List ℕ} {a
   part-entry : (c x : ℕ) → x < n → Written c (getD class x 0) (entryOf u c x)
   part-entry c x k = go (P .found c x (omega arith))
     where
-      go : PartEntry classes origin fresh when t u c x → Written c (getD class x 0) (entryOf u c x)
+      go : PartEntry classes origin under when t u c x → Written c (getD class x 0) (entryOf u c x)
       go (inl (e, i, v)) =
           let under = U .only e x (i .part-pos) (i .part-lt) (i .member) .1 in
           let round = apart-of-part T A (i .part-pos) (M .class-lt x k) under in

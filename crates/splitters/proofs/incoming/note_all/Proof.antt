@@ -2,13 +2,14 @@
 use Prim.Native.Nat.{_-_, _<_}
 use native.Mathlib.Omega.{arith}
 use Rattle.text.specs.Limits.{stateLimit}
-use Rattle.splitters.specs.Laws.FreshLaws.{Noted, noted-none, noted-next}
+use Rattle.splitters.specs.Inner.Splitters.{SetsOf}
+use Rattle.splitters.specs.Laws.FreshLaws.{setsOf-none, setsOf-suc}
 use borrow.Author.Needs.{needs}
 use Rattle.splitters.proofs.incoming.note_all.Statement.{statement}
 use Rattle.splitters.proofs.incoming.note_all.Tie as tie
 
 abbrev Inv-loop : tie.InvT-loop
-Inv-loop count into₀ all q₀ into q = Noted (λ k x. x < count) 0 q into
+Inv-loop count into₀ all q₀ into q = SetsOf (λ k x. x < count) 0 q into
 
 abbrev μ-loop : tie.MeasureT-loop
 μ-loop count into₀ all q₀ into q = stateLimit - q
@@ -17,7 +18,7 @@ below-requires : tie.Need-below-requires Inv-loop μ-loop
 below-requires c κs = search needs
 
 loop-holds : tie.Need-loop-holds Inv-loop μ-loop
-loop-holds c = noted-none
+loop-holds c = setsOf-none
 
 put-set-requires : tie.Need-put-set-requires Inv-loop μ-loop
 put-set-requires c κs = search needs
@@ -31,7 +32,7 @@ loop-less c = search needs
 loop-again : tie.Need-loop-again Inv-loop μ-loop
 loop-again c =
     let at-loop = c .before .before .before in
-    noted-next (at-loop .loop .inv) (at-loop .before .below .ensures) (c .put-set .ensures)
+    setsOf-suc (at-loop .loop .inv) (at-loop .before .below .ensures) (c .put-set .ensures)
 
 returns : tie.Need-returns Inv-loop μ-loop
 returns c = λ i q l h. c .before .loop .inv .all q i (omega arith) (omega (arith, h, c .loop-test .left)) l

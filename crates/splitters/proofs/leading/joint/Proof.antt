@@ -3,14 +3,15 @@ use Prim.Native.Nat.{_-_}
 use native.Mathlib.Omega.{arith}
 use Rattle.text.specs.Limits.{stateLimit}
 use Rattle.sets.specs.Inner.SetValues.{Least}
-use Rattle.splitters.specs.Laws.LeadingLaws.{JointTo, jointTo-start, jointTo-next, jointTo-end}
+use Rattle.held.specs.Held.{HeldAt}
+use Rattle.splitters.specs.Laws.LeadingLaws.{UnionTo, unionTo-start, unionTo-next, unionTo-end}
 use Rattle.sets.specs.Laws.WalkLaws.{least-after}
 use borrow.Author.Needs.{needs}
 use Rattle.splitters.proofs.leading.joint.Statement.{statement}
 use Rattle.splitters.proofs.leading.joint.Tie as tie
 
 abbrev Inv-loop : tie.InvT-loop
-Inv-loop slots pool row found₀ left₀ t₀ found left t = Least left t × JointTo slots pool row left₀ left found
+Inv-loop slots pool row found₀ left₀ t₀ found left t = Least left t × UnionTo (HeldAt slots pool row) left₀ left found
 
 abbrev μ-loop : tie.MeasureT-loop
 μ-loop slots pool row found₀ left₀ t₀ found left t = stateLimit - t
@@ -29,7 +30,7 @@ least-requires : tie.Need-least-requires Inv-loop μ-loop
 least-requires c κs = search needs
 
 loop-holds : tie.Need-loop-holds Inv-loop μ-loop
-loop-holds c = (c .least .ensures, jointTo-start (c .before .none .ensures))
+loop-holds c = (c .least .ensures, unionTo-start (c .before .none .ensures))
 
 held-requires : tie.Need-held-requires Inv-loop μ-loop
 held-requires c κs = search needs
@@ -54,14 +55,14 @@ loop-again c =
     let inv = turn c .loop .inv in
     let own = c .before .before .before .held .ensures in (
       c .least2 .ensures,
-      jointTo-next (inv .1) (inv .0 .member (omega arith)) own (c .before .before .either .ensures)
+      unionTo-next (inv .1) (inv .0 .member (omega arith)) own (c .before .before .either .ensures)
           (c .before .drop-least .ensures _ (inv .0)),
     )
 
 returns : tie.Need-returns Inv-loop μ-loop
 returns c =
     let inv = c .before .loop .inv in
-    jointTo-end (inv .1) (inv .0) (omega arith)
+    unionTo-end (inv .1) (inv .0) (omega arith)
 
 pub joint-spec : {M : Type 1} → statement M
 joint-spec =

@@ -1,4 +1,5 @@
 -- Only targets are led to: of all of them, those that lead there are the states with any move.
+use Prim.Native.Nat.{_+_}
 use Rattle.text.specs.Laws.DecidesLaws.{decides-true}
 use Rattle.splitters.specs.Laws.LeadingLaws.{ledFrom-both, ledFrom-all}
 use borrow.Author.Needs.{needs}
@@ -43,7 +44,7 @@ returns-2 : tie.Need-returns-2
 returns-2 c =
     let own = c .before .before .before .before .before in
     let P = own .before .pre .1 .1 in
-    ledFrom-both (P .0) (P .1) (own .occupied .ensures) (c .before .both .ensures) (c .joint .ensures)
+    ledFrom-both (P .0) (P .1) (own .before .args .row + 1) (own .occupied .ensures) (c .before .both .ensures) (c .joint .ensures)
 
 pub sources-spec : {M : Type 1} → statement M
 sources-spec =

@@ -4,8 +4,8 @@ use Prim.Native.Nat.{_-_, _≤_}
 use native.Mathlib.Omega.{arith}
 use lib.ListN.{getD}
 use Rattle.sets.specs.Inner.Sets.{Member}
-use Rattle.splitters.specs.Inner.Splitters.{SetsKept}
-use Rattle.splitters.specs.Laws.FreshLaws.{Noted, noted-none, noted-next, fresh-of-noted}
+use Rattle.splitters.specs.Inner.Splitters.{SetsOf, SetsKept}
+use Rattle.splitters.specs.Laws.FreshLaws.{setsOf-none, setsOf-suc, setsOf-le}
 use Rattle.splitters.specs.Laws.FreshLaws.{setsKept-refl, setsKept-put}
 use borrow.Author.Needs.{needs}
 use Rattle.splitters.proofs.refining.note_fresh.Statement.{statement}
@@ -13,14 +13,14 @@ use Rattle.splitters.proofs.refining.note_fresh.Tie as tie
 
 abbrev Inv-loop : tie.InvT-loop
 Inv-loop first classes members origin fresh₀ rest₀ j₀ fresh rest j =
-    (first ≤ j) × Noted (Member members) first j fresh × Noted (λ k. Member members (getD origin k 0)) first j rest
+    (first ≤ j) × SetsOf (Member members) first j fresh × SetsOf (λ k. Member members (getD origin k 0)) first j rest
     × SetsKept first fresh₀ fresh
 
 abbrev μ-loop : tie.MeasureT-loop
 μ-loop first classes members origin fresh₀ rest₀ j₀ fresh rest j = classes - j
 
 loop-holds : tie.Need-loop-holds Inv-loop μ-loop
-loop-holds c = (omega arith, noted-none, noted-none, setsKept-refl _)
+loop-holds c = (omega arith, setsOf-none, setsOf-none, setsKept-refl _)
 
 cast-at : tie.Need-cast-at Inv-loop μ-loop
 cast-at c = search needs
@@ -62,15 +62,15 @@ loop-again c =
     let inv = at-loop .loop .inv in
     let from = rw (c .before .before .wide .ensures) at (c .before .set-at2 .ensures) in (
       omega (arith, inv .0),
-      noted-next (inv .1) (first .before .set-at .ensures) (first .put-set .ensures),
-      noted-next (inv .2) from (c .put-set2 .ensures),
+      setsOf-suc (inv .1) (first .before .set-at .ensures) (first .put-set .ensures),
+      setsOf-suc (inv .2) from (c .put-set2 .ensures),
       setsKept-put (inv .0) (inv .3) (first .put-set .ensures),
     )
 
 returns : tie.Need-returns Inv-loop μ-loop
 returns c =
     let inv = c .before .loop .inv in
-    (fresh-of-noted (omega arith) (inv .1) (inv .2), inv .3)
+    (record { new-sets = setsOf-le (omega arith) (inv .1); rest-sets = setsOf-le (omega arith) (inv .2) }, inv .3)
 
 pub note-fresh-spec : {M : Type 1} → statement M
 note-fresh-spec =

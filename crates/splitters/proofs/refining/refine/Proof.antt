@@ -3,7 +3,7 @@ use Prim.Native.Nat.{_-_, _≤_}
 use native.Mathlib.Omega.{arith}
 use Rattle.text.specs.Laws.DecidesLaws.{decides-true}
 use Rattle.splitters.specs.Inner.Partition.{Partition}
-use Rattle.splitters.specs.Inner.Splitters.{UsedLabels, UsedSplit}
+use Rattle.splitters.specs.Inner.MoveSplits.{UsedLabels, UsedSplit}
 use Rattle.splitters.specs.Laws.RefiningLaws.{usedLabels-none, usedLabels-next, usedLabels-end, usedLabels-alone}
 use borrow.Author.Needs.{needs}
 use Rattle.splitters.proofs.refining.refine.Statement.{statement}

@@ -4,7 +4,7 @@ use native.Mathlib.Omega.{arith}
 use Rattle.text.specs.Limits.{stateLimit}
 use Rattle.sets.specs.Inner.SetValues.{Least}
 use Rattle.splitters.specs.Inner.Partition.{Partition}
-use Rattle.splitters.specs.Inner.Splitters.{UsedSplit}
+use Rattle.splitters.specs.Inner.MoveSplits.{UsedSplit}
 use Rattle.splitters.specs.Laws.RefiningLaws.{UsedBut, usedBut-start, usedBut-next, usedBut-end, turned-row}
 use Rattle.sets.specs.Laws.WalkLaws.{walk-nearer}
 use borrow.Author.Needs.{needs}

@@ -8,19 +8,17 @@ use Rattle.splitters.proofs.rounds.one_class.Tie as tie
 below-requires : tie.Need-below-requires
 below-requires c κs = search needs
 
-below-requires-2 : tie.Need-below-requires-2
-below-requires-2 c κs = search needs
-
 put-set-requires : tie.Need-put-set-requires
 put-set-requires c κs = search needs
 
 returns : tie.Need-returns
 returns c =
-    let P = c .before .before .before .before .pre in (
+    let made = c .before .before in
+    let put = c .put-set .ensures in (
       refl,
-      λ class z. partition-one (P .0) (c .before .below2 .ensures) (c .before .before .before .below .ensures)
-          (c .put-set .ensures) z,
+      λ class z. partition-one (made .before .pre .0) (made .below .ensures) put z,
+      record { there = put .kept; back = put .only },
     )
 
 pub one-class-spec : {M : Type 1} → statement M
-one-class-spec = tie.close (tie.spec below-requires below-requires-2 put-set-requires returns)
+one-class-spec = tie.close (tie.spec below-requires put-set-requires returns)

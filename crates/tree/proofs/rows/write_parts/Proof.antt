@@ -8,11 +8,11 @@ use Rattle.tree.proofs.rows.write_parts.Statement.{statement}
 use Rattle.tree.proofs.rows.write_parts.Tie as tie
 
 abbrev Inv-loop : tie.InvT-loop
-Inv-loop rows₀ classes origin fresh when e₀ rows e =
-    (0 < e) × (e ≤ classes + (1 - classes)) × PartsWritten e origin fresh when rows₀ rows
+Inv-loop rows₀ classes origin under when e₀ rows e =
+    (0 < e) × (e ≤ classes + (1 - classes)) × PartsWritten e origin under when rows₀ rows
 
 abbrev μ-loop : tie.MeasureT-loop
-μ-loop rows₀ classes origin fresh when e₀ rows e = classes - e
+μ-loop rows₀ classes origin under when e₀ rows e = classes - e
 
 loop-holds : tie.Need-loop-holds Inv-loop μ-loop
 loop-holds c = (omega arith, omega arith, partsWritten-one _)
