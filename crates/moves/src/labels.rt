@@ -7,27 +7,25 @@ use text::Step;
 use text::limits::ACTION_LIMIT;
 use text::limits::MOVES_LENGTH;
 use text::limits::ROLES_LENGTH;
-ghost use mathlib.Core.Bool.{false};
 ghost use mathlib.Core.Path.{_≡_};
-ghost use Prim.Native.Nat.{ℕ, _+_, _≤_, _<_};
+ghost use Prim.Native.Nat.{_+_, _≤_, _<_};
 ghost use lib.ListN.{length, set};
+ghost use Rattle.text.specs.Decides.{Decides};
 ghost use Rattle.text.specs.Limits.{actionLimit, stepLimit};
 ghost use Rattle.model.specs.StoredModel.{modelAt};
 ghost use Rattle.model.specs.Inner.Stored.{Stored};
-ghost use Rattle.model.specs.Inner.Roles.{Roles};
+ghost use Rattle.model.specs.Inner.Roles.{RolesOf};
 ghost use Rattle.model.specs.System.{source, target, view};
-ghost use Rattle.lts.specs.Weak.{Tick};
 ghost use Rattle.silent.specs.Labelled.{labelsLength};
-ghost use Rattle.moves.specs.Labels.{LabelsOf};
+ghost use Rattle.moves.specs.Labels.{SomeSilent, LabelsOf};
 ghost use Rattle.moves.specs.Inner.Listing.{Appended};
 ghost use Rattle.moves.specs.Inner.Labelling.{RoleLabel, OnlyLabel, Labelled, Linked, PlacedTo};
 
-// Whether some action is silent. If none is, there is no silent step.
+// Whether some action is silent.
 pub fn some_silent(store: &[u16], roles: &[u16]) -> bool
     requires { ⌜ Stored (now store) (modelAt (now store)) ⌝ }
-    requires { ⌜ (actionLimit ≤ length (now roles))
-        × Roles (view (modelAt (now store)) .levels) (modelAt (now store) .head .actions) (now roles) ⌝ }
-    ensures { λ r. ⌜ (r ≡ false → (p q : ℕ) → ¬ (Tick (view (modelAt (now (store .entry)))) p q)) ⌝ }
+    requires { ⌜ RolesOf (modelAt (now store)) (now roles) ⌝ }
+    ensures { λ r. ⌜ Decides r (SomeSilent (modelAt (now (store .entry)))) ⌝ }
 {
     let n = model::store::actions(store);
     let mut a = 0;
@@ -43,7 +41,7 @@ pub fn some_silent(store: &[u16], roles: &[u16]) -> bool
 // Whether some action of a good store is silent: the roles are made here.
 pub fn has_silent(store: &[u16]) -> bool
     requires { ⌜ Stored (now store) (modelAt (now store)) ⌝ }
-    ensures { λ r. ⌜ (r ≡ false → (p q : ℕ) → ¬ (Tick (view (modelAt (now (store .entry)))) p q)) ⌝ }
+    ensures { λ r. ⌜ Decides r (SomeSilent (modelAt (now (store .entry)))) ⌝ }
 {
     let mut roles = [0u16; ROLES_LENGTH];
     model::index::roles(store, &mut roles);
@@ -68,8 +66,7 @@ fn label_of(roles: &[u16], a: Action) -> u16
 // Links step j before the later ones with its label.
 fn link_step(store: &[u16], roles: &[u16], j: Step, heads: &mut [u16], nexts: &mut [u16])
     requires { ⌜ Stored (now store) (modelAt (now store)) ⌝ }
-    requires { ⌜ (actionLimit ≤ length (now roles))
-        × Roles (view (modelAt (now store)) .levels) (modelAt (now store) .head .actions) (now roles) ⌝ }
+    requires { ⌜ RolesOf (modelAt (now store)) (now roles) ⌝ }
     requires { ⌜ (labelsLength ≤ length (now heads)) × (stepLimit ≤ length (now nexts)) ⌝ }
     requires { ⌜ (j .0 < length (modelAt (now store) .steps))
         × Linked (modelAt (now store)) (j .0 + 1) (now heads) (now nexts) ⌝ }
@@ -86,8 +83,7 @@ fn link_step(store: &[u16], roles: &[u16], j: Step, heads: &mut [u16], nexts: &m
 // Links the steps by label, from the last to the first.
 fn link_steps(store: &[u16], roles: &[u16], heads: &mut [u16], nexts: &mut [u16])
     requires { ⌜ Stored (now store) (modelAt (now store)) ⌝ }
-    requires { ⌜ (actionLimit ≤ length (now roles))
-        × Roles (view (modelAt (now store)) .levels) (modelAt (now store) .head .actions) (now roles) ⌝ }
+    requires { ⌜ RolesOf (modelAt (now store)) (now roles) ⌝ }
     requires { ⌜ (labelsLength ≤ length (now heads)) × (stepLimit ≤ length (now nexts)) ⌝ }
     requires { ⌜ Linked (modelAt (now store)) (length (modelAt (now store) .steps)) (now heads) (now nexts) ⌝ }
     ensures { λ _. ⌜ Linked (modelAt (now (store .entry))) 0 (now (heads .exit)) (now (nexts .exit)) ⌝ }
@@ -182,8 +178,7 @@ pub fn list_labels(
     targets: &mut [u16],
 )
     requires { ⌜ Stored (now store) (modelAt (now store)) ⌝ }
-    requires { ⌜ (actionLimit ≤ length (now roles))
-        × Roles (view (modelAt (now store)) .levels) (modelAt (now store) .head .actions) (now roles) ⌝ }
+    requires { ⌜ RolesOf (modelAt (now store)) (now roles) ⌝ }
     requires { ⌜ (labelsLength ≤ length (now from)) × (stepLimit ≤ length (now sources))
         × (stepLimit ≤ length (now targets)) ⌝ }
     ensures { λ _. ⌜ LabelsOf (view (modelAt (now (store .entry)))) (now (from .exit)) (now (sources .exit))

@@ -2,7 +2,7 @@
 -- Document 02, (vii). Assumes nothing.
 use mathlib.Core.List.{List}
 use mathlib.Core.Logic.{_⊎_, inl, inr}
-use mathlib.Core.Path.{_≡_, refl, sym, ap, _∙_, subst}
+use mathlib.Core.Path.{_≡_, sym, ap, _∙_, subst}
 use Prim.Native.Nat.{ℕ, _+_, _≤_, _<_}
 use native.Mathlib.Omega.{arith}
 use lib.Dec.{T, eqb→eq}
@@ -18,6 +18,7 @@ use Rattle.model.specs.System.{action, level, view}
 use Rattle.model.specs.Inner.Stored.{Stored}
 use Rattle.model.specs.Inner.Roles.{Roles}
 use Rattle.model.specs.Laws.System.RolesLaws.{low-of-role, role-of-low}
+use Rattle.moves.specs.Labels.{SomeSilent}
 use Rattle.moves.specs.Inner.Labelling.{HasLabel, lowLabel, tickLabel, RoleLabel, StepLabel}
 use Rattle.moves.specs.Inner.Labelling.{Earlier, PlacedTo}
 
@@ -159,10 +160,11 @@ module _ {m : Model} {label j at : ℕ} (h : StepLabel m label j) (l : j < lengt
 
 -- ---- no silent action
 
-pub no-tick : {s : List ℕ} {m : Model} {roles : List ℕ} → Stored s m
-    → Roles (view m .levels) (m .head .actions) roles
-    → ((a : ℕ) → a < m .head .actions → ¬ (getD roles a 0 ≡ silent)) → (p q : ℕ) → ¬ (Tick (view m) p q)
-no-tick {m = m} st R h p q t =
+pub no-tick : {s : List ℕ} {m : Model} → Stored s m → ¬ (SomeSilent m) → (p q : ℕ) → ¬ (Tick (view m) p q)
+no-tick st none p q t =
     let x = t .step in
-    let l : t .action < m .head .actions = omega (arith, x .action-is, st .action-lt (x .number) (x .number-lt)) in
-    h (t .action) l (role-of-silent R refl l (t .is-silent))
+    none (record {
+      action = t .action;
+      action-lt = omega (arith, x .action-is, st .action-lt (x .number) (x .number-lt));
+      is-silent = t .is-silent;
+    })

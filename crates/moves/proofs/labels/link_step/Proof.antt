@@ -18,7 +18,7 @@ label-of-requires c κs = let pre = c .before .before .before .before .before .p
     let j = pre .1 .1 .1 .0 in
     let e = ap (λ (x : Action). x .0) (c .action .ensures) ∙ stored-action (pre .0) _ j in
     let l = pre .0 .action-lt _ j in
-    (omega (arith, e, l, pre .0 .actions-le, pre .1 .0 .0), omega (arith, e, l, pre .0 .actions-le))
+    (omega (arith, e, l, pre .0 .actions-le, pre .1 .0 .roles-length), omega (arith, e, l, pre .0 .actions-le))
 
 cast-label : tie.Need-cast-label
 cast-label c = search needs
@@ -66,8 +66,8 @@ returns c = let labelled = c .before .before in
     let l = pre .0 .action-lt _ j in
     let one = labelled .label-of .ensures in
     linked-step j
-    (onlyLabel-map (λ k h. stepLabel-of-role m (pre .1 .0 .1) _ e l h)
-    (λ k h. role-of-stepLabel m (pre .1 .0 .1) _ e l h) one)
+    (onlyLabel-map (λ k h. stepLabel-of-role m (pre .1 .0 .roles-are) _ e l h)
+    (λ k h. role-of-stepLabel m (pre .1 .0 .roles-are) _ e l h) one)
     (omega (arith, one .label-le, pre .1 .1 .0 .0)) (omega (arith, j, pre .0 .steps-le, pre .1 .1 .0 .1))
     (pre .1 .1 .1 .1)
 
