@@ -15,7 +15,7 @@ use Rattle.model.specs.Reading.{done, readText}
 unfoldable pub padded : ℕ → List ℕ → List ℕ
 padded n l = l ++ replicate (n - length l) 0
 
--- "level (0 L, 1 D, 2 H), name length, twelve name bytes"
+-- "level (0 L, 1 D, 2 H), name length, twelve name bytes"; "Level T (store value 3)" (document 02, (vii))
 unfoldable pub actionNumbers : ActionLine → List ℕ
 actionNumbers a = a .level ∷ length (a .name) ∷ padded nameLimit (a .name)
 

@@ -22,7 +22,8 @@ headAt s = record {
   start = record { 0 = getD s startPlace 0 };
 }
 
--- "Action i from 4 + 14i: level (0 L, 1 D, 2 H), name length, twelve name bytes."
+-- "Action i from 4 + 14i: level (0 L, 1 D, 2 H), name length, twelve name bytes."; "Level T (store value 3)" (document
+-- 02, (vii))
 abbrev pub actionAt : List ℕ → ℕ → ActionLine
 actionAt s i = record {
   level = getD s (actionPlace i) 0;

@@ -1,10 +1,19 @@
 -- The low and the silent steps of a view, as lists by label: what the moves that are played are made of.
 -- Document 02, (vii).
 use mathlib.Core.List.{List}
-use Prim.Native.Nat.{ℕ}
+use Prim.Native.Nat.{ℕ, _<_}
+use lib.Dec.{T}
 use Rattle.lts.specs.View.{View}
 use Rattle.lts.specs.Weak.{LowStep, Tick}
+use Rattle.text.specs.Model.{Model}
+use Rattle.model.specs.System.{view}
 use Rattle.silent.specs.Labelled.{LabelList, LowLabel, TickLabel}
+
+-- Some action of the model is silent, whether or not a step has it.
+pub record SomeSilent (m : Model) : Type 0 where
+  pub action : ℕ
+  pub action-lt : action < m .head .actions
+  pub is-silent : T (view m .levels .silent? action)
 
 -- The lists have just the low and the silent steps of v.
 pub record LabelsOf (v : View) (from sources targets : List ℕ) : Type 0 where

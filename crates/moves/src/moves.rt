@@ -10,12 +10,12 @@ ghost use mathlib.Core.Path.{_≡_};
 ghost use Prim.Native.Nat.{_+_, _≤_, _<_};
 ghost use lib.ListN.{length, getD};
 ghost use Rattle.text.specs.Decides.{Decides};
-ghost use Rattle.text.specs.Limits.{actionLimit, stepLimit};
+ghost use Rattle.text.specs.Limits.{stepLimit};
 ghost use Rattle.text.specs.Model.{low, silent};
 ghost use Rattle.model.specs.StoredModel.{modelAt};
 ghost use Rattle.model.specs.Inner.Stored.{Stored};
 ghost use Rattle.model.specs.Inner.Index.{Index};
-ghost use Rattle.model.specs.Inner.Roles.{Roles};
+ghost use Rattle.model.specs.Inner.Roles.{RolesOf};
 ghost use Rattle.text.specs.Limits.{indexLength};
 ghost use Rattle.comparing.specs.MoveList.{Lists, Rising, Ordered};
 ghost use Rattle.moves.specs.Inner.Listing.{Appended, Among, LowAs};
@@ -56,8 +56,7 @@ fn list_step(
     targets: &mut [u16],
 ) -> u16
     requires { ⌜ Stored (now store) (modelAt (now store)) ⌝ }
-    requires { ⌜ (actionLimit ≤ length (now roles))
-        × Roles (view (modelAt (now store)) .levels) (modelAt (now store) .head .actions) (now roles) ⌝ }
+    requires { ⌜ RolesOf (modelAt (now store)) (now roles) ⌝ }
     requires { ⌜ (j .0 < length (modelAt (now store) .steps)) × (at < stepLimit) ⌝ }
     requires { ⌜ (stepLimit ≤ length (now actions)) × (stepLimit ≤ length (now targets)) ⌝ }
     ensures { λ r. ⌜ Appended (Among (LowAs (modelAt (now (store .entry)))) (j .0) (j .0 + 1)) at r
@@ -88,8 +87,7 @@ fn list_state(
     requires { ⌜ Stored (now store) (modelAt (now store)) ⌝ }
     requires { ⌜ (indexLength ≤ length (now begins))
         × Index (modelAt (now store)) (modelAt (now store) .head .states) (now begins) ⌝ }
-    requires { ⌜ (actionLimit ≤ length (now roles))
-        × Roles (view (modelAt (now store)) .levels) (modelAt (now store) .head .actions) (now roles) ⌝ }
+    requires { ⌜ RolesOf (modelAt (now store)) (now roles) ⌝ }
     requires { ⌜ (p .0 < modelAt (now store) .head .states) × (from ≤ getD (now begins) (p .0) 0) ⌝ }
     requires { ⌜ (stepLimit ≤ length (now actions)) × (stepLimit ≤ length (now targets)) ⌝ }
     ensures { λ r. ⌜ Appended (LowStep (view (modelAt (now (store .entry)))) (p .0)) from r
@@ -109,7 +107,7 @@ fn list_state(
 }
 
 // Lists the low steps of all states, those of a state by action and then by target.
-pub fn list_moves(
+fn list_moves(
     store: &[u16],
     begins: &[u16],
     roles: &[u16],
@@ -120,8 +118,7 @@ pub fn list_moves(
     requires { ⌜ Stored (now store) (modelAt (now store)) ⌝ }
     requires { ⌜ (indexLength ≤ length (now begins))
         × Index (modelAt (now store)) (modelAt (now store) .head .states) (now begins) ⌝ }
-    requires { ⌜ (actionLimit ≤ length (now roles))
-        × Roles (view (modelAt (now store)) .levels) (modelAt (now store) .head .actions) (now roles) ⌝ }
+    requires { ⌜ RolesOf (modelAt (now store)) (now roles) ⌝ }
     requires { ⌜ (indexLength ≤ length (now first)) × (stepLimit ≤ length (now actions))
         × (stepLimit ≤ length (now targets)) ⌝ }
     ensures { λ _. ⌜ Lists (LowStep (view (modelAt (now (store .entry))))) (modelAt (now (store .entry)) .head .states)

@@ -9,10 +9,9 @@ use text::Action;
 use text::Step;
 ghost use Prim.Native.Nat.{_+_, _*_, _≤_, _<_};
 ghost use lib.ListN.{length};
-ghost use Rattle.text.specs.Limits.{actionLimit};
 ghost use Rattle.model.specs.StoredModel.{modelAt};
 ghost use Rattle.model.specs.Inner.Stored.{Stored};
-ghost use Rattle.model.specs.Inner.Roles.{Roles};
+ghost use Rattle.model.specs.Inner.Roles.{RolesOf};
 ghost use Rattle.model.specs.System.{view};
 ghost use Rattle.lts.specs.Weak.{LowStep};
 ghost use Rattle.held.specs.Held.{HeldList, HeldAs};
@@ -22,8 +21,7 @@ ghost use Rattle.moves.specs.Inner.Holding.{LowLabels, LowHeld};
 // Lists the low actions. Yields how many there are.
 fn list_low(store: &[u16], roles: &[u16], labels: &mut [u16; LABEL_COUNT]) -> u16
     requires { ⌜ Stored (now store) (modelAt (now store)) ⌝ }
-    requires { ⌜ (actionLimit ≤ length (now roles))
-        × Roles (view (modelAt (now store)) .levels) (modelAt (now store) .head .actions) (now roles) ⌝ }
+    requires { ⌜ RolesOf (modelAt (now store)) (now roles) ⌝ }
     ensures { λ r. ⌜ LowLabels (modelAt (now (store .entry))) (modelAt (now (store .entry)) .head .actions)
         (now (labels .exit)) r ⌝ }
 {
@@ -48,8 +46,7 @@ fn hold_step(
     pool: &mut [u64; POOL_LENGTH],
 ) -> u16
     requires { ⌜ Stored (now store) (modelAt (now store)) ⌝ }
-    requires { ⌜ (actionLimit ≤ length (now roles))
-        × Roles (view (modelAt (now store)) .levels) (modelAt (now store) .head .actions) (now roles) ⌝ }
+    requires { ⌜ RolesOf (modelAt (now store)) (now roles) ⌝ }
     requires { ⌜ (j .0 < length (modelAt (now store) .steps)) × (used ≤ 2 * j .0 + 1)
         × Separate used (now slots) (now pool) ⌝ }
     requires { ⌜ LowHeld (modelAt (now store)) (j .0) (now slots) (now pool) ⌝ }
@@ -76,8 +73,7 @@ pub fn hold_low(
     pool: &mut [u64; POOL_LENGTH],
 ) -> u16
     requires { ⌜ Stored (now store) (modelAt (now store)) ⌝ }
-    requires { ⌜ (actionLimit ≤ length (now roles))
-        × Roles (view (modelAt (now store)) .levels) (modelAt (now store) .head .actions) (now roles) ⌝ }
+    requires { ⌜ RolesOf (modelAt (now store)) (now roles) ⌝ }
     requires { ⌜ Separate 1 (now slots) (now pool) × LowHeld (modelAt (now store)) 0 (now slots) (now pool) ⌝ }
     ensures { λ r. ⌜ HeldList (modelAt (now (store .entry)) .head .states) (now (labels .exit)) r (now (slots .exit))
         (now (pool .exit)) ⌝ }

@@ -12,11 +12,10 @@ use text::limits::MOVES_LENGTH;
 use weak_ranks::rounds::rank_labels;
 ghost use Prim.Native.Nat.{_≤_};
 ghost use lib.ListN.{length};
-ghost use Rattle.text.specs.Limits.{actionLimit};
 ghost use Rattle.model.specs.StoredModel.{modelAt};
 ghost use Rattle.text.specs.Limits.{tableLength};
 ghost use Rattle.model.specs.Inner.Stored.{Stored};
-ghost use Rattle.model.specs.Inner.Roles.{Roles};
+ghost use Rattle.model.specs.Inner.Roles.{RolesOf};
 ghost use Rattle.held.specs.Inner.Slots.{Pooled, Separate};
 ghost use Rattle.ranking.specs.Table.{Ranked};
 ghost use Rattle.model.specs.System.{view};
@@ -34,8 +33,7 @@ fn rank_low(
     table: &mut [u8],
 ) -> u8
     requires { ⌜ Stored (now store) (modelAt (now store)) ⌝ }
-    requires { ⌜ (actionLimit ≤ length (now roles))
-        × Roles (view (modelAt (now store)) .levels) (modelAt (now store) .head .actions) (now roles) ⌝ }
+    requires { ⌜ RolesOf (modelAt (now store)) (now roles) ⌝ }
     requires { ⌜ tableLength ≤ length (now table) ⌝ }
     requires { ⌜ Separate 1 (now slots) (now pool) × LowHeld (modelAt (now store)) 0 (now slots) (now pool) ⌝ }
     ensures { λ r. ⌜ Ranked (LowStep (view (modelAt (now (store .entry))))) (modelAt (now (store .entry)) .head .states)
@@ -49,8 +47,7 @@ fn rank_low(
 // The same with sets of its own.
 pub fn fill_plain_table(store: &[u16], roles: &[u16], table: &mut [u8]) -> u8
     requires { ⌜ Stored (now store) (modelAt (now store)) ⌝ }
-    requires { ⌜ (actionLimit ≤ length (now roles))
-        × Roles (view (modelAt (now store)) .levels) (modelAt (now store) .head .actions) (now roles) ⌝ }
+    requires { ⌜ RolesOf (modelAt (now store)) (now roles) ⌝ }
     requires { ⌜ tableLength ≤ length (now table) ⌝ }
     ensures { λ r. ⌜ Ranked (LowStep (view (modelAt (now (store .entry))))) (modelAt (now (store .entry)) .head .states)
         (now (table .entry)) (now (table .exit)) r ⌝ }
@@ -71,8 +68,7 @@ fn fill_label_table(
     table: &mut [u8],
 ) -> u8
     requires { ⌜ Stored (now store) (modelAt (now store)) ⌝ }
-    requires { ⌜ (actionLimit ≤ length (now roles))
-        × Roles (view (modelAt (now store)) .levels) (modelAt (now store) .head .actions) (now roles) ⌝ }
+    requires { ⌜ RolesOf (modelAt (now store)) (now roles) ⌝ }
     requires { ⌜ tableLength ≤ length (now table) ⌝ }
     requires { ⌜ Pooled 1 (now slots) (now pool) ⌝ }
     ensures { λ r. ⌜ Ranked (WeakMove (view (modelAt (now (store .entry)))))
@@ -94,8 +90,7 @@ fn fill_label_table(
 // ways share the sets, so that they stand once on the stack.
 pub fn fill_table(store: &[u16], roles: &[u16], table: &mut [u8]) -> u8
     requires { ⌜ Stored (now store) (modelAt (now store)) ⌝ }
-    requires { ⌜ (actionLimit ≤ length (now roles))
-        × Roles (view (modelAt (now store)) .levels) (modelAt (now store) .head .actions) (now roles) ⌝ }
+    requires { ⌜ RolesOf (modelAt (now store)) (now roles) ⌝ }
     requires { ⌜ tableLength ≤ length (now table) ⌝ }
     ensures { λ r. ⌜ Ranked (WeakMove (view (modelAt (now (store .entry)))))
         (modelAt (now (store .entry)) .head .states) (now (table .entry)) (now (table .exit)) r ⌝ }

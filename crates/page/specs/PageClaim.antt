@@ -57,8 +57,8 @@ pub record PassTexts (m : Model) (texts : List (List ℕ)) (rank : ℕ) : Type 0
   pub verdict-fields : PassFields texts rank
   pub greatest : Greatest (WeakMove (view m)) (IsState m) rank
 
--- Of a refused model of that kind, deterministic and without a reachable silent step, line by line. `states` are its lines between the `V` line and the `R` lines, and
--- `word` is the list that Page or Roll filled.
+-- Of a refused model, deterministic and without a reachable silent step, line by line. `states` are its lines between
+-- the `V` line and the `R` lines, and `word` is the list that Page or Roll filled.
 pub record LeakTexts (m : Model) (texts : List (List ℕ)) (states lines : List PageLine) (word : List ℕ) : Type 0 where
   pub step : ℕ
   pub depth : ℕ
@@ -80,7 +80,8 @@ pub record LeakTexts (m : Model) (texts : List (List ℕ)) (states lines : List 
   pub lines-are : lines ≡ (verdict-line (Refused (record { 0 = step }) depth) ∷ []) ++ states
       ++ (map run-line run ++ (map (nameLine m) sequence ++ (allows-line end ∷ []))) ++ (last-line ∷ [])
 
--- What the bytes of a deterministic model without a reachable silent step tell: Pass if they say that it is passed, and Leak if that it is refused.
+-- What the bytes of a deterministic model without a reachable silent step tell: Pass if they say that it is passed, and
+-- Leak if that it is refused.
 pub record BytesTell (m : Model) (bytes : List ℕ) (Pass Leak : Type 0) : Type 0 where
   pub verdict : SaysPass bytes ⊎ SaysRefuse bytes
   -- "It is passed exactly when this holds of every sequence of actions, however long, that can be run from the start
@@ -96,8 +97,8 @@ pub record PassPage (m : Model) (bytes : List ℕ) : Type 0 where
   pub rank : ℕ
   pub texts : PassTexts m (split lineEnd bytes) rank
 
--- What the page of a refused deterministic model tells: its bytes are those of these lines, and part at the line ends
--- into their texts.
+-- What the page of a refused model, deterministic and without a reachable silent step, tells: its bytes are those of
+-- these lines, and part at the line ends into their texts.
 pub record LeakPage (m : Model) (bytes word : List ℕ) : Type 0 where
   pub states : List PageLine
   pub state-lines : StateLines m (m .head .states) states
@@ -106,6 +107,6 @@ pub record LeakPage (m : Model) (bytes word : List ℕ) : Type 0 where
   pub bytes-are : bytes ≡ pageBytes lines
   pub parted : split lineEnd bytes ≡ map lineText lines ++ ([] ∷ [])
 
--- What the page of a deterministic model tells.
+-- What the page of a deterministic model without a reachable silent step tells.
 abbrev pub PageTells : Model → List ℕ → List ℕ → Type 0
 PageTells m bytes word = BytesTell m bytes (PassPage m bytes) (LeakPage m bytes word)

@@ -61,13 +61,13 @@ pub record PassRoll (m : Model) (bytes : List ℕ) : Type 0 where
   pub texts : PassTexts m (otherTexts bytes) rank
   pub parted : otherTexts bytes ≡ map lineText (verdict-line (Passed rank) ∷ last-line ∷ [])
 
--- What the roll of a refused deterministic model tells, as its page does.
+-- What the roll of a refused model, deterministic and without a reachable silent step, tells, as its page does.
 pub record LeakRoll (m : Model) (bytes word : List ℕ) : Type 0 where
   pub lines : List PageLine
   pub texts : LeakTexts m (otherTexts bytes) [] lines word
   pub parted : otherTexts bytes ≡ map lineText lines
 
--- What the roll of a deterministic model tells.
+-- What the roll of a deterministic model without a reachable silent step tells.
 abbrev pub RollTells : Model → List ℕ → List ℕ → Type 0
 RollTells m bytes word = BytesTell m bytes (PassRoll m bytes) (LeakRoll m bytes word)
 

@@ -21,25 +21,24 @@ use Rattle.moves.specs.Inner.Holding.{LowLabels, LowBefore, LowHeld}
 module _ {m : Model} {a p q : ℕ} where
   lowStep-of-before : LowBefore m (length (m .steps)) a p q → LowStep (view m) p a q
   lowStep-of-before x = (
-    x .low-at .is-low,
+    x .holds .low-as .is-low,
     record {
       number = x .number;
-      number-lt = x .number-lt;
-      source-is = x .low-at .source-is;
-      action-is = x .low-at .action-is;
-      target-is = x .low-at .target-is;
+      number-lt = x .to-lt;
+      source-is = x .holds .source-is;
+      action-is = x .holds .low-as .action-is;
+      target-is = x .holds .low-as .target-is;
     },
   )
 
   before-of-lowStep : LowStep (view m) p a q → LowBefore m (length (m .steps)) a p q
   before-of-lowStep (t, x) = record {
     number = x .number;
-    number-lt = x .number-lt;
-    low-at = record {
-      is-low = t;
+    from-le = omega arith;
+    to-lt = x .number-lt;
+    holds = record {
+      low-as = record { is-low = t; action-is = x .action-is; target-is = x .target-is };
       source-is = x .source-is;
-      action-is = x .action-is;
-      target-is = x .target-is;
     };
   }
 
@@ -63,8 +62,8 @@ module _ {s : List ℕ} {m : Model} (st : Stored s m) {labels slots pool : List 
     occupied = S .pooled .occupied;
     state-lt = λ i p q l lp h.
         let x = all .target-only _ p q (label-lt i l) lp h in (
-          omega (arith, x .low-at .source-is, st .source-lt (x .number) (x .number-lt)),
-          omega (arith, x .low-at .target-is, st .target-lt (x .number) (x .number-lt)),
+          omega (arith, x .holds .source-is, st .source-lt (x .number) (x .to-lt)),
+          omega (arith, x .holds .low-as .target-is, st .target-lt (x .number) (x .to-lt)),
         );
     turned = λ i l. record {
       there = λ p q lp h. all .source _ p q (all .target-only _ p q (label-lt i l) lp h);
@@ -79,10 +78,10 @@ module _ {s : List ℕ} {m : Model} (st : Stored s m) {labels slots pool : List 
         lowStep-of-before (all .target-only a p q l (x .source-lt) (x .held));
     complete = λ p a q x.
         let y = before-of-lowStep x in
-        let l : a < m .head .actions = omega (arith, y .low-at .action-is, st .action-lt (y .number) (y .number-lt)) in
-        let z = L .listed a l (y .low-at .is-low) in
+        let l : a < m .head .actions = omega (arith, y .holds .low-as .action-is, st .action-lt (y .number) (y .to-lt)) in
+        let z = L .listed a l (y .holds .low-as .is-low) in
         record {
-          source-lt = omega (arith, y .low-at .source-is, st .source-lt (y .number) (y .number-lt), st .states-le);
+          source-lt = omega (arith, y .holds .source-is, st .source-lt (y .number) (y .to-lt), st .states-le);
           number = z .0;
           number-lt = z .1;
           label-is = z .2;

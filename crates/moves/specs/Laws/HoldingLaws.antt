@@ -1,7 +1,7 @@
 -- The low actions are listed, and the low steps held, one after another.
 -- Document 02, (vii). Assumes nothing.
 use mathlib.Core.List.{List}
-use mathlib.Core.Logic.{_⊎_, inl, inr}
+use mathlib.Core.Logic.{_⊎_, inl, inr, ⊎-elim}
 use mathlib.Core.Path.{_≡_, refl, sym, ap, _∙_, subst}
 use Prim.Native.Nat.{ℕ, _+_, _*_, _<_}
 use native.Mathlib.Omega.{arith}
@@ -14,10 +14,11 @@ use Rattle.text.specs.Model.{Model}
 use Rattle.model.specs.System.{action, view}
 use Rattle.model.specs.Inner.Stored.{Stored}
 use Rattle.sets.specs.Inner.Sets.{Member, Empty}
-use Rattle.held.specs.Held.{slotPlace, targetRow, sourceRow, HeldAt}
+use Rattle.held.specs.Held.{LabelIn, slotPlace, targetRow, sourceRow, HeldAt}
 use Rattle.held.specs.Inner.Slots.{MemberAdded}
 use Rattle.held.specs.Laws.RowsLaws.{targetRow-action}
 use Rattle.moves.specs.Inner.Holding.{LowLabels, LowAt, LowBefore, LowHeld}
+use Rattle.moves.specs.Laws.ListingLaws.{among-one, among-le, among-cases}
 
 -- ---- the low actions
 
@@ -42,7 +43,7 @@ module _ {m : Model} {a : ℕ} {labels : List ℕ} {count : ℕ} (L : LowLabels 
   }
     where
       go : (b : ℕ) → b < a + 1 → T (view m .levels .low? b) → (b ≡ a) ⊎ ¬ (b ≡ a)
-          → (i : ℕ) × (i < count) × (getD labels i 0 ≡ b)
+          → LabelIn labels count b
       go b l t (inl e) = absurd (f (subst (λ (x : ℕ). T (view m .levels .low? x)) e t))
       go b l t (inr d) = L .listed b (omega arith) t
 
@@ -80,7 +81,7 @@ module _ {m : Model} {a : ℕ} {labels : List ℕ} {count : ℕ} (L : LowLabels 
       rising i j l k (inr d) = omega (arith, kept i (omega arith), kept j (omega arith), L .rising i j l (omega arith))
 
       listed : (b : ℕ) → b < a + 1 → T (view m .levels .low? b) → (b ≡ a) ⊎ ¬ (b ≡ a)
-          → (i : ℕ) × (i < count + 1) × (getD (set labels count a) i 0 ≡ b)
+          → LabelIn (set labels count a) (count + 1) b
       listed b l u (inl e) = (count, omega arith, last count refl ∙ sym e)
       listed b l u (inr d) =
           let x = L .listed b (omega arith) u in
@@ -89,45 +90,39 @@ module _ {m : Model} {a : ℕ} {labels : List ℕ} {count : ℕ} (L : LowLabels 
 -- ---- the steps before one more
 
 lowBefore-suc : {m : Model} {j a p q : ℕ} → LowBefore m j a p q → LowBefore m (j + 1) a p q
-lowBefore-suc x = record { number = x .number; number-lt = omega (arith, x .number-lt); low-at = x .low-at }
+lowBefore-suc = among-le (omega arith) (omega arith) _ _
 
-lowBefore-last : {m : Model} {j a p q : ℕ} → LowAt m j a p q → LowBefore m (j + 1) a p q
-lowBefore-last {j = j} x = record { number = j; number-lt = omega arith; low-at = x }
+lowBefore-last : {m : Model} {j a p q : ℕ} → LowAt m a j p q → LowBefore m (j + 1) a p q
+lowBefore-last {j = j} x = record { number = j; from-le = omega arith; to-lt = omega arith; holds = x }
 
-pub lowAt-states : {s : List ℕ} {m : Model} {j a p q : ℕ} → Stored s m → j < length (m .steps) → LowAt m j a p q
+pub lowAt-states : {s : List ℕ} {m : Model} {j a p q : ℕ} → Stored s m → j < length (m .steps) → LowAt m a j p q
     → (p < stateLimit) × (q < stateLimit)
 lowAt-states {j = j} st l x = (
   omega (arith, x .source-is, st .source-lt j l, st .states-le),
-  omega (arith, x .target-is, st .target-lt j l, st .states-le),
+  omega (arith, x .low-as .target-is, st .target-lt j l, st .states-le),
 )
 
 -- One step, one source, action and target.
-lowAt-same : {m : Model} {j a b p r q s : ℕ} → a ≡ b → p ≡ r → q ≡ s → LowAt m j a p q → LowAt m j b r s
+lowAt-same : {m : Model} {j a b p r q s : ℕ} → a ≡ b → p ≡ r → q ≡ s → LowAt m a j p q → LowAt m b j r s
 lowAt-same {m} e f g x = record {
-  is-low = subst (λ (c : ℕ). T (view m .levels .low? c)) e (x .is-low);
+  low-as = record {
+    is-low = subst (λ (c : ℕ). T (view m .levels .low? c)) e (x .low-as .is-low);
+    action-is = x .low-as .action-is ∙ e;
+    target-is = x .low-as .target-is ∙ g;
+  };
   source-is = x .source-is ∙ f;
-  action-is = x .action-is ∙ e;
-  target-is = x .target-is ∙ g;
 }
 
-lowBefore-cases : {m : Model} {j a p q : ℕ} → LowBefore m (j + 1) a p q → LowBefore m j a p q ⊎ LowAt m j a p q
-lowBefore-cases {m} {j} {a} {p} {q} x = go (eq-or-not (x .number) j)
-  where
-    go : (x .number ≡ j) ⊎ ¬ (x .number ≡ j) → LowBefore m j a p q ⊎ LowAt m j a p q
-    go (inl e) = inr (subst (λ (i : ℕ). LowAt m i a p q) e (x .low-at))
-    go (inr d) = inl record {
-      number = x .number;
-      number-lt = omega (arith, x .number-lt, d);
-      low-at = x .low-at;
-    }
+lowBefore-cases : {m : Model} {j a p q : ℕ} → LowBefore m (j + 1) a p q → LowBefore m j a p q ⊎ LowAt m a j p q
+lowBefore-cases {j = j} x = ⊎-elim inl (λ y. inr (among-one _ _ y)) (among-cases {mid = j} _ _ x)
 
 -- ---- the sets, one step after another
 
 pub lowHeld-zero : {m : Model} {slots pool : List ℕ} → Empty pool → LowHeld m 0 slots pool
 lowHeld-zero E = record {
-  target = λ a p q x. absurd (omega (arith, x .number-lt));
+  target = λ a p q x. absurd (omega (arith, x .to-lt));
   target-only = λ a p q _ _ h. absurd (E .none _ _ h);
-  source = λ a p q x. absurd (omega (arith, x .number-lt));
+  source = λ a p q x. absurd (omega (arith, x .to-lt));
   source-only = λ a p q _ _ h. absurd (E .none _ _ h);
 }
 
@@ -141,16 +136,16 @@ lowHeld-skip {m} {j} f H = record {
   source-only = λ a p q l k h. lowBefore-suc (H .source-only a p q l k h);
 }
   where
-    go : {a p q : ℕ} → LowBefore m j a p q ⊎ LowAt m j a p q → LowBefore m j a p q
+    go : {a p q : ℕ} → LowBefore m j a p q ⊎ LowAt m a j p q → LowBefore m j a p q
     go (inl x) = x
-    go (inr x) = absurd (f (subst (λ (b : ℕ). T (view m .levels .low? b)) (sym (x .action-is)) (x .is-low)))
+    go (inr x) = absurd (f (subst (λ (b : ℕ). T (view m .levels .low? b)) (sym (x .low-as .action-is)) (x .low-as .is-low)))
 
     before : {a p q : ℕ} → LowBefore m (j + 1) a p q → LowBefore m j a p q
     before x = go (lowBefore-cases x)
 
 -- Step j is low: the set of its source in the targets' row has got its target, and that of its target in the sources'
 -- row its source.
-module _ {m : Model} {j a p q row : ℕ} {slots slots₁ slots₂ pool pool₁ pool₂ : List ℕ} (x : LowAt m j a p q)
+module _ {m : Model} {j a p q row : ℕ} {slots slots₁ slots₂ pool pool₁ pool₂ : List ℕ} (x : LowAt m a j p q)
     (la : a < actionLimit) (lp : p < stateLimit) (lq : q < stateLimit) (H : LowHeld m j slots pool)
     (z : row ≡ targetRow a) (F : MemberAdded row p q slots pool slots₁ pool₁)
     (G : MemberAdded (row + 1) q p slots₁ pool₁ slots₂ pool₂) where
@@ -160,21 +155,21 @@ module _ {m : Model} {j a p q row : ℕ} {slots slots₁ slots₂ pool pool₁ p
   there : (i y : ℕ) → Member pool (getD slots i 0) y → Member pool₂ (getD slots₂ i 0) y
   there i y h = G .there i y (F .there i y h)
 
-  held-target : (b r s : ℕ) → LowBefore m j b r s ⊎ LowAt m j b r s → HeldAt slots₂ pool₂ (targetRow b) r s
+  held-target : (b r s : ℕ) → LowBefore m j b r s ⊎ LowAt m b j r s → HeldAt slots₂ pool₂ (targetRow b) r s
   held-target b r s (inl y) = there (slotPlace (targetRow b) r) s (H .target b r s y)
   held-target b r s (inr y) =
       subst (λ (u : ℕ). HeldAt slots₂ pool₂ u r s)
-      (z ∙ ap (λ (c : ℕ). targetRow c) (sym (x .action-is) ∙ y .action-is))
+      (z ∙ ap (λ (c : ℕ). targetRow c) (sym (x .low-as .action-is) ∙ y .low-as .action-is))
       (subst (λ (u : ℕ). HeldAt slots₂ pool₂ row u s) (sym (x .source-is) ∙ y .source-is)
-      (subst (HeldAt slots₂ pool₂ row p) (sym (x .target-is) ∙ y .target-is)
+      (subst (HeldAt slots₂ pool₂ row p) (sym (x .low-as .target-is) ∙ y .low-as .target-is)
       (G .there (slotPlace row p) q (F .added))))
 
-  held-source : (b r s : ℕ) → LowBefore m j b r s ⊎ LowAt m j b r s → HeldAt slots₂ pool₂ (sourceRow b) s r
+  held-source : (b r s : ℕ) → LowBefore m j b r s ⊎ LowAt m b j r s → HeldAt slots₂ pool₂ (sourceRow b) s r
   held-source b r s (inl y) = there (slotPlace (sourceRow b) s) r (H .source b r s y)
   held-source b r s (inr y) =
       subst (λ (u : ℕ). HeldAt slots₂ pool₂ (u + 1) s r)
-      (z ∙ ap (λ (c : ℕ). targetRow c) (sym (x .action-is) ∙ y .action-is))
-      (subst (λ (u : ℕ). HeldAt slots₂ pool₂ (row + 1) u r) (sym (x .target-is) ∙ y .target-is)
+      (z ∙ ap (λ (c : ℕ). targetRow c) (sym (x .low-as .action-is) ∙ y .low-as .action-is))
+      (subst (λ (u : ℕ). HeldAt slots₂ pool₂ (row + 1) u r) (sym (x .low-as .target-is) ∙ y .low-as .target-is)
       (subst (HeldAt slots₂ pool₂ (row + 1) q) (sym (x .source-is) ∙ y .source-is)
       (G .added)))
 

@@ -1,12 +1,12 @@
--- A step has at most one label, so the lists have no more places than the model has steps, although each label goes
--- through all of them. Document 02, (vii). Assumes nothing.
+-- A step has at most one label, so the lists have no more places than the model has steps.
+-- Document 02, (vii). Assumes nothing.
 use mathlib.Core.List.{List}
 use mathlib.Core.Logic.{_⊎_, inl, inr}
-use mathlib.Core.Path.{_≡_, refl, sym, ap, _∙_, subst}
+use mathlib.Core.Path.{_≡_, sym, ap, _∙_, subst}
 use Prim.Native.Nat.{ℕ, _+_, _≤_, _<_}
 use native.Mathlib.Omega.{arith}
 use lib.Dec.{T, eqb→eq}
-use lib.ListN.{length, getD, set}
+use lib.ListN.{length, getD}
 use borrow.Author.Tests.{eq-eqb}
 use Rattle.lts.specs.PigeonholeLaws.{injective-le}
 use Rattle.lts.specs.TestsLaws.{lt-or-le}
@@ -14,14 +14,13 @@ use Rattle.lts.specs.View.{Levels}
 use Rattle.lts.specs.Weak.{Tick}
 use Rattle.text.specs.Limits.{actionLimit, stepLimit}
 use Rattle.text.specs.Model.{silent, Model}
-use Rattle.model.specs.System.{source, action, target, level, view}
+use Rattle.model.specs.System.{action, level, view}
 use Rattle.model.specs.Inner.Stored.{Stored}
 use Rattle.model.specs.Inner.Roles.{Roles}
 use Rattle.model.specs.Laws.System.RolesLaws.{low-of-role, role-of-low}
-use Rattle.moves.specs.Inner.Listing.{Appended, Among}
-use Rattle.moves.specs.Inner.Labelling.{HasLabel, lowLabel, tickLabel, RoleLabel, StepLabel, LabelledAs}
+use Rattle.moves.specs.Labels.{SomeSilent}
+use Rattle.moves.specs.Inner.Labelling.{HasLabel, lowLabel, tickLabel, RoleLabel, StepLabel}
 use Rattle.moves.specs.Inner.Labelling.{Earlier, PlacedTo}
-use Rattle.moves.specs.Laws.ListingLaws.{appended-nil, appended-skip, appended-step}
 
 -- ---- labels
 
@@ -63,26 +62,6 @@ stepLabel-unique m k (lowLabel e h t) (lowLabel f g u) = sym e ∙ f
 stepLabel-unique m k (lowLabel e h t) (tickLabel f u) = absurd (low-not-silent m (action m k) t u)
 stepLabel-unique m k (tickLabel e t) (lowLabel f g u) = absurd (low-not-silent m (action m k) u t)
 stepLabel-unique m k (tickLabel e t) (tickLabel f u) = e ∙ sym f
-
--- ---- one step more
-
-module _ {m : Model} {label : ℕ} where
-  pub appended-not-labelled : {j at : ℕ} {sources targets : List ℕ} → ¬ (StepLabel m label j)
-      → Appended (Among (LabelledAs m label) j (j + 1)) at at sources targets sources targets
-  appended-not-labelled h = appended-skip (λ p q x. h (x .has-label))
-
-  pub appended-labelled : {j at p q : ℕ} {sources targets : List ℕ} → at < length sources → at < length targets
-      → source m j ≡ p → target m j ≡ q → StepLabel m label j
-      → Appended (Among (LabelledAs m label) j (j + 1)) at (at + 1) sources targets (set sources at p)
-      (set targets at q)
-  appended-labelled ls lt e f h = appended-step ls lt
-      (record { has-label = h; source-is = e; target-is = f })
-      (λ b r x. (sym e ∙ x .source-is, sym f ∙ x .target-is))
-
-  -- a label that no step has
-  pub appended-no-label : {n at : ℕ} {sources targets : List ℕ} → ((k : ℕ) → k < n → ¬ (StepLabel m label k))
-      → Appended (Among (LabelledAs m label) 0 n) at at sources targets sources targets
-  appended-no-label h = appended-nil (λ p q x. h (x .number) (x .to-lt) (x .holds .has-label))
 
 -- ---- the steps placed so far
 
@@ -181,10 +160,11 @@ module _ {m : Model} {label j at : ℕ} (h : StepLabel m label j) (l : j < lengt
 
 -- ---- no silent action
 
-pub no-tick : {s : List ℕ} {m : Model} {roles : List ℕ} → Stored s m
-    → Roles (view m .levels) (m .head .actions) roles
-    → ((a : ℕ) → a < m .head .actions → ¬ (getD roles a 0 ≡ silent)) → (p q : ℕ) → ¬ (Tick (view m) p q)
-no-tick {m = m} st R h p q t =
+pub no-tick : {s : List ℕ} {m : Model} → Stored s m → ¬ (SomeSilent m) → (p q : ℕ) → ¬ (Tick (view m) p q)
+no-tick st none p q t =
     let x = t .step in
-    let l : t .action < m .head .actions = omega (arith, x .action-is, st .action-lt (x .number) (x .number-lt)) in
-    h (t .action) l (role-of-silent R refl l (t .is-silent))
+    none (record {
+      action = t .action;
+      action-lt = omega (arith, x .action-is, st .action-lt (x .number) (x .number-lt));
+      is-silent = t .is-silent;
+    })

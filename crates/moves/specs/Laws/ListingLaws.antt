@@ -100,7 +100,7 @@ module _ {Has : ℕ → ℕ → ℕ → Type 0} where
   appended-no-step = appended-nil (λ x y o. absurd (omega (arith, o .from-le, o .to-lt)))
 
   -- of the steps from j up to j + 1 there is step j alone
-  among-one : {j : ℕ} (x y : ℕ) → Among Has j (j + 1) x y → Has j x y
+  pub among-one : {j : ℕ} (x y : ℕ) → Among Has j (j + 1) x y → Has j x y
   among-one {j} x y o =
       let e : o .number ≡ j = omega (arith, o .from-le, o .to-lt) in
       subst (λ (k : ℕ). Has k x y) e (o .holds)
@@ -117,7 +117,7 @@ module _ {Has : ℕ → ℕ → ℕ → Type 0} where
       (record { number = j; from-le = omega arith; to-lt = omega arith; holds = o })
       (λ b c z. only b c (among-one b c z))
 
-  among-le : {from to from′ to′ : ℕ} → from′ ≤ from → to ≤ to′ → (x y : ℕ) → Among Has from to x y
+  pub among-le : {from to from′ to′ : ℕ} → from′ ≤ from → to ≤ to′ → (x y : ℕ) → Among Has from to x y
       → Among Has from′ to′ x y
   among-le l k x y o = record {
     number = o .number;
@@ -126,7 +126,7 @@ module _ {Has : ℕ → ℕ → ℕ → Type 0} where
     holds = o .holds;
   }
 
-  among-cases : {from mid to : ℕ} (x y : ℕ) → Among Has from to x y → Among Has from mid x y ⊎ Among Has mid to x y
+  pub among-cases : {from mid to : ℕ} (x y : ℕ) → Among Has from to x y → Among Has from mid x y ⊎ Among Has mid to x y
   among-cases {from} {mid} {to} x y o = ⊎-elim
       (λ l. inl (record { number = o .number; from-le = o .from-le; to-lt = l; holds = o .holds }))
       (λ l. inr (record { number = o .number; from-le = l; to-lt = o .to-lt; holds = o .holds }))

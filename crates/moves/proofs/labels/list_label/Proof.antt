@@ -1,94 +1,110 @@
--- The steps with this label up to j stand in the lists, and each is placed only once.
+-- The steps with this label before j stand in the lists, each placed only once; step j is the next with it.
 use mathlib.Core.Path.{_≡_, refl, _∙_}
-use Prim.Native.Nat.{_-_, _≤_}
+use Prim.Native.Nat.{_-_, _≤_, _<_}
 use native.Mathlib.Omega.{arith}
 use lib.ListN.{length}
-use borrow.Author.Needs.{needs}
-use borrow.Author.Tests.{not-true}
 use Rattle.model.specs.StoredModel.{modelAt}
-use Rattle.model.specs.System.{action}
-use Rattle.model.specs.Laws.System.StoredLaws.{stored-actions, stored-steps}
+use Rattle.model.specs.Laws.System.StoredLaws.{stored-steps}
 use Rattle.moves.specs.Inner.Listing.{Appended, Among}
-use Rattle.moves.specs.Inner.Labelling.{LabelledAs, PlacedTo}
-use Rattle.moves.specs.Laws.ListingLaws.{appended-no-step, appended-steps, appended-to}
-use Rattle.moves.specs.Laws.LabellingLaws.{role-of-stepLabel, appended-no-label, placedTo-label}
+use Rattle.moves.specs.Inner.Labelling.{StepLabel, LabelledAs, PlacedTo}
+use Rattle.moves.specs.Laws.ListingLaws.{appended-to}
+use Rattle.moves.specs.Laws.LabellingLaws.{placedTo-skip, placedTo-add, placedTo-lt, placedTo-label}
+use Rattle.moves.specs.Laws.LinkedLaws.{appended-gap, appended-link}
+use borrow.Author.Needs.{needs}
 use Rattle.moves.proofs.labels.list_label.Statement.{statement}
 use Rattle.moves.proofs.labels.list_label.Tie as tie
 
 abbrev Inv-loop : tie.InvT-loop
-Inv-loop store roles label begin sources₀ targets₀ actions n at₀ j₀ sources targets at j =
-    (n ≡ length (modelAt store .steps)) × (j ≤ n) × (length sources ≡ length sources₀)
-    × (length targets ≡ length targets₀)
+Inv-loop store heads nexts label begin sources₀ targets₀ n of j₀ at₀ sources targets j at = (n ≡ length (modelAt store .steps)) × (j ≤ n) × (length sources ≡ length sources₀)
+    × (length targets ≡ length targets₀) × (j < n → StepLabel (modelAt store) label j)
     × Appended (Among (LabelledAs (modelAt store) label) 0 j) begin at sources₀ targets₀ sources targets
     × PlacedTo (modelAt store) label j at
 
 abbrev μ-loop : tie.MeasureT-loop
-μ-loop store roles label begin sources₀ targets₀ actions n at₀ j₀ sources targets at j = n - j
-
-actions-requires : tie.Need-actions-requires Inv-loop μ-loop
-actions-requires c κs = search needs
-
-is-label-requires : tie.Need-is-label-requires Inv-loop μ-loop
-is-label-requires c κs =
-    let pre = c .before .before .before .before .before .pre in
-    omega (arith, c .actions .ensures ∙ stored-actions (pre .0), pre .0 .actions-le, pre .1 .0 .0)
-
-returns : tie.Need-returns Inv-loop μ-loop
-returns c =
-    let tested = c .before in
-    let acted = tested .before in
-    let start = acted .before .before .before .before .before in
-    let pre = start .pre in
-    let m = modelAt (start .args .store .now) in
-    let e = acted .actions .ensures ∙ stored-actions (pre .0) in
-    let none = tested .is-label .ensures (not-true (tested .is-label .result) (c .if1 .taken)) in (
-      appended-no-label (λ k l h.
-          none (action m k) (omega (arith, e, pre .0 .action-lt k l))
-          (role-of-stepLabel m (pre .1 .0 .1) k refl (pre .0 .action-lt k l) h)),
-      placedTo-label (pre .1 .1 .0 .1),
-    )
+μ-loop store heads nexts label begin sources₀ targets₀ n of j₀ at₀ sources targets j at = n - j
 
 steps-requires : tie.Need-steps-requires Inv-loop μ-loop
 steps-requires c κs = search needs
 
-loop-holds : tie.Need-loop-holds Inv-loop μ-loop
-loop-holds c =
-    let pre = c .before .before .before .before .before .before .before .before .pre in
-    (c .steps .ensures ∙ stored-steps (pre .0), omega arith, refl, refl, appended-no-step, pre .1 .1 .0 .1)
+mul-j : tie.Need-mul-j Inv-loop μ-loop
+mul-j c = search needs
 
-list-labelled-step-requires : tie.Need-list-labelled-step-requires Inv-loop μ-loop
-list-labelled-step-requires c κs =
-    let at-loop = c .before .before .before in
-    let pre = at-loop .before .before .before .before .before .before .before .before .before .pre in
-    let inv = at-loop .loop .inv in
-    let long = pre .1 .1 .1 in (
-      pre .0,
-      (
-        pre .1 .0,
-        (
-          (pre .1 .1 .0 .0, omega (arith, inv .0, c .before .before .loop-test .taken), inv .5),
-          (omega (arith, inv .2, long .0), omega (arith, inv .3, long .1)),
-        ),
-      ),
+shared-slice-read-j : tie.Need-shared-slice-read-j Inv-loop μ-loop
+shared-slice-read-j c = let pre = c .before .before .before .before .before .before .before .pre in
+    omega (arith, pre .1 .1 .0 .0, pre .1 .0 .0)
+
+loop-holds : tie.Need-loop-holds Inv-loop μ-loop
+loop-holds c = let pre = c .before .before .before .before .before .before .before .pre in
+    let e = c .before .steps .ensures ∙ stored-steps (pre .0) in
+    let f = pre .1 .0 .2 .head _ (pre .1 .1 .0 .0) in (
+      e,
+      omega (arith, e, f .number-le),
+      refl,
+      refl,
+      λ l. f .has-label (omega (arith, e, l)),
+      appended-gap f,
+      placedTo-skip (omega arith) (pre .1 .1 .0 .1),
     )
 
-add-j : tie.Need-add-j Inv-loop μ-loop
-add-j c = search needs
+put-ends-requires : tie.Need-put-ends-requires Inv-loop μ-loop
+put-ends-requires c κs = let at-loop = c .before .before .before in
+    let start = at-loop .before .before .before .before .before .before .before .before in
+    let pre = start .pre in
+    let inv = at-loop .loop .inv in
+    let t = c .before .before .loop-test .taken in
+    let j : at-loop .loop .j < length (modelAt (start .args .store .now) .steps) = omega (arith, inv .0, t) in
+    let room = placedTo-lt (inv .4 t) j (inv .6) (pre .0) in
+    (pre .0, (j, omega (arith, room, inv .2, pre .1 .1 .1 .0), omega (arith, room, inv .3, pre .1 .1 .1 .1)))
+
+add-at : tie.Need-add-at Inv-loop μ-loop
+add-at c = let in-loop = c .before .before .before .before .before .before .before in
+    let at-loop = in-loop .before in
+    let start = at-loop .before .before .before .before .before .before .before .before in
+    let inv = at-loop .loop .inv in
+    let t = in-loop .loop-test .taken in
+    let j : at-loop .loop .j < length (modelAt (start .args .store .now) .steps) = omega (arith, inv .0, t) in
+    omega (arith, placedTo-lt (inv .4 t) j (inv .6) (start .pre .0))
+
+cast-done : tie.Need-cast-done Inv-loop μ-loop
+cast-done c = search needs
+
+mul-j-2 : tie.Need-mul-j-2 Inv-loop μ-loop
+mul-j-2 c = search needs
+
+shared-slice-read-j-2 : tie.Need-shared-slice-read-j-2 Inv-loop μ-loop
+shared-slice-read-j-2 c = let at-loop = c .before .before .before .before .before .before .before .before .before in
+    let pre = at-loop .before .before .before .before .before .before .before .before .pre in
+    let t = c .before .before .before .before .before .before .before .before .loop-test .taken in
+    omega (arith, at-loop .loop .inv .0, t, pre .0 .steps-le, pre .1 .0 .1)
 
 loop-less : tie.Need-loop-less Inv-loop μ-loop
-loop-less c = search needs
+loop-less c = let in-loop = c .before .before .before .before .before .before .before .before in
+    let pre = in-loop .before .before .before .before .before .before .before .before .before .pre in
+    let inv = in-loop .before .loop .inv in
+    let t = in-loop .loop-test .taken in
+    let f = pre .1 .0 .2 .next _ _ (omega arith) (omega (arith, inv .0, t)) (inv .4 t) in
+    omega (arith, f .from-le, t)
 
 loop-again : tie.Need-loop-again Inv-loop μ-loop
-loop-again c =
-    let after = c .before .before .before .before in
-    let inv = after .before .before .before .before .loop .inv in
-    let f = after .list-labelled-step in (
+loop-again c = let in-loop = c .before .before .before .before .before .before .before .before in
+    let at-loop = in-loop .before in
+    let start = at-loop .before .before .before .before .before .before .before .before in
+    let pre = start .pre in
+    let inv = at-loop .loop .inv in
+    let t = in-loop .loop-test .taken in
+    let l : at-loop .loop .j < length (modelAt (start .args .store .now) .steps) = omega (arith, inv .0, t) in
+    let h = inv .4 t in
+    let f = pre .1 .0 .2 .next _ _ (omega arith) l h in
+    let room = placedTo-lt h l (inv .6) (pre .0) in
+    let put = c .before .before .before .before .before .put-ends in (
       inv .0,
-      omega (arith, after .before .before .before .loop-test .taken),
-      f .kept .1 .1 .1 .1 .1 .0 ∙ inv .2,
-      f .kept .1 .1 .1 .1 .1 .1 .0 ∙ inv .3,
-      appended-steps (omega arith) (omega arith) (inv .4) (f .ensures .0),
-      f .ensures .1,
+      omega (arith, inv .0, f .number-le),
+      put .kept .1 .1 .1 .0 ∙ inv .2,
+      put .kept .1 .1 .1 .1 .0 ∙ inv .3,
+      λ k. f .has-label (omega (arith, inv .0, k)),
+      appended-link (omega (arith, room, inv .2, pre .1 .1 .1 .0)) (omega (arith, room, inv .3, pre .1 .1 .1 .1)) h f
+          (put .ensures .0) (put .ensures .1) (inv .5),
+      placedTo-skip (f .from-le) (placedTo-add h l (inv .6)),
     )
 
 same-length : tie.Need-same-length Inv-loop μ-loop
@@ -97,10 +113,9 @@ same-length c = c .before .loop .inv .2
 same-length-2 : tie.Need-same-length-2 Inv-loop μ-loop
 same-length-2 c = c .before .loop .inv .3
 
-returns-2 : tie.Need-returns-2 Inv-loop μ-loop
-returns-2 c =
-    let inv = c .before .loop .inv in
-    (appended-to (omega (arith, inv .0, inv .1, c .loop-test .left)) (inv .4), placedTo-label (inv .5))
+returns : tie.Need-returns Inv-loop μ-loop
+returns c = let inv = c .before .loop .inv in
+    (appended-to (omega (arith, inv .0, inv .1, c .loop-test .left)) (inv .5), placedTo-label (inv .6))
 
 pub list-label-spec : {M : Type 1} → statement M
 list-label-spec =
@@ -108,15 +123,17 @@ list-label-spec =
     (tie.spec
     Inv-loop
     μ-loop
-    actions-requires
-    is-label-requires
-    returns
     steps-requires
+    mul-j
+    shared-slice-read-j
     loop-holds
-    list-labelled-step-requires
-    add-j
+    put-ends-requires
+    add-at
+    cast-done
+    mul-j-2
+    shared-slice-read-j-2
     loop-less
     loop-again
     same-length
     same-length-2
-    returns-2)
+    returns)

@@ -17,7 +17,7 @@ list-labels-requires : tie.Need-list-labels-requires
 list-labels-requires c κs =
     let made = c .before .before .before .before .before in
     let pre = made .before .before .before .before .before .before .pre in
-    (pre .0, ((omega arith, made .roles2 .ensures), (omega arith, omega arith, omega arith)))
+    (pre .0, (record { roles-length = omega arith; roles-are = made .roles2 .ensures }, (omega arith, omega arith, omega arith)))
 
 same-length : tie.Need-same-length
 same-length c = search needs

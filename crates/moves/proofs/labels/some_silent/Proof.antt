@@ -1,16 +1,15 @@
 -- No action below a is silent.
-use mathlib.Core.Bool.{true}
-use mathlib.Core.Path.{_≡_, _∙_}
+use mathlib.Core.Path.{_≡_, refl, _∙_}
 use Prim.Native.Nat.{ℕ, _-_, _≤_, _<_}
 use native.Mathlib.Omega.{arith}
 use lib.ListN.{getD}
 use borrow.Author.Count.{below-more}
 use borrow.Author.Needs.{needs}
-use Rattle.text.specs.Laws.DecidesLaws.{decides-false, not-T-of-false}
+use Rattle.text.specs.Laws.DecidesLaws.{decides-true, decides-false}
 use Rattle.text.specs.Model.{silent}
 use Rattle.model.specs.StoredModel.{modelAt}
 use Rattle.model.specs.Laws.System.StoredLaws.{stored-actions}
-use Rattle.moves.specs.Laws.LabellingLaws.{no-tick}
+use Rattle.moves.specs.Laws.LabellingLaws.{silent-of-role, role-of-silent}
 use Rattle.moves.proofs.labels.some_silent.Statement.{statement}
 use Rattle.moves.proofs.labels.some_silent.Tie as tie
 
@@ -33,10 +32,22 @@ is-silent-requires : tie.Need-is-silent-requires Inv-loop μ-loop
 is-silent-requires c κs =
     let at-loop = c .before in
     let pre = at-loop .before .before .before .before .pre in
-    omega (arith, at-loop .loop .inv .0, c .loop-test .taken, pre .0 .actions-le, pre .1 .0)
+    omega (arith, at-loop .loop .inv .0, c .loop-test .taken, pre .0 .actions-le, pre .1 .roles-length)
 
 returns : tie.Need-returns Inv-loop μ-loop
-returns c = λ e. absurd (not-T-of-false true e tt)
+returns c =
+    let tested = c .before in
+    let at-loop = tested .before .before in
+    let start = at-loop .before .before .before .before in
+    let l : at-loop .loop .a < modelAt (start .args .store .now) .head .actions =
+    omega (arith, at-loop .loop .inv .0, tested .before .loop-test .taken) in
+    record {
+      action = at-loop .loop .a;
+      action-lt = l;
+      is-silent =
+          silent-of-role (start .pre .1 .roles-are) refl l
+          (decides-true (tested .is-silent .result) _ (tested .is-silent .ensures) (c .if1 .taken));
+    }
 
 add-a : tie.Need-add-a Inv-loop μ-loop
 add-a c = search needs
@@ -57,10 +68,11 @@ loop-again c =
     )
 
 returns-2 : tie.Need-returns-2 Inv-loop μ-loop
-returns-2 c = λ e.
+returns-2 c = λ x.
     let inv = c .before .loop .inv in
     let pre = c .before .before .before .before .before .pre in
-    no-tick (pre .0) (pre .1 .1) (λ a l. inv .2 a (omega (arith, inv .0, c .loop-test .left, l)))
+    inv .2 (x .action) (omega (arith, inv .0, c .loop-test .left, x .action-lt))
+    (role-of-silent (pre .1 .roles-are) refl (x .action-lt) (x .is-silent))
 
 pub some-silent-spec : {M : Type 1} → statement M
 some-silent-spec =

@@ -21,7 +21,7 @@ is-low-requires c κs =
     let pre = c .before .before .before .before .before .pre in
     let j = pre .1 .1 .0 .0 in
     let e = ap (λ (x : Action). x .0) (c .action .ensures) ∙ stored-action (pre .0) _ j in
-    omega (arith, e, pre .0 .action-lt _ j, pre .0 .actions-le, pre .1 .0 .0)
+    omega (arith, e, pre .0 .action-lt _ j, pre .0 .actions-le, pre .1 .0 .roles-length)
 
 returns : tie.Need-returns
 returns c =
@@ -31,7 +31,7 @@ returns c =
     let j = pre .1 .1 .0 .0 in
     let e = ap (λ (x : Action). x .0) (acted .action .ensures) ∙ stored-action (pre .0) _ j in
     let other = decides-refused (tested .is-low .result) _ (tested .is-low .ensures) (c .if1 .taken) in (
-      appended-not-low (λ t. other (role-of-low (pre .1 .0 .1) e (pre .0 .action-lt _ j) t)),
+      appended-not-low (λ t. other (role-of-low (pre .1 .0 .roles-are) e (pre .0 .action-lt _ j) t)),
       omega arith,
     )
 
@@ -70,7 +70,7 @@ returns-2 c =
     let e = ap (λ (x : Action). x .0) (acted .action .ensures) ∙ stored-action (pre .0) _ j in
     let f = ap (λ (x : State). x .0) (c .target .ensures) ∙ stored-target (pre .0) _ j in
     let role = decides-passed (tested .is-low .result) _ (tested .is-low .ensures) (c .before .if1 .left) in
-    let low = low-of-role (pre .1 .0 .1) e (pre .0 .action-lt _ j) role in (
+    let low = low-of-role (pre .1 .0 .roles-are) e (pre .0 .action-lt _ j) role in (
       appended-low (omega (arith, pre .1 .1 .0 .1, pre .1 .1 .1 .0)) (omega (arith, pre .1 .1 .0 .1, pre .1 .1 .1 .1))
           (sym e) (sym f) low,
       omega arith,

@@ -33,7 +33,7 @@ action-is c =
 
 -- Step j is low.
 low-at : (c : tie.After-target)
-    → LowAt (modelAt (begin (acted c) .args .store .now)) (begin (acted c) .args .j .0) (acted c .action .result .0)
+    → LowAt (modelAt (begin (acted c) .args .store .now)) (acted c .action .result .0) (begin (acted c) .args .j .0)
     (c .before .source .result .0) (c .target .result .0)
 low-at c =
     let tested = c .before .before .before .is-low in
@@ -43,10 +43,12 @@ low-at c =
     let k : acted c .action .result .0 < modelAt (begin (acted c) .args .store .now) .head .actions =
     omega (arith, action-is (acted c), pre .0 .action-lt _ l) in
     record {
-      is-low = low-of-role (pre .1 .0 .1) refl k role;
+      low-as = record {
+        is-low = low-of-role (pre .1 .0 .roles-are) refl k role;
+        action-is = sym (action-is (acted c));
+        target-is = sym (ap (λ (x : State). x .0) (c .target .ensures) ∙ stored-target (pre .0) _ l);
+      };
       source-is = sym (ap (λ (x : State). x .0) (c .before .source .ensures) ∙ stored-source (pre .0) _ l);
-      action-is = sym (action-is (acted c));
-      target-is = sym (ap (λ (x : State). x .0) (c .target .ensures) ∙ stored-target (pre .0) _ l);
     }
 
 action-lt : (c : tie.After-action) → c .action .result .0 < actionLimit
@@ -66,7 +68,7 @@ action-requires : tie.Need-action-requires
 action-requires c κs = search needs
 
 is-low-requires : tie.Need-is-low-requires
-is-low-requires c κs = omega (arith, action-lt c, begin c .pre .1 .0 .0)
+is-low-requires c κs = omega (arith, action-lt c, begin c .pre .1 .0 .roles-length)
 
 returns : tie.Need-returns
 returns c =
@@ -75,7 +77,7 @@ returns c =
     let l = pre .0 .action-lt _ (pre .1 .1 .0 .0) in
     let other = decides-refused (tested .result) _ (tested .ensures) (c .if1 .taken) in (
       (omega (arith, pre .1 .1 .0 .1), pre .1 .1 .0 .2),
-      lowHeld-skip (λ t. other (role-of-low (pre .1 .0 .1) (action-is (c .before .before)) l t)) (pre .1 .1 .1),
+      lowHeld-skip (λ t. other (role-of-low (pre .1 .0 .roles-are) (action-is (c .before .before)) l t)) (pre .1 .1 .1),
     )
 
 source-requires : tie.Need-source-requires

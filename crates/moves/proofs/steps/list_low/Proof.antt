@@ -32,7 +32,7 @@ is-low-requires : tie.Need-is-low-requires Inv-loop μ-loop
 is-low-requires c κs =
     let at-loop = c .before in
     let pre = at-loop .before .before .before .before .pre in
-    omega (arith, at-loop .loop .inv .0, c .loop-test .taken, pre .0 .actions-le, pre .1 .0)
+    omega (arith, at-loop .loop .inv .0, c .loop-test .taken, pre .0 .actions-le, pre .1 .roles-length)
 
 cast-put : tie.Need-cast-put Inv-loop μ-loop
 cast-put c = search needs
@@ -66,11 +66,11 @@ loop-again c =
     ⊎-elim
     (λ w.
     let room : at-loop .loop .count < length (at-loop .loop .labels) = omega (arith, w .1) in
-    let low = low-of-role (pre .1 .1) refl k (decides-true (tested .is-low .result) _ told (w .0 .taken)) in
+    let low = low-of-role (pre .1 .roles-are) refl k (decides-true (tested .is-low .result) _ told (w .0 .taken)) in
     rw (w .3, w .4) (rw (w .2 .ensures) (inv .0, omega (arith, l), lowLabels-more (inv .2) low room)))
     (λ w.
     let other = decides-false (tested .is-low .result) _ told (w .0 .left) in
-    rw (w .1, w .2) (inv .0, omega (arith, l), lowLabels-skip (inv .2) (λ t. other (role-of-low (pre .1 .1) refl k t))))
+    rw (w .1, w .2) (inv .0, omega (arith, l), lowLabels-skip (inv .2) (λ t. other (role-of-low (pre .1 .roles-are) refl k t))))
     (c .if1 .came)
 
 returns : tie.Need-returns Inv-loop μ-loop

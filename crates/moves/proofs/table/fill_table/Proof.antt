@@ -1,10 +1,12 @@
 -- Where no action is silent no step is, and the ranks of the low steps are the ranks.
 use borrow.Author.Needs.{needs}
+use Rattle.text.specs.Laws.DecidesLaws.{decides-false}
 use Rattle.text.specs.Laws.ListLaws.{getD-zeros}
 use Rattle.sets.specs.Laws.SetsLaws.{empty-zeros}
 use Rattle.held.specs.Held.{slotsLength, poolLength}
 use Rattle.held.specs.Laws.ZeroLaws.{pooled-zero, separate-zero}
 use Rattle.moves.specs.Laws.HoldingLaws.{lowHeld-zero}
+use Rattle.moves.specs.Laws.LabellingLaws.{no-tick}
 use Rattle.moves.specs.Laws.LabelsLaws.{ranked-of-steps}
 use Rattle.moves.proofs.table.fill_table.Statement.{statement}
 use Rattle.moves.proofs.table.fill_table.Tie as tie
@@ -36,7 +38,8 @@ returns-2 : tie.Need-returns-2
 returns-2 c =
     let chosen = c .before .before .before .before .before .before .before in
     let pre = chosen .before .before .before .before .before .pre in
-    let still = chosen .before .some-silent .ensures (chosen .if1 .left) in
+    let tested = chosen .before .some-silent in
+    let still = no-tick (pre .0) (decides-false (tested .result) _ (tested .ensures) (chosen .if1 .left)) in
     ranked-of-steps (pre .0) still (c .before .before .rank-low .ensures)
 
 pub fill-table-spec : {M : Type 1} → statement M
