@@ -18,9 +18,10 @@ ghost use lib.ListN.{length, getD};
 ghost use Rattle.lts.specs.Weak.{silentLabel};
 ghost use Rattle.text.specs.Limits.{stateLimit, actionLimit};
 ghost use Rattle.comparing.specs.Inner.Numbered.{ClassNumbers};
-ghost use Rattle.sets.specs.Inner.Sets.{Member};
+ghost use Rattle.sets.specs.Inner.Sets.{Member, Joined};
 ghost use Rattle.silent.specs.Labelled.{LabelStep, LabelList, TickLabel, LabelMove};
-ghost use Rattle.silent.specs.Inner.Keys.{turnPlace, OfStates, OwnClasses, Passed, Closed, Gathered, Keys};
+ghost use Rattle.silent.specs.Inner.Keys.{turnPlace, OfStates, OwnClasses, Passed, ClosedUnder, Closed};
+ghost use Rattle.silent.specs.Inner.Keys.{Gathered, Keys};
 
 // Makes set p the class of p alone, for each of n states.
 fn own_classes(n: u16, class: &[u16; ROW], sets: &mut [u64; SETS_LENGTH])
@@ -47,8 +48,26 @@ fn turn_place(begin: usize, end: usize, backward: bool, i: usize) -> usize
     i
 }
 
+// A turn of a pass: adds the members of set q to set p. Yields `again`, and true where set p has grown though it is
+// marked.
+fn turn(p: State, q: State, marks: &[u8; ROW], again: bool, sets: &mut [u64; SETS_LENGTH]) -> bool
+    requires { ⌜ (p .0 < stateLimit) × (q .0 < stateLimit) ⌝ }
+    ensures { λ r. ⌜ Joined (p .0) (Member (now (sets .entry)) (q .0)) (now (sets .entry)) (now (sets .exit)) ⌝ }
+    ensures { λ r. ⌜ (r ≡ false → (again ≡ false)
+        × (getD (now (marks .entry)) (p .0) 0 ≡ 1 → now (sets .exit) ≡ now (sets .entry))) ⌝ }
+{
+    if !spread(sets, p, q) {
+        return again;
+    }
+    if marks[p.0 as usize] == 1 {
+        return true;
+    }
+    again
+}
+
 // Adds to the set of the source of each silent step the members of that of its target, from the last step to the first
-// or the other way. Yields whether a set has grown.
+// or the other way. Yields whether a further pass can change a set: one has grown after it was read. The sets that were
+// read are marked, a byte for each: a store is cheaper in this loop than a bit.
 fn pass(
     n: u16,
     from: &[u16; LABELS_LENGTH],
@@ -61,20 +80,24 @@ fn pass(
     requires { ⌜ OfStates n (now sets) ⌝ }
     ensures { λ r. ⌜ Passed (TickLabel (now (from .entry)) (now (sources .entry)) (now (targets .entry))) n
         (now (sets .entry)) (now (sets .exit)) ⌝ }
-    ensures { λ r. ⌜ (r ≡ false → now (sets .exit) ≡ now (sets .entry)) ⌝ }
+    ensures { λ r. ⌜ (r ≡ false
+        → ClosedUnder (TickLabel (now (from .entry)) (now (sources .entry)) (now (targets .entry)))
+        (now (sets .exit))) ⌝ }
 {
     let begin = wide(from[ACTION_LIMIT as usize]);
     let end = wide(from[ACTION_LIMIT as usize + 1]);
-    let mut grown = false;
+    let mut marks = [0u8; ROW];
+    let mut again = false;
     let mut i = begin;
     while i < end {
         let at = turn_place(begin, end, backward, i);
-        if spread(sets, State(sources[at]), State(targets[at])) {
-            grown = true;
-        }
+        let p = State(sources[at]);
+        let q = State(targets[at]);
+        again = turn(p, q, &marks, again, sets);
+        marks[q.0 as usize] = 1;
         i += 1;
     }
-    grown
+    again
 }
 
 // Gives each set the members of the sets of all states that a silent move leads to. The passes go to and fro, so that

@@ -37,6 +37,10 @@ pub record Passed (Tick : Relation) (n : ℕ) (entry exit : List ℕ) : Type 0 w
   pub along : (p q x : ℕ) → Tick p q → Member entry q x → Member exit p x
   pub only : (p x : ℕ) → p < stateLimit → Member exit p x → (q : ℕ) × Silent Tick n p q × Member entry q x
 
+-- Set p has the members of the sets of all states that one silent step leads to from p.
+pub record ClosedUnder (Tick : Relation) (sets : List ℕ) : Type 0 where
+  pub along : (p q x : ℕ) → Tick p q → Member sets q x → Member sets p x
+
 -- Set p has the members of the sets of all states that Step leads to from p, and no others.
 pub record Gathered (Step : Relation) (sets gathered : List ℕ) : Type 0 where
   pub reached : (p q x : ℕ) → Step p q → Member sets q x → Member gathered p x

@@ -3,7 +3,7 @@ use mathlib.Core.Bool.{Bool, false}
 use mathlib.Core.List.{List}
 use mathlib.Core.Path.{_≡_}
 use Prim.Native.Nat.{ℕ, _≤_, _<_}
-use lib.ListN.{getD}
+use lib.ListN.{length, getD}
 use Rattle.lts.specs.Alike.{Relation}
 use Rattle.lts.specs.View.{View}
 use Rattle.lts.specs.Run.{Within}
@@ -31,9 +31,15 @@ pub record PassedTo (from sources targets : List ℕ) (n : ℕ) (backward : Bool
       → Member sets (getD sources (turnPlace backward begin end j) 0) x
   pub silent : AlongSilent (TickLabel from sources targets) n entry sets
 
--- The flag tells where sets have not grown.
-pub record Unchanged (grown : Bool) (entry sets : List ℕ) : Type 0 where
-  pub same : grown ≡ false → sets ≡ entry
+-- In its turns before i the set of each target lies within that of its source, unless a set has grown after it was
+-- read: those that were read are marked.
+pub record ClosedTo (sources targets : List ℕ) (backward : Bool) (begin end i : ℕ) (again : Bool) (marks sets : List ℕ)
+    : Type 0 where
+  pub marks-length : length marks ≡ stateLimit
+  pub marked : (j : ℕ) → begin ≤ j → j < i → getD marks (getD targets (turnPlace backward begin end j) 0) 0 ≡ 1
+  pub along : again ≡ false → (j x : ℕ) → begin ≤ j → j < i
+      → Member sets (getD targets (turnPlace backward begin end j) 0) x
+      → Member sets (getD sources (turnPlace backward begin end j) 0) x
 
 -- The silent steps backward from q, as the steps of a view.
 abbrev pub toward : Relation → ℕ → ℕ → View

@@ -1,4 +1,5 @@
--- Passes close sets along silent moves: where a pass changes nothing, and after as many passes as there are states.
+-- Passes close sets along silent moves: where one leaves them closed under one step, and after as many passes as there
+-- are states.
 -- Assumes nothing.
 use mathlib.Core.Path.{_≡_, refl, sym, subst}
 use mathlib.Core.Logic.{_⊎_, inl, inr}
@@ -13,7 +14,7 @@ use Rattle.lts.specs.Weak.{Silent, stay, tick}
 use Rattle.lts.specs.WeakTests.{DecidedTick}
 use Rattle.text.specs.Limits.{stateLimit}
 use Rattle.sets.specs.Inner.Sets.{Member}
-use Rattle.silent.specs.Inner.Keys.{OfStates, Passed, Closed}
+use Rattle.silent.specs.Inner.Keys.{OfStates, Passed, ClosedUnder, Closed}
 use Rattle.silent.specs.Inner.Loops.{toward, ClosedWithin}
 use Rattle.silent.specs.Laws.LoopsLaws.{alongSilent-refl, alongSilent-trans}
 use Rattle.silent.specs.Laws.TowardLaws.{silent→Within}
@@ -38,19 +39,19 @@ module _ {Tick : Relation} {n : ℕ} where
       go p q x m (inl w) = P .kept p x (h .near p q x w m)
       go p q x m (inr (r, a, w, t)) = P .along p r x (t .1) (h .near r q x w m)
 
-  -- A pass has changed nothing.
-  closed-still : {k : ℕ} {entry sets : List ℕ} → ClosedWithin Tick n k entry sets → Passed Tick n sets sets
-      → {p q : ℕ} (x : ℕ) → Silent Tick n p q → Member entry q x → Member sets p x
-  closed-still {k} h P {p} {q} x (stay l) m = h .near p q x (within-le (omega arith) (within-start (refl, l))) m
-  closed-still {k} h P x (tick {p = p} {q = r} t s) m = P .along p r x t (closed-still h P x s m)
+  -- After a pass the sets are closed under one step.
+  closed-along : {k : ℕ} {entry sets exit : List ℕ} → ClosedWithin Tick n k entry sets → Passed Tick n sets exit
+      → ClosedUnder Tick exit → {p q : ℕ} (x : ℕ) → Silent Tick n p q → Member entry q x → Member exit p x
+  closed-along h P U {p} {q} x (stay l) m =
+      P .kept p x (h .near p q x (within-le (omega arith) (within-start (refl, l))) m)
+  closed-along h P U x (tick {p = p} {q = r} t s) m = U .along p r x t (closed-along h P U x s m)
 
-  pub closedWithin-still : {k : ℕ} {entry sets exit : List ℕ} → n ≤ stateLimit → ClosedWithin Tick n k entry sets
-      → Passed Tick n sets exit → exit ≡ sets → Closed Tick n entry exit
-  closedWithin-still {k} {entry} {sets} {exit} l h P e =
-      subst (Closed Tick n entry) (sym e) (record {
-        reached = λ p q x s m. closed-still h (subst (Passed Tick n sets) e P) x s m;
-        only = h .silent .only;
-      })
+  pub closed-of-under : {k : ℕ} {entry sets exit : List ℕ} → n ≤ stateLimit → ClosedWithin Tick n k entry sets
+      → Passed Tick n sets exit → ClosedUnder Tick exit → Closed Tick n entry exit
+  closed-of-under l h P U = record {
+    reached = λ p q x s m. closed-along h P U x s m;
+    only = alongSilent-trans l (h .silent) (record { only = P .only }) .only;
+  }
 
   -- There have been as many passes as there are states.
   pub closedWithin→Closed : {tick? : ℕ → ℕ → Bool} {k : ℕ} {entry sets : List ℕ} → DecidedTick Tick n tick? → n ≤ k

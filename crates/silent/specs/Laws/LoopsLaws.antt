@@ -1,21 +1,20 @@
--- The loops that make sets along steps: one turn more, and what they have made at their end. Assumes nothing.
-use mathlib.Core.Path.{_≡_, refl, sym, ap, subst, _∙_}
+-- The loops that make sets along steps: one turn more, and what they have made at their end. Those of a pass stand in
+-- PassLaws. Assumes nothing.
+use mathlib.Core.Path.{_≡_, refl, sym, subst}
 use mathlib.Core.Logic.{_⊎_, inl, inr}
-use mathlib.Core.Bool.{Bool, true, false}
 use mathlib.Core.List.{List}
-use Prim.Native.Nat.{ℕ, _+_, _-_, _≤_, _<_}
+use Prim.Native.Nat.{ℕ, _+_, _≤_, _<_}
 use native.Mathlib.Omega.{arith}
 use lib.ListN.{getD}
 use Rattle.lts.specs.TestsLaws.{eq-or-not}
 use Rattle.lts.specs.Alike.{Relation}
-use Rattle.lts.specs.Weak.{Silent, stay, tick}
+use Rattle.lts.specs.Weak.{stay}
 use Rattle.lts.specs.WeakLaws.{silent-source-lt, silent-lt, silent-trans}
-use Rattle.text.specs.Limits.{stateLimit, actionLimit}
-use Rattle.text.specs.Laws.DecidesLaws.{T-of-true, not-T-of-false}
+use Rattle.text.specs.Limits.{stateLimit}
 use Rattle.sets.specs.Inner.Sets.{Member, Empty, Joined}
-use Rattle.silent.specs.Labelled.{LabelStep, LabelList, TickLabel}
-use Rattle.silent.specs.Inner.Keys.{turnPlace, OfStates, OwnClasses, Passed, Gathered}
-use Rattle.silent.specs.Inner.Loops.{OwnBelow, AlongSilent, PassedTo, Unchanged, GatheredTo}
+use Rattle.silent.specs.Labelled.{LabelStep}
+use Rattle.silent.specs.Inner.Keys.{OfStates, OwnClasses, Gathered}
+use Rattle.silent.specs.Inner.Loops.{OwnBelow, AlongSilent, GatheredTo}
 
 -- ---- the own classes
 
@@ -98,83 +97,3 @@ module _ {Tick : Relation} {n : ℕ} where
   pub alongSilent→OfStates : {entry exit : List ℕ} → ((p q : ℕ) → Tick p q → p < n) → AlongSilent Tick n entry exit
       → OfStates n exit
   alongSilent→OfStates f s = record { state-lt = λ p x l m. silent-source-lt f (s .only p x l m .1) }
-
--- ---- a pass
-
--- Each place has its turn.
-pub turn-exists : (b : Bool) (begin end t : ℕ) → begin ≤ t → t < end
-    → (j : ℕ) × (begin ≤ j) × (j < end) × (turnPlace b begin end j ≡ t)
-turn-exists true begin end t l u = (begin + (end - 1 - t), omega arith, omega arith, omega arith)
-turn-exists false begin end t l u = (t, l, u, refl)
-
-module _ {n : ℕ} {from sources targets : List ℕ} {b : Bool} where
-  pub passedTo-none : {sets : List ℕ} (begin end : ℕ) → OfStates n sets
-      → PassedTo from sources targets n b begin end begin sets sets
-  passedTo-none begin end o = record {
-    kept = λ p x m. m;
-    along = λ j x l u m. absurd (omega arith);
-    silent = alongSilent-refl o;
-  }
-
-  pub passedTo-suc : {begin end i at : ℕ} {entry sets exit : List ℕ} → LabelList n from sources targets
-      → begin ≡ getD from actionLimit 0 → end ≡ getD from (actionLimit + 1) 0
-      → (at ≡ turnPlace b begin end i) × (begin ≤ at) × (at < end)
-      → Joined (getD sources at 0) (Member sets (getD targets at 0)) sets exit
-      → PassedTo from sources targets n b begin end i entry sets
-      → PassedTo from sources targets n b begin end (i + 1) entry exit
-  passedTo-suc {begin} {end} {i} {at} {entry} {sets} {exit} L d e (at-is, lo, hi) J h = record {
-    kept = λ p x m. J .kept p x (h .kept p x m);
-    along = λ k x l u m. along k x l u m (eq-or-not k i);
-    silent = record { only = λ p x l m. only p x l (J .only p x m) };
-  }
-    where
-      along : (k x : ℕ) → begin ≤ k → k < i + 1 → Member entry (getD targets (turnPlace b begin end k) 0) x
-          → (k ≡ i) ⊎ ¬ (k ≡ i) → Member exit (getD sources (turnPlace b begin end k) 0) x
-      along k x l u m (inl f) =
-          let g : turnPlace b begin end k ≡ at = ap (turnPlace b begin end) f ∙ sym at-is in
-          subst (λ (y : ℕ). Member exit (getD sources y 0) x) (sym g)
-          (J .joined x (h .kept (getD targets at 0) x
-          (subst (λ (y : ℕ). Member entry (getD targets y 0) x) g m)))
-      along k x l u m (inr f) =
-          J .kept (getD sources (turnPlace b begin end k) 0) x (h .along k x l (omega arith) m)
-
-      only : (p x : ℕ) → p < stateLimit
-          → Member sets p x ⊎ ((p ≡ getD sources at 0) × Member sets (getD targets at 0) x)
-          → (q : ℕ) × Silent (TickLabel from sources targets) n p q × Member entry q x
-      only p x l (inl m) = h .silent .only p x l m
-      only p x l (inr (f, m)) =
-          let k = L .target-lt at (omega (arith, hi, e)) in
-          let r = h .silent .only (getD targets at 0) x (omega (arith, k, L .states-le)) m in
-          let s : LabelStep from sources targets actionLimit p (getD targets at 0) = record {
-            place = at;
-            from-le = omega (arith, lo, d);
-            place-lt = omega (arith, hi, e);
-            source-is = sym f;
-            target-is = refl;
-          } in
-          (r .0, tick s (r .1), r .2)
-
-  pub passedTo→Passed : {begin end i : ℕ} {entry sets : List ℕ} → begin ≡ getD from actionLimit 0
-      → end ≡ getD from (actionLimit + 1) 0 → end ≤ i → PassedTo from sources targets n b begin end i entry sets
-      → Passed (TickLabel from sources targets) n entry sets
-  passedTo→Passed {begin} {end} {i} {entry} {sets} d e l h = record {
-    kept = h .kept;
-    along = λ p q x s m.
-        let r = turn-exists b begin end (s .place) (omega (arith, d, s .from-le)) (omega (arith, e, s .place-lt)) in
-        let p-is : getD sources (turnPlace b begin end (r .0)) 0 ≡ p =
-        ap (λ (y : ℕ). getD sources y 0) (r .3) ∙ s .source-is in
-        let q-is : getD targets (turnPlace b begin end (r .0)) 0 ≡ q =
-        ap (λ (y : ℕ). getD targets y 0) (r .3) ∙ s .target-is in
-        subst (λ (y : ℕ). Member sets y x) p-is (h .along (r .0) x (r .1) (omega (arith, r .2, l))
-        (subst (λ (y : ℕ). Member entry y x) (sym q-is) m));
-    only = h .silent .only;
-  }
-
--- ---- the flag of a pass
-
-pub unchanged-grown : {grown : Bool} {entry sets : List ℕ} → grown ≡ true → Unchanged grown entry sets
-unchanged-grown {grown} e = record { same = λ f. absurd (not-T-of-false grown f (T-of-true grown e)) }
-
-pub unchanged-kept : {grown before : Bool} {entry sets exit : List ℕ} → grown ≡ before → exit ≡ sets
-    → Unchanged before entry sets → Unchanged grown entry exit
-unchanged-kept e f u = record { same = λ g. f ∙ u .same (sym e ∙ g) }
