@@ -1,7 +1,7 @@
 //! The models that are measured.
 use std::collections::BTreeSet;
 
-use second::gen::{greatest_roll, with_all_starts, Rng};
+use second::gen::{choices_of_ticks, deep_choices_of_ticks, greatest_roll, with_all_starts, Rng};
 use second::{Action, Level, Model, Step};
 
 const SEED: u64 = 0x7113;
@@ -287,16 +287,6 @@ fn chain_of_62_actions() -> Model {
     ticking(128, 0, (0..127).flat_map(on), ticks)
 }
 
-/// From each of 121 states ticks to a choice of its own of seven more, and from each of these a step of each of 62
-/// actions. Nearly all moves of two states differ, so that there is no room for all of them as sets.
-fn choices_of_ticks() -> Model {
-    let chosen = |p: u16| (0..7).filter(move |i| (p + 1) >> i & 1 == 1);
-    let ticks = (0..121).flat_map(|p| chosen(p).map(move |i| (p, 121 + i)));
-    let target = |a, i| (17 * i + a * (i + 1)) % 121;
-    let steps = (0..62).flat_map(|a| (0..7).map(move |i| (121 + i, a, target(a, i))));
-    ticking(128, 0, steps, ticks)
-}
-
 /// Each model with its name.
 pub fn shapes() -> Vec<(&'static str, Model)> {
     vec![
@@ -332,6 +322,7 @@ pub fn shapes() -> Vec<(&'static str, Model)> {
         ("backward ticks, 62 actions", backward_ticks_of_62_actions()),
         ("chain of ticks, 62 actions", chain_of_62_actions()),
         ("choices of ticks, 62 actions", choices_of_ticks()),
+        ("deep choices of ticks", deep_choices_of_ticks()),
     ]
 }
 
