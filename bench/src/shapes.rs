@@ -1,7 +1,7 @@
 //! The models that are measured.
 use std::collections::BTreeSet;
 
-use second::gen::{greatest_roll, with_all_starts, Rng};
+use second::gen::{choices_of_ticks, deep_choices_of_ticks, greatest_roll, with_all_starts, Rng};
 use second::{Action, Level, Model, Step};
 
 const SEED: u64 = 0x7113;
@@ -287,16 +287,6 @@ fn chain_of_62_actions() -> Model {
     ticking(128, 0, (0..127).flat_map(on), ticks)
 }
 
-/// From each of 121 states ticks to a choice of its own of seven more, and from each of these a step of each of 62
-/// actions. Nearly all moves of two states differ, so that there is no room for all of them as sets.
-fn choices_of_ticks() -> Model {
-    let chosen = |p: u16| (0..7).filter(move |i| (p + 1) >> i & 1 == 1);
-    let ticks = (0..121).flat_map(|p| chosen(p).map(move |i| (p, 121 + i)));
-    let target = |a, i| (17 * i + a * (i + 1)) % 121;
-    let steps = (0..62).flat_map(|a| (0..7).map(move |i| (121 + i, a, target(a, i))));
-    ticking(128, 0, steps, ticks)
-}
-
 /// Each model with its name.
 pub fn shapes() -> Vec<(&'static str, Model)> {
     vec![
@@ -332,6 +322,7 @@ pub fn shapes() -> Vec<(&'static str, Model)> {
         ("backward ticks, 62 actions", backward_ticks_of_62_actions()),
         ("chain of ticks, 62 actions", chain_of_62_actions()),
         ("choices of ticks, 62 actions", choices_of_ticks()),
+        ("deep choices of ticks, 62 actions", deep_choices_of_ticks()),
     ]
 }
 
@@ -352,16 +343,18 @@ start of line 1 to the state after it. Greatest roll: a ring with 7 or 9 actions
 has 832 lines; its leak is 127 steps from the start. Typical: a till of 20 stages of a sale, its printer free or busy,
 40 states; its leak is 10 steps from the start.
 
-The rest have ticks, and all but the typical one have one high step as well. Ring of ticks: a tick from each of 128 states to
-the next, from the last to 0, and 7 actions from each to random states; all states are alike. Chain of ticks and scans:
-from each state to the next with 7 actions and with a tick. Tick between scans: from each state to the next, by turns
-with 8 actions and with a tick. Chain with tick loops: that of 6 actions, with a tick from each state to itself. Ticks
-that fan out: from each of eight states to each state of a chain of 112, and a step from each of the eight to the next.
-Two chains with ticks across: two of 64 with 7 actions, and a tick from each state of the first to its like of the
-second. Backward ticks: the chain of 7 actions with a tick from each state to the one before it, and a step of its own
-action from the last state. Typical with ticks: the typical till with a timer that runs out in any state; a tick leads
-to a state beside it with the same steps, and goes on there, 80 states. Of 62 actions: backward ticks with 3 actions from
-each state to the next and 59 more from the last state to itself; a chain of ticks and, from each state to the next, 7 of
-the 62 in turn; choices of ticks, from each of 121 states to some of seven others, no two to the same ones, from which the
-steps of all actions lead back: the only one of these models with more sets than there is room for.
+The rest have ticks, and all but the typical one have one high step as well. Ring of ticks: a tick from each of 128
+states to the next, from the last to 0, and 7 actions from each to random states; all states are alike. Chain of ticks
+and scans: from each state to the next with 7 actions and with a tick. Tick between scans: from each state to the next,
+by turns with 8 actions and with a tick. Chain with tick loops: that of 6 actions, with a tick from each state to
+itself. Ticks that fan out: from each of eight states to each state of a chain of 112, and a step from each of the eight
+to the next. Two chains with ticks across: two of 64 with 7 actions, and a tick from each state of the first to its like
+of the second. Backward ticks: the chain of 7 actions with a tick from each state to the one before it, and a step of
+its own action from the last state. Typical with ticks: the typical till with a timer that runs out in any state; a tick
+leads to a state beside it with the same steps, and goes on there, 80 states. Of 62 actions: backward ticks with 3
+actions from each state to the next and 59 more from the last state to itself; a chain of ticks and, from each state to
+the next, 7 of the 62 in turn; choices of ticks, from each of 121 states to some of seven others, no two to the same
+ones, from which the steps of all actions lead back, so that all states are alike; deep choices of ticks, the same of 45
+states, with a chain of 76, which takes 75 rounds. These last two are the only models with more sets than there is room
+for.
 ";

@@ -104,11 +104,21 @@ impl Measured {
         (!self.is_refused(index)).then(|| ours[index] / second[index])
     }
 
-    /// Our time of what plain Rust does too, that of plain Rust, and the one by the other.
-    fn beside_plain(&self, index: usize) -> [f64; 3] {
-        let ours = self.times.ours[column(PLAIN[index])];
-        let plain = self.times.plain[index];
-        [ours, plain, ours / plain]
+    /// Our time of what plain Rust does too.
+    fn ours_beside(&self, index: usize) -> f64 {
+        self.times.ours[column(PLAIN[index])]
+    }
+
+    /// The time of plain Rust by steps, and ours by it; none where the model has ticks.
+    fn plain(&self, index: usize) -> Option<(f64, f64)> {
+        let plain = self.times.plain.as_ref()?[index];
+        Some((plain, self.ours_beside(index) / plain))
+    }
+
+    /// The time of plain Rust over bit sets, and ours by it.
+    fn bits(&self, index: usize) -> Option<(f64, f64)> {
+        let bits = self.times.bits[index];
+        Some((bits, self.ours_beside(index) / bits))
     }
 
     fn second_row(&self) -> Vec<String> {
@@ -142,16 +152,13 @@ impl Measured {
     }
 
     fn plain_row(&self) -> Vec<String> {
-        let times = (0..PLAIN.len()).flat_map(|index| self.beside_plain(index));
-        let bits = [self.times.bits, self.to_bits()].map(if_any);
-        let cells = times.map(digits).chain(bits);
+        let cells = |index| {
+            let two = [self.plain(index), self.bits(index)].into_iter();
+            let two = two.flat_map(|times| [times.map(|both| both.0), times.map(|both| both.1)]);
+            [Some(self.ours_beside(index))].into_iter().chain(two)
+        };
+        let cells = (0..PLAIN.len()).flat_map(cells).map(if_any);
         [self.name.to_string()].into_iter().chain(cells).collect()
-    }
-
-    /// Our time of Rank by that of plain Rust over bit sets, for models without ticks.
-    fn to_bits(&self) -> Option<f64> {
-        let ours = self.times.ours[column("Rank")];
-        self.times.bits.map(|bits| ours / bits)
     }
 }
 
@@ -171,8 +178,8 @@ is Read, Judge and Word in one; program is `till`: print with its process, from 
 ";
 
 const RATIOS: &str = "\
-Our times by those of the second checker (Word's without refusals), and those of Rank, Book and Check by plain Rust's,
-of the models without ticks and of those with ticks:
+Our times by those of the second checker (Word's without refusals), and those of Rank, Book and Check by those of plain
+Rust and of plain Rust over bit sets, of the models without ticks and of those with ticks:
 ";
 
 const SECOND: &str = "\
@@ -180,10 +187,11 @@ The second checker is written to be clear and not fast; its program is timed wit
 takes a store tests within its time that the store is good, and so does the second checker's. Plain Rust is written for
 speed and not proved, and takes a good store for granted. It compares states by their moves, and looks again only where
 something changed; its book is one call that ranks, too, and like its check it finds a state's steps with an action by
-an index. Check is timed on the model's own book. Another ranking in plain Rust is over bit sets: it shows how
-fast one can be where each move is a single step and a set of states the bits of one number. On models with ticks all of
-plain Rust is over bit sets: it works out the targets of the moves of each state and action as one number, ranks by
-them, and finds the entries of its book in the same rounds; there is no other ranking beside it.
+an index. It takes each move for a single step, so that there is none for models with ticks. Plain Rust over bit sets,
+where a set of states is the bits of one number, is there for all models: it works out the targets of the moves of each
+state and action as one number, ranks by them, and finds the entries of its book in the same rounds. Without ticks its
+Rank is another, which shows how fast one can be where each move is a single step. Check is timed on the model's own
+book.
 ";
 
 /// The models that the README shows, and what it calls them.
@@ -197,6 +205,9 @@ const SHORT: [(&str, &str); 5] = [
 
 /// What the README shows of them.
 const SHORT_COLUMNS: [&str; 7] = ["Read", "Judge", "Book", "Check", "Page", "Roll", "program"];
+
+/// A time of plain Rust by the operation's place in `PLAIN`, and ours by it.
+type Beside = fn(&Measured, usize) -> Option<(f64, f64)>;
 
 impl Report {
     /// The times of the proved operations and of the program.
@@ -219,13 +230,15 @@ impl Report {
                 if_any(ratios.reduce(choose))
             };
             let second = (0..names().len()).map(over);
-            let plain = (0..PLAIN.len()).map(|index| digits(self.to_plain(index, ticks, choose)));
-            let cells = second.chain(plain);
+            let plain = self.beside(Measured::plain, ticks, choose);
+            let bits = self.beside(Measured::bits, ticks, choose);
+            let cells = second.chain(plain).chain(bits);
             [name.to_string()].into_iter().chain(cells).collect()
         };
-        let to_plain = PLAIN.map(|name| format!("{name} to plain"));
+        let to_plain =
+            ["plain", "bit sets"].map(|other| PLAIN.map(|name| format!("{name} to {other}")));
         let mut head = [&["ratio"], &names()[..]].concat();
-        head.extend(to_plain.iter().map(String::as_str));
+        head.extend(to_plain.iter().flatten().map(String::as_str));
         let rows = [
             row("least", false, f64::min),
             row("greatest", false, f64::max),
@@ -235,11 +248,13 @@ impl Report {
         table(&head, rows)
     }
 
-    /// The least or the greatest of our times by plain Rust's, of models with ticks or without.
-    fn to_plain(&self, index: usize, ticks: bool, choose: fn(f64, f64) -> f64) -> f64 {
-        let models = self.with(ticks);
-        let ratios = models.map(|model| model.beside_plain(index)[2]);
-        ratios.reduce(choose).expect("some model")
+    /// The least or the greatest of our times by those of plain Rust, of models with ticks or without, in the order of
+    /// `PLAIN`.
+    fn beside(&self, other: Beside, ticks: bool, choose: fn(f64, f64) -> f64) -> [String; 3] {
+        [0, 1, 2].map(|index| {
+            let ratios = self.with(ticks).filter_map(|model| other(model, index));
+            if_any(ratios.map(|both| both.1).reduce(choose))
+        })
     }
 
     fn named(&self, name: &str) -> &Measured {
@@ -272,10 +287,9 @@ impl Report {
         let times = table(&head, SHORT.map(row));
         let slowest = digits(self.most(Measured::program));
         let more = digits(self.most(Measured::more));
-        let most = |ticks| [0, 1, 2].map(|index| digits(self.to_plain(index, ticks, f64::max)));
-        let ([rank, book, check], [with_ticks, book_with, check_with]) = (most(false), most(true));
-        let bits = self.models.iter().filter_map(Measured::to_bits);
-        let bits = if_any(bits.reduce(f64::max));
+        let [rank, book, check] = self.beside(Measured::plain, false, f64::max);
+        let [rank_bits, book_bits, check_bits] = self.beside(Measured::bits, false, f64::max);
+        let [rank_ticks, book_ticks, check_ticks] = self.beside(Measured::bits, true, f64::max);
         let [process, _] = self.empty.map(digits);
         format!(
             "Microseconds, the best of many calls, on {}:\n\n{times}\n\
@@ -283,10 +297,10 @@ impl Report {
              process, as\nan empty text shows. Roll takes at most {more} more than Page. \
              On models without ticks Rank takes at most {rank} times as\n\
              long as plain Rust that compares states by their moves and is not proved, Book at most {book} times and \
-             Check at most {check}\ntimes; and Rank at most {bits} times as long as plain Rust over bit sets, \
-             for single steps alone.\n\
-             On models with ticks Rank takes at most {with_ticks} times as long as plain Rust over bit sets, \
-             Book at most {book_with} times and Check\nat most {check_with} times.\n\
+             Check at most {check}\ntimes; beside plain Rust over bit sets it is at most {rank_bits}, {book_bits} and \
+             {check_bits} times.\n\
+             On models with ticks Rank takes at most {rank_ticks} times as long as plain Rust over bit sets, \
+             Book at most {book_ticks} times and Check\nat most {check_ticks} times.\n\
              `bench/TABLE.md` has every model and operation, and beside them the times of the second checker \
              and of plain Rust.\n",
             machine()
@@ -297,8 +311,8 @@ impl Report {
     pub fn whole(&self) -> String {
         let head = [&["model"], &names()[..]].concat();
         let second = table(&head, self.models.iter().map(Measured::second_row));
-        let plain_head = PLAIN.map(|name| [name, "plain", "ratio"]).concat();
-        let head = [&["model"], &plain_head[..], &["bit sets", "Rank's ratio"]].concat();
+        let plain_head = PLAIN.map(|name| [name, "plain", "ratio", "bit sets", "ratio"]);
+        let head = [&["model"], &plain_head.concat()[..]].concat();
         let plain = table(&head, self.models.iter().map(Measured::plain_row));
         let head = ["model", "lines of the roll", "Page", "Roll", "Roll - Page"];
         let rolls = table(&head, self.models.iter().map(Measured::roll_row));

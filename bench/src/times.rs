@@ -42,31 +42,51 @@ pub fn names() -> Vec<&'static str> {
 /// What is timed in plain Rust too.
 pub const PLAIN: [&str; 3] = ["Rank", "Book", "Check"];
 
-/// Fills the table of a good store.
-type Ranking = fn(&[u16], &mut [u8]) -> u8;
+/// What takes longer than a part of it, after that part. A reading that says otherwise is measured again.
+const PARTS: [(&str, &str); 5] = [
+    ("Reach", "Judge"),
+    ("Rank", "Judge"),
+    ("Judge", "Word"),
+    ("Judge", "Page"),
+    ("Page", "print"),
+];
 
-/// These in plain Rust, and another ranking.
-struct Plain {
-    rank: Ranking,
-    book: fn(&[u16; STORE], &mut [u8; TABLE], &mut [u8; BOOK]),
-    check: fn(&[u16; STORE], &[u8; BOOK]) -> Option<usize>,
-    bits: Option<Ranking>,
+/// The share of a part's time that may be lacking, and how many more turns there are at most.
+const TOLERANCE: f64 = 0.01;
+const MORE_TURNS: usize = 5;
+
+/// Some time of ours is less than that of a part.
+fn is_refuted(ours: &Each) -> bool {
+    let time = |name| ours[column(name)];
+    let lacks = |&(part, whole)| time(whole) < (1.0 - TOLERANCE) * time(part);
+    PARTS.iter().any(lacks)
 }
 
-/// For models whose moves are single steps.
-const WITHOUT_TICKS: Plain = Plain {
+/// The operations of `PLAIN` on a good store in plain Rust.
+struct Plain {
+    rank: fn(&[u16], &mut [u8]) -> u8,
+    book: fn(&[u16; STORE], &mut [u8; TABLE], &mut [u8; BOOK]),
+    check: fn(&[u16; STORE], &[u8; BOOK]) -> Option<usize>,
+}
+
+/// By the steps of each state, for models whose moves are single steps.
+const BY_STEPS: Plain = Plain {
     rank: plain::rank,
     book: plain_books::book,
     check: plain_books::check,
-    bits: Some(plain_bits::rank),
 };
 
-/// For those with ticks, over bit sets alone.
-const WITH_TICKS: Plain = Plain {
+/// Over bit sets, for the same models.
+const STEPS_AS_SETS: Plain = Plain {
+    rank: plain_bits::rank,
+    ..MOVES_AS_SETS
+};
+
+/// Over bit sets, for any model.
+const MOVES_AS_SETS: Plain = Plain {
     rank: plain_ticks::rank,
     book: plain_ticks_books::book,
     check: plain_ticks_books::check,
-    bits: None,
 };
 
 /// The place of a name among them.
@@ -123,10 +143,34 @@ pub fn is_read(model: &Model) -> bool {
 pub struct Times {
     pub ours: Each,
     pub second: Each,
-    /// In the order of `PLAIN`.
-    pub plain: Each,
-    /// Rank over bit sets, for models without ticks.
-    pub bits: Option<f64>,
+    /// Plain Rust by steps, for models without ticks, in the order of `PLAIN`.
+    pub plain: Option<Each>,
+    /// Plain Rust over bit sets.
+    pub bits: Each,
+}
+
+impl Times {
+    /// Keeps the less of two times, place by place.
+    fn join(&mut self, others: &Times) {
+        least(&mut self.ours, &others.ours);
+        least(&mut self.second, &others.second);
+        if let Some((plain, others)) = self.plain.as_mut().zip(others.plain.as_ref()) {
+            least(plain, others);
+        }
+        least(&mut self.bits, &others.bits);
+    }
+}
+
+impl Plain {
+    /// One turn, in the order of `PLAIN`.
+    fn turn(&self, input: &Input, lists: &mut Lists) -> Each {
+        let (store, own) = (array(&input.store), array(&input.book));
+        let rank = best(|| (self.rank)(black_box(store), &mut lists.table));
+        let (table, book) = (array_mut(&mut lists.table), array_mut(&mut lists.book));
+        let book = best(|| (self.book)(black_box(store), table, book));
+        let check = best(|| (self.check)(black_box(store), black_box(own)));
+        vec![rank, book, check]
+    }
 }
 
 /// A model and its lists, which are filled over and over.
@@ -135,7 +179,8 @@ pub struct Timed {
     /// Run goes to a reachable state as far from the nearest start as any.
     input: Input,
     lists: Lists,
-    plain: Plain,
+    plain: Option<Plain>,
+    bits: Plain,
     /// The letters of Word's answer, or its refusal's number.
     pub letters: Result<usize, u16>,
 }
@@ -148,6 +193,10 @@ impl Timed {
 
     /// The same with an archive that lacks these functions, which are not called.
     pub fn without(model: &Model, lacking: &[&str]) -> Timed {
+        let (plain, bits) = match model.has_silent() {
+            true => (None, MOVES_AS_SETS),
+            false => (Some(BY_STEPS), STEPS_AS_SETS),
+        };
         let mut timed = Timed {
             operations: operations(lacking),
             input: Input {
@@ -156,22 +205,19 @@ impl Timed {
                 ..Input::from(&model.to_text())
             },
             lists: Lists::anything(&mut Rng::new(0), LEAST),
-            plain: if model.has_silent() {
-                WITH_TICKS
-            } else {
-                WITHOUT_TICKS
-            },
+            plain,
+            bits,
             letters: Ok(0),
         };
         // Past its own least length an archive of a shorter store leaves the list as it is.
         timed.lists.store.copy_from_slice(&timed.input.store);
         timed.fill();
         timed.compare();
-        timed.compare_books(model);
+        timed.compare_plain(model);
         timed
     }
 
-    /// What all rankings fill is the same, both pages are, and what is written is the text.
+    /// Both pages are the same, and what is written is the text.
     fn fill(&mut self) {
         let Timed { input, lists, .. } = self;
         let length = PRINT.told(input.clone(), lists).expect("a page");
@@ -179,11 +225,6 @@ impl Timed {
             second::program(&input.text) == lists.page[..length],
             "one page"
         );
-        for rank in [Some(self.plain.rank), self.plain.bits].iter().flatten() {
-            let mut plain = vec![2; TABLE];
-            rank(&input.store, &mut plain);
-            assert!(lists.table[..] == plain, "one table");
-        }
         let length = WRITE.told(input.clone(), lists).expect("a text");
         assert!(lists.written[..length] == input.text[..], "one text");
         let word = WORD.told(input.clone(), lists);
@@ -206,20 +247,22 @@ impl Timed {
         }
     }
 
-    /// The plain book is the second checker's, and the plain check finds the same bad entries.
-    fn compare_books(&self, model: &Model) {
+    /// The plain tables are ours, the plain books the second checker's, and the plain checks find the same bad entries.
+    fn compare_plain(&self, model: &Model) {
         let Input { store, book, .. } = &self.input;
         let store = array(store);
-        let (mut table, mut plain) = ([2; TABLE], [2; BOOK]);
-        (self.plain.book)(store, &mut table, &mut plain);
-        assert!(
-            plain == book[..] && table == self.lists.table[..],
-            "one book"
-        );
-        assert_eq!((self.plain.check)(store, &plain), None, "a sound book");
-        for bad in gen::bad_books(&mut Rng::new(0), model, book) {
-            let first = (self.plain.check)(store, array(&bad.book));
-            assert_eq!(first, Some(bad.refusal.place as usize), "{}", bad.what);
+        for plain in self.plain.iter().chain([&self.bits]) {
+            let (mut ranks, mut table, mut filled) = ([2; TABLE], [2; TABLE], [2; BOOK]);
+            (plain.rank)(store, &mut ranks);
+            (plain.book)(store, &mut table, &mut filled);
+            let ours = &self.lists.table[..];
+            assert!(ranks == ours && table == ours, "one table");
+            assert!(filled == book[..], "one book");
+            assert_eq!((plain.check)(store, &filled), None, "a sound book");
+            for bad in gen::bad_books(&mut Rng::new(0), model, book) {
+                let first = (plain.check)(store, array(&bad.book));
+                assert_eq!(first, Some(bad.refusal.place as usize), "{}", bad.what);
+            }
         }
     }
 
@@ -228,43 +271,30 @@ impl Timed {
         best(|| JUDGE.call_proved(&self.input, &mut self.lists))
     }
 
+    /// The best times of some turns, and of a few more while they refute each other.
     pub fn times(&mut self) -> Times {
-        let mut times = Times {
-            ours: vec![f64::MAX; names().len()],
-            second: vec![f64::MAX; names().len()],
-            plain: vec![f64::MAX; PLAIN.len()],
-            bits: self.plain.bits.map(|_| f64::MAX),
-        };
-        for _ in 0..TURNS {
-            least(&mut times.ours, &self.ours());
-            least(&mut times.second, &self.second());
-            least(&mut times.plain, &self.plain());
-            times.bits = times.bits.zip(self.bits()).map(|(a, b)| a.min(b));
+        let mut times = self.turn();
+        for turn in 1..TURNS + MORE_TURNS {
+            if turn >= TURNS && !is_refuted(&times.ours) {
+                break;
+            }
+            times.join(&self.turn());
         }
         times
     }
 
-    /// One turn of plain Rust.
-    fn plain(&mut self) -> Each {
-        let Timed {
-            input,
-            lists,
-            plain,
-            ..
-        } = self;
-        let (store, own) = (array(&input.store), array(&input.book));
-        let rank = best(|| (plain.rank)(black_box(store), &mut lists.table));
-        let (table, book) = (array_mut(&mut lists.table), array_mut(&mut lists.book));
-        let book = best(|| (plain.book)(black_box(store), table, book));
-        let check = best(|| (plain.check)(black_box(store), black_box(own)));
-        vec![rank, book, check]
-    }
-
-    /// One turn of the other ranking in plain Rust, over bit sets.
-    fn bits(&mut self) -> Option<f64> {
+    /// One turn of everything.
+    fn turn(&mut self) -> Times {
+        let (ours, second) = (self.ours(), self.second());
         let Timed { input, lists, .. } = self;
-        let time = |rank: Ranking| best(|| rank(black_box(&input.store), &mut lists.table));
-        self.plain.bits.map(time)
+        let plain = self.plain.as_ref().map(|plain| plain.turn(input, lists));
+        let bits = self.bits.turn(input, lists);
+        Times {
+            ours,
+            second,
+            plain,
+            bits,
+        }
     }
 
     /// One turn of the proved operations.

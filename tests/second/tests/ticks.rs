@@ -338,11 +338,14 @@ fn where_36_stands() {
     let text = String::from_utf8(ticking_till(4, &steps)).expect("ASCII");
     let text = text.replace("M,4,4,5,0", "M,4,4,5,2");
     assert_eq!(word_of(text.as_bytes()), Err((36, 4)));
-    // Reached from an extra start alone.
-    let woken = text.replace("A,T,tick\n", "A,T,tick\nI,3\n");
-    assert_eq!(word_of(woken.as_bytes()), Err((36, 4)));
-    let woken = text.replace("M,4,4,5,2", "M,4,4,5,1");
-    assert_eq!(word_of(woken.as_bytes()), Err((36, 0)));
+    let other = text.replace("M,4,4,5,2", "M,4,4,5,1");
+    assert_eq!(word_of(other.as_bytes()), Err((36, 0)));
+    // Reached from an extra start alone: without it the model passes.
+    let text = ticking_till(3, &[(0, PRINT, 0), (1, TICK, 2), (2, SCAN, 2)]);
+    assert_eq!(word_of(&text), Err((24, 0)));
+    let text = String::from_utf8(text).expect("ASCII");
+    let woken = text.replace("A,T,tick\n", "A,T,tick\nI,1\n");
+    assert_eq!(word_of(woken.as_bytes()), Err((36, 1)));
 }
 
 /// 21 and 22 come before 36.

@@ -1,5 +1,7 @@
 //! Tills with a silent action, and their books.
 use second::book::entry_number;
+use second::gen::{self, Rng};
+use second::Model;
 
 use crate::bench::text_of;
 use crate::books::Book;
@@ -17,6 +19,13 @@ pub const SILENTLY: u8 = 255;
 /// A text with start 0 and these steps.
 pub fn ticking(states: u16, steps: &[(u16, u16, u16)]) -> Vec<u8> {
     text_of(states, ACTIONS, steps)
+}
+
+/// The models at the limits that are made with ticks, but not those that were made without.
+pub fn shapes_at_the_limits(rng: &mut Rng) -> Vec<Model> {
+    let models = gen::tick_limit_models(rng).into_iter();
+    let made_with_ticks = models.filter(|&(what, _)| what != "silenced");
+    made_with_ticks.map(|(_, model)| model).collect()
 }
 
 /// Entries of a book, each with its pair.

@@ -6,6 +6,7 @@ use std::os::unix::fs::symlink;
 use std::path::Path;
 use std::process::{Command, Output, Stdio};
 
+use second::gen;
 use suite::bench::{examples, root, Folder, WORKED, WORKED_PAGE};
 use suite::lists;
 use suite::operations::ALL;
@@ -150,15 +151,15 @@ fn the_caller_in_rust() {
 /// The worked example by the header's names. That C can call every function, `the_needs` shows.
 #[test]
 fn the_header() {
-    let printed = printed("worked", "");
+    let printed = printed(&program("worked", ""), b"");
     assert_eq!(
         String::from_utf8_lossy(&printed),
         String::from_utf8_lossy(WORKED_PAGE)
     );
 }
 
-/// What the program of this name in C prints, with these lines in the file `calls.h` beside it.
-fn printed(name: &str, calls: &str) -> Vec<u8> {
+/// A folder with the program of this name in C, made with these lines in the file `calls.h` beside it.
+fn program(name: &str, calls: &str) -> Folder {
     let folder = folder(name);
     fs::write(folder.0.join("calls.h"), calls).expect("a file");
     let program = format!("{name}.c");
@@ -167,15 +168,22 @@ fn printed(name: &str, calls: &str) -> Vec<u8> {
     let options = "-I crates/till_c -std=c11 -Wall -Wextra -Werror";
     let archive = "target/staticlib/libtill_c.a";
     make(&format!("cc {program} {archive} {options}"), &folder.0);
-    let printed = output("./a.out", &folder.0);
+    folder
+}
+
+/// What the folder's program prints on an input.
+fn printed(folder: &Folder, input: &[u8]) -> Vec<u8> {
+    let file = folder.0.join("input");
+    fs::write(&file, input).expect("a file");
+    let mut command = Command::new(folder.0.join("a.out"));
+    command.stdin(File::open(file).expect("an input"));
+    let printed = command.output().expect("the program runs");
     assert!(printed.status.success(), "{printed:?}");
     printed.stdout
 }
 
-/// In C: a text, every list, and a function for each operation that calls it.
-fn calls(text: &[u8]) -> String {
-    let text: Vec<String> = text.iter().map(u8::to_string).collect();
-    let text = text.join(", ");
+/// In C: every list, and a function for each operation that calls it.
+fn calls() -> String {
     let functions = ALL.iter().map(|operation| {
         let (name, call) = (operation.function(), operation.called());
         format!("static void call_{name}(void) {{ {call} }}\n")
@@ -185,7 +193,6 @@ fn calls(text: &[u8]) -> String {
         format!("    {{\"{name}\", call_{name}}},\n")
     });
     [
-        &format!("static const uint8_t text[] = {{{text}}};\nenum {{ text_len = sizeof text }};\n"),
         &lists::declared(),
         &functions.collect::<String>(),
         "static const struct {\n    const char *name;\n    void (*call)(void);\n} calls[] = {\n",
@@ -233,29 +240,41 @@ fn the_needs() {
     let sizes: Vec<usize> = sizes.map_while(|size| size.parse().ok()).collect();
     let most = read_only_kilobytes() * KB;
     assert!(0 < sizes[0] && sizes[0] < most, "{sizes:?}");
+    the_stack();
+}
+
+/// The stack that each operation takes: on small texts, and on models at the limits of every kind. Some have no ticks;
+/// of the others some have moves that have no room as sets, and some have many answers to an opening.
+fn the_stack() {
+    let mut rng = gen::seeded("callers::the_stack", 9_100);
     let ticks = include_bytes!("../../../examples/tick_betrays.txt");
-    for text in [&WORKED[..], ticks] {
-        the_stack(text);
+    let mut texts = vec![("worked", WORKED.to_vec()), ("a tick", ticks.to_vec())];
+    let models = [
+        gen::limit_models(&mut rng),
+        gen::tick_limit_models(&mut rng),
+    ];
+    let models = models.into_iter().flatten();
+    texts.extend(models.map(|(what, model)| (what, model.to_text())));
+    let program = program("stack", &calls());
+    for (what, text) in texts {
+        let stack = String::from_utf8(printed(&program, &text)).expect("lines");
+        let functions = stack.lines().map(|line| taken(what, line));
+        let all = ALL.iter().map(|operation| operation.function());
+        assert!(functions.eq(all), "{what}");
     }
 }
 
-/// The stack that each operation takes on a text.
-fn the_stack(text: &[u8]) {
-    let stack = String::from_utf8(printed("stack", &calls(text))).expect("lines");
-    let mut measured = Vec::new();
-    for line in stack.lines() {
-        let (name, bytes) = line.split_once(' ').expect("a name and a number");
-        measured.push(name);
-        let most = match name {
-            "till_reach" | "till_run" | "till_write" => KB,
-            "till_read" => 9 * KB,
-            "till_book" => 118 * KB,
-            "till_check" => 128 * KB,
-            _ => 108 * KB,
-        };
-        let bytes: usize = bytes.parse().expect("a number");
-        assert!(0 < bytes && bytes < most, "{line}");
-    }
-    let functions: Vec<&str> = ALL.iter().map(|operation| operation.function()).collect();
-    assert_eq!(measured, functions);
+/// The function of a line that tells how much stack it takes, which is not too much.
+fn taken<'a>(what: &str, line: &'a str) -> &'a str {
+    let (name, bytes) = line.split_once(' ').expect("a name and a number");
+    let most = match name {
+        "till_reach" | "till_run" | "till_write" => KB,
+        "till_read" => 9 * KB,
+        "till_book" => 118 * KB,
+        "till_check" => 128 * KB,
+        _ => 108 * KB,
+    };
+    let bytes: usize = bytes.parse().expect("a number");
+    assert!(0 < bytes && bytes < most, "{what}, {line}");
+    name
 }

@@ -1,5 +1,6 @@
-/* How many bytes of the stack each call takes, measured on a painted stack. The test writes `calls.h` from the table of
-   operations: the lists, a function `call_NAME` for each operation, and `calls`, which has them all. */
+/* How many bytes of the stack each call takes on the text on standard input, measured on a painted stack. The test
+   writes `calls.h` from the table of operations: the lists, a function `call_NAME` for each operation, and `calls`, which
+   has them all. Check is lent the book that Book filled before. */
 #define _GNU_SOURCE
 #include <stdio.h>
 #include <string.h>
@@ -9,10 +10,13 @@
 
 #define PAINT 0xa5
 
+static uint8_t text[16384];
+static size_t text_len;
 static const uint16_t state = 3;
 #include "calls.h"
 
-static unsigned char stack[1 << 17];
+/* More than any call may take, so that one that takes too much is measured. */
+static unsigned char stack[1 << 18];
 static ucontext_t caller, callee;
 
 static void nothing(void) {}
@@ -31,6 +35,7 @@ static size_t used(void (*call)(void)) {
 }
 
 int main(void) {
+    text_len = fread(text, 1, sizeof text, stdin);
     size_t count = sizeof calls / sizeof *calls;
     /* The first calls also find memcpy and memset, which takes stack of its own. */
     for (size_t i = 0; i < count; i++) used(calls[i].call);

@@ -6,13 +6,14 @@ use second::book::{entry_number, Entry};
 use second::gen::{self, Rng};
 use second::store::{BOOK as BOOK_BYTES, TABLE};
 use second::Model;
-use suite::bench::{example, store_of, WORKED};
+use suite::bench::{self, example, store_of, WORKED};
 use suite::books::Book;
 use suite::lists::Lists;
 use suite::operations::{BOOK, CHECK};
 use suite::program::TILL_CHECK;
 use suite::stores::Store;
-use suite::ticks::{ticking, with_entries, Entries, BETRAYS, BETRAYS_BOOK, SCAN, SILENTLY, TICK};
+use suite::ticks::{self, shapes_at_the_limits, ticking, with_entries, Entries};
+use suite::ticks::{BETRAYS, BETRAYS_BOOK, CLOSE, PRINTING, SCAN, SILENTLY, TICK};
 
 const SEED: u64 = 8_400;
 
@@ -139,6 +140,39 @@ fn silent_openings_beside_no_state() {
     assert_eq!(bad(&no_tick, &before, &entry), Some((2, 9)));
 }
 
+/// In a book of 128 states each number is a state, and answers a silent opening by staying: that leads back to the pair
+/// itself. Of 127 states the last number is none, and has no answer.
+#[test]
+fn silent_openings_among_128_states() {
+    let mut rng = gen::seeded("tick_books::silent_openings_among_128_states", SEED + 8);
+    let before = Lists::enough(&mut rng);
+    let steps = [(0, SCAN, 1), (0, PRINTING, 2), (1, CLOSE, 0)];
+    let ticks = [&steps[..], &[(126, TICK, 126)]].concat();
+    for (actions, steps) in [
+        (bench::ACTIONS, &steps[..]),
+        (ticks::ACTIONS, &steps),
+        (ticks::ACTIONS, &ticks),
+    ] {
+        let [all, one_fewer] = [128, 127].map(|states| bench::text_of(states, actions, steps));
+        for depth in [1, 255] {
+            for (p, q, entry) in [
+                (0, 127, [1, SILENTLY, 0, depth]),
+                (127, 0, [2, SILENTLY, 0, depth]),
+            ] {
+                assert_eq!(bad(&all, &before, &[(p, q, entry)]), Some((p, q)));
+                assert_eq!(bad(&one_fewer, &before, &[(p, q, entry)]), None);
+            }
+            for (p, q, entry) in [
+                (0, 127, [2, SILENTLY, 127, depth]),
+                (127, 0, [1, SILENTLY, 127, depth]),
+            ] {
+                assert_eq!(bad(&all, &before, &[(p, q, entry)]), Some((p, q)));
+                assert_eq!(bad(&one_fewer, &before, &[(p, q, entry)]), Some((p, q)));
+            }
+        }
+    }
+}
+
 /// Each value of each byte of some entries, in the till with the tick that betrays.
 #[test]
 fn every_value_of_a_byte() {
@@ -177,8 +211,7 @@ fn at_the_limits(rng: &mut Rng, name: &str) -> Model {
 fn own_books() {
     let mut rng = gen::seeded("tick_books::own_books", SEED + 4);
     let (mut silent, mut low) = (0, 0);
-    let limits = gen::tick_limit_models(&mut rng).into_iter().take(13);
-    let mut models: Vec<Model> = limits.map(|(_, model)| model).collect();
+    let mut models = shapes_at_the_limits(&mut rng);
     models.extend((0..400).map(|_| gen::tick_model(&mut rng)));
     for model in models {
         let (store, before) = (Store::of(&model), Lists::enough(&mut rng));
@@ -225,8 +258,18 @@ fn sound_books() {
 fn damaged_books() {
     let mut rng = gen::seeded("tick_books::damaged_books", SEED + 6);
     let mut kinds: BTreeMap<&str, usize> = BTreeMap::new();
-    let limits = ["every other step a tick", "star of ticks"];
-    let mut models: Vec<Model> = limits.map(|name| at_the_limits(&mut rng, name)).to_vec();
+    let limits = [
+        "every other step a tick",
+        "star of ticks",
+        "choices of ticks",
+        "deep choices of ticks",
+        "fewer choices of ticks",
+    ];
+    // Each twice: with its own book and with another.
+    let mut models: Vec<Model> = limits
+        .into_iter()
+        .flat_map(|name| vec![at_the_limits(&mut rng, name); 2])
+        .collect();
     models.extend((0..60).map(|_| gen::tick_model(&mut rng)));
     for (round, model) in models.iter().enumerate() {
         let (store, before) = (Store::of(model), Lists::enough(&mut rng));

@@ -18,7 +18,7 @@ use suite::operations::{ROLL, RUN, WORD, WRITE};
 use suite::program::{TILL, TILL_BOOK, TILL_CHECK, TILL_ROLL};
 use suite::stores::{Store, HIGH, LOW, RELEASE, SILENT};
 use suite::texts::one_of_each;
-use suite::ticks::{ticking, with_entries, ACTIONS, BETRAYS, BETRAYS_BOOK};
+use suite::ticks::{shapes_at_the_limits, ticking, with_entries, ACTIONS, BETRAYS, BETRAYS_BOOK};
 use suite::ticks::{CLOSE, PRINTING, SCAN, TICK};
 
 const SEED: u64 = 8_300;
@@ -639,8 +639,7 @@ fn damaged_stores() {
 #[test]
 fn models_by_the_programs() {
     let mut rng = gen::seeded("ticks::models_by_the_programs", SEED + 14);
-    let limits = gen::tick_limit_models(&mut rng).into_iter().take(13);
-    let mut models: Vec<Model> = limits.map(|(_, model)| model).collect();
+    let mut models = shapes_at_the_limits(&mut rng);
     models.extend((0..40).map(|_| gen::tick_model(&mut rng)));
     let (mut not_shown, mut passed) = (0, 0);
     for model in models {

@@ -6,6 +6,7 @@
 
 use std::collections::BTreeSet;
 
+use super::choices::{choices_of_ticks, deep_choices_of_ticks, fewer_choices_of_ticks};
 use super::deep::chain;
 use super::limits::limit_models;
 use super::models::{any_model, deterministic_model, random_model};
@@ -233,10 +234,14 @@ pub fn tick_limit_models(rng: &mut Rng) -> Vec<(&'static str, Model)> {
         ("deepest, ticks everywhere", deepest()),
         ("deepest, one tick", last_tick()),
         ("deepest, ticks unreached", deepest_unreached()),
+        ("deepest, ticks back", deepest_back()),
         ("star of ticks", star()),
         ("ring of unreached ticks", unreached_ring()),
         ("one high action, all others silent", all_silent(rng)),
         ("ring of ticks, many scans", dense(rng)),
+        ("choices of ticks", choices_of_ticks()),
+        ("deep choices of ticks", deep_choices_of_ticks()),
+        ("fewer choices of ticks", fewer_choices_of_ticks()),
     ];
     for (_, model) in limit_models(rng) {
         models.push(("silenced", silenced(rng, &model)));
@@ -291,6 +296,19 @@ fn deepest_unreached() -> Model {
     let mut steps = chain(127).steps;
     steps.push(Step::new(127, TICK, 0));
     ticking_till(128, steps)
+}
+
+/// The chain of the bench with a tick from each state to the one before it, so that
+/// states have many moves, and with a step of its own at the last state.
+fn deepest_back() -> Model {
+    let mut model = ticking_till(128, chain(128).steps);
+    let beep = model.actions.len() as u16;
+    model.actions.push(named(Level::Low, "beep"));
+    let back = (1..128).map(|state| Step::new(state, TICK, state - 1));
+    model.steps.extend(back);
+    model.steps.push(Step::new(127, beep, 127));
+    model.steps.sort();
+    model
 }
 
 /// As many ticks as there may be lead from one state to all, and print leads to
