@@ -11,8 +11,8 @@ const ROW_COUNT: usize = 2 * LABEL_COUNT;
 // A slot in them for each state.
 pub const SLOTS_LENGTH: usize = ROW_COUNT * text::limits::ROW;
 
-// The sets that slots have. Besides the empty one there is room for two of each of 1,024 steps, or for all 2,304 sets of
-// 9 labels among 128 states, and for those of more labels where equal sets are shared.
+// The sets that slots have. Besides the empty one there is room for two of each of 1,024 steps, or for all 2,304 of 9
+// labels among 128 states, and for those of more labels where equal sets are shared.
 pub const POOL_SETS: u16 = 2432;
 
 // Two words for each of them, and for one set more of each row.

@@ -22,8 +22,8 @@ use text::limits::ROW;
 ghost use Prim.Native.Nat.{ℕ, _+_, _≤_, _<_};
 ghost use lib.ListN.{getD};
 ghost use Rattle.text.specs.Limits.{stateLimit};
-ghost use Rattle.sets.specs.Inner.Sets.{Member};
-ghost use Rattle.held.specs.Held.{rowCount, poolSets, Turned, Occupied, HeldList};
+ghost use Rattle.held.specs.Held.{rowCount, poolSets, Turned, HeldList};
+ghost use Rattle.held.specs.Inner.Slots.{Pooled};
 ghost use Rattle.splitters.specs.Inner.Partition.{Partition, SplitTwice};
 ghost use Rattle.splitters.specs.Inner.Splitters.{Fresh, SetsKept, LeadsInto, Into};
 ghost use Rattle.splitters.specs.Inner.MoveSplits.{UsedClass, UsedLabels, UsedSplit};
@@ -45,9 +45,8 @@ fn split_moves(
 ) -> Parts
     requires { ⌜ (n ≤ stateLimit) × (old ≤ parts .classes) ⌝ }
     requires { ⌜ Partition n (now class) (now members) (parts .classes) (parts .together) ⌝ }
-    requires { ⌜ (row + 1 < rowCount) × ((i : ℕ) → getD (now slots) i 0 < poolSets) ⌝ }
+    requires { ⌜ (row + 1 < rowCount) × Pooled poolSets (now slots) (now pool) ⌝ }
     requires { ⌜ Turned (now slots) (now pool) row (row + 1) ⌝ }
-    requires { ⌜ Occupied (now slots) (now pool) × ((x : ℕ) → ¬ (Member (now pool) 0 x)) ⌝ }
     ensures { λ r. ⌜ Partition n (now (class .exit)) (now (members .exit)) (r .classes) (r .together)
         × (parts .classes ≤ r .classes) ⌝ }
     ensures { λ r. ⌜ SplitTwice n old (LeadsInto (now (slots .entry)) (now (pool .entry)) row fresh)

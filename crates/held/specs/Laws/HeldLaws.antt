@@ -15,8 +15,9 @@ use Rattle.lts.specs.DecidedLaws.{decided-game}
 use Rattle.lts.specs.Weak.{silentLabel}
 use Rattle.text.specs.Limits.{stateLimit, actionLimit}
 use Rattle.sets.specs.Inner.Sets.{wordBits, Member}
-use Rattle.held.specs.Held.{LabelIn, slotPlace, targetRow, HeldAt, HeldList, HeldMove}
+use Rattle.held.specs.Held.{poolSets, LabelIn, slotPlace, targetRow, HeldAt, HeldList, HeldMove}
 use Rattle.held.specs.HeldTests.{member?, labelIn?, heldMove?, labelLimit, heldRound}
+use Rattle.held.specs.Inner.Slots.{Pooled}
 
 -- ---- tests
 
@@ -74,6 +75,16 @@ module _ (labels : List ℕ) (count : ℕ) where
 -- ---- bounds, and the game
 
 module _ {n count : ℕ} {labels slots pool : List ℕ} (L : HeldList n labels count slots pool) where
+  -- All sets of the pool may be in use.
+  pub heldList-pooled : Pooled poolSets slots pool
+  heldList-pooled = record {
+    some = omega arith;
+    used-le = omega arith;
+    slot-lt = L .slot-lt;
+    none = L .none;
+    occupied = L .occupied;
+  }
+
   heldMove-states : {p a q : ℕ} → HeldMove labels count slots pool p a q → (p < n) × (q < n)
   heldMove-states {p} {a} {q} m = L .state-lt (m .number) p q (m .number-lt) (m .source-lt)
       (subst (λ (b : ℕ). HeldAt slots pool (targetRow b) p q) (sym (m .label-is)) (m .held))

@@ -1,5 +1,5 @@
--- Splits by the moves to the new classes, and to those that they were divided off. Only the contracts of inner functions
--- cite it.
+-- Splits by the moves to the new classes, and to those that they were divided off. Only the contracts of inner
+-- functions cite it.
 use mathlib.Core.List.{List}
 use mathlib.Core.Path.{_≡_}
 use Prim.Native.Nat.{ℕ, _≤_, _<_}

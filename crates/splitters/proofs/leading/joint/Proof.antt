@@ -33,7 +33,9 @@ loop-holds : tie.Need-loop-holds Inv-loop μ-loop
 loop-holds c = (c .least .ensures, unionTo-start (c .before .none .ensures))
 
 held-requires : tie.Need-held-requires Inv-loop μ-loop
-held-requires c κs = search needs
+held-requires c κs =
+    let P = c .before .before .before .before .pre in
+    (P .0, omega (arith, c .loop-test), P .1 .slot-lt)
 
 either-requires : tie.Need-either-requires Inv-loop μ-loop
 either-requires c κs = search needs

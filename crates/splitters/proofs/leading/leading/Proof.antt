@@ -59,7 +59,9 @@ loop-holds : tie.Need-loop-holds Inv-loop μ-loop
 loop-holds c = (c .least .ensures, leadingTo-start (c .before .none .ensures))
 
 held-requires : tie.Need-held-requires Inv-loop μ-loop
-held-requires c κs = search needs
+held-requires c κs =
+    let P = begin (c .before) .pre .0 in
+    (P .0, omega (arith, c .loop-test), P .2 .slot-lt)
 
 both-requires : tie.Need-both-requires Inv-loop μ-loop
 both-requires c κs = search needs
@@ -68,7 +70,9 @@ greatest-requires : tie.Need-greatest-requires Inv-loop μ-loop
 greatest-requires c κs = search needs
 
 held-requires-2 : tie.Need-held-requires-2 Inv-loop μ-loop
-held-requires-2 c κs = search needs
+held-requires-2 c κs =
+    let P = begin (c .before .before .before .before .before) .pre .0 in
+    (P .1, omega (arith, c .if1 .taken), P .2 .slot-lt)
 
 either-requires : tie.Need-either-requires Inv-loop μ-loop
 either-requires c κs = search needs

@@ -26,9 +26,10 @@ returns c =
     let tested = c .before .before in
     let compared = tested .before in
     let own = compared .before in
-    let P = own .before .pre .1 in
+    let P = own .before .pre in
+    let pooled = P .0 .1 in
     let none = decides-true _ _ (tested .is-empty .ensures) (c .before .if1 .taken) in
-    ledFrom-all (P .1 .0) (P .1 .1) (P .0) (own .occupied .ensures) (compared .without .ensures) none
+    ledFrom-all (pooled .occupied) (pooled .none) (P .1) (own .occupied .ensures) (compared .without .ensures) none
     (c .occupied2 .ensures)
 
 add-joint : tie.Need-add-joint
@@ -43,8 +44,9 @@ joint-requires c κs = search needs
 returns-2 : tie.Need-returns-2
 returns-2 c =
     let own = c .before .before .before .before .before in
-    let P = own .before .pre .1 .1 in
-    ledFrom-both (P .0) (P .1) (own .before .args .row + 1) (own .occupied .ensures) (c .before .both .ensures) (c .joint .ensures)
+    let pooled = own .before .pre .0 .1 in
+    ledFrom-both (pooled .occupied) (pooled .none) (own .before .args .row + 1) (own .occupied .ensures)
+    (c .before .both .ensures) (c .joint .ensures)
 
 pub sources-spec : {M : Type 1} → statement M
 sources-spec =

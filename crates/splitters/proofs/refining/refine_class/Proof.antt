@@ -3,6 +3,7 @@ use Prim.Native.Nat.{_-_, _≤_, _<_}
 use native.Mathlib.Omega.{arith}
 use Rattle.text.specs.Limits.{stateLimit}
 use Rattle.sets.specs.Inner.SetValues.{Least}
+use Rattle.held.specs.Laws.HeldLaws.{heldList-pooled}
 use Rattle.splitters.specs.Inner.Partition.{Partition}
 use Rattle.splitters.specs.Inner.MoveSplits.{UsedSplit}
 use Rattle.splitters.specs.Laws.RefiningLaws.{UsedBut, usedBut-start, usedBut-next, usedBut-end, turned-row}
@@ -88,7 +89,7 @@ split-moves-requires c κs =
     let at = row .target-row .ensures in
     let l : at-loop .loop .i < begin at-loop .args .count = omega (arith, turn row .loop-test) in (
       (L .states-le, omega (arith, P .0 .1, inv .1)),
-      (inv .2, ((at .1, L .slot-lt), (turned-row L l (at .0), (L .occupied, L .none)))),
+      (inv .2, ((at .1, heldList-pooled L), turned-row L l (at .0))),
     )
 
 drop-least-requires : tie.Need-drop-least-requires Inv-loop μ-loop

@@ -26,7 +26,7 @@ cut : (c : tie.After-is-empty) → CutTo (begin c .args .n) (begin c .args .clas
     (c .before .both .result)
 cut c =
     let P = begin c .pre in
-    cutTo-fresh (P .1 .1 .1 .0) (P .0 .0) (P .1 .0) (c .before .before .sources .ensures) (c .before .both .ensures)
+    cutTo-fresh (P .1 .1 .1) (P .0 .0) (P .1 .0) (c .before .before .sources .ensures) (c .before .both .ensures)
 
 -- ---- needs
 
@@ -73,7 +73,7 @@ add-leading c = omega (arith, begin (tested (split-at (c .before .before))) .pre
 leading-requires : tie.Need-leading-requires
 leading-requires c κs =
     let P = begin (tested (split-at (c .before .before))) .pre .1 .1 in
-    ((omega (arith, P .0 .0), omega (arith, P .0 .0), P .0 .1), P .1 .0)
+    ((omega (arith, P .0 .0), omega (arith, P .0 .0), P .0 .1), P .1)
 
 split-requires-2 : tie.Need-split-requires-2
 split-requires-2 c κs =
