@@ -9,10 +9,9 @@ ghost use mathlib.Core.Path.{_≡_};
 ghost use Prim.Native.Nat.{_+_, _≤_, _<_};
 ghost use lib.ListN.{length};
 ghost use Rattle.text.specs.Decides.{Decides};
-ghost use Rattle.text.specs.Limits.{actionLimit};
 ghost use Rattle.model.specs.StoredModel.{modelAt};
-ghost use Rattle.model.specs.System.{action, nameOf, view};
-ghost use Rattle.model.specs.Inner.Roles.{Roles};
+ghost use Rattle.model.specs.System.{action, nameOf};
+ghost use Rattle.model.specs.Inner.Roles.{RolesOf};
 ghost use Rattle.model.specs.Inner.Stored.{Stored};
 ghost use Rattle.writer.specs.Inner.Writable.{Writable};
 ghost use Rattle.writer.specs.Wrote.{Wrote};
@@ -26,8 +25,7 @@ const NAME_INDENT: usize = 12;
 // rise by action.
 fn first_of_low(store: &[u16], roles: &[u16], from: u16, j: Step) -> bool
     requires { ⌜ Stored (now store) (modelAt (now store)) ⌝ }
-    requires { ⌜ (actionLimit ≤ length (now roles))
-        × Roles (view (modelAt (now store)) .levels) (modelAt (now store) .head .actions) (now roles) ⌝ }
+    requires { ⌜ RolesOf (modelAt (now store)) (now roles) ⌝ }
     requires { ⌜ StepFrom (modelAt (now store)) from (j .0) ⌝ }
     ensures { λ r. ⌜ Decides r (FirstLow (modelAt (now (store .entry))) (j .0)) ⌝ }
 {
@@ -91,8 +89,7 @@ impl RollLine {
         j: Step,
     ) -> RollLine
         requires { ⌜ Writable (now store) × Stored (now store) (modelAt (now store)) ⌝ }
-        requires { ⌜ (actionLimit ≤ length (now roles))
-            × Roles (view (modelAt (now store)) .levels) (modelAt (now store) .head .actions) (now roles) ⌝ }
+        requires { ⌜ RolesOf (modelAt (now store)) (now roles) ⌝ }
         requires { ⌜ StepFrom (modelAt (now store)) from (j .0) ⌝ }
         requires { ⌜ (FirstLow (modelAt (now store)) (j .0) → NameRoom self
             (length (nameOf (modelAt (now store)) (action (modelAt (now store)) (j .0)))) (length (now out))) ⌝ }

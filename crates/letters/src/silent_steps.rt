@@ -6,10 +6,10 @@ use text::Step;
 ghost use Prim.Native.Nat.{_≤_, _<_};
 ghost use lib.ListN.{length};
 ghost use Rattle.text.specs.Decides.{Decides};
-ghost use Rattle.text.specs.Limits.{actionLimit, distancesLength};
+ghost use Rattle.text.specs.Limits.{distancesLength};
 ghost use Rattle.model.specs.StoredModel.{modelAt};
-ghost use Rattle.model.specs.System.{SilentStep, view};
-ghost use Rattle.model.specs.Inner.Roles.{Roles};
+ghost use Rattle.model.specs.System.{SilentStep};
+ghost use Rattle.model.specs.Inner.Roles.{RolesOf};
 ghost use Rattle.model.specs.Inner.Stored.{Stored};
 ghost use Rattle.distances.specs.Distances.{DistanceList};
 ghost use Rattle.letters.specs.Inner.Letters.{FoundFirst};
@@ -17,8 +17,7 @@ ghost use Rattle.letters.specs.Inner.Letters.{FoundFirst};
 // Whether step j is silent and has a reachable source.
 fn is_silent_step(store: &[u16], roles: &[u16], distances: &[u16], j: Step) -> bool
     requires { ⌜ Stored (now store) (modelAt (now store)) ⌝ }
-    requires { ⌜ (actionLimit ≤ length (now roles))
-        × Roles (view (modelAt (now store)) .levels) (modelAt (now store) .head .actions) (now roles) ⌝ }
+    requires { ⌜ RolesOf (modelAt (now store)) (now roles) ⌝ }
     requires { ⌜ (distancesLength ≤ length (now distances)) × DistanceList (modelAt (now store)) (now distances) ⌝ }
     requires { ⌜ j .0 < length (modelAt (now store) .steps) ⌝ }
     ensures { λ r. ⌜ Decides r (SilentStep (modelAt (now (store .entry))) (j .0)) ⌝ }
@@ -37,8 +36,7 @@ fn is_silent_step(store: &[u16], roles: &[u16], distances: &[u16], j: Step) -> b
 // The first silent step that can be reached. Where no action is silent, no step is looked at.
 pub fn first_silent(store: &[u16], roles: &[u16], distances: &[u16]) -> Found
     requires { ⌜ Stored (now store) (modelAt (now store)) ⌝ }
-    requires { ⌜ (actionLimit ≤ length (now roles))
-        × Roles (view (modelAt (now store)) .levels) (modelAt (now store) .head .actions) (now roles) ⌝ }
+    requires { ⌜ RolesOf (modelAt (now store)) (now roles) ⌝ }
     requires { ⌜ (distancesLength ≤ length (now distances)) × DistanceList (modelAt (now store)) (now distances) ⌝ }
     ensures { λ r. ⌜ FoundFirst (SilentStep (modelAt (now (store .entry)))) r ⌝ }
 {

@@ -25,8 +25,8 @@ reachable-at {m} e r = subst (ReachableIn m) e r
 module _ {s : List ℕ} {m : Model} (st : Stored s m) {roles : List ℕ}
     (R : Roles (view m .levels) (m .head .actions) roles) {a j : ℕ} (e : a ≡ action m j)
     (l : j < length (m .steps)) where
-  pub role-of-silent : level m (action m j) ≡ silent → getD roles a 0 ≡ silent
-  role-of-silent z = ap (λ (x : ℕ). getD roles x 0) e
+  pub role-of-silent-level : level m (action m j) ≡ silent → getD roles a 0 ≡ silent
+  role-of-silent-level z = ap (λ (x : ℕ). getD roles x 0) e
       ∙ eqb→eq _ _ (subst T (R .silent-is (action m j) (st .action-lt j l)) (T-eqb z))
 
   pub silentStep-of : {p : ℕ} → getD roles a 0 ≡ silent → p ≡ source m j → ReachableIn m p → SilentStep m j

@@ -1,4 +1,4 @@
--- What `judge_good` leaves is what Word's inner functions take.
+-- A judged good store is what Word's functions take.
 -- Document 01, operation 6. Assumes nothing.
 use mathlib.Core.List.{List}
 use Prim.Native.Nat.{ℕ, _≤_}

@@ -19,7 +19,7 @@ is-low-requires c κs =
     let s = c .before .before .before in
     let step = s .pre .1 .1 in
     let e = ap (λ (x : Action). x .0) (c .action .ensures) ∙ stored-action (s .pre .0) _ (step .number-lt) in
-    omega (arith, e, s .pre .1 .0 .0, s .pre .0 .actions-le, s .pre .0 .action-lt _ (step .number-lt))
+    omega (arith, e, s .pre .1 .0 .roles-length, s .pre .0 .actions-le, s .pre .0 .action-lt _ (step .number-lt))
 
 returns : tie.Need-returns
 returns c x =
@@ -29,7 +29,7 @@ returns c x =
     let step = s .pre .1 .1 in
     let e = ap (λ (x : Action). x .0) (acted .action .ensures) ∙ stored-action (s .pre .0) _ (step .number-lt) in
     decides-refused (tested .is-low .result) _ (tested .is-low .ensures) (c .if1 .taken)
-    (role-of-low (s .pre .1 .0 .1) e (s .pre .0 .action-lt _ (step .number-lt)) (x .is-low))
+    (role-of-low (s .pre .1 .0 .roles-are) e (s .pre .0 .action-lt _ (step .number-lt)) (x .is-low))
 
 returns-2 : tie.Need-returns-2
 returns-2 c =
@@ -40,7 +40,7 @@ returns-2 c =
     let step = s .pre .1 .1 in
     let e = ap (λ (x : Action). x .0) (acted .action .ensures) ∙ stored-action (s .pre .0) _ (step .number-lt) in
     let z = decides-passed (tested .is-low .result) _ (tested .is-low .ensures) (low .if1 .left) in
-    let t = low-of-role (s .pre .1 .0 .1) e (s .pre .0 .action-lt _ (step .number-lt)) z in
+    let t = low-of-role (s .pre .1 .0 .roles-are) e (s .pre .0 .action-lt _ (step .number-lt)) z in
     firstLow-begin (s .pre .0) (step .number-lt) (step .begins) t (c .if2 .taken)
 
 sub-before : tie.Need-sub-before
@@ -78,7 +78,7 @@ returns-4 c =
     let f = ap (λ (x : Action). x .0) (before .action2 .ensures)
     ∙ stored-action (s .pre .0) (s .args .j .0 - 1) (omega (arith, n, step .number-lt)) in
     let z = decides-passed (tested .is-low .result) _ (tested .is-low .ensures) (low .if1 .left) in
-    let t = low-of-role (s .pre .1 .0 .1) e (s .pre .0 .action-lt _ (step .number-lt)) z in
+    let t = low-of-role (s .pre .1 .0 .roles-are) e (s .pre .0 .action-lt _ (step .number-lt)) z in
     firstLow-change (s .pre .0) (step .number-lt) (step .begins) n
     (omega (arith, step .from-le, not-begin .if2 .left)) t
     (λ d. c .if3 .left (f ∙ d ∙ sym e))

@@ -1,5 +1,7 @@
 -- Where no action is silent, no step is.
 use borrow.Author.Needs.{needs}
+use Rattle.text.specs.Laws.DecidesLaws.{decides-false}
+use Rattle.moves.specs.Laws.LabellingLaws.{no-tick}
 use Rattle.judge.proofs.book.book_good.Statement.{statement}
 use Rattle.judge.proofs.book.book_good.Tie as tie
 
@@ -22,7 +24,8 @@ book-steps-requires : tie.Need-book-steps-requires
 book-steps-requires c κs =
     let chosen = c .before .before in
     let pre = chosen .before .before .before .before .before .pre in
-    (pre .0, (pre .1, chosen .before .has-silent .ensures (chosen .if1 .left)))
+    let tested = chosen .before .has-silent in
+    (pre .0, (pre .1, no-tick (pre .0) (decides-false (tested .result) _ (tested .ensures) (chosen .if1 .left))))
 
 same-length-3 : tie.Need-same-length-3
 same-length-3 c = search needs

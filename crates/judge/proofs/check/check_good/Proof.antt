@@ -1,5 +1,7 @@
 -- Where no action is silent, no step is.
 use borrow.Author.Needs.{needs}
+use Rattle.text.specs.Laws.DecidesLaws.{decides-false}
+use Rattle.moves.specs.Laws.LabellingLaws.{no-tick}
 use Rattle.judge.proofs.check.check_good.Statement.{statement}
 use Rattle.judge.proofs.check.check_good.Tie as tie
 
@@ -16,7 +18,8 @@ check-steps-requires : tie.Need-check-steps-requires
 check-steps-requires c κs =
     let chosen = c in
     let pre = chosen .before .before .before .before .pre in
-    (pre .0, (pre .1, chosen .before .has-silent .ensures (chosen .if1 .left)))
+    let tested = chosen .before .has-silent in
+    (pre .0, (pre .1, no-tick (pre .0) (decides-false (tested .result) _ (tested .ensures) (chosen .if1 .left))))
 
 returns-2 : tie.Need-returns-2
 returns-2 c = search needs

@@ -54,7 +54,7 @@ fill-table-requires c κs =
     let tested = passed .before .good2 in
     let long = passed .before .before .before .if1 .left in (
       passed→Stored _ (tested .result) long (tested .ensures) (passed .if3 .left),
-      ((omega arith, after .roles2 .ensures), passed .before .before .if2 .left),
+      (record { roles-length = omega arith; roles-are = after .roles2 .ensures }, passed .before .before .if2 .left),
     )
 
 same-length : tie.Need-same-length

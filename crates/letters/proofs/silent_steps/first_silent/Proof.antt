@@ -5,13 +5,13 @@ use native.Mathlib.Omega.{arith}
 use lib.ListN.{length}
 use borrow.Author.Count.{below-more}
 use borrow.Author.Needs.{needs}
-use borrow.Author.Tests.{not-true}
 use Rattle.model.specs.StoredModel.{modelAt}
 use Rattle.model.specs.System.{SilentStep}
-use Rattle.text.specs.Laws.DecidesLaws.{decides-true, decides-false}
+use Rattle.text.specs.Laws.DecidesLaws.{decides-true, decides-false, decides-refused}
 use Rattle.model.specs.Laws.System.SilentStepLaws.{noTick-of-no-silentStep}
 use Rattle.model.specs.Laws.System.StoredLaws.{stored-steps}
 use Rattle.text.specs.Laws.FirstLaws.{first-found}
+use Rattle.moves.specs.Laws.LabellingLaws.{no-tick}
 use Rattle.letters.proofs.silent_steps.first_silent.Statement.{statement}
 use Rattle.letters.proofs.silent_steps.first_silent.Tie as tie
 
@@ -28,7 +28,8 @@ some-silent-requires c κs = search needs
 returns : tie.Need-returns Inv-loop μ-loop
 returns c =
     let tested = c .before .some-silent in
-    let still = tested .ensures (not-true (tested .result) (c .if1 .taken)) in
+    let pre = c .before .before .before .before .before .pre in
+    let still = no-tick (pre .0) (decides-refused (tested .result) _ (tested .ensures) (c .if1 .taken)) in
     noTick-of-no-silentStep _ .1 (λ p q _. still p q)
 
 steps-requires : tie.Need-steps-requires Inv-loop μ-loop

@@ -7,7 +7,7 @@ use Rattle.text.specs.declared.Action.{Action}
 use Rattle.text.specs.Laws.DecidesLaws.{decides-true, decides-false, decides-passed, decides-refused}
 use Rattle.model.specs.Laws.System.StoredLaws.{stored-source, stored-action}
 use Rattle.distances.specs.Laws.DistancesLaws.{list-reachable, list-unreachable}
-use Rattle.letters.specs.Laws.FirstSilentLaws.{reachable-at, role-of-silent, silentStep-of}
+use Rattle.letters.specs.Laws.FirstSilentLaws.{reachable-at, role-of-silent-level, silentStep-of}
 use Rattle.letters.proofs.silent_steps.is_silent_step.Statement.{statement}
 use Rattle.letters.proofs.silent_steps.is_silent_step.Tie as tie
 
@@ -19,7 +19,7 @@ is-silent-requires c κs =
     let pre = c .before .before .before .before .pre in
     let l = pre .1 .1 .1 in
     let e = ap (λ (x : Action). x .0) (c .action .ensures) ∙ stored-action (pre .0) _ l in
-    omega (arith, e, pre .0 .action-lt _ l, pre .0 .actions-le, pre .1 .0 .0)
+    omega (arith, e, pre .0 .action-lt _ l, pre .0 .actions-le, pre .1 .0 .roles-length)
 
 returns : tie.Need-returns
 returns c x =
@@ -29,7 +29,7 @@ returns c x =
     let l = pre .1 .1 .1 in
     let e = ap (λ (y : Action). y .0) (acted .action .ensures) ∙ stored-action (pre .0) _ l in
     decides-refused (tested .is-silent .result) _ (tested .is-silent .ensures) (c .if1 .taken)
-    (role-of-silent (pre .0) (pre .1 .0 .1) e l (x .is-silent))
+    (role-of-silent-level (pre .0) (pre .1 .0 .roles-are) e l (x .is-silent))
 
 source-requires : tie.Need-source-requires
 source-requires c κs = search needs
@@ -65,7 +65,7 @@ returns-3 c =
     let z = decides-passed (told .is-silent .result) _ (told .is-silent .ensures) (silent .if1 .left) in
     let reached = decides-false _ _ (tested .is-unreachable .ensures) (c .if2 .left) in
     let r = list-reachable (pre .0) (pre .1 .1 .0 .1) (omega (arith, f, pre .0 .source-lt _ l)) reached in
-    silentStep-of (pre .0) (pre .1 .0 .1) e l z f r
+    silentStep-of (pre .0) (pre .1 .0 .roles-are) e l z f r
 
 pub is-silent-step-spec : {M : Type 1} → statement M
 is-silent-step-spec =
