@@ -9,6 +9,7 @@ use sets::SETS_LENGTH;
 use sets::set::Set;
 use sets::set::insert;
 use sets::set::is_empty;
+use sets::set::is_equal;
 use sets::set::put_set;
 use sets::set::set_at;
 use text::State;
@@ -94,10 +95,7 @@ fn find_same(pool: &[u64; POOL_LENGTH], s: Set, used: u16, seen: &[u16; SEEN_LEN
         return 0;
     }
     let there = set_at(pool, wide(number));
-    if there.0 != s.0 {
-        return 0;
-    }
-    if there.1 != s.1 {
+    if !is_equal(there, s) {
         return 0;
     }
     number

@@ -1,20 +1,18 @@
-// Sets of numbers below 128 as the bits of two words. A list has one set for each state.
+// Sets of numbers below 128 as the bits of two words. A list has one set for each number.
 pub mod set;
 
+use crate::set::WORD_BITS;
 use crate::set::insert;
 use text::State;
 use text::limits::ROW;
-ghost use mathlib.Core.Bool.{true, false};
+ghost use mathlib.Core.Bool.{not};
 ghost use mathlib.Core.Path.{_≡_};
 ghost use Prim.Native.Nat.{_+_, _*_, _≤_, _<_};
 ghost use lib.ListN.{length, getD};
 ghost use Rattle.text.specs.Decides.{Decides};
 ghost use Rattle.text.specs.Limits.{stateLimit};
 ghost use Rattle.sets.specs.Inner.Sets.{wordBits, setsLength, NextBit, Member, Empty, Joined};
-ghost use Rattle.sets.specs.Inner.Sets.{SameSet, Within, NextMember};
-
-// The bits of a word.
-const WORD_BITS: u16 = 64;
+ghost use Rattle.sets.specs.Inner.Sets.{Within, NextMember};
 
 // Two words for each state.
 pub const SETS_LENGTH: usize = 2 * ROW;
@@ -81,7 +79,7 @@ pub fn spread(sets: &mut [u64], k: State, j: State) -> bool
     requires { ⌜ setsLength ≤ length (now sets) ⌝ }
     requires { ⌜ (k .0 < stateLimit) × (j .0 < stateLimit) ⌝ }
     ensures { λ r. ⌜ Joined (k .0) (Member (now (sets .entry)) (j .0)) (now (sets .entry)) (now (sets .exit)) ⌝ }
-    ensures { λ r. ⌜ (r ≡ false → now (sets .exit) ≡ now (sets .entry)) ⌝ }
+    ensures { λ r. ⌜ Decides (not r) (now (sets .exit) ≡ now (sets .entry)) ⌝ }
 {
     let at = word_place(k);
     let of = word_place(j);
@@ -96,20 +94,6 @@ pub fn spread(sets: &mut [u64], k: State, j: State) -> bool
     }
     sets[at] = low;
     sets[at + 1] = high;
-    true
-}
-
-// Whether sets j and k have the same members.
-pub fn is_same(sets: &[u64; SETS_LENGTH], j: State, k: State) -> bool
-    requires { ⌜ (j .0 < stateLimit) × (k .0 < stateLimit) ⌝ }
-    ensures { λ r. ⌜ Decides r (SameSet (now (sets .entry)) (j .0) (k .0)) ⌝ }
-{
-    if word_at(sets, j, 0) != word_at(sets, k, 0) {
-        return false;
-    }
-    if word_at(sets, j, 1) != word_at(sets, k, 1) {
-        return false;
-    }
     true
 }
 

@@ -1,4 +1,5 @@
 // Sets of numbers below 128 as values.
+use text::limits::STATE_LIMIT;
 ghost use mathlib.Core.Logic.{_⊎_};
 ghost use mathlib.Core.Path.{_≡_};
 ghost use Prim.Native.Nat.{ℕ, _+_, _*_, _≤_, _<_};
@@ -10,7 +11,12 @@ ghost use Rattle.sets.specs.Inner.Sets.{Member, Joined};
 ghost use Rattle.sets.specs.Inner.SetValues.{In, SetOf, Least, GreatestOf, SetPut};
 
 // The bits of a word.
-const WORD_BITS: u16 = 64;
+pub const WORD_BITS: u16 = 64;
+
+// The last bit of a word, and the last number that a set can have.
+const LAST_BIT: u16 = WORD_BITS - 1;
+
+const LAST_NUMBER: u16 = STATE_LIMIT - 1;
 
 // The word of the numbers below 64, and that of the others.
 pub struct Set(pub u64, pub u64);
@@ -74,6 +80,16 @@ pub fn is_empty(a: Set) -> bool
     a.0 | a.1 == 0
 }
 
+// Whether two sets have the same members.
+pub fn is_equal(a: Set, b: Set) -> bool
+    ensures { λ r. ⌜ Decides r (SetOf (In a) b) ⌝ }
+{
+    if a.0 != b.0 {
+        return false;
+    }
+    a.1 == b.1
+}
+
 // The least member, or 128.
 pub fn least(a: Set) -> u16
     ensures { λ r. ⌜ Least a r ⌝ }
@@ -102,12 +118,12 @@ pub fn greatest(a: Set) -> u16
     ensures { λ r. ⌜ GreatestOf a r ⌝ }
 {
     if a.1 != 0 {
-        return 127 - u64::leading_zeros(a.1) as u16;
+        return LAST_NUMBER - u64::leading_zeros(a.1) as u16;
     }
     if a.0 != 0 {
-        return 63 - u64::leading_zeros(a.0) as u16;
+        return LAST_BIT - u64::leading_zeros(a.0) as u16;
     }
-    128
+    STATE_LIMIT
 }
 
 // The numbers below n.

@@ -102,7 +102,7 @@ fn pass(
 
 // Gives each set the members of the sets of all states that a silent move leads to. The passes go to and fro, so that
 // silent steps in the order of their sources, or against it, need few of them.
-pub fn close_sets(
+fn close_sets(
     n: u16,
     from: &[u16; LABELS_LENGTH],
     sources: &[u16; MOVES_LENGTH],

@@ -2,7 +2,8 @@
 use comparing::lists::class_at;
 use comparing::stores::put;
 use sets::SETS_LENGTH;
-use sets::is_same;
+use sets::set::is_equal;
+use sets::set::set_at;
 use text::State;
 use text::limits::ROW;
 ghost use Prim.Native.Nat.{_≤_, _<_};
@@ -15,12 +16,13 @@ fn find_lead(keys: &[u64; SETS_LENGTH], p: State, from: State, link: &mut [u16; 
     requires { ⌜ (p .0 < stateLimit) × Dividing (now keys) (now link) (p .0) (from .0) ⌝ }
     ensures { λ r. ⌜ LeadFound (now (keys .entry)) (now (link .entry)) (now (link .exit)) (p .0) (from .0) (r .0) ⌝ }
 {
+    let key = set_at(keys, p.0 as usize);
     let mut r = from.0;
     loop {
-        if is_same(keys, State(r), p) {
+        let at = r as usize;
+        if is_equal(set_at(keys, at), key) {
             return State(r);
         }
-        let at = r as usize;
         let s = link[at];
         if s == 0 {
             put(link, at, p.0);
@@ -31,7 +33,7 @@ fn find_lead(keys: &[u64; SETS_LENGTH], p: State, from: State, link: &mut [u16; 
 }
 
 // Divides the classes by the keys.
-pub fn divide(n: u16, keys: &[u64; SETS_LENGTH], class: &mut [u16; ROW])
+pub fn divide_by_keys(n: u16, keys: &[u64; SETS_LENGTH], class: &mut [u16; ROW])
     requires { ⌜ (n ≤ stateLimit) × LeadClasses n (now class) ⌝ }
     ensures { λ _. ⌜ LeadClasses n (now (class .exit)) ⌝ }
     ensures { λ _. ⌜ DividedBy n (now (keys .entry)) (now (class .entry)) (now (class .exit)) ⌝ }

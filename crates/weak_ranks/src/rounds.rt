@@ -1,5 +1,5 @@
 // The rounds: in each, the classes are divided by the keys of all labels.
-use crate::dividing::divide;
+use crate::dividing::divide_by_keys;
 use comparing::lists::class_at;
 use comparing::stores::put;
 use ranking::table::clear;
@@ -59,14 +59,14 @@ fn divide_low(
                 Action(a),
                 &mut keys,
             );
-            divide(n, &keys, next);
+            divide_by_keys(n, &keys, next);
         }
         a += 1;
     }
 }
 
 // The classes one round later.
-fn refine(
+fn refine_by_keys(
     n: u16,
     from: &[u16; LABELS_LENGTH],
     sources: &[u16; MOVES_LENGTH],
@@ -83,7 +83,7 @@ fn refine(
     let mut silent = [0u64; SETS_LENGTH];
     *next = *class;
     silent_keys(n, from, sources, targets, class, &mut silent);
-    divide(n, &silent, next);
+    divide_by_keys(n, &silent, next);
     divide_low(n, from, sources, targets, class, &silent, next);
 }
 
@@ -133,7 +133,7 @@ pub fn weak_round(
 {
     let mut next = [0u16; ROW];
     let mut list = [0u16; ROW];
-    refine(n, from, sources, targets, class, &mut next);
+    refine_by_keys(n, from, sources, targets, class, &mut next);
     let changed = list_changed(n, class, &next, &mut list);
     write_rows(table, class, &next, k + 1, n, &list, changed);
     *class = next;

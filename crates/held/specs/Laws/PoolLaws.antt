@@ -2,14 +2,13 @@
 use mathlib.Core.List.{List}
 use mathlib.Core.Logic.{_⊎_, inl, inr}
 use mathlib.Core.Path.{_≡_, sym, ap, _∙_, subst}
-use Prim.Native.Nat.{ℕ, zero, suc, _+_, _/_, _≤_, _<_}
+use Prim.Native.Nat.{ℕ, _+_, _≤_, _<_}
 use native.Mathlib.Omega.{arith}
 use lib.ListN.{length, getD, set}
 use lib.Seq.{getD-set-same, getD-set-other}
-use Rattle.sets.specs.Inner.Sets.{wordBits, Member, Joined}
-use Rattle.sets.specs.Inner.SetValues.{wordOf, SetOf}
+use Rattle.sets.specs.Inner.Sets.{Member, Joined}
+use Rattle.sets.specs.Inner.SetValues.{SetOf}
 use Rattle.sets.specs.declared.set.Set.{Set}
-use Rattle.sets.specs.Laws.SetValuesLaws.{in-of-bit}
 use Rattle.held.specs.Inner.Slots.{FreeFrom, OthersKept}
 
 -- ---- one place
@@ -42,17 +41,6 @@ setOf-number {s = s} {pool} = subst (λ (i : ℕ). SetOf (Member pool i) s)
 pub joined-number : {j k : ℕ} {P : ℕ → Type 0} {pool pool′ : List ℕ} → j ≡ k → Joined j P pool pool′
     → Joined k P pool pool′
 joined-number {P = P} {pool} {pool′} = subst (λ (i : ℕ). Joined i P pool pool′)
-
--- A set with the same words has the same members.
-pub setOf-words : {P : ℕ → Type 0} {s t : Set} → s .0 ≡ t .0 → s .1 ≡ t .1 → SetOf P s → SetOf P t
-setOf-words {s = s} {t} e f m = record {
-  all = λ x p. let i = m .all x p in in-of-bit (words (x / wordBits)) (i .member-lt) (i .bit-is);
-  only = λ x i. m .only x (in-of-bit (sym (words (x / wordBits))) (i .member-lt) (i .bit-is));
-}
-  where
-    words : (h : ℕ) → wordOf s h ≡ wordOf t h
-    words zero = e
-    words (suc h) = f
 
 pub kept-of-joined : {k : ℕ} {P : ℕ → Type 0} {pool pool′ : List ℕ} → Joined k P pool pool′ → OthersKept k pool pool′
 kept-of-joined {k} {P} {pool} J = record {

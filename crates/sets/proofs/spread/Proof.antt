@@ -1,11 +1,10 @@
--- The words of set k take the bits of set j, unless they have them all.
-use mathlib.Core.Bool.{true}
+-- The words of set k take the bits of set j, unless they have them all: then one of them changes.
+use mathlib.Core.Logic.{⊎-elim}
 use mathlib.Core.Path.{refl}
-use Rattle.text.specs.Laws.DecidesLaws.{not-T-of-false}
 use Prim.Native.Nat.{_+_, _<_}
 use native.Mathlib.Omega.{arith}
 use lib.ListN.{length, length-set}
-use Rattle.sets.specs.Laws.WordsLaws.{joined-words, joined-none}
+use Rattle.sets.specs.Laws.WordsLaws.{joined-words, joined-same-words, words-of-stored}
 use borrow.Author.Needs.{needs}
 use Rattle.sets.proofs.spread.Statement.{statement}
 use Rattle.sets.proofs.spread.Tie as tie
@@ -50,7 +49,7 @@ returns : tie.Need-returns
 returns c =
     let at = c .before .before .before .before .before .before .before .word-place in
     let of = c .before .before .before .before .before .before .word-place2 in
-    (joined-none (at .ensures) (of .ensures) (c .before .if1 .taken) (c .if2 .taken), λ e. refl)
+    (joined-same-words (at .ensures) (of .ensures) (c .before .if1 .taken) (c .if2 .taken), refl)
 
 mul-sets : tie.Need-mul-sets
 mul-sets c = search needs
@@ -75,8 +74,12 @@ returns-2 c =
     let start = c .before .before .before .before .before .before .before .before in
     let at = c .before .before .before .before .before .before .word-place in
     let of = c .before .before .before .before .before .word-place2 in
-    let l : at .result + 1 < length (start .args .sets .now) = omega arith in
-    (joined-words (at .ensures) (of .ensures) l refl, λ e. absurd (not-T-of-false true e tt))
+    let l : at .result + 1 < length (start .args .sets .now) = omega arith in (
+      joined-words (at .ensures) (of .ensures) l refl,
+      λ e.
+          let same = words-of-stored (at .result) l e in
+          ⊎-elim (λ w. w .1 .left (same .1)) (λ w. w .left (same .0)) (c .if1 .came),
+    )
 
 pub spread-spec : {M : Type 1} → statement M
 spread-spec =

@@ -5,18 +5,15 @@ use mathlib.Core.Logic.{_⊎_, inl, inr}
 use mathlib.Core.List.{List}
 use Prim.Native.Nat.{ℕ, zero, suc, _+_, _*_, _/_, _%_, _^_, _≤_, _<_}
 use native.Mathlib.Omega.{arith}
-use lib.Bits.{bitOr}
-use lib.Dec.{eqb, eqb→eq}
+use lib.Bits.{bitOr, or-comm}
 use lib.ListN.{length, getD, set}
 use lib.Seq.{lt-length-set, getD-set-same, getD-set-other}
-use Rattle.text.specs.Decides.{Decides}
 use Rattle.text.specs.Limits.{stateLimit}
-use Rattle.text.specs.Laws.DecidesLaws.{decides-iff, decides-test}
-use Rattle.lts.specs.TestsLaws.{T-eqb, lt-or-le}
+use Rattle.lts.specs.TestsLaws.{lt-or-le}
 use Rattle.sets.specs.declared.set.Set.{Set}
-use Rattle.sets.specs.Inner.Sets.{wordBits, Member}
+use Rattle.sets.specs.Inner.Sets.{wordBits, Member, SameSet}
 use Rattle.sets.specs.Inner.SetValues.{wordOf, In, SetOf, SetPut}
-use Rattle.sets.specs.Laws.BitsLaws.{bit-cases, bit-zero}
+use Rattle.sets.specs.Laws.BitsLaws.{bit-cases, bit-zero, or-of-bits}
 use Rattle.sets.specs.Laws.MasksLaws.{or-zero-left, or-zero-right, zero-of-bits}
 use Rattle.sets.specs.Laws.SetsLaws.{member-of-bit}
 
@@ -94,10 +91,6 @@ setOf-or-not {P} {s} m x = go (in-or-not s x)
 
 -- ---- tests
 
-pub decides-eqb : {P : Type 0} (m n : ℕ) → (m ≡ n → P) → (P → m ≡ n) → Decides (eqb m n) P
-decides-eqb m n f g =
-    decides-iff (eqb m n) (λ t. f (eqb→eq m n t)) (λ p. T-eqb (g p)) (decides-test (eqb m n) (eqb m n) refl)
-
 pub none-of-or : {s : Set} → bitOr (s .0) (s .1) ≡ 0 → (x : ℕ) → ¬ (In s x)
 none-of-or {s} e x m = bit-zero (x % wordBits) (bit-of-in (zeros (x / wordBits)) m)
   where
@@ -111,32 +104,73 @@ or-of-none {s} l m f =
     ap₂ bitOr (zero-of-bits (s .0) l (λ i k b. f i (in-of-word 0 (omega arith) (omega arith) k b)))
     (zero-of-bits (s .1) m (λ i k b. f (wordBits + i) (in-of-word 1 (omega arith) (omega arith) k b)))
 
+-- ---- two sets
+
+-- A set with the same words has the same members,
+pub setOf-same-words : {P : ℕ → Type 0} {s t : Set} → s .0 ≡ t .0 → s .1 ≡ t .1 → SetOf P s → SetOf P t
+setOf-same-words {s = s} {t} e f m = record {
+  all = λ x p. let i = m .all x p in in-of-bit (words (x / wordBits)) (i .member-lt) (i .bit-is);
+  only = λ x i. m .only x (in-of-bit (sym (words (x / wordBits))) (i .member-lt) (i .bit-is));
+}
+  where
+    words : (h : ℕ) → wordOf s h ≡ wordOf t h
+    words zero = e
+    words (suc h) = f
+
+-- and one with the same members the same words.
+pub word-of-setOf : {a b : Set} (h : ℕ) → h < 2 → wordOf a h < 2 ^ wordBits → wordOf b h < 2 ^ wordBits
+    → SetOf (In a) b → wordOf a h ≡ wordOf b h
+word-of-setOf {a} {b} h l fits fits-too s =
+    sym (or-of-bits wordBits (wordOf b h) (wordOf a h) fits-too
+    (λ i m e. word-of-in h refl m (s .only (wordBits * h + i) (in-of-word h refl l m e))))
+    ∙ or-comm (wordOf b h) (wordOf a h)
+    ∙ or-of-bits wordBits (wordOf a h) (wordOf b h) fits
+    (λ i m e. word-of-in h refl m (s .all (wordBits * h + i) (in-of-word h refl l m e)))
+
+pub setOf-refl : {a : Set} → SetOf (In a) a
+setOf-refl = record { all = λ x m. m; only = λ x m. m }
+
+-- A set has what makes up another with the same members.
+pub setOf-trans : {P : ℕ → Type 0} {a b : Set} → SetOf P a → SetOf (In a) b → SetOf P b
+setOf-trans m n = record { all = λ x p. n .all x (m .all x p); only = λ x i. m .only x (n .only x i) }
+
+-- Two sets of a list, by their values.
+module _ {sets : List ℕ} {j k : ℕ} {a b : Set} (m : SetOf (Member sets j) a) (n : SetOf (Member sets k) b) where
+  pub sameSet-of-values : SetOf (In a) b → SameSet sets j k
+  sameSet-of-values s = record {
+    there = λ x i. n .only x (s .all x (m .all x i));
+    back = λ x i. m .only x (s .only x (n .all x i));
+  }
+
+  pub values-of-sameSet : SameSet sets j k → SetOf (In a) b
+  values-of-sameSet s = record {
+    all = λ x i. n .all x (s .there x (m .only x i));
+    only = λ x i. m .all x (s .back x (n .only x i));
+  }
+
 -- ---- sets of a list
 
 -- Both words of set k are those of s.
-setOf-words : {sets : List ℕ} {k : ℕ} {s : Set} → ((h : ℕ) → h < 2 → getD sets (2 * k + h) 0 ≡ wordOf s h)
+setOf-of-words : {sets : List ℕ} {k : ℕ} {s : Set} → ((h : ℕ) → h < 2 → getD sets (2 * k + h) 0 ≡ wordOf s h)
     → SetOf (Member sets k) s
-setOf-words f = record {
+setOf-of-words f = record {
   all = λ x m. in-of-bit (f (x / wordBits) (omega (arith, m .member-lt))) (m .member-lt) (m .bit-is);
   only = λ x m.
       member-of-bit (sym (f (x / wordBits) (omega (arith, m .member-lt)))) (m .member-lt) (m .bit-is);
 }
 
 pub setOf-at : (sets : List ℕ) (k : ℕ) → SetOf (Member sets k) (getD sets (2 * k) 0, getD sets (2 * k + 1) 0)
-setOf-at sets k = setOf-words word
+setOf-at sets k = setOf-of-words word
   where
     word : (h : ℕ) → h < 2 → getD sets (2 * k + h) 0 ≡ wordOf (getD sets (2 * k) 0, getD sets (2 * k + 1) 0) h
     word zero l = let e : 2 * k + 0 ≡ 2 * k = omega arith in ap (λ (p : ℕ). getD sets p 0) e
     word (suc zero) l = refl
     word (suc (suc h)) l = absurd (omega (arith, l))
 
-pub member-or-not : (sets : List ℕ) (k x : ℕ) → Member sets k x ⊎ ¬ (Member sets k x)
-member-or-not sets k = setOf-or-not (setOf-at sets k)
-
 pub setPut-words : {sets : List ℕ} {k : ℕ} (s : Set) → 2 * k + 1 < length sets
     → SetPut k s sets (set (set sets (2 * k) (s .0)) (2 * k + 1) (s .1))
 setPut-words {sets} {k} s l = record {
-  put = setOf-words word;
+  put = setOf-of-words word;
   kept = λ j x d m. member-of-bit (sym (other j (x / wordBits) (omega (arith, m .member-lt)) d)) (m .member-lt)
       (m .bit-is);
   only = λ j x d m. member-of-bit (other j (x / wordBits) (omega (arith, m .member-lt)) d) (m .member-lt) (m .bit-is);

@@ -11,7 +11,7 @@ use lib.Seq.{getD-set-same, getD-set-other}
 use Rattle.text.specs.Limits.{stateLimit}
 use Rattle.text.specs.Laws.ListLaws.{getD-zeros}
 use Rattle.lts.specs.TestsLaws.{eq-or-not}
-use Rattle.sets.specs.Inner.Sets.{wordBits, Member, Empty, Joined}
+use Rattle.sets.specs.Inner.Sets.{wordBits, Member, Empty, Joined, SameSet}
 use Rattle.sets.specs.Laws.BitsLaws.{bit-or-left, bit-or-right, bit-or-cases}
 use Rattle.sets.specs.Laws.BitsLaws.{bit-pow, bit-pow-unique, bit-zero}
 
@@ -22,6 +22,17 @@ empty-zeros n = record {
   none = λ k x m. bit-zero (x % wordBits)
       (ap (λ (w : ℕ). w / 2 ^ (x % wordBits) % 2) (sym (getD-zeros n (2 * k + x / wordBits))) ∙ m .bit-is);
 }
+
+-- ---- sets with the same members
+
+pub sameSet-refl : {sets : List ℕ} {j : ℕ} → SameSet sets j j
+sameSet-refl = record { there = λ x m. m; back = λ x m. m }
+
+pub sameSet-sym : {sets : List ℕ} {j k : ℕ} → SameSet sets j k → SameSet sets k j
+sameSet-sym s = record { there = s .back; back = s .there }
+
+pub sameSet-trans : {sets : List ℕ} {j k i : ℕ} → SameSet sets j k → SameSet sets k i → SameSet sets j i
+sameSet-trans s t = record { there = λ x m. t .there x (s .there x m); back = λ x m. s .back x (t .back x m) }
 
 -- ---- members by words
 

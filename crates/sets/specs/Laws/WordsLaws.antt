@@ -1,15 +1,15 @@
--- Both words of sets say whether one lies within another, whether two are the same, and which member comes next.
+-- Both words of sets say whether one lies within another, and which member comes next.
 -- Assumes nothing.
 use mathlib.Core.Path.{_≡_, refl, sym, ap, _∙_}
 use mathlib.Core.Logic.{_⊎_, inl, inr}
 use mathlib.Core.List.{List}
 use Prim.Native.Nat.{ℕ, zero, suc, _+_, _-_, _*_, _/_, _%_, _^_, _≤_, _<_}
 use native.Mathlib.Omega.{arith}
-use lib.Bits.{bitOr, or-comm, or-self}
+use lib.Bits.{bitOr, or-comm}
 use lib.ListN.{length, getD, set}
-use lib.Seq.{lt-length-set, getD-set-other}
+use lib.Seq.{lt-length-set, getD-set-same, getD-set-other}
 use Rattle.lts.specs.TestsLaws.{lt-or-le}
-use Rattle.sets.specs.Inner.Sets.{wordBits, NextBit, Member, Joined, SameSet, Within, NextMember}
+use Rattle.sets.specs.Inner.Sets.{wordBits, NextBit, Member, Joined, Within, NextMember}
 use Rattle.sets.specs.Laws.BitsLaws.{or-of-bits, bits-of-or}
 use Rattle.sets.specs.Laws.SetsLaws.{member-of-bit, bit-of-member, member-of-word, word-of-member}
 use Rattle.sets.specs.Laws.SetsLaws.{joined-store, joined-set}
@@ -42,25 +42,6 @@ module _ {sets others : List ℕ} {k j : ℕ} where
       or-of-bits wordBits a c fits
       (λ i m b. word-of-member h refl e m (w .within (wordBits * h + i) (member-of-word h refl d l m b)))
 
--- ---- two sets
-
-module _ {sets : List ℕ} {j k : ℕ} where
-  pub same-of-words : {a b c d : ℕ} → a ≡ getD sets (2 * j + 0) 0 → b ≡ getD sets (2 * j + 1) 0
-      → c ≡ getD sets (2 * k + 0) 0 → d ≡ getD sets (2 * k + 1) 0 → a ≡ c → b ≡ d → SameSet sets j k
-  same-of-words ea eb ec ed l h = record {
-    there = within-of-words ea eb ec ed (equal l) (equal h) .within;
-    back = within-of-words ec ed ea eb (equal (sym l)) (equal (sym h)) .within;
-  }
-    where
-      equal : {x y : ℕ} → x ≡ y → bitOr x y ≡ y
-      equal {x} {y} e = ap (λ (z : ℕ). bitOr z y) e ∙ or-self y
-
-  pub word-of-same : (h : ℕ) {a c : ℕ} → a ≡ getD sets (2 * j + h) 0 → c ≡ getD sets (2 * k + h) 0 → h < 2
-      → a < 2 ^ wordBits → c < 2 ^ wordBits → SameSet sets j k → a ≡ c
-  word-of-same h {a} {c} d e l fits fits-too w =
-      sym (word-of-within h e d l fits-too (record { within = w .back })) ∙ or-comm c a
-      ∙ word-of-within h d e l fits (record { within = w .there })
-
 -- ---- a set added to set k
 
 -- Both words take the bits of the other set's words.
@@ -79,10 +60,10 @@ joined-words {sets} {others} {k} {j} {p} {q} {b} d e l f =
     (f ∙ sym (getD-set-other sets p (p + 1) v 0 next)))
 
 -- Neither word takes a bit.
-pub joined-none : {sets : List ℕ} {k j p q : ℕ} → p ≡ 2 * k → q ≡ 2 * j
+pub joined-same-words : {sets : List ℕ} {k j p q : ℕ} → p ≡ 2 * k → q ≡ 2 * j
     → bitOr (getD sets p 0) (getD sets q 0) ≡ getD sets p 0
     → bitOr (getD sets (p + 1) 0) (getD sets (q + 1) 0) ≡ getD sets (p + 1) 0 → Joined k (Member sets j) sets sets
-joined-none {sets} {k} {j} {p} {q} d e l h = record {
+joined-same-words {sets} {k} {j} {p} {q} d e l h = record {
   joined = within-of-words (at q f) (at (q + 1) g) (at p m) (at (p + 1) n)
       (or-comm (getD sets q 0) (getD sets p 0) ∙ l) (or-comm (getD sets (q + 1) 0) (getD sets (p + 1) 0) ∙ h) .within;
   kept = λ i x b. b;
@@ -103,6 +84,17 @@ joined-none {sets} {k} {j} {p} {q} d e l h = record {
 
     n : p + 1 ≡ 2 * k + 1
     n = omega arith
+
+-- Both words are stored, and the list stays the same: they are those that it had.
+pub words-of-stored : {sets : List ℕ} (p : ℕ) {v w : ℕ} → p + 1 < length sets → set (set sets p v) (p + 1) w ≡ sets
+    → (v ≡ getD sets p 0) × (w ≡ getD sets (p + 1) 0)
+words-of-stored {sets} p {v} {w} l e =
+    let next : ¬ (p ≡ p + 1) = λ h. omega (arith, h) in (
+      sym (getD-set-other (set sets p v) (p + 1) p w 0 next ∙ getD-set-same sets p v 0 (omega arith))
+          ∙ ap (λ (s : List ℕ). getD s p 0) e,
+      sym (getD-set-same (set sets p v) (p + 1) w 0 (lt-length-set sets p v l))
+          ∙ ap (λ (s : List ℕ). getD s (p + 1) 0) e,
+    )
 
 -- ---- the next member
 

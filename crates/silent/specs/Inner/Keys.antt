@@ -20,10 +20,10 @@ turnPlace false begin end i = i
 pub record OfStates (n : ℕ) (sets : List ℕ) : Type 0 where
   pub state-lt : (p x : ℕ) → p < stateLimit → Member sets p x → p < n
 
--- Set p has the number of its class alone.
+-- Sets p below n have the number of their class alone, and the others have no member.
 pub record OwnClasses (n : ℕ) (class sets : List ℕ) : Type 0 where
   pub own : (p : ℕ) → p < n → Member sets p (getD class p 0)
-  pub only : (p x : ℕ) → p < stateLimit → Member sets p x → (p < n) × (getD class p 0 ≡ x)
+  pub only : (p x : ℕ) → Member sets p x → (p < n) × (getD class p 0 ≡ x)
 
 -- Set p has got the members of the sets of all states that a silent move leads to from p, and no others.
 pub record Closed (Tick : Relation) (n : ℕ) (entry exit : List ℕ) : Type 0 where

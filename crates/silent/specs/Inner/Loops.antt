@@ -13,11 +13,6 @@ use Rattle.sets.specs.Inner.Sets.{Member}
 use Rattle.silent.specs.Labelled.{LabelStep, TickLabel}
 use Rattle.silent.specs.Inner.Keys.{turnPlace}
 
--- Sets p below k have the number of their class alone, and the others have no member.
-pub record OwnBelow (k : ℕ) (class sets : List ℕ) : Type 0 where
-  pub own : (p : ℕ) → p < k → Member sets p (getD class p 0)
-  pub only : (p x : ℕ) → Member sets p x → (p < k) × (getD class p 0 ≡ x)
-
 -- Members come along silent moves alone: each member of set p of the one list is a member of the other's set of a
 -- state that a silent move leads to from p.
 pub record AlongSilent (Tick : Relation) (n : ℕ) (entry exit : List ℕ) : Type 0 where

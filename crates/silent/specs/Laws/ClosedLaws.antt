@@ -46,9 +46,9 @@ module _ {Tick : Relation} {n : ℕ} where
       P .kept p x (h .near p q x (within-le (omega arith) (within-start (refl, l))) m)
   closed-along h P U x (tick {p = p} {q = r} t s) m = U .along p r x t (closed-along h P U x s m)
 
-  pub closed-of-under : {k : ℕ} {entry sets exit : List ℕ} → n ≤ stateLimit → ClosedWithin Tick n k entry sets
+  pub closed-of-closedUnder : {k : ℕ} {entry sets exit : List ℕ} → n ≤ stateLimit → ClosedWithin Tick n k entry sets
       → Passed Tick n sets exit → ClosedUnder Tick exit → Closed Tick n entry exit
-  closed-of-under l h P U = record {
+  closed-of-closedUnder l h P U = record {
     reached = λ p q x s m. closed-along h P U x s m;
     only = alongSilent-trans l (h .silent) (record { only = P .only }) .only;
   }

@@ -13,7 +13,7 @@ use Rattle.silent.specs.Inner.Keys.{OfStates, OwnClasses, Closed, Gather
 use Rattle.silent.specs.Laws.LabelledLaws.{labelStep-source-lt, labelStep-target-lt}
 
 pub ownClasses→OfStates : {n : ℕ} {class sets : List ℕ} → OwnClasses n class sets → OfStates n sets
-ownClasses→OfStates O = record { state-lt = λ p x l m. O .only p x l m .0 }
+ownClasses→OfStates O = record { state-lt = λ p x l m. O .only p x m .0 }
 
 module _ {n : ℕ} {from sources targets : List ℕ} where
   -- A move with the silent label is a silent one.
@@ -42,7 +42,7 @@ module _ {n : ℕ} {from sources targets : List ℕ} (L : LabelList n from sourc
         C .reached p q (getD class q 0) s (O .own q (silent-lt s));
     only = λ p c l m.
         let r = C .only p c l m in
-        (r .0, silent refl (r .1), O .only (r .0) c (omega (arith, silent-lt (r .1), L .states-le)) (r .2) .1);
+        (r .0, silent refl (r .1), O .only (r .0) c (r .2) .1);
   }
 
   pub keys-of-gathered : {a : ℕ} {class silents gathered keys : List ℕ} → a < actionLimit

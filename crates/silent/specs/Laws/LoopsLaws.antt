@@ -14,16 +14,16 @@ use Rattle.text.specs.Limits.{stateLimit}
 use Rattle.sets.specs.Inner.Sets.{Member, Empty, Joined}
 use Rattle.silent.specs.Labelled.{LabelStep}
 use Rattle.silent.specs.Inner.Keys.{OfStates, OwnClasses, Gathered}
-use Rattle.silent.specs.Inner.Loops.{OwnBelow, AlongSilent, GatheredTo}
+use Rattle.silent.specs.Inner.Loops.{AlongSilent, GatheredTo}
 
 -- ---- the own classes
 
-pub ownBelow-none : {class sets : List ℕ} → Empty sets → OwnBelow 0 class sets
-ownBelow-none e = record { own = λ p l. absurd (omega arith); only = λ p x m. absurd (e .none p x m) }
+pub ownClasses-none : {class sets : List ℕ} → Empty sets → OwnClasses 0 class sets
+ownClasses-none e = record { own = λ p l. absurd (omega arith); only = λ p x m. absurd (e .none p x m) }
 
-pub ownBelow-suc : {k : ℕ} {class entry exit : List ℕ} → OwnBelow k class entry
-    → Joined k (λ y. y ≡ getD class k 0) entry exit → OwnBelow (k + 1) class exit
-ownBelow-suc {k} {class} {entry} {exit} h j = record {
+pub ownClasses-suc : {k : ℕ} {class entry exit : List ℕ} → OwnClasses k class entry
+    → Joined k (λ y. y ≡ getD class k 0) entry exit → OwnClasses (k + 1) class exit
+ownClasses-suc {k} {class} {entry} {exit} h j = record {
   own = λ p l. own p l (eq-or-not p k);
   only = λ p x m. only p x (j .only p x m);
 }
@@ -35,9 +35,6 @@ ownBelow-suc {k} {class} {entry} {exit} h j = record {
     only : (p x : ℕ) → Member entry p x ⊎ ((p ≡ k) × (x ≡ getD class k 0)) → (p < k + 1) × (getD class p 0 ≡ x)
     only p x (inl m) = let r = h .only p x m in (omega (arith, r .0), r .1)
     only p x (inr (e, f)) = (omega arith, subst (λ (y : ℕ). getD class y 0 ≡ x) (sym e) (sym f))
-
-pub ownBelow→OwnClasses : {n : ℕ} {class sets : List ℕ} → OwnBelow n class sets → OwnClasses n class sets
-ownBelow→OwnClasses h = record { own = h .own; only = λ p x l m. h .only p x m }
 
 -- ---- gathering
 

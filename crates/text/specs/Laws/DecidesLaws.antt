@@ -1,9 +1,11 @@
 -- What a decision says once its answer is known.
 -- Assumes nothing.
 use mathlib.Core.Bool.{Bool, true, false, not}
-use mathlib.Core.Path.{_≡_, sym, subst}
-use lib.Dec.{T}
+use mathlib.Core.Path.{_≡_, refl, sym, subst}
+use Prim.Native.Nat.{ℕ}
+use lib.Dec.{T, eqb, eqb→eq}
 use borrow.Author.Tests.{not-true, not-false}
+use Rattle.lts.specs.TestsLaws.{T-eqb}
 use Rattle.text.specs.Decides.{Decides}
 
 pub decides-true : (r : Bool) (P : Type 0) → Decides r P → r ≡ true → P
@@ -28,6 +30,11 @@ decides-iff false f g d = λ q. d (g q)
 pub decides-test : (r b : Bool) → r ≡ b → Decides r (T b)
 decides-test true b e = subst T e tt
 decides-test false b e = λ t. subst T (sym e) t
+
+-- and so does one that answers whether two numbers are equal
+pub decides-eqb : {P : Type 0} (m n : ℕ) → (m ≡ n → P) → (P → m ≡ n) → Decides (eqb m n) P
+decides-eqb m n f g =
+    decides-iff (eqb m n) (λ t. f (eqb→eq m n t)) (λ p. T-eqb (g p)) (decides-test (eqb m n) (eqb m n) refl)
 
 -- a test, from its value, and the value from the test
 pub T-of-true : (b : Bool) → b ≡ true → T b

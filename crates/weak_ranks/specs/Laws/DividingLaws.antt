@@ -7,18 +7,8 @@ use native.Mathlib.Omega.{arith}
 use lib.ListN.{getD}
 use Rattle.lts.specs.TestsLaws.{eq-or-not}
 use Rattle.sets.specs.Inner.Sets.{SameSet}
+use Rattle.sets.specs.Laws.SetsLaws.{sameSet-refl, sameSet-sym, sameSet-trans}
 use Rattle.weak_ranks.specs.Inner.Dividing.{LeadClasses, DividedBy, Lead, NextLead, DividedUpTo}
-
--- ---- sets with the same members
-
-pub sameSet-refl : {keys : List ℕ} {p : ℕ} → SameSet keys p p
-sameSet-refl = record { there = λ x m. m; back = λ x m. m }
-
-pub sameSet-sym : {keys : List ℕ} {p q : ℕ} → SameSet keys p q → SameSet keys q p
-sameSet-sym s = record { there = s .back; back = s .there }
-
-pub sameSet-trans : {keys : List ℕ} {p q r : ℕ} → SameSet keys p q → SameSet keys q r → SameSet keys p r
-sameSet-trans s t = record { there = λ x m. t .there x (s .there x m); back = λ x m. s .back x (t .back x m) }
 
 -- ---- one state more
 

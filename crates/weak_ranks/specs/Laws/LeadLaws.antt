@@ -1,4 +1,5 @@
--- The search for the lead of a state, along the links of its class. Assumes nothing.
+-- A search along the links of its class finds the lead with the key of a state, or shows that there is none: then the
+-- state becomes the last lead. Assumes nothing.
 use mathlib.Core.Path.{_≡_, refl, sym, _∙_, subst}
 use mathlib.Core.Logic.{_⊎_, inl, inr}
 use mathlib.Core.List.{List}
@@ -118,7 +119,7 @@ module _ {keys class next link : List ℕ} {p from : ℕ} (A : AtState keys clas
                   none-between = λ x l M. before-last i x l M (eq-or-not x p);
                 })
 
--- ---- whatever the classes are
+-- ---- whatever the classes are: each lead that was passed has another key
 
 pub sought-first : {keys link : List ℕ} {p from : ℕ} → Sought keys link p from from
 sought-first = record { sought = λ class next A. leadSought-first A }
@@ -144,7 +145,7 @@ module _ {keys link : List ℕ} {p from r : ℕ} (S : Sought keys link p from r)
       → LeadFound keys link (set link r p) p from p
   leadFound-after d z lr = record { found = λ class next A l. lead-after A (S .sought class next A) d z lr l }
 
--- ---- a state whose class it leads, and another
+-- ---- a state that leads its class is divided, and for another the search can begin
 
 module _ {n : ℕ} {keys class next link : List ℕ} {p : ℕ} (C : LeadClasses n class) (lp : p < n)
     (D : DividedUpTo keys class next link p) {from : ℕ} (told : from ≡ getD next p 0) where

@@ -1,7 +1,8 @@
 -- No word has a bit.
 use lib.Bits.{bitOr}
 use native.Mathlib.Omega.{arith}
-use Rattle.sets.specs.Laws.SetValuesLaws.{decides-eqb, none-of-or, or-of-none}
+use Rattle.text.specs.Laws.DecidesLaws.{decides-eqb}
+use Rattle.sets.specs.Laws.SetValuesLaws.{none-of-or, or-of-none}
 use Rattle.sets.proofs.set.is_empty.Statement.{statement}
 use Rattle.sets.proofs.set.is_empty.Tie as tie
 

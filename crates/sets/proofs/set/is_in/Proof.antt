@@ -1,8 +1,9 @@
 -- The bit of x in its word is tested.
 use Prim.Native.Nat.{_-_, _/_, _%_, _^_}
 use native.Mathlib.Omega.{arith}
+use Rattle.text.specs.Laws.DecidesLaws.{decides-eqb}
 use Rattle.sets.specs.Inner.Sets.{wordBits}
-use Rattle.sets.specs.Laws.SetValuesLaws.{decides-eqb, in-of-word, word-of-in}
+use Rattle.sets.specs.Laws.SetValuesLaws.{in-of-word, word-of-in}
 use borrow.Author.Needs.{needs}
 use Rattle.sets.proofs.set.is_in.Statement.{statement}
 use Rattle.sets.proofs.set.is_in.Tie as tie

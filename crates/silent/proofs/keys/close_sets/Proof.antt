@@ -7,7 +7,7 @@ use Rattle.silent.specs.Labelled.{TickLabel}
 use Rattle.silent.specs.Inner.Loops.{ClosedWithin}
 use Rattle.silent.specs.Laws.LabelledLaws.{labelStep-source-lt, decided-tickLabel}
 use Rattle.silent.specs.Laws.LoopsLaws.{alongSilent→OfStates}
-use Rattle.silent.specs.Laws.ClosedLaws.{closedWithin-zero, closedWithin-suc, closed-of-under}
+use Rattle.silent.specs.Laws.ClosedLaws.{closedWithin-zero, closedWithin-suc, closed-of-closedUnder}
 use Rattle.silent.specs.Laws.ClosedLaws.{closedWithin→Closed}
 use Rattle.silent.proofs.keys.close_sets.Statement.{statement}
 use Rattle.silent.proofs.keys.close_sets.Tie as tie
@@ -33,7 +33,7 @@ returns c =
     let at-loop = c .before .before .before .before in
     let L = at-loop .before .pre .0 in
     let told = c .before .pass .ensures in
-    closed-of-under (L .states-le) (at-loop .loop .inv .1) (told .0)
+    closed-of-closedUnder (L .states-le) (at-loop .loop .inv .1) (told .0)
     (told .1 (not-true (c .before .pass .result) (c .if1 .taken)))
 
 add-passes : tie.Need-add-passes Inv-loop μ-loop

@@ -3,13 +3,13 @@ use mathlib.Core.Path.{_≡_, subst}
 use Prim.Native.Nat.{ℕ, _≤_, _-_}
 use native.Mathlib.Omega.{arith}
 use borrow.Author.Needs.{needs}
-use Rattle.silent.specs.Inner.Loops.{OwnBelow}
-use Rattle.silent.specs.Laws.LoopsLaws.{ownBelow-none, ownBelow-suc, ownBelow→OwnClasses}
+use Rattle.silent.specs.Inner.Keys.{OwnClasses}
+use Rattle.silent.specs.Laws.LoopsLaws.{ownClasses-none, ownClasses-suc}
 use Rattle.silent.proofs.keys.own_classes.Statement.{statement}
 use Rattle.silent.proofs.keys.own_classes.Tie as tie
 
 abbrev Inv-loop : tie.InvT-loop
-Inv-loop n class sets₀ p₀ sets p = (p ≤ n) × OwnBelow p class sets
+Inv-loop n class sets₀ p₀ sets p = (p ≤ n) × OwnClasses p class sets
 
 abbrev μ-loop : tie.MeasureT-loop
 μ-loop n class sets₀ p₀ sets p = n - p
@@ -18,7 +18,7 @@ clear-sets-requires : tie.Need-clear-sets-requires Inv-loop μ-loop
 clear-sets-requires c κs = search needs
 
 loop-holds : tie.Need-loop-holds Inv-loop μ-loop
-loop-holds c = (omega arith, ownBelow-none (c .clear-sets .ensures))
+loop-holds c = (omega arith, ownClasses-none (c .clear-sets .ensures))
 
 cast-at : tie.Need-cast-at Inv-loop μ-loop
 cast-at c = search needs
@@ -43,15 +43,14 @@ loop-less : tie.Need-loop-less Inv-loop μ-loop
 loop-less c = search needs
 
 loop-again : tie.Need-loop-again Inv-loop μ-loop
-loop-again c = (omega arith, ownBelow-suc (c .before .before .before .before .loop .inv .1) (c .add-member .ensures))
+loop-again c = (omega arith, ownClasses-suc (c .before .before .before .before .loop .inv .1) (c .add-member .ensures))
 
 returns : tie.Need-returns Inv-loop μ-loop
 returns c =
     let at-loop = c .before in
     let a = at-loop .before .before .before .args in
     let e : at-loop .loop .p ≡ a .n = omega arith in
-    ownBelow→OwnClasses (subst (λ (k : ℕ). OwnBelow k (a .class .now) (at-loop .loop .sets)) e
-    (at-loop .loop .inv .1))
+    subst (λ (k : ℕ). OwnClasses k (a .class .now) (at-loop .loop .sets)) e (at-loop .loop .inv .1)
 
 pub own-classes-spec : {M : Type 1} → statement M
 own-classes-spec =

@@ -1,7 +1,6 @@
 -- A set that has not grown is as it was, and one that has and is marked is told.
-use mathlib.Core.Bool.{true}
-use Rattle.text.specs.Laws.DecidesLaws.{not-T-of-false}
-use borrow.Author.Tests.{not-true}
+use mathlib.Core.Bool.{true, not}
+use Rattle.text.specs.Laws.DecidesLaws.{decides-true, not-T-of-false}
 use borrow.Author.Needs.{needs}
 use Rattle.silent.proofs.keys.turn.Statement.{statement}
 use Rattle.silent.proofs.keys.turn.Tie as tie
@@ -12,7 +11,7 @@ spread-requires c κs = search needs
 returns : tie.Need-returns
 returns c =
     let told = c .before .spread .ensures in
-    (told .0, λ e. (e, λ m. told .1 (not-true (c .before .spread .result) (c .if1 .taken))))
+    (told .0, λ e. (e, λ m. decides-true (not (c .before .spread .result)) _ (told .1) (c .if1 .taken)))
 
 cast-if2 : tie.Need-cast-if2
 cast-if2 c = search needs

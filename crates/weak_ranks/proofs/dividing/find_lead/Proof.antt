@@ -6,6 +6,7 @@ use native.Mathlib.Omega.{arith}
 use lib.ListN.{set}
 use Rattle.sets.specs.Inner.Sets.{SameSet}
 use Rattle.text.specs.Laws.DecidesLaws.{decides-true, decides-false}
+use Rattle.sets.specs.Laws.SetValuesLaws.{sameSet-of-values, values-of-sameSet}
 use Rattle.weak_ranks.specs.Inner.Dividing.{Dividing, Sought, LeadFound}
 use Rattle.weak_ranks.specs.Laws.LeadLaws.{sought-first, sought-next, sought-lt, sought-gt}
 use Rattle.weak_ranks.specs.Laws.LeadLaws.{leadFound-follows, leadFound-after}
@@ -14,15 +15,15 @@ use Rattle.weak_ranks.proofs.dividing.find_lead.Statement.{statement}
 use Rattle.weak_ranks.proofs.dividing.find_lead.Tie as tie
 
 abbrev Inv-loop : tie.InvT-loop
-Inv-loop keys p link₀ r₀ link r = (link ≡ link₀) × Sought keys link (p .0) r₀ r
+Inv-loop keys p link₀ key r₀ link r = (link ≡ link₀) × Sought keys link (p .0) r₀ r
 
 abbrev μ-loop : tie.MeasureT-loop
-μ-loop keys p link₀ r₀ link r = p .0 - r
+μ-loop keys p link₀ key r₀ link r = p .0 - r
 
 -- ---- places of the function
 
 abbrev begin : tie.At-loop Inv-loop μ-loop → tie.Start Inv-loop μ-loop
-begin c = c .before
+begin c = c .before .before .before .before
 
 -- The links are as they were.
 dividing : (c : tie.At-loop Inv-loop μ-loop)
@@ -34,46 +35,63 @@ dividing c =
 below : (c : tie.At-loop Inv-loop μ-loop) → c .loop .r < begin c .args .p .0
 below c = sought-lt (c .loop .inv .1) (dividing c)
 
+abbrev searched : tie.After-is-equal Inv-loop μ-loop → tie.At-loop Inv-loop μ-loop
+searched c = c .before .before .before
+
 -- r has another key.
 other : (c : tie.Else1 Inv-loop μ-loop)
-    → ¬ (SameSet (begin (c .before .before) .args .keys .now) (c .before .before .loop .r)
-    (begin (c .before .before) .args .p .0))
-other c = decides-false _ _ (c .before .is-same .ensures) (c .if1 .left)
+    → ¬ (SameSet (begin (searched (c .before)) .args .keys .now) (searched (c .before) .loop .r)
+    (begin (searched (c .before)) .args .p .0))
+other c =
+    let tested = c .before in
+    λ s. decides-false _ _ (tested .is-equal .ensures) (c .if1 .left)
+    (values-of-sameSet (tested .before .set-at2 .ensures) (searched tested .before .set-at .ensures) s)
 
 -- ---- needs
+
+cast-set-at : tie.Need-cast-set-at Inv-loop μ-loop
+cast-set-at c = search needs
+
+set-at-requires : tie.Need-set-at-requires Inv-loop μ-loop
+set-at-requires c κs = search needs
 
 loop-holds : tie.Need-loop-holds Inv-loop μ-loop
 loop-holds c = (refl, sought-first)
 
-is-same-requires : tie.Need-is-same-requires Inv-loop μ-loop
-is-same-requires c κs = (omega (arith, below c, begin c .pre .0), begin c .pre .0)
+cast-at : tie.Need-cast-at Inv-loop μ-loop
+cast-at c = omega (arith, below c, begin c .pre .0)
+
+set-at-requires-2 : tie.Need-set-at-requires-2 Inv-loop μ-loop
+set-at-requires-2 c κs = omega (arith, below (c .before), begin (c .before) .pre .0)
+
+is-equal-requires : tie.Need-is-equal-requires Inv-loop μ-loop
+is-equal-requires c κs = search needs
 
 returns : tie.Need-returns Inv-loop μ-loop
 returns c =
-    let at-loop = c .before .before in
+    let tested = c .before in
+    let at-loop = searched tested in
     let a = begin at-loop .args in
-    let same = decides-true _ _ (c .before .is-same .ensures) (c .if1 .taken) in
+    let same = sameSet-of-values (tested .before .set-at2 .ensures) (at-loop .before .set-at .ensures)
+    (decides-true _ _ (tested .is-equal .ensures) (c .if1 .taken)) in
     subst (λ (l : List ℕ). LeadFound (a .keys .now) l (at-loop .loop .link) (a .p .0) (a .from .0) (at-loop .loop .r))
     (at-loop .loop .inv .0) (leadFound-follows (at-loop .loop .inv .1) same)
 
-cast-at : tie.Need-cast-at Inv-loop μ-loop
-cast-at c = omega (arith, below (c .before .before), begin (c .before .before) .pre .0)
-
 mul-s : tie.Need-mul-s Inv-loop μ-loop
-mul-s c = omega (arith, below (c .before .before), begin (c .before .before) .pre .0)
+mul-s c = omega (arith, below (searched (c .before)), begin (searched (c .before)) .pre .0)
 
 element-copy-out-s : tie.Need-element-copy-out-s Inv-loop μ-loop
-element-copy-out-s c = omega (arith, below (c .before .before), begin (c .before .before) .pre .0)
+element-copy-out-s c = omega (arith, below (searched (c .before)), begin (searched (c .before)) .pre .0)
 
 put-requires : tie.Need-put-requires Inv-loop μ-loop
 put-requires c κs =
-    let at-loop = c .before .before .before .before .before in
+    let at-loop = searched (c .before .before .before .before) in
     omega (arith, below at-loop, begin at-loop .pre .0)
 
 returns-2 : tie.Need-returns-2 Inv-loop μ-loop
 returns-2 c =
     let else = c .before .before .before .before in
-    let at-loop = else .before .before in
+    let at-loop = searched (else .before) in
     let a = begin at-loop .args in
     let r = at-loop .loop .r in
     let link = at-loop .loop .link in
@@ -85,13 +103,13 @@ returns-2 c =
 
 loop-less : tie.Need-loop-less Inv-loop μ-loop
 loop-less c =
-    let at-loop = c .before .before .before .before in
+    let at-loop = searched (c .before .before .before) in
     omega (arith, below at-loop, sought-gt (at-loop .loop .inv .1) (dividing at-loop) (omega arith))
 
 loop-again : tie.Need-loop-again Inv-loop μ-loop
 loop-again c =
     let else = c .before .before in
-    let at-loop = else .before .before in
+    let at-loop = searched (else .before) in
     (at-loop .loop .inv .0, sought-next (at-loop .loop .inv .1) (other else) (omega arith))
 
 pub find-lead-spec : {M : Type 1} → statement M
@@ -100,10 +118,13 @@ find-lead-spec =
     (tie.spec
     Inv-loop
     μ-loop
+    cast-set-at
+    set-at-requires
     loop-holds
-    is-same-requires
-    returns
     cast-at
+    set-at-requires-2
+    is-equal-requires
+    returns
     mul-s
     element-copy-out-s
     put-requires

@@ -50,8 +50,8 @@ low-keys-requires c κs =
     let P = at-loop .before .pre in
     (P .0, (leadClasses-numbers (P .0 .states-le) (P .1 .0 .0), (omega arith, P .1 .1 .0)))
 
-divide-requires : tie.Need-divide-requires Inv-loop μ-loop
-divide-requires c κs = search needs
+divide-by-keys-requires : tie.Need-divide-by-keys-requires Inv-loop μ-loop
+divide-by-keys-requires c κs = search needs
 
 add-a : tie.Need-add-a Inv-loop μ-loop
 add-a c = search needs
@@ -98,7 +98,7 @@ divide-low-spec =
     mul-if1-2
     element-copy-out-if1-2
     low-keys-requires
-    divide-requires
+    divide-by-keys-requires
     add-a
     loop-less
     loop-again

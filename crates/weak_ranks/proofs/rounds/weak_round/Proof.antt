@@ -11,16 +11,16 @@ use Rattle.weak_ranks.proofs.rounds.weak_round.Tie as tie
 
 -- ---- places of the function
 
-abbrev begin : tie.After-refine → tie.Start
+abbrev begin : tie.After-refine-by-keys → tie.Start
 begin c = c .before .before .before .before
 
-abbrev refining : tie.After-list-changed → tie.After-refine
+abbrev refining : tie.After-list-changed → tie.After-refine-by-keys
 refining c = c .before .before .before .before
 
 -- ---- needs
 
-refine-requires : tie.Need-refine-requires
-refine-requires c κs = search needs
+refine-by-keys-requires : tie.Need-refine-by-keys-requires
+refine-by-keys-requires c κs = search needs
 
 list-changed-requires : tie.Need-list-changed-requires
 list-changed-requires c κs = search needs
@@ -46,7 +46,7 @@ returns c =
     let L = P .0 in
     let A = P .1 .0 .1 in
     let C = P .1 .0 .2 in
-    let refined = refining listed .refine .ensures in
+    let refined = refining listed .refine-by-keys .ensures in
     let H = listed .list-changed .ensures in
     let written = c .before .before .write-rows .ensures in (
       (refined .0, round-classes (λ p a q _ m. labelMove-target-lt L m) C (refined .1)),
@@ -64,7 +64,7 @@ pub weak-round-spec : {M : Type 1} → statement M
 weak-round-spec =
     tie.close
     (tie.spec
-    refine-requires
+    refine-by-keys-requires
     list-changed-requires
     add-write-rows
     write-rows-requires

@@ -2,27 +2,27 @@
 use Rattle.weak_ranks.specs.Laws.LabelsLaws.{dividedUnder-silent}
 use Rattle.weak_ranks.specs.Laws.RoundLaws.{leadClasses-numbers}
 use borrow.Author.Needs.{needs}
-use Rattle.weak_ranks.proofs.rounds.refine.Statement.{statement}
-use Rattle.weak_ranks.proofs.rounds.refine.Tie as tie
+use Rattle.weak_ranks.proofs.rounds.refine_by_keys.Statement.{statement}
+use Rattle.weak_ranks.proofs.rounds.refine_by_keys.Tie as tie
 
 silent-keys-requires : tie.Need-silent-keys-requires
 silent-keys-requires c κs =
     let P = c .before .before .pre in
     (P .0, leadClasses-numbers (P .0 .states-le) (P .1))
 
-divide-requires : tie.Need-divide-requires
-divide-requires c κs = search needs
+divide-by-keys-requires : tie.Need-divide-by-keys-requires
+divide-by-keys-requires c κs = search needs
 
 divide-low-requires : tie.Need-divide-low-requires
 divide-low-requires c κs =
     let divided = c .before .before in
     let keyed = divided .before .before .before in
     let P = keyed .before .before .before .pre in
-    let D = dividedUnder-silent (P .0 .states-le) (keyed .silent-keys .ensures) (divided .divide .ensures .1) in
-    (P .0, ((P .1, divided .divide .ensures .0), (keyed .silent-keys .ensures, D)))
+    let D = dividedUnder-silent (P .0 .states-le) (keyed .silent-keys .ensures) (divided .divide-by-keys .ensures .1) in
+    (P .0, ((P .1, divided .divide-by-keys .ensures .0), (keyed .silent-keys .ensures, D)))
 
 returns : tie.Need-returns
 returns c = c .divide-low .ensures
 
-pub refine-spec : {M : Type 1} → statement M
-refine-spec = tie.close (tie.spec silent-keys-requires divide-requires divide-low-requires returns)
+pub refine-by-keys-spec : {M : Type 1} → statement M
+refine-by-keys-spec = tie.close (tie.spec silent-keys-requires divide-by-keys-requires divide-low-requires returns)

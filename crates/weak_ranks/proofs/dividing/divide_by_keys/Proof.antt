@@ -10,8 +10,8 @@ use Rattle.weak_ranks.specs.Inner.Dividing.{DividedUpTo, AtState}
 use Rattle.weak_ranks.specs.Laws.DividingLaws.{divided-zero, divided-leadClasses, divided-by}
 use Rattle.weak_ranks.specs.Laws.LeadLaws.{divided-own, at-state}
 use borrow.Author.Needs.{needs}
-use Rattle.weak_ranks.proofs.dividing.divide.Statement.{statement}
-use Rattle.weak_ranks.proofs.dividing.divide.Tie as tie
+use Rattle.weak_ranks.proofs.dividing.divide_by_keys.Statement.{statement}
+use Rattle.weak_ranks.proofs.dividing.divide_by_keys.Tie as tie
 
 abbrev Inv-loop : tie.InvT-loop
 Inv-loop n keys class₀ link₀ p₀ class link p = (p ≤ n) × DividedUpTo keys class₀ class link p
@@ -92,8 +92,8 @@ returns c =
     (at-loop .loop .inv .1) in
     (divided-leadClasses D, divided-by D)
 
-pub divide-spec : {M : Type 1} → statement M
-divide-spec =
+pub divide-by-keys-spec : {M : Type 1} → statement M
+divide-by-keys-spec =
     tie.close
     (tie.spec
     Inv-loop
