@@ -27,6 +27,7 @@ pub use cases::{
     book_case, case, model_case, seeded, shown, shown_book, shown_numbers, shown_store, text_case,
     Case,
 };
+pub use choices::zigzag_of_ticks;
 pub use choices::{choices_of_ticks, deep_choices_of_ticks, fewer_choices_of_ticks};
 pub use deep::{branching_deep_model, chain, deep_model};
 pub use limits::limit_models;

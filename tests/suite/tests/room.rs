@@ -80,8 +80,8 @@ fn counted(model: &Model) -> (usize, usize) {
     (sets.len(), different.len())
 }
 
-/// Two models at the limits have no room, of which one is deep; another has little room left, and all its moves are
-/// held.
+/// Three models at the limits have no room, of which one is deep, and in one silent moves are long; another has little
+/// room left, and all its moves are held.
 #[test]
 fn room_for_sets() {
     let mut rng = gen::seeded("room::room_for_sets", 8_600);
@@ -95,6 +95,8 @@ fn room_for_sets() {
     assert!(different > TOO_MANY && rounds == 0, "{different} {rounds}");
     let ((_, different), rounds) = of("deep choices of ticks");
     assert!(different > TOO_MANY && rounds > 70, "{different} {rounds}");
+    let ((_, different), rounds) = of("zigzag of ticks");
+    assert!(different > TOO_MANY && rounds > 35, "{different} {rounds}");
     let ((all, different), rounds) = of("fewer choices of ticks");
     assert!((ENOUGH - 64..=ENOUGH).contains(&all), "{all}");
     assert!(different > 1_500 && rounds > 50, "{different} {rounds}");

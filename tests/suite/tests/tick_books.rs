@@ -264,6 +264,7 @@ fn damaged_books() {
         "choices of ticks",
         "deep choices of ticks",
         "fewer choices of ticks",
+        "zigzag of ticks",
     ];
     // Each twice: with its own book and with another.
     let mut models: Vec<Model> = limits

@@ -6,6 +6,7 @@
 
 use std::collections::BTreeSet;
 
+use super::choices::zigzag_of_ticks;
 use super::choices::{choices_of_ticks, deep_choices_of_ticks, fewer_choices_of_ticks};
 use super::deep::chain;
 use super::limits::limit_models;
@@ -242,6 +243,7 @@ pub fn tick_limit_models(rng: &mut Rng) -> Vec<(&'static str, Model)> {
         ("choices of ticks", choices_of_ticks()),
         ("deep choices of ticks", deep_choices_of_ticks()),
         ("fewer choices of ticks", fewer_choices_of_ticks()),
+        ("zigzag of ticks", zigzag_of_ticks()),
     ];
     for (_, model) in limit_models(rng) {
         models.push(("silenced", silenced(rng, &model)));
