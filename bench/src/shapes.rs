@@ -1,7 +1,8 @@
 //! The models that are measured.
 use std::collections::BTreeSet;
 
-use second::gen::{choices_of_ticks, deep_choices_of_ticks, greatest_roll, with_all_starts, Rng};
+use second::gen::{choices_of_ticks, deep_choices_of_ticks, zigzag_of_ticks};
+use second::gen::{greatest_roll, with_all_starts, Rng};
 use second::{Action, Level, Model, Step};
 
 const SEED: u64 = 0x7113;
@@ -323,6 +324,7 @@ pub fn shapes() -> Vec<(&'static str, Model)> {
         ("chain of ticks, 62 actions", chain_of_62_actions()),
         ("choices of ticks, 62 actions", choices_of_ticks()),
         ("deep choices of ticks, 62 actions", deep_choices_of_ticks()),
+        ("zigzag of ticks, 62 actions", zigzag_of_ticks()),
     ]
 }
 
@@ -355,6 +357,7 @@ leads to a state beside it with the same steps, and goes on there, 80 states. Of
 actions from each state to the next and 59 more from the last state to itself; a chain of ticks and, from each state to
 the next, 7 of the 62 in turn; choices of ticks, from each of 121 states to some of seven others, no two to the same
 ones, from which the steps of all actions lead back, so that all states are alike; deep choices of ticks, the same of 45
-states, with a chain of 76, which takes 75 rounds. These last two are the only models with more sets than there is room
-for.
+states, with a chain of 76, which takes 75 rounds; zigzag of ticks, the same of 42 states, with a chain of 39, and 40
+states that tick each to the next, to and fro between low numbers and high ones. These last three are the only models
+with more sets than there is room for.
 ";

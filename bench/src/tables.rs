@@ -297,8 +297,8 @@ impl Report {
              process, as\nan empty text shows. Roll takes at most {more} more than Page. \
              On models without ticks Rank takes at most {rank} times as\n\
              long as plain Rust that compares states by their moves and is not proved, Book at most {book} times and \
-             Check at most {check}\ntimes; beside plain Rust over bit sets it is at most {rank_bits}, {book_bits} and \
-             {check_bits} times.\n\
+             Check at most {check}\ntimes; they take at most {rank_bits}, {book_bits} and {check_bits} times as long \
+             as plain Rust over bit sets.\n\
              On models with ticks Rank takes at most {rank_ticks} times as long as plain Rust over bit sets, \
              Book at most {book_ticks} times and Check\nat most {check_ticks} times.\n\
              `bench/TABLE.md` has every model and operation, and beside them the times of the second checker \

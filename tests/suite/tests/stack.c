@@ -1,6 +1,6 @@
 /* How many bytes of the stack each call takes on the text on standard input, measured on a painted stack. The test
-   writes `calls.h` from the table of operations: the lists, a function `call_NAME` for each operation, and `calls`, which
-   has them all. Check is lent the book that Book filled before. */
+   writes `calls.h` from the table of operations: the lists, a function `call_NAME` for each operation, and `calls`,
+   which has them all. Check is lent the book that Book filled before. */
 #define _GNU_SOURCE
 #include <stdio.h>
 #include <string.h>
