@@ -1,15 +1,14 @@
--- Both words of sets say whether one lies within another, whether two are the same, and which member comes next.
+-- Both words of sets say whether one lies within another, and whether two are the same.
 -- Assumes nothing.
 use mathlib.Core.Path.{_≡_, refl, sym, ap, _∙_}
-use mathlib.Core.Logic.{_⊎_, inl, inr}
+use mathlib.Core.Logic.{inl}
 use mathlib.Core.List.{List}
-use Prim.Native.Nat.{ℕ, zero, suc, _+_, _-_, _*_, _/_, _%_, _^_, _≤_, _<_}
+use Prim.Native.Nat.{ℕ, zero, suc, _+_, _*_, _/_, _%_, _^_, _<_}
 use native.Mathlib.Omega.{arith}
 use lib.Bits.{bitOr, or-comm, or-self}
 use lib.ListN.{length, getD, set}
 use lib.Seq.{lt-length-set, getD-set-other}
-use Rattle.lts.specs.TestsLaws.{lt-or-le}
-use Rattle.sets.specs.Inner.Sets.{wordBits, NextBit, Member, Joined, SameSet, Within, NextMember}
+use Rattle.sets.specs.Inner.Sets.{wordBits, Member, Joined, SameSet, Within}
 use Rattle.sets.specs.Laws.BitsLaws.{or-of-bits, bits-of-or}
 use Rattle.sets.specs.Laws.SetsLaws.{member-of-bit, bit-of-member, member-of-word, word-of-member}
 use Rattle.sets.specs.Laws.SetsLaws.{joined-store, joined-set}
@@ -103,43 +102,3 @@ joined-none {sets} {k} {j} {p} {q} d e l h = record {
 
     n : p + 1 ≡ 2 * k + 1
     n = omega arith
-
--- ---- the next member
-
--- It stands in the first word,
-pub nextMember-low : {sets : List ℕ} {k w from r : ℕ} → w ≡ getD sets (2 * k + 0) 0 → NextBit w from r → r < wordBits
-    → NextMember sets k from r
-nextMember-low e n l = record {
-  from-le = n .from-le;
-  next-le = omega (arith, l);
-  none-before = λ y f m b. n .none-before y f m (word-of-member 0 (omega arith) e (omega (arith, l, m)) b);
-  member = λ m. member-of-word 0 (omega arith) e (omega arith) l (n .set l);
-}
-
--- in the second word, where `from` stands too,
-pub nextMember-high : {sets : List ℕ} {k w from r : ℕ} → w ≡ getD sets (2 * k + 1) 0 → wordBits ≤ from
-    → NextBit w (from - wordBits) r → NextMember sets k from (wordBits + r)
-nextMember-high e l n = record {
-  from-le = omega (arith, l, n .from-le);
-  next-le = omega (arith, n .next-le);
-  none-before = λ y f m b.
-      n .none-before (y - wordBits) (omega (arith, l, f)) (omega (arith, l, f, m))
-      (word-of-member 1 (omega (arith, l, f)) e (omega (arith, m, n .next-le)) b);
-  member = λ m. member-of-word 1 (omega arith) e (omega arith) (omega (arith, m)) (n .set (omega (arith, m)));
-}
-
--- or in the second word, with none left in the first.
-pub nextMember-after : {sets : List ℕ} {k v w from r s : ℕ} → v ≡ getD sets (2 * k + 0) 0 → w ≡ getD sets (2 * k + 1) 0
-    → NextBit v from r → wordBits ≤ r → NextBit w 0 s → NextMember sets k from (wordBits + s)
-nextMember-after {sets} {k} {v} {w} {from} {r} {s} d e m l n = record {
-  from-le = omega (arith, m .from-le, m .next-le);
-  next-le = omega (arith, n .next-le);
-  none-before = λ y g h b. none y g h b (lt-or-le y wordBits);
-  member = λ h. member-of-word 1 (omega arith) e (omega arith) (omega (arith, h)) (n .set (omega (arith, h)));
-}
-  where
-    none : (y : ℕ) → from ≤ y → y < wordBits + s → Member sets k y → (y < wordBits) ⊎ (wordBits ≤ y) → ⊥
-    none y g h b (inl c) = m .none-before y g (omega (arith, c, l)) (word-of-member 0 (omega arith) d c b)
-    none y g h b (inr c) =
-        n .none-before (y - wordBits) (omega arith) (omega (arith, c, h))
-        (word-of-member 1 (omega (arith, c)) e (omega (arith, c, b .member-lt)) b)
