@@ -10,3 +10,4 @@ pub mod StillLaws
 pub mod ChecksLaws
 pub mod ListedLaws
 pub mod BytesLaws
+pub mod EntriesLaws

@@ -23,8 +23,8 @@ ghost use Rattle.lts.specs.Book.{LowerEntry, Opens, SoundAt};
 ghost use Rattle.books.specs.Books.{bookOf};
 ghost use Rattle.books.specs.Checks.{checkedOutcome, CheckDone, StillMove};
 ghost use Rattle.books.specs.Inner.Groups.{Indexed, Groups};
-ghost use Rattle.books.specs.Inner.Sides.{BySide, leadPlace, RowSoundTo, SoundTo};
-ghost use Rattle.books.specs.Inner.Still.{Still, Unanswered, UnansweredBy};
+ghost use Rattle.books.specs.Inner.Sides.{BySide, sidePlace, RowSoundTo, SoundTo, BadTold};
+ghost use Rattle.books.specs.Inner.Still.{Still, StaysUnanswered, UnansweredBy};
 
 // What is found of a book: that it is sound, or the number of the first bad entry.
 pub enum Checked {
@@ -64,9 +64,9 @@ fn has_move(
 
 // The number of the entry of the opener's t and the other's u: the first side's state comes first. It is t where the
 // first side opens, that is, where the play goes forward.
-fn lead_place(forward: bool, t: State, u: State) -> usize
+fn side_place(forward: bool, t: State, u: State) -> usize
     requires { ⌜ (t .0 < stateLimit) × (u .0 < stateLimit) ⌝ }
-    ensures { λ r. ⌜ (r ≡ leadPlace forward (t .0) (u .0)) × (r < tableLength) ⌝ }
+    ensures { λ r. ⌜ (r ≡ sidePlace forward (t .0) (u .0)) × (r < tableLength) ⌝ }
 {
     if forward {
         return pair_place(t, u);
@@ -79,7 +79,7 @@ pub fn is_lower(book: &[u8], forward: bool, t: State, u: State, depth: u8) -> bo
     requires { ⌜ (t .0 < stateLimit) × (u .0 < stateLimit) × (bookLength ≤ length (now book)) ⌝ }
     ensures { λ r. ⌜ Decides r (BySide forward (LowerEntry (bookOf (now (book .entry))) depth) (t .0) (u .0)) ⌝ }
 {
-    let at = ENTRY_SIZE * lead_place(forward, t, u);
+    let at = ENTRY_SIZE * side_place(forward, t, u);
     if book[at] == 0 {
         return false;
     }
@@ -90,7 +90,7 @@ pub fn is_lower(book: &[u8], forward: bool, t: State, u: State, depth: u8) -> bo
 }
 
 // Whether each answer of q with the action a leads, beside t, to such an entry.
-fn all_lower(
+fn answers_lower_entries(
     groups: &[u16; GROUPS_LENGTH],
     targets: &[u16; MOVES_LENGTH],
     book: &[u8],
@@ -138,12 +138,12 @@ fn opens(
     if !has_move(groups, targets, p, a, t) {
         return false;
     }
-    all_lower(groups, targets, book, forward, q, a, t, depth)
+    answers_lower_entries(groups, targets, book, forward, q, a, t, depth)
 }
 
 // Whether p is one of n states and stays where it is, t, and q is none, so that it has no answer.
 fn stays(n: u16, p: State, q: State, t: State) -> bool
-    ensures { λ r. ⌜ Decides r (Unanswered n (p .0) (q .0) (t .0)) ⌝ }
+    ensures { λ r. ⌜ Decides r (StaysUnanswered n (p .0) (q .0) (t .0)) ⌝ }
 {
     if n <= p.0 {
         return false;
@@ -297,6 +297,16 @@ fn first_bad(
     TABLE_LENGTH
 }
 
+// The answer where k is the number of the first bad entry, or that of all entries if none is bad.
+pub fn bad_or_sound(k: usize) -> Checked
+    ensures { λ r. ⌜ BadTold k (checkedOutcome r) ⌝ }
+{
+    if k < TABLE_LENGTH {
+        return Checked::Bad(k);
+    }
+    Checked::Sound
+}
+
 // Tests a book of the moves, where no step is silent.
 pub fn check_book(
     n: u16,
@@ -314,8 +324,5 @@ pub fn check_book(
     let mut groups = [0u16; GROUPS_LENGTH];
     index_moves(n, first, actions, targets, &mut groups);
     let k = first_bad(n, &groups, targets, book);
-    if k < TABLE_LENGTH {
-        return Checked::Bad(k);
-    }
-    Checked::Sound
+    bad_or_sound(k)
 }

@@ -15,10 +15,11 @@ ghost use Rattle.text.specs.Decides.{Decides};
 ghost use Rattle.text.specs.Limits.{stateLimit, actionLimit, tableLength};
 ghost use Rattle.comparing.specs.MoveList.{Listed, MoveList};
 ghost use Rattle.books.specs.Inner.Groups.{Indexed, Groups, IndexOf};
-ghost use Rattle.books.specs.Inner.Openings.{RankIn, LowerAnswers, FirstOpening};
+ghost use Rattle.ranking.specs.Inner.LowerRanks.{RankIn};
+ghost use Rattle.books.specs.Inner.Openings.{LowerAnswers, FirstOpening};
 
 // Whether the rank of p and q is above 0 and below the depth.
-fn is_lower(table: &[u8], p: State, q: State, depth: u8) -> bool
+fn is_lower_rank(table: &[u8], p: State, q: State, depth: u8) -> bool
     requires { ⌜ (p .0 < stateLimit) × (q .0 < stateLimit) × (tableLength ≤ length (now table)) ⌝ }
     ensures { λ r. ⌜ Decides r (RankIn (now (table .entry)) depth (p .0) (q .0)) ⌝ }
 {
@@ -33,7 +34,7 @@ fn is_lower(table: &[u8], p: State, q: State, depth: u8) -> bool
 }
 
 // Whether each answer of q with the action a leads, beside t, to a rank above 0 and below the depth.
-fn all_lower(
+fn answers_lower_ranks(
     groups: &[u16; GROUPS_LENGTH],
     targets: &[u16; MOVES_LENGTH],
     table: &[u8],
@@ -52,7 +53,7 @@ fn all_lower(
     let to = group_to(groups, q, a);
     let mut i = group_from(groups, q, a);
     while i < to {
-        if !is_lower(table, t, State(targets[i]), depth) {
+        if !is_lower_rank(table, t, State(targets[i]), depth) {
             return false;
         }
         i += 1;
@@ -83,7 +84,7 @@ pub fn first_opening(
     let to = moves_to(first, p);
     let mut i = moves_from(first, p);
     while i < to {
-        if all_lower(
+        if answers_lower_ranks(
             groups,
             targets,
             table,

@@ -21,6 +21,7 @@ ghost use mathlib.Core.Path.{_≡_};
 ghost use Prim.Native.Nat.{ℕ, _+_, _≤_, _<_};
 ghost use lib.ListN.{getD};
 ghost use Rattle.lts.specs.Weak.{silentLabel};
+ghost use Rattle.text.specs.Decides.{Decides};
 ghost use Rattle.text.specs.Limits.{stateLimit, actionLimit};
 ghost use Rattle.sets.specs.Inner.Sets.{Member};
 ghost use Rattle.sets.specs.Inner.SetValues.{SetOf};
@@ -193,4 +194,15 @@ pub fn add_held(
     }
     insert(pool, slot, x.0);
     used
+}
+
+// Whether p and q have the same slot in a row, and so the same set.
+pub fn same_slot(slots: &[u16; SLOTS_LENGTH], row: u16, p: State, q: State) -> bool
+    requires { ⌜ (row < rowCount) × (p .0 < stateLimit) × (q .0 < stateLimit) ⌝ }
+    ensures { λ r. ⌜ Decides r (getD (now (slots .entry)) (slotPlace row (p .0)) 0
+        ≡ getD (now (slots .entry)) (slotPlace row (q .0)) 0) ⌝ }
+{
+    let one = slot_place(row, p);
+    let other = slot_place(row, q);
+    slots[one] == slots[other]
 }

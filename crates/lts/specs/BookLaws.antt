@@ -1,15 +1,16 @@
--- No bisimulation pairs two states that a sound book has an entry for.
+-- The first opening of either side is the first play, and no bisimulation pairs two states that a sound book has an
+-- entry for.
 -- Document 02, (v). Assumes nothing.
-use mathlib.Core.Logic.{_⊎_, inl, inr}
+use mathlib.Core.Logic.{_⊎_, inl, inr, ⊎-elim}
 use mathlib.Core.Path.{_≡_, refl}
-use Prim.Native.Nat.{ℕ, zero, suc, _<_}
+use Prim.Native.Nat.{ℕ, zero, suc, _≤_, _<_}
 use native.Mathlib.Omega.{arith}
 use lib.Dec.{T}
 use Rattle.lts.specs.TestsLaws.{eq-or-not}
 use Rattle.lts.specs.Alike.{Moves, Relation, Bisimulation, Bisimilar, Rank}
 use Rattle.lts.specs.AlikeLaws.{bisimilar-of-rank}
 use Rattle.lts.specs.Book.{Book, Present, Opens, Plays, first-opens, second-opens, LowerEntry, SoundAt}
-use Rattle.lts.specs.Book.{Sound}
+use Rattle.lts.specs.Book.{Sound, FirstPlay}
 
 -- ---- plays
 
@@ -41,6 +42,36 @@ module _ {Move : Moves} {R : Relation} {p q side a t : ℕ} where
   pub no-other-side : ¬ (side ≡ 1) → ¬ (side ≡ 2) → ¬ (Plays Move R p q side a t)
   no-other-side f s (first-opens d _) = f d
   no-other-side f s (second-opens d _) = s d
+
+-- ---- the first opening of either side
+
+module _ {Move : Moves} {Leads : Relation} {p q : ℕ} where
+  -- The first side opens with its first opening.
+  pub firstPlay-of-first : {a t : ℕ} → Opens Move Leads p q a t
+      → ((b u : ℕ) → Opens Move Leads p q b u → (a < b) ⊎ ((a ≡ b) × (t ≤ u))) → FirstPlay Move Leads p q 1 a t
+  firstPlay-of-first o m = record {
+    plays = first-opens refl o;
+    first-side = λ s b u x. omega (arith, plays-side-pos x);
+    lowest-action = λ b u x. ⊎-elim (λ l. omega (arith, l)) (λ e. omega (arith, e .0)) (m b u (opens-of-first refl x));
+    lowest-target = λ u x. ⊎-elim (λ l. absurd (omega (arith, l))) (λ e. e .1) (m _ u (opens-of-first refl x));
+  }
+
+  module _ (turn : (x y : ℕ) → Leads x y → Leads y x) (none : (b u : ℕ) → ¬ (Opens Move Leads p q b u)) where
+    -- Where the first side cannot open, the second does.
+    pub opens-by-second : {s b u : ℕ} → Plays Move Leads p q s b u → (s ≡ 2) × Opens Move Leads q p b u
+    opens-by-second (first-opens e o) = absurd (none _ _ o)
+    opens-by-second (second-opens e o) = (e, opens-map (λ m. m) (λ u m. m) (λ x y. turn y x) o)
+
+    -- Its first opening is the first play.
+    pub firstPlay-of-second : {a t : ℕ} → Opens Move Leads q p a t
+        → ((b u : ℕ) → Opens Move Leads q p b u → (a < b) ⊎ ((a ≡ b) × (t ≤ u))) → FirstPlay Move Leads p q 2 a t
+    firstPlay-of-second o m = record {
+      plays = second-opens refl (opens-map (λ m. m) (λ u m. m) turn o);
+      first-side = λ s b u x. omega (arith, opens-by-second x .0);
+      lowest-action = λ b u x.
+          ⊎-elim (λ l. omega (arith, l)) (λ e. omega (arith, e .0)) (m b u (opens-by-second x .1));
+      lowest-target = λ u x. ⊎-elim (λ l. absurd (omega (arith, l))) (λ e. e .1) (m _ u (opens-by-second x .1));
+    }
 
 -- ---- sound books
 

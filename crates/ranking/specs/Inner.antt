@@ -1,2 +1,3 @@
 pub mod ClassList
 pub mod TableWrites
+pub mod LowerRanks

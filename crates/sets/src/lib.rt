@@ -1,7 +1,6 @@
 // Sets of numbers below 128 as the bits of two words. A list has one set for each number.
 pub mod set;
 
-use crate::set::WORD_BITS;
 use crate::set::insert;
 use text::State;
 use text::limits::ROW;
@@ -11,8 +10,7 @@ ghost use Prim.Native.Nat.{_+_, _*_, _≤_, _<_};
 ghost use lib.ListN.{length, getD};
 ghost use Rattle.text.specs.Decides.{Decides};
 ghost use Rattle.text.specs.Limits.{stateLimit};
-ghost use Rattle.sets.specs.Inner.Sets.{wordBits, setsLength, NextBit, Member, Empty, Joined};
-ghost use Rattle.sets.specs.Inner.Sets.{Within, NextMember};
+ghost use Rattle.sets.specs.Inner.Sets.{setsLength, Member, Empty, Joined};
 
 // Two words for each state.
 pub const SETS_LENGTH: usize = 2 * ROW;
@@ -23,27 +21,6 @@ fn word_place(k: State) -> usize
     ensures { λ r. ⌜ r ≡ 2 * k .0 ⌝ }
 {
     2 * k.0 as usize
-}
-
-// Word h of set k.
-fn word_at(sets: &[u64; SETS_LENGTH], k: State, h: usize) -> u64
-    requires { ⌜ (k .0 < stateLimit) × (h < 2) ⌝ }
-    ensures { λ r. ⌜ r ≡ getD (now (sets .entry)) (2 * k .0 + h) 0 ⌝ }
-{
-    sets[word_place(k) + h]
-}
-
-// Whether x is a member of set k.
-pub fn has(sets: &[u64; SETS_LENGTH], k: State, x: u16) -> bool
-    requires { ⌜ (k .0 < stateLimit) × (x < stateLimit) ⌝ }
-    ensures { λ r. ⌜ Decides r (Member (now (sets .entry)) (k .0) x) ⌝ }
-{
-    let at = word_place(k) + (x / WORD_BITS) as usize;
-    let word = sets[at] >> (x % WORD_BITS);
-    if word % 2 == 1 {
-        return true;
-    }
-    false
 }
 
 // Empties all sets.
@@ -95,50 +72,4 @@ pub fn spread(sets: &mut [u64], k: State, j: State) -> bool
     sets[at] = low;
     sets[at + 1] = high;
     true
-}
-
-// Whether each member of set k is one of set j of other sets.
-pub fn is_within(sets: &[u64; SETS_LENGTH], k: State, others: &[u64; SETS_LENGTH], j: State) -> bool
-    requires { ⌜ (k .0 < stateLimit) × (j .0 < stateLimit) ⌝ }
-    ensures { λ r. ⌜ Decides r (Within (now (sets .entry)) (k .0) (now (others .entry)) (j .0)) ⌝ }
-{
-    let low = word_at(others, j, 0);
-    if word_at(sets, k, 0) | low != low {
-        return false;
-    }
-    let high = word_at(others, j, 1);
-    if word_at(sets, k, 1) | high != high {
-        return false;
-    }
-    true
-}
-
-// The place of the least bit of a word from `from` on, or 64.
-fn next_bit(word: u64, from: u16) -> u16
-    requires { ⌜ from ≤ wordBits ⌝ }
-    ensures { λ r. ⌜ NextBit word from r ⌝ }
-{
-    if WORD_BITS <= from {
-        return WORD_BITS;
-    }
-    let rest = word >> from;
-    if rest == 0 {
-        return WORD_BITS;
-    }
-    from + u64::trailing_zeros(rest) as u16
-}
-
-// The least member of set k from `from` on, or 128.
-pub fn next_member(sets: &[u64; SETS_LENGTH], k: State, from: u16) -> u16
-    requires { ⌜ (k .0 < stateLimit) × (from ≤ stateLimit) ⌝ }
-    ensures { λ r. ⌜ NextMember (now (sets .entry)) (k .0) from r ⌝ }
-{
-    if WORD_BITS <= from {
-        return WORD_BITS + next_bit(word_at(sets, k, 1), from - WORD_BITS);
-    }
-    let low = next_bit(word_at(sets, k, 0), from);
-    if low < WORD_BITS {
-        return low;
-    }
-    WORD_BITS + next_bit(word_at(sets, k, 1), 0)
 }

@@ -1,10 +1,10 @@
 pub mod Bounds
 pub mod Depths
 pub mod Entering
+pub mod ManyMoves
 pub mod Noted
 pub mod Opened
 pub mod OpensTo
 pub mod RankSets
 pub mod Tested
 pub mod Turned
-pub mod Wide

@@ -5,7 +5,6 @@ pub mod ChainsLaws
 pub mod DepthLaws
 pub mod DepthsLaws
 pub mod EnteringLaws
-pub mod EntriesLaws
 pub mod EntryApartLaws
 pub mod FilledLaws
 pub mod FirstApartLaws
@@ -13,9 +12,10 @@ pub mod FirstsLaws
 pub mod HeldBooksLaws
 pub mod HeldEntryLaws
 pub mod LowerLaws
+pub mod ManyMovesLaws
 pub mod NotedLaws
 pub mod OpenedLaws
+pub mod OpensToLaws
 pub mod RankedLaws
 pub mod TestedLaws
 pub mod TurnedLaws
-pub mod WideLaws

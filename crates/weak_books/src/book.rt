@@ -30,6 +30,7 @@ ghost use Rattle.sets.specs.Inner.Sets.{Member};
 ghost use Rattle.silent.specs.Labelled.{LabelList, LabelMove};
 ghost use Rattle.silent.specs.Inner.Targets.{OwnNumbers, Targets};
 ghost use Rattle.weak_books.specs.Inner.Opened.{OpenedTo, OnlyAt, OpenedBefore};
+ghost use Rattle.weak_books.specs.Inner.OpensTo.{Irreflexive};
 ghost use Rattle.weak_books.specs.Inner.RankSets.{LowerSets};
 
 // Writes the entries of the first openings with the action a, at the depth of the states at hand.
@@ -49,7 +50,7 @@ fn open_action(
     requires { ⌜ LabelList n (now from) (now sources) (now targets) ⌝ }
     requires { ⌜ OwnNumbers n (now own) ⌝ }
     requires { ⌜ Targets (LabelMove n (now from) (now sources) (now targets)) silentLabel (now silent) ⌝ }
-    requires { ⌜ ((t : ℕ) → ¬ (Member (now lower) t t)) ⌝ }
+    requires { ⌜ Irreflexive (Member (now lower)) ⌝ }
     requires { ⌜ (a .0 < actionLimit) × (bookLength ≤ length (now book)) ⌝ }
     requires { ⌜ OpenedTo (LabelMove n (now from) (now sources) (now targets)) n (now lower) (now at) depth (a .0)
         (now book) ⌝ }
@@ -61,9 +62,9 @@ fn open_action(
     if from[of] == from[of + 1] {
         return;
     }
-    let mut keys = [0u64; SETS_LENGTH];
-    low_targets(n, from, sources, targets, own, silent, a, &mut keys);
-    open_rows(n, &keys, lower, at, a.0 as u8, depth, book);
+    let mut sets = [0u64; SETS_LENGTH];
+    low_targets(n, from, sources, targets, own, silent, a, &mut sets);
+    open_rows(n, &sets, lower, at, a.0 as u8, depth, book);
 }
 
 // The same with any action, the lowest first.
@@ -82,7 +83,7 @@ fn open_actions(
     requires { ⌜ LabelList n (now from) (now sources) (now targets) ⌝ }
     requires { ⌜ OwnNumbers n (now own) ⌝ }
     requires { ⌜ Targets (LabelMove n (now from) (now sources) (now targets)) silentLabel (now silent) ⌝ }
-    requires { ⌜ ((t : ℕ) → ¬ (Member (now lower) t t)) ⌝ }
+    requires { ⌜ Irreflexive (Member (now lower)) ⌝ }
     requires { ⌜ bookLength ≤ length (now book) ⌝ }
     requires { ⌜ OpenedTo (LabelMove n (now from) (now sources) (now targets)) n (now lower) (now at) depth 0
         (now book) ⌝ }

@@ -1,12 +1,13 @@
 // The test of a book, label by label, so that only the targets under one label are at hand.
 use crate::BYTE_VALUES;
+use crate::entries::answers_lower;
 use books::check::Checked;
+use books::check::bad_or_sound;
 use books::check::byte_value;
-use books::check::is_lower;
 use ranking::table::pair_place;
 use sets::SETS_LENGTH;
-use sets::has;
-use sets::next_member;
+use sets::set::is_in;
+use sets::set::set_at;
 use silent::LABELS_LENGTH;
 use silent::targets::low_targets;
 use silent::targets::own_numbers;
@@ -22,7 +23,7 @@ use text::limits::STATE_LIMIT;
 use text::limits::TABLE_LENGTH;
 ghost use mathlib.Core.Logic.{_⊎_};
 ghost use mathlib.Core.Path.{_≡_};
-ghost use Prim.Native.Nat.{ℕ, _/_, _%_, _≤_, _<_};
+ghost use Prim.Native.Nat.{_/_, _%_, _≤_, _<_};
 ghost use lib.ListN.{length};
 ghost use Rattle.lts.specs.Book.{Present, LowerEntry, SoundAt};
 ghost use Rattle.lts.specs.Weak.{silentLabel};
@@ -39,32 +40,9 @@ ghost use Rattle.weak_books.specs.Inner.OpensTo.{OpensTo};
 ghost use Rattle.weak_books.specs.Inner.Tested.{SetMove, SoundIf, FirstUnder};
 ghost use Rattle.weak_books.specs.Inner.Noted.{NoLabel, ActionNoted, UsedTo, LabelsTo};
 
-// Whether each answer of q leads, beside t, to an entry of lower depth.
-fn all_lower(
-    keys: &[u64; SETS_LENGTH],
-    book: &[u8],
-    forward: bool,
-    q: State,
-    t: State,
-    depth: u8,
-) -> bool
-    requires { ⌜ (q .0 < stateLimit) × (t .0 < stateLimit) × (bookLength ≤ length (now book)) ⌝ }
-    ensures { λ r. ⌜ Decides r ((u : ℕ) → Member (now (keys .entry)) (q .0) u
-        → BySide forward (LowerEntry (bookOf (now (book .entry))) depth) (t .0) u) ⌝ }
-{
-    let mut u = next_member(keys, q, 0);
-    while u < STATE_LIMIT {
-        if !is_lower(book, forward, t, State(u), depth) {
-            return false;
-        }
-        u = next_member(keys, q, u + 1);
-    }
-    true
-}
-
 // Whether p opens so against q: t is one of its targets, and each answer leads to an entry of lower depth.
 fn opens_under(
-    keys: &[u64; SETS_LENGTH],
+    sets: &[u64; SETS_LENGTH],
     book: &[u8],
     forward: bool,
     p: State,
@@ -73,41 +51,41 @@ fn opens_under(
     depth: u8,
 ) -> bool
     requires { ⌜ (p .0 < stateLimit) × (q .0 < stateLimit) × (bookLength ≤ length (now book)) ⌝ }
-    ensures { λ r. ⌜ Decides r (OpensTo (Member (now (keys .entry)))
+    ensures { λ r. ⌜ Decides r (OpensTo (Member (now (sets .entry)))
         (BySide forward (LowerEntry (bookOf (now (book .entry))) depth)) (p .0) (q .0) (t .0)) ⌝ }
 {
     if t.0 >= STATE_LIMIT {
         return false;
     }
-    if !has(keys, p, t.0) {
+    if !is_in(set_at(sets, p.0 as usize), t.0) {
         return false;
     }
-    all_lower(keys, book, forward, q, t, depth)
+    answers_lower(set_at(sets, q.0 as usize), book, forward, t, depth)
 }
 
 // Whether the entry of p and q, which is there and has the label of the targets, is sound.
-fn sound_under(keys: &[u64; SETS_LENGTH], book: &[u8], p: State, q: State) -> bool
+fn sound_under(sets: &[u64; SETS_LENGTH], book: &[u8], p: State, q: State) -> bool
     requires { ⌜ (p .0 < stateLimit) × (q .0 < stateLimit) × (bookLength ≤ length (now book)) ⌝ }
     requires { ⌜ Present (bookOf (now book) (p .0) (q .0)) ⌝ }
-    ensures { λ r. ⌜ Decides r (SoundAt (SetMove (now (keys .entry))) (bookOf (now (book .entry))) (p .0) (q .0)) ⌝ }
+    ensures { λ r. ⌜ Decides r (SoundAt (SetMove (now (sets .entry))) (bookOf (now (book .entry))) (p .0) (q .0)) ⌝ }
 {
     let at = ENTRY_SIZE * pair_place(p, q);
     let side = book[at];
     let t = State(byte_value(book[at + 2]));
     let depth = book[at + 3];
     if side == 1 {
-        return opens_under(keys, book, true, p, q, t, depth);
+        return opens_under(sets, book, true, p, q, t, depth);
     }
     if side == 2 {
-        return opens_under(keys, book, false, q, p, t, depth);
+        return opens_under(sets, book, false, q, p, t, depth);
     }
     false
 }
 
 // Whether entry k, if it is there and has this action, is sound.
-fn sound_if_under(keys: &[u64; SETS_LENGTH], book: &[u8], a: Action, k: usize) -> bool
+fn sound_if_under(sets: &[u64; SETS_LENGTH], book: &[u8], a: Action, k: usize) -> bool
     requires { ⌜ (k < tableLength) × (bookLength ≤ length (now book)) ⌝ }
-    ensures { λ r. ⌜ Decides r (SoundIf (SetMove (now (keys .entry))) (λ b. b ≡ a .0) (now (book .entry))
+    ensures { λ r. ⌜ Decides r (SoundIf (SetMove (now (sets .entry))) (λ b. b ≡ a .0) (now (book .entry))
         (k / stateLimit) (k % stateLimit)) ⌝ }
 {
     let at = ENTRY_SIZE * k;
@@ -119,17 +97,17 @@ fn sound_if_under(keys: &[u64; SETS_LENGTH], book: &[u8], a: Action, k: usize) -
     }
     let p = State((k / ROW) as u16);
     let q = State((k % ROW) as u16);
-    sound_under(keys, book, p, q)
+    sound_under(sets, book, p, q)
 }
 
 // The number of the first bad entry with this action before entry `limit`, or `limit`.
-fn first_bad_under(keys: &[u64; SETS_LENGTH], book: &[u8], a: Action, limit: usize) -> usize
+fn first_bad_under(sets: &[u64; SETS_LENGTH], book: &[u8], a: Action, limit: usize) -> usize
     requires { ⌜ (limit ≤ tableLength) × (bookLength ≤ length (now book)) ⌝ }
-    ensures { λ r. ⌜ FirstUnder (SetMove (now (keys .entry))) (λ b. b ≡ a .0) (now (book .entry)) limit r ⌝ }
+    ensures { λ r. ⌜ FirstUnder (SetMove (now (sets .entry))) (λ b. b ≡ a .0) (now (book .entry)) limit r ⌝ }
 {
     let mut k = 0;
     while k < limit {
-        if !sound_if_under(keys, book, a, k) {
+        if !sound_if_under(sets, book, a, k) {
             return k;
         }
         k += 1;
@@ -161,9 +139,9 @@ fn first_bad_with(
     if used[of] == 0 {
         return limit;
     }
-    let mut keys = [0u64; SETS_LENGTH];
-    low_targets(n, from, sources, targets, own, silent, a, &mut keys);
-    first_bad_under(&keys, book, a, limit)
+    let mut sets = [0u64; SETS_LENGTH];
+    low_targets(n, from, sources, targets, own, silent, a, &mut sets);
+    first_bad_under(&sets, book, a, limit)
 }
 
 // The same for the actions of all low moves.
@@ -274,8 +252,5 @@ pub fn check_label_book(
     silent_targets(n, from, sources, targets, &own, &mut silent);
     let limit = first_bad_under(&silent, book, Action(SILENT_ACTION), labelled);
     let k = first_bad_low(n, from, sources, targets, &own, &silent, &used, book, limit);
-    if k < TABLE_LENGTH {
-        return Checked::Bad(k);
-    }
-    Checked::Sound
+    bad_or_sound(k)
 }

@@ -2,6 +2,7 @@
 // an opening are tested at once. It is for models where an opening has many answers.
 use crate::BYTE_VALUES;
 use books::check::Checked;
+use books::check::bad_or_sound;
 use books::check::byte_value;
 use comparing::lists::wide;
 use comparing::stores::put;
@@ -32,16 +33,17 @@ ghost use Rattle.text.specs.Decides.{Decides};
 ghost use Rattle.text.specs.Limits.{stateLimit, actionLimit, tableLength, bookLength};
 ghost use Rattle.books.specs.Books.{entryNumber, bookOf};
 ghost use Rattle.books.specs.Checks.{checkedOutcome, CheckDone};
+ghost use Rattle.books.specs.Inner.Sides.{FirstOf, SoundTo};
 ghost use Rattle.sets.specs.Inner.Sets.{Member};
 ghost use Rattle.held.specs.Held.{labelCount, rowCount, poolSets, HeldAt, HeldList, HeldMove};
 ghost use Rattle.weak_books.specs.Inner.Bounds.{byteValues};
 ghost use Rattle.weak_books.specs.Inner.Depths.{OnChain, AtDepth, Chained, LowerBy, LowerAdded};
-ghost use Rattle.weak_books.specs.Inner.Depths.{FirstOf, Flagged};
+ghost use Rattle.weak_books.specs.Inner.Depths.{Flagged};
 ghost use Rattle.weak_books.specs.Inner.OpensTo.{OpensTo};
-ghost use Rattle.weak_books.specs.Inner.Wide.{WideLabel, Wide};
+ghost use Rattle.weak_books.specs.Inner.ManyMoves.{ManyMoves, SomeManyMoves};
 
 // Up to so many answers to an opening are tested one by one no slower than by sets.
-const FEW: u32 = 3;
+const FEW_ANSWERS: u32 = 3;
 
 // Chains entry k by its depth, if it is there.
 fn chain_entry(book: &[u8], k: usize, head: &mut [u16; BYTE_VALUES], link: &mut [u16; TABLE_LENGTH])
@@ -203,7 +205,7 @@ fn add_chain(
 }
 
 // The first bad entry, or the number of all entries: depth by depth, the lowest first.
-fn first_bad(
+fn first_bad_by_depth(
     n: u16,
     labels: &[u16; LABEL_COUNT],
     count: u16,
@@ -217,8 +219,8 @@ fn first_bad(
     requires { ⌜ bookLength ≤ length (now book) ⌝ }
     requires { ⌜ HeldList n (now labels) count (now slots) (now pool) × Flagged (now labels) count (now flags) ⌝ }
     requires { ⌜ Chained (now book) (now head) (now link) tableLength ⌝ }
-    ensures { λ r. ⌜ FirstOf (HeldMove (now (labels .entry)) count (now (slots .entry)) (now (pool .entry)))
-        (λ k. k < tableLength) (now (book .entry)) tableLength r ⌝ }
+    ensures { λ r. ⌜ SoundTo (HeldMove (now (labels .entry)) count (now (slots .entry)) (now (pool .entry)))
+        (now (book .entry)) r ⌝ }
 {
     let mut there = [0u64; SETS_LENGTH];
     let mut back = [0u64; SETS_LENGTH];
@@ -264,21 +266,18 @@ pub fn check_held_book(
     let mut flags = [0u16; BYTE_VALUES];
     chain_entries(book, &mut head, &mut link);
     flag_labels(labels, count, &mut flags);
-    let k = first_bad(n, labels, count, slots, pool, &flags, book, &head, &link);
-    if k < TABLE_LENGTH {
-        return Checked::Bad(k);
-    }
-    Checked::Sound
+    let k = first_bad_by_depth(n, labels, count, slots, pool, &flags, book, &head, &link);
+    bad_or_sound(k)
 }
 
 // Whether some state has many moves with the label a.
-fn is_wide_label(slots: &[u16; SLOTS_LENGTH], pool: &[u64; POOL_LENGTH], a: u16) -> bool
+fn has_many_moves_with(slots: &[u16; SLOTS_LENGTH], pool: &[u64; POOL_LENGTH], a: u16) -> bool
     requires { ⌜ ((a < actionLimit) ⊎ (a ≡ silentLabel)) × ((i : ℕ) → getD (now slots) i 0 < poolSets) ⌝ }
-    ensures { λ r. ⌜ Decides r (WideLabel (now (slots .entry)) (now (pool .entry)) a) ⌝ }
+    ensures { λ r. ⌜ Decides r (ManyMoves (now (slots .entry)) (now (pool .entry)) a) ⌝ }
 {
     let row = target_row(a);
     for p in 0..STATE_LIMIT {
-        if FEW < size(held(slots, pool, row, State(p))) {
+        if FEW_ANSWERS < size(held(slots, pool, row, State(p))) {
             return true;
         }
     }
@@ -286,7 +285,7 @@ fn is_wide_label(slots: &[u16; SLOTS_LENGTH], pool: &[u64; POOL_LENGTH], a: u16)
 }
 
 // Whether some state has many moves with one label. Only the time that a test takes rests on it.
-pub fn is_wide(
+pub fn has_many_moves(
     n: u16,
     labels: &[u16; LABEL_COUNT],
     count: u16,
@@ -294,11 +293,11 @@ pub fn is_wide(
     pool: &[u64; POOL_LENGTH],
 ) -> bool
     requires { ⌜ HeldList n (now labels) count (now slots) (now pool) ⌝ }
-    ensures { λ r. ⌜ Decides r (Wide (now (labels .entry)) count (now (slots .entry)) (now (pool .entry))) ⌝ }
+    ensures { λ r. ⌜ Decides r (SomeManyMoves (now (labels .entry)) count (now (slots .entry)) (now (pool .entry))) ⌝ }
 {
     for i in 0..count {
         let at = i as usize;
-        if is_wide_label(slots, pool, labels[at]) {
+        if has_many_moves_with(slots, pool, labels[at]) {
             return true;
         }
     }

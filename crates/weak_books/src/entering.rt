@@ -27,7 +27,7 @@ ghost use Rattle.ranking.specs.Inner.TableWrites.{SeparatedBy};
 ghost use Rattle.splitters.specs.Inner.Partition.{ClassSets};
 ghost use Rattle.books.specs.Inner.Filling.{EntryWritten};
 ghost use Rattle.held.specs.HeldTests.{labelLimit};
-ghost use Rattle.weak_books.specs.Inner.Entering.{openingEntry, PairEntered, Entered, Beside, Parted};
+ghost use Rattle.weak_books.specs.Inner.Entering.{openingEntry, PairEntered, Entered, Beside, SeparatedBelow};
 
 // Writes the entry of p and q: the first side opens, or where it cannot, the second.
 fn put_opening(p: State, q: State, first: Opening, second: Opening, depth: u8, book: &mut [u8])
@@ -123,7 +123,7 @@ fn enter_beside(
 }
 
 // The states that were of the class of p and are no more.
-fn parted_from(
+fn separated_from(
     n: u16,
     class: &[u16; ROW],
     members: &[u64; SETS_LENGTH],
@@ -166,13 +166,13 @@ pub fn enter_round(
     requires { ⌜ ((p q : ℕ) → p < n → q < n → SeparatedBy (now class) (now next) p q
         → ¬ (Answers (HeldMove (now labels) count (now slots) (now pool)) (Same (now class)) p q)) ⌝ }
     ensures { λ _. ⌜ Entered (HeldMove (now (labels .entry)) count (now (slots .entry)) (now (pool .entry)))
-        (now (class .entry)) depth (Parted n (now (class .entry)) (now (next .entry))) (now (book .entry))
+        (now (class .entry)) depth (SeparatedBelow n (now (class .entry)) (now (next .entry))) (now (book .entry))
         (now (book .exit)) ⌝ }
 {
     let mut left = states;
     let mut p = least(left);
     while p < STATE_LIMIT {
-        let others = parted_from(n, class, members, next, next_members, State(p));
+        let others = separated_from(n, class, members, next, next_members, State(p));
         enter_beside(
             n,
             labels,

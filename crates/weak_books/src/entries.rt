@@ -3,6 +3,7 @@
 use crate::BYTE_VALUES;
 use crate::depths::flag_labels;
 use books::check::Checked;
+use books::check::bad_or_sound;
 use books::check::byte_value;
 use books::check::is_lower;
 use held::LABEL_COUNT;
@@ -10,6 +11,7 @@ use held::POOL_LENGTH;
 use held::SLOTS_LENGTH;
 use held::slots::held;
 use held::slots::target_row;
+use sets::set::Set;
 use sets::set::drop_least;
 use sets::set::is_in;
 use sets::set::least;
@@ -26,27 +28,18 @@ ghost use Rattle.text.specs.Limits.{stateLimit, tableLength, bookLength};
 ghost use Rattle.books.specs.Books.{bookOf};
 ghost use Rattle.books.specs.Checks.{checkedOutcome, CheckDone};
 ghost use Rattle.books.specs.Inner.Sides.{BySide, SoundTo};
+ghost use Rattle.sets.specs.Inner.SetValues.{In};
 ghost use Rattle.held.specs.Held.{rowCount, poolSets, HeldAt, HeldList, HeldMove};
 ghost use Rattle.weak_books.specs.Inner.Depths.{Flagged};
 ghost use Rattle.weak_books.specs.Inner.OpensTo.{OpensTo};
 
-// Whether each answer of q in this row leads, beside t, to an entry of lower depth.
-fn answers_lower(
-    slots: &[u16; SLOTS_LENGTH],
-    pool: &[u64; POOL_LENGTH],
-    row: u16,
-    book: &[u8],
-    forward: bool,
-    q: State,
-    t: State,
-    depth: u8,
-) -> bool
-    requires { ⌜ (row < rowCount) × ((i : ℕ) → getD (now slots) i 0 < poolSets) ⌝ }
-    requires { ⌜ (q .0 < stateLimit) × (t .0 < stateLimit) × (bookLength ≤ length (now book)) ⌝ }
-    ensures { λ r. ⌜ Decides r ((u : ℕ) → HeldAt (now (slots .entry)) (now (pool .entry)) row (q .0) u
+// Whether each of these answers leads, beside t, to an entry of lower depth.
+pub fn answers_lower(answers: Set, book: &[u8], forward: bool, t: State, depth: u8) -> bool
+    requires { ⌜ (t .0 < stateLimit) × (bookLength ≤ length (now book)) ⌝ }
+    ensures { λ r. ⌜ Decides r ((u : ℕ) → In answers u
         → BySide forward (LowerEntry (bookOf (now (book .entry))) depth) (t .0) u) ⌝ }
 {
-    let mut left = held(slots, pool, row, q);
+    let mut left = answers;
     let mut u = least(left);
     while u < STATE_LIMIT {
         if !is_lower(book, forward, t, State(u), depth) {
@@ -81,7 +74,7 @@ fn opens_by_answers(
     if !is_in(held(slots, pool, row, p), t.0) {
         return false;
     }
-    answers_lower(slots, pool, row, book, forward, q, t, depth)
+    answers_lower(held(slots, pool, row, q), book, forward, t, depth)
 }
 
 // Whether entry k is absent or sound.
@@ -165,8 +158,5 @@ pub fn check_entries(
     let mut flags = [0u16; BYTE_VALUES];
     flag_labels(labels, count, &mut flags);
     let k = first_bad_in_order(n, labels, count, slots, pool, &flags, book);
-    if k < TABLE_LENGTH {
-        return Checked::Bad(k);
-    }
-    Checked::Sound
+    bad_or_sound(k)
 }

@@ -17,13 +17,11 @@ use tree::filling::fill_table;
 ghost use Prim.Native.Nat.{_≤_, _<_};
 ghost use lib.ListN.{length};
 ghost use Rattle.text.specs.Limits.{tableLength, bookLength};
-ghost use Rattle.text.specs.Lists.{Past};
 ghost use Rattle.held.specs.Held.{HeldList, HeldMove};
 ghost use Rattle.ranking.specs.Table.{Ranked};
-ghost use Rattle.ranking.specs.Inner.TableWrites.{Finished};
 ghost use Rattle.books.specs.Books.{BookFilled};
-ghost use Rattle.splitters.specs.Inner.Splitters.{Into, Ready, Rounded};
-ghost use Rattle.weak_books.specs.Inner.Entering.{RoundEntered, BookUpTo};
+ghost use Rattle.splitters.specs.Inner.Splitters.{Into, Ready, Rounded, Rounds};
+ghost use Rattle.weak_books.specs.Inner.Entering.{RoundEntered, BookUpTo, BookEnded};
 
 // One round after k of them, with the entries of the pairs that it separates, if there are any.
 fn book_round(
@@ -95,33 +93,40 @@ fn book_round(
     next
 }
 
-// Goes round until a round separates no further pair, and yields the last round that did.
+// The last round that separated a pair, and how many classes there are then.
+struct LastEntered {
+    number: u8,
+    classes: u16,
+}
+
+// Goes round until a round separates no further pair.
 fn book_rounds(
     n: u16,
     labels: &[u16; LABEL_COUNT],
     count: u16,
     slots: &[u16; SLOTS_LENGTH],
     pool: &[u64; POOL_LENGTH],
-    table: &mut [u8],
+    into: &[u64; SETS_LENGTH],
+    parts: Parts,
+    class: &mut [u16; ROW],
+    members: &mut [u64; SETS_LENGTH],
+    origin: &mut [u16; ROW],
+    fresh: &mut [u64; SETS_LENGTH],
+    rest: &mut [u64; SETS_LENGTH],
+    when: &mut [u8; ROW],
     book: &mut [u8],
-) -> u8
-    requires { ⌜ HeldList n (now labels) count (now slots) (now pool) ⌝ }
-    requires { ⌜ (tableLength ≤ length (now table)) × (bookLength ≤ length (now book)) ⌝ }
-    requires { ⌜ BookUpTo (HeldMove (now labels) count (now slots) (now pool)) n 0 (now book) ⌝ }
-    ensures { λ r. ⌜ Finished (HeldMove (now (labels .entry)) count (now (slots .entry)) (now (pool .entry))) n r
-        (now (table .entry)) (now (table .exit)) ⌝ }
-    ensures { λ r. ⌜ BookUpTo (HeldMove (now (labels .entry)) count (now (slots .entry)) (now (pool .entry))) n r
-        (now (book .exit)) × Past bookLength (now (book .entry)) (now (book .exit)) ⌝ }
+) -> LastEntered
+    requires { ⌜ HeldList n (now labels) count (now slots) (now pool)
+        × Into (now labels) count (now slots) (now into) ⌝ }
+    requires { ⌜ Rounds (HeldMove (now labels) count (now slots) (now pool)) n 0 0 (now class) (now members)
+        (now origin) (now fresh) (now when) (parts .classes) (parts .together) ⌝ }
+    requires { ⌜ (bookLength ≤ length (now book))
+        × BookUpTo (HeldMove (now labels) count (now slots) (now pool)) n 0 (now book) ⌝ }
+    ensures { λ r. ⌜ BookEnded (HeldMove (now (labels .entry)) count (now (slots .entry)) (now (pool .entry))) n
+        (r .number) (now (class .exit)) (now (members .exit)) (now (origin .exit)) (now (fresh .exit))
+        (now (when .exit)) (r .classes) (now (book .entry)) (now (book .exit)) ⌝ }
 {
-    let mut class = [0u16; ROW];
-    let mut members = [0u64; SETS_LENGTH];
-    let mut origin = [0u16; ROW];
-    let mut fresh = [0u64; SETS_LENGTH];
-    let mut rest = [0u64; SETS_LENGTH];
-    let mut into = [0u64; SETS_LENGTH];
-    let mut when = [0u8; ROW];
-    note_labels(n, labels, count, slots, pool, &mut into);
-    let mut parts = one_class(n, &mut members);
+    let mut parts = parts;
     let mut first = 0;
     let mut k = 0;
     let last = loop {
@@ -132,16 +137,16 @@ fn book_rounds(
             count,
             slots,
             pool,
-            &into,
+            into,
             k,
             first,
             parts,
-            &mut class,
-            &mut members,
-            &mut origin,
-            &mut fresh,
-            &mut rest,
-            &mut when,
+            class,
+            members,
+            origin,
+            fresh,
+            rest,
+            when,
             book,
         );
         if next.classes == old {
@@ -151,17 +156,10 @@ fn book_rounds(
         parts = next;
         k += 1;
     };
-    fill_table(
-        n,
-        parts.classes,
-        &class,
-        &members,
-        &origin,
-        &fresh,
-        &when,
-        table,
-    );
-    last
+    LastEntered {
+        number: last,
+        classes: parts.classes,
+    }
 }
 
 // Fills the table with the ranks and the book with the openings, and answers the last round that separated two states.
@@ -183,5 +181,40 @@ pub fn fill_held_book(
 {
     clear(table, TABLE_LENGTH);
     clear(book, BOOK_LENGTH);
-    book_rounds(n, labels, count, slots, pool, table, book)
+    let mut class = [0u16; ROW];
+    let mut members = [0u64; SETS_LENGTH];
+    let mut origin = [0u16; ROW];
+    let mut fresh = [0u64; SETS_LENGTH];
+    let mut rest = [0u64; SETS_LENGTH];
+    let mut into = [0u64; SETS_LENGTH];
+    let mut when = [0u8; ROW];
+    note_labels(n, labels, count, slots, pool, &mut into);
+    let parts = one_class(n, &mut members);
+    let last = book_rounds(
+        n,
+        labels,
+        count,
+        slots,
+        pool,
+        &into,
+        parts,
+        &mut class,
+        &mut members,
+        &mut origin,
+        &mut fresh,
+        &mut rest,
+        &mut when,
+        book,
+    );
+    fill_table(
+        n,
+        last.classes,
+        &class,
+        &members,
+        &origin,
+        &fresh,
+        &when,
+        table,
+    );
+    last.number
 }

@@ -3,7 +3,7 @@
 use crate::book::fill_label_book;
 use crate::check::check_label_book;
 use crate::depths::check_held_book;
-use crate::depths::is_wide;
+use crate::depths::has_many_moves;
 use crate::entries::check_entries;
 use crate::filling::fill_held_book;
 use books::check::Checked;
@@ -85,7 +85,7 @@ pub fn check_books(
         &mut pool,
     );
     if 0 < count {
-        if is_wide(n, &labels, count, &slots, &pool) {
+        if has_many_moves(n, &labels, count, &slots, &pool) {
             return check_held_book(n, &labels, count, &slots, &pool, book);
         }
         return check_entries(n, &labels, count, &slots, &pool, book);

@@ -4,6 +4,7 @@ use held::LABEL_COUNT;
 use held::POOL_LENGTH;
 use held::SLOTS_LENGTH;
 use held::slots::held;
+use held::slots::same_slot;
 use held::slots::target_row;
 use sets::SETS_LENGTH;
 use sets::set::both;
@@ -29,8 +30,8 @@ pub struct Opening {
     pub target: u16,
 }
 
-// The lowest target of p in this row to which no target of q is alike, or 128.
-fn lowest_apart(
+// The lowest target of p in this row to which no target of q is alike, or 128. Each class is tried once.
+fn lowest_left(
     n: u16,
     slots: &[u16; SLOTS_LENGTH],
     pool: &[u64; POOL_LENGTH],
@@ -60,6 +61,30 @@ fn lowest_apart(
         t = least(left);
     }
     t
+}
+
+// The same. Equal sets are mostly shared, and with the same slot each target of p is one of q.
+fn lowest_apart(
+    n: u16,
+    slots: &[u16; SLOTS_LENGTH],
+    pool: &[u64; POOL_LENGTH],
+    row: u16,
+    class: &[u16; ROW],
+    members: &[u64; SETS_LENGTH],
+    p: State,
+    q: State,
+) -> u16
+    requires { ⌜ (n ≤ stateLimit) × (p .0 < stateLimit) × (q .0 < stateLimit) × (row < rowCount)
+        × ((i : ℕ) → getD (now slots) i 0 < poolSets) ⌝ }
+    requires { ⌜ ((x y : ℕ) → x < stateLimit → HeldAt (now slots) (now pool) row x y → y < n) ⌝ }
+    requires { ⌜ ClassSets n (now class) (now members) ⌝ }
+    ensures { λ r. ⌜ LowestTo (HeldAt (now (slots .entry)) (now (pool .entry)) row)
+        (OtherClass (now (class .entry))) (p .0) (q .0) r ⌝ }
+{
+    if same_slot(slots, row, p, q) {
+        return STATE_LIMIT;
+    }
+    lowest_left(n, slots, pool, row, class, members, p, q)
 }
 
 // The first opening of p against q.

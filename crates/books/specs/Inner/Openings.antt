@@ -1,16 +1,11 @@
 -- The search for an opening. Only the contracts of inner functions cite it.
 use mathlib.Core.List.{List}
-use Prim.Native.Nat.{ℕ, _+_, _≤_, _<_}
+use Prim.Native.Nat.{ℕ, _≤_, _<_}
 use lib.ListN.{getD}
-use Rattle.text.specs.Limits.{pairPlace}
 use Rattle.lts.specs.Alike.{Moves}
+use Rattle.ranking.specs.Inner.LowerRanks.{RankIn}
 
--- The table has a rank above 0 and below the depth for p and q.
-pub record RankIn (table : List ℕ) (depth p q : ℕ) : Type 0 where
-  pub rank-pos : 0 < getD table (pairPlace p q) 0
-  pub rank-lt : getD table (pairPlace p q) 0 < depth
-
--- Each answer of q with the action a leads, beside t, to such a rank.
+-- Each answer of q with the action a leads, beside t, to a rank above 0 and below the depth.
 abbrev pub LowerAnswers : Moves → List ℕ → ℕ → ℕ → ℕ → ℕ → Type 0
 LowerAnswers Move table depth q a t = (u : ℕ) → Move q a u → RankIn table depth t u
 

@@ -11,12 +11,12 @@ pub data Still (Move : Moves) (n p a q : ℕ) : Type 0 where
   stays : a ≡ silentLabel → p < n → p ≡ q → Still Move n p a q
 
 -- p stays where it is, t, and q is no state and has no answer.
-pub record Unanswered (n p q t : ℕ) : Type 0 where
+pub record StaysUnanswered (n p q t : ℕ) : Type 0 where
   pub opener-lt : p < n
   pub target-is : t ≡ p
   pub other-le : n ≤ q
 
 -- The same of the side that the entry names, under the silent label.
 pub data UnansweredBy (n p q : ℕ) (e : Entry) : Type 0 where
-  first-stays : e .action ≡ silentLabel → e .side ≡ 1 → Unanswered n p q (e .target) → UnansweredBy n p q e
-  second-stays : e .action ≡ silentLabel → e .side ≡ 2 → Unanswered n q p (e .target) → UnansweredBy n p q e
+  first-stays : e .action ≡ silentLabel → e .side ≡ 1 → StaysUnanswered n p q (e .target) → UnansweredBy n p q e
+  second-stays : e .action ≡ silentLabel → e .side ≡ 2 → StaysUnanswered n q p (e .target) → UnansweredBy n p q e

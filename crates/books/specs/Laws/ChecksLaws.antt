@@ -15,7 +15,7 @@ use Rattle.text.specs.Limits.{stateLimit, tableLength, pairPlace}
 use Rattle.books.specs.Books.{bookOf}
 use Rattle.books.specs.declared.check.Checked.the-variants as checked
 use Rattle.books.specs.Checks.{checkedOutcome, FirstBad, CheckDone, accepted, refused}
-use Rattle.books.specs.Inner.Sides.{RowSoundTo, RowsSound, SoundTo}
+use Rattle.books.specs.Inner.Sides.{RowSoundTo, RowsSound, SoundTo, BadTold}
 
 -- Entry k is that of k / 128 and k % 128, and of no others.
 pub at-number : (P : ℕ → ℕ → Type 0) {k : ℕ} → P (k / stateLimit) (k % stateLimit) → (p q : ℕ) → q < stateLimit
@@ -39,9 +39,9 @@ module _ (Move : Moves) (book : List ℕ) where
       → RowsSound Move book p → SoundTo Move book k
   soundTo-bad {p} {q} {k} e lp lq row s = record {
     number-le = omega arith;
-    sound = λ x y lx ly l. ⊎-elim (λ h. s x y h ly)
+    sound = λ x y lx ly _ l. ⊎-elim (λ h. s x y h ly)
         (λ h. in-row x y (omega (arith, l, h, e, lq)) (omega (arith, l, h, e, lq))) (lt-or-le x p);
-    bad = λ x y lx ly l. at-place x y (omega (arith, l, e, lq, ly)) (omega (arith, l, e, lq, ly));
+    bad = λ x y lx ly l _. at-place x y (omega (arith, l, e, lq, ly)) (omega (arith, l, e, lq, ly));
   }
     where
       in-row : (x y : ℕ) → p ≡ x → y < q → SoundAt Move (bookOf book) x y
@@ -54,30 +54,37 @@ module _ (Move : Moves) (book : List ℕ) where
   pub soundTo-all : {p : ℕ} → stateLimit ≤ p → RowsSound Move book p → SoundTo Move book tableLength
   soundTo-all {p} l s = record {
     number-le = omega arith;
-    sound = λ x y lx ly _. s x y (omega (arith, l, lx)) ly;
-    bad = λ x y lx ly e. absurd (omega arith);
+    sound = λ x y lx ly _ _. s x y (omega (arith, l, lx)) ly;
+    bad = λ x y lx ly e h. absurd (omega (arith, h));
   }
 
 -- ---- what is told
 
-module _ {Move : Moves} {book : List ℕ} {k : ℕ} (s : SoundTo Move book k) where
-  pub checkDone-sound : ¬ (k < tableLength) → CheckDone Move book (checkedOutcome checked.Sound)
-  unfolding checkedOutcome
-  checkDone-sound l = accepted (λ p q lp lq. s .sound p q lp lq (omega arith)) refl
+pub badTold-bad : {k : ℕ} → k < tableLength → BadTold k (checkedOutcome (checked.Bad k))
+unfolding checkedOutcome
+badTold-bad l = record { bad = λ _. refl; sound = λ m. absurd (omega (arith, l, m)) }
 
-  pub checkDone-bad : k < tableLength → CheckDone Move book (checkedOutcome (checked.Bad k))
-  unfolding checkedOutcome
-  checkDone-bad l =
-      let p = k / stateLimit in
-      let q = k % stateLimit in
-      let e : pairPlace p q ≡ k = omega arith in
-      let first-bad : FirstBad Move book p q = record {
-        first-lt = omega arith;
-        second-lt = omega arith;
-        bad = s .bad p q (omega arith) (omega arith) e;
-        sound-before = λ x y lx ly b. s .sound x y lx ly (omega arith);
-      } in
-      refused p q first-bad (ap (refuses 34) (sym e))
+pub badTold-sound : {k : ℕ} → tableLength ≤ k → BadTold k (checkedOutcome checked.Sound)
+unfolding checkedOutcome
+badTold-sound l = record { bad = λ m. absurd (omega (arith, l, m)); sound = λ _. refl }
+
+pub checkDone-of-told : {Move : Moves} {book : List ℕ} {k : ℕ} {outcome : Outcome} → SoundTo Move book k
+    → BadTold k outcome → CheckDone Move book outcome
+checkDone-of-told {Move} {book} {k} s told = ⊎-elim
+    (λ l.
+    let p = k / stateLimit in
+    let q = k % stateLimit in
+    let e : pairPlace p q ≡ k = omega arith in
+    let first-bad : FirstBad Move book p q = record {
+      first-lt = omega (arith, l);
+      second-lt = omega arith;
+      bad = s .bad p q (omega (arith, l)) (omega arith) e l;
+      sound-before = λ x y lx ly b. s .sound x y lx ly (omega (arith, lx, ly)) (omega (arith, b, e));
+    } in
+    refused p q first-bad (told .bad l ∙ ap (refuses 34) (sym e)))
+    (λ l.
+    accepted (λ p q lp lq. s .sound p q lp lq (omega (arith, lp, lq)) (omega (arith, lp, lq, l))) (told .sound l))
+    (lt-or-le k tableLength)
 
 -- N are the moves that M are, said in another way.
 pub checkDone-same : {M N : Moves} → ((p a q : ℕ) → M p a q → N p a q) → ((p a q : ℕ) → N p a q → M p a q)

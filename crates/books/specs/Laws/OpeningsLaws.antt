@@ -1,42 +1,26 @@
 -- The first opening of our own book, from the search for it. Document 02, (v). Assumes nothing.
 use mathlib.Core.List.{List}
 use mathlib.Core.Logic.{_⊎_, inl, inr, ⊎-elim}
-use mathlib.Core.Path.{_≡_, refl, sym, ap, subst}
+use mathlib.Core.Path.{_≡_, refl, sym, ap, _∙_, subst}
 use Prim.Native.Nat.{ℕ, _+_, _≤_, _<_}
 use native.Mathlib.Omega.{arith}
 use lib.ListN.{getD}
 use Rattle.lts.specs.Alike.{Moves, Rank}
-use Rattle.lts.specs.AlikeLaws.{rank-unique}
 use Rattle.lts.specs.TestsLaws.{lt-or-le}
-use Rattle.lts.specs.Book.{Opens, Plays, first-opens, second-opens, LowerRank, FirstPlay}
-use Rattle.lts.specs.BookLaws.{plays-side-pos, opens-of-first}
-use Rattle.lts.specs.OwnBookLaws.{opens-turned, opens-turned-back, play-exists}
-use Rattle.text.specs.Limits.{pairPlace}
+use Rattle.lts.specs.Book.{Opens, LowerRank, FirstPlay}
+use Rattle.lts.specs.BookLaws.{firstPlay-of-first, opens-by-second, firstPlay-of-second}
+use Rattle.lts.specs.OwnBookLaws.{lowerRank-sym, play-exists}
 use Rattle.comparing.specs.MoveList.{Listed, MoveList, Ordered}
 use Rattle.comparing.specs.Laws.MoveListLaws.{listed-game, listed-target-lt}
 use Rattle.ranking.specs.Table.{Ranks}
-use Rattle.books.specs.Inner.Openings.{RankIn, LowerAnswers, FirstOpening}
+use Rattle.ranking.specs.Laws.LowerRanksLaws.{lowerRank-of-rankIn, rankIn-of-lowerRank}
+use Rattle.books.specs.Inner.Openings.{LowerAnswers, FirstOpening}
 
 module _ {n : ℕ} {first actions targets table : List ℕ} (L : MoveList n first actions targets)
     (O : Ordered n first actions targets)
     (R : Ranks (Listed n first actions targets) n table) where
   abbrev Move : Moves
   Move = Listed n first actions targets
-
-  -- ---- ranks in the table
-
-  lowerRank-of-rankIn : {d x y : ℕ} → x < n → y < n → RankIn table d x y → LowerRank Move d x y
-  lowerRank-of-rankIn {d} {x} {y} lx ly h = record {
-    rank = getD table (pairPlace x y) 0;
-    rank-is = R .ranks x y lx ly;
-    rank-pos = h .rank-pos;
-    rank-lt = h .rank-lt;
-  }
-
-  rankIn-of-lowerRank : {d x y : ℕ} → x < n → y < n → LowerRank Move d x y → RankIn table d x y
-  rankIn-of-lowerRank {d} {x} {y} lx ly h =
-      let e = rank-unique Move x y _ _ (R .ranks x y lx ly) (h .rank-is) in
-      record { rank-pos = omega (arith, e, h .rank-pos); rank-lt = omega (arith, e, h .rank-lt) }
 
   -- ---- openings of one side
 
@@ -46,12 +30,12 @@ module _ {n : ℕ} {first actions targets table : List ℕ} (L : MoveList n firs
   opens-of-lower {q = q} {a} {t} m h = record {
     opening = m;
     answers = λ u w.
-        lowerRank-of-rankIn (listed-target-lt L _ a t m) (listed-target-lt L q a u w) (h u w);
+        lowerRank-of-rankIn R (listed-target-lt L _ a t m) (listed-target-lt L q a u w) (h u w);
   }
 
   lower-of-opens : {d p q a t : ℕ} → Opens Move (LowerRank Move d) p q a t → LowerAnswers Move table d q a t
   lower-of-opens {q = q} {a} {t} o u w =
-      rankIn-of-lowerRank (listed-target-lt L _ a t (o .opening)) (listed-target-lt L q a u w) (o .answers u w)
+      rankIn-of-lowerRank R (listed-target-lt L _ a t (o .opening)) (listed-target-lt L q a u w) (o .answers u w)
 
   -- ---- the place that the search finds
 
@@ -92,26 +76,37 @@ module _ {n : ℕ} {first actions targets table : List ℕ} (L : MoveList n firs
           (F .opens l)
 
       -- Of all openings of p it has the lowest action, and of those of this action the lowest target.
-      pub action-lowest : (a t : ℕ) → Opens Move (LowerRank Move d) p q a t → getD actions at 0 ≤ a
-      action-lowest a t o =
-          let m = o .opening in
-          ⊎-elim
-          (λ k. omega (arith, O .each p lp .action-le at (m .place) (F .from-le) k (m .place-lt), m .action-is))
-          (λ e. omega (arith, ap (λ (i : ℕ). getD actions i 0) e, m .action-is))
-          (place-cases a t o)
-
-      pub target-lowest : (t : ℕ) → Opens Move (LowerRank Move d) p q (getD actions at 0) t → getD targets at 0 ≤ t
-      target-lowest t o =
-          let m = o .opening in
-          ⊎-elim
+      pub first-at : (a t : ℕ) → Opens Move (LowerRank Move d) p q a t
+          → (getD actions at 0 < a) ⊎ ((getD actions at 0 ≡ a) × (getD targets at 0 ≤ t))
+      first-at a t o = ⊎-elim
           (λ k.
-          omega (
+          ⊎-elim
+          (λ l. inl l)
+          (λ l.
+          let e : getD actions at 0 ≡ a = omega (
             arith,
-            O .each p lp .target-lt at (m .place) (F .from-le) k (m .place-lt) (sym (m .action-is)),
-            m .target-is,
+            l,
+            O .each p lp .action-le at (m .place) (F .from-le) k (m .place-lt),
+            m .action-is,
+          ) in
+          inr (
+            e,
+            omega (
+              arith,
+              O .each p lp .target-lt at (m .place) (F .from-le) k (m .place-lt) (e ∙ sym (m .action-is)),
+              m .target-is,
+            ),
           ))
-          (λ e. omega (arith, ap (λ (i : ℕ). getD targets i 0) e, m .target-is))
-          (place-cases (getD actions at 0) t o)
+          (lt-or-le (getD actions at 0) a))
+          (λ e.
+          inr (
+            ap (λ (i : ℕ). getD actions i 0) e ∙ m .action-is,
+            omega (arith, ap (λ (i : ℕ). getD targets i 0) e, m .target-is),
+          ))
+          (place-cases a t o)
+        where
+          m : Move p a t
+          m = o .opening
 
   -- ---- the entry
 
@@ -120,30 +115,17 @@ module _ {n : ℕ} {first actions targets table : List ℕ} (L : MoveList n firs
     -- The first side opens.
     pub first-play : at < getD first (p + 1) 0
         → FirstPlay Move (LowerRank Move d) p q 1 (getD actions at 0) (getD targets at 0)
-    first-play l = record {
-      plays = first-opens refl (opens-at lp F l);
-      first-side = λ s b u x. omega (arith, plays-side-pos x);
-      lowest-action = λ b u x. action-lowest lp F l b u (opens-of-first refl x);
-      lowest-target = λ u x. target-lowest lp F l u (opens-of-first refl x);
-    }
+    first-play l = firstPlay-of-first (opens-at lp F l) (first-at lp F l)
 
     -- The second side opens where the first side cannot.
     module _ {back : ℕ} (left : ¬ (at < getD first (p + 1) 0))
         (G : FirstOpening Move actions targets table d p (getD first q 0) (getD first (q + 1) 0) back) where
-      by-second : (s b u : ℕ) → Plays Move (LowerRank Move d) p q s b u
-          → (s ≡ 2) × Opens Move (LowerRank Move d) q p b u
-      by-second s b u (first-opens e o) = absurd (left (found lp F b u o))
-      by-second s b u (second-opens e o) = (e, opens-turned o)
-
       pub second-found : back < getD first (q + 1) 0
       second-found =
           let x = play-exists Move n _ (listed-game L) p q d lp lq rank pos in
-          found lq G (x .1) (x .2) (by-second (x .0) (x .1) (x .2) (x .3) .1)
+          found lq G (x .1) (x .2)
+          (opens-by-second (λ y z. lowerRank-sym) (λ b u o. left (found lp F b u o)) (x .3) .1)
 
       pub second-play : FirstPlay Move (LowerRank Move d) p q 2 (getD actions back 0) (getD targets back 0)
-      second-play = record {
-        plays = second-opens refl (opens-turned-back (opens-at lq G second-found));
-        first-side = λ s b u x. omega (arith, by-second s b u x .0);
-        lowest-action = λ b u x. action-lowest lq G second-found b u (by-second 2 b u x .1);
-        lowest-target = λ u x. target-lowest lq G second-found u (by-second 2 _ u x .1);
-      }
+      second-play = firstPlay-of-second (λ y z. lowerRank-sym) (λ b u o. left (found lp F b u o))
+          (opens-at lq G second-found) (first-at lq G second-found)

@@ -20,7 +20,7 @@ use Rattle.comparing.specs.MoveList.{Listed, MoveList}
 use Rattle.comparing.specs.Laws.MoveListLaws.{listed-target-lt, listed-action-lt}
 use Rattle.books.specs.Checks.{StillMove}
 use Rattle.books.specs.Inner.Groups.{IndexOf, Indexed}
-use Rattle.books.specs.Inner.Still.{Still, moves, stays, Unanswered, UnansweredBy, first-stays, second-stays}
+use Rattle.books.specs.Inner.Still.{Still, moves, stays, StaysUnanswered, UnansweredBy, first-stays, second-stays}
 
 -- ---- whether an entry that was read stays unanswered
 
@@ -39,21 +39,21 @@ module _ (n : ℕ) (book : Book) (p q : ℕ) (e : Entry) (entry-is : book p q �
       go (first-stays _ s _) = first s
       go (second-stays _ s _) = second s
 
-  unanswered-of-first : e .side ≡ 1 → UnansweredBy n p q e → Unanswered n p q (e .target)
+  unanswered-of-first : e .side ≡ 1 → UnansweredBy n p q e → StaysUnanswered n p q (e .target)
   unanswered-of-first s (first-stays _ _ u) = u
   unanswered-of-first s (second-stays _ z _) = absurd (omega (arith, s, z))
 
-  unanswered-of-second : e .side ≡ 2 → UnansweredBy n p q e → Unanswered n q p (e .target)
+  unanswered-of-second : e .side ≡ 2 → UnansweredBy n p q e → StaysUnanswered n q p (e .target)
   unanswered-of-second s (first-stays _ z _) = absurd (omega (arith, s, z))
   unanswered-of-second s (second-stays _ _ u) = u
 
-  pub unanswered-first : e .action ≡ silentLabel → e .side ≡ 1 → (r : Bool) → Decides r (Unanswered n p q (e .target))
-      → Decides r (UnansweredBy n p q (book p q))
+  pub unanswered-first : e .action ≡ silentLabel → e .side ≡ 1 → (r : Bool)
+      → Decides r (StaysUnanswered n p q (e .target)) → Decides r (UnansweredBy n p q (book p q))
   unanswered-first a s r d = subst (λ (x : Entry). Decides r (UnansweredBy n p q x)) (sym entry-is)
       (decides-iff r (first-stays a s) (unanswered-of-first s) d)
 
   pub unanswered-second : e .action ≡ silentLabel → e .side ≡ 2 → (r : Bool)
-      → Decides r (Unanswered n q p (e .target)) → Decides r (UnansweredBy n p q (book p q))
+      → Decides r (StaysUnanswered n q p (e .target)) → Decides r (UnansweredBy n p q (book p q))
   unanswered-second a s r d = subst (λ (x : Entry). Decides r (UnansweredBy n p q x)) (sym entry-is)
       (decides-iff r (second-stays a s) (unanswered-of-second s) d)
 
@@ -69,7 +69,7 @@ module _ (Move : Moves) (n : ℕ) (action-lt : (x a y : ℕ) → Move x a y → 
   opens-still o = opens-map moves (λ u. move-of-still (action-lt _ _ _ (o .opening))) (λ x y h. h) o
 
   -- Beside one that stays they stay too.
-  opens-of-unanswered : {R : Relation} {p q a t : ℕ} → a ≡ silentLabel → Unanswered n p q t
+  opens-of-unanswered : {R : Relation} {p q a t : ℕ} → a ≡ silentLabel → StaysUnanswered n p q t
       → Opens (Still Move n) R p q a t
   opens-of-unanswered {R} {p} {q} {a} {t} e s = record {
     opening = stays e (s .opener-lt) (sym (s .target-is));
@@ -81,10 +81,10 @@ module _ (Move : Moves) (n : ℕ) (action-lt : (x a y : ℕ) → Move x a y → 
       no-answer (stays _ l _) = omega (arith, l, s .other-le)
 
   opens-cases : {R : Relation} {p q a t : ℕ} → ¬ (R p q) → Opens (Still Move n) R p q a t
-      → Opens Move R p q a t ⊎ ((a ≡ silentLabel) × Unanswered n p q t)
+      → Opens Move R p q a t ⊎ ((a ≡ silentLabel) × StaysUnanswered n p q t)
   opens-cases {R} {p} {q} {a} {t} self o = go (o .opening)
     where
-      go : Still Move n p a t → Opens Move R p q a t ⊎ ((a ≡ silentLabel) × Unanswered n p q t)
+      go : Still Move n p a t → Opens Move R p q a t ⊎ ((a ≡ silentLabel) × StaysUnanswered n p q t)
       go (moves m) = inl (record { opening = m; answers = λ u w. o .answers u (moves w) })
       go (stays e l s) =
           let none : ¬ (q < n) = λ k. self (subst (λ (x : ℕ). R x q) (sym s) (o .answers q (stays e k refl))) in

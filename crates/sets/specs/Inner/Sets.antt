@@ -40,14 +40,3 @@ pub record Joined (k : ℕ) (P : ℕ → Type 0) (entry exit : List ℕ) : Type 
 pub record SameSet (sets : List ℕ) (j k : ℕ) : Type 0 where
   pub there : (x : ℕ) → Member sets j x → Member sets k x
   pub back : (x : ℕ) → Member sets k x → Member sets j x
-
--- Each member of set k of one list is a member of set j of the other.
-pub record Within (sets : List ℕ) (k : ℕ) (others : List ℕ) (j : ℕ) : Type 0 where
-  pub within : (x : ℕ) → Member sets k x → Member others j x
-
--- The least member of set k from `from` on is x; x is 128 if there is none.
-pub record NextMember (sets : List ℕ) (k from x : ℕ) : Type 0 where
-  pub from-le : from ≤ x
-  pub next-le : x ≤ stateLimit
-  pub none-before : (y : ℕ) → from ≤ y → y < x → ¬ (Member sets k y)
-  pub member : x < stateLimit → Member sets k x

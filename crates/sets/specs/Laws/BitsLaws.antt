@@ -3,16 +3,16 @@
 use mathlib.Core.Path.{_≡_, refl, sym, ap, ap₂, _∙_, subst}
 use mathlib.Core.Logic.{_⊎_, inl, inr}
 use Prim.Native.Nat.{ℕ, zero, suc, _+_, _-_, _*_, _/_, _%_, _^_, _≤_, _<_, max}
-use native.Mathlib.Nat.{max-eq-left, max-eq-right, max-le, zero-max, one-mul, pow-suc, pow-succ', add-sub-of-le}
+use native.Mathlib.Nat.{max-eq-left, max-eq-right, max-le, zero-max, one-mul, pow-suc, pow-succ'}
 use native.Mathlib.Nat.{div-one, div-eq-of-lt, div-div-eq-div-mul, div-add-mod'}
-use native.Mathlib.Nat.{le-of-suc-le-suc, lt-of-le-of-lt, lt-of-lt-of-le}
+use native.Mathlib.Nat.{le-of-suc-le-suc, lt-of-lt-of-le}
 use native.Mathlib.Omega.{arith}
 use lib.Arith.{digits-mod, lt-one}
-use lib.Pow.{pow-pos, pow-lt, pow-mono, pow-add, shr-le, shr-shr, shl-shr, shl-exact}
+use lib.Pow.{pow-pos, pow-lt, pow-mono, pow-add, shl-shr, shl-exact}
 use lib.Bits.{bitOr, or-step, or-shr, or-comm, shifted-even}
 use lib.Count.{trailingZeros, under}
 use Rattle.lts.specs.TestsLaws.{lt-or-le}
-use Rattle.sets.specs.Inner.Sets.{wordBits, NextBit}
+use Rattle.sets.specs.Inner.Sets.{wordBits}
 
 bit-lt : (n : ℕ) → n % 2 < 2
 bit-lt n = omega arith
@@ -156,37 +156,3 @@ trailing-none (suc d) n i l e = go (n % 2) i refl l e (λ j. trailing-none d (n 
     go zero zero z h o ih = omega (arith, bit-first n)
     go zero (suc j) z h o ih = ih j (le-of-suc-le-suc h) (ap (λ (x : ℕ). x % 2) (bit-half n j) ∙ o)
     go (suc r) i z h o ih = absurd (omega arith)
-
--- Bit y of a word from `from` on is a bit of the rest.
-bit-rest : (word from y : ℕ) → from ≤ y → word / 2 ^ from / 2 ^ (y - from) ≡ word / 2 ^ y
-bit-rest word from y l = shr-shr word from (y - from) ∙ ap (λ (x : ℕ). word / 2 ^ x) (add-sub-of-le l)
-
--- No bit stands from `from` on.
-pub nextBit-none : {word from : ℕ} → from ≤ wordBits → word / 2 ^ from ≡ 0 → NextBit word from wordBits
-nextBit-none {word} {from} l e = record {
-  from-le = l;
-  next-le = omega arith;
-  none-before = λ y k m o. bit-zero (y - from)
-      (ap (λ (x : ℕ). x / 2 ^ (y - from) % 2) (sym e) ∙ ap (λ (x : ℕ). x % 2) (bit-rest word from y k) ∙ o);
-  set = λ k. absurd (omega (arith, k));
-}
-
--- A bit stands from `from` on: the least one.
-module _ (word from : ℕ) (fits : word < 2 ^ wordBits) (some : ¬ (word / 2 ^ from ≡ 0)) where
-  trailing-set : word / 2 ^ (from + trailingZeros wordBits (word / 2 ^ from)) % 2 ≡ 1
-  trailing-set =
-      let pos : 0 < word / 2 ^ from = omega (arith, some) in
-      ap (λ (x : ℕ). x % 2) (sym (shr-shr word from (trailingZeros wordBits (word / 2 ^ from))))
-      ∙ trailing-bit wordBits (word / 2 ^ from) pos (lt-of-le-of-lt (shr-le word from) fits)
-
-  pub trailing-lt : from + trailingZeros wordBits (word / 2 ^ from) < wordBits
-  trailing-lt = bit-place-lt wordBits (from + trailingZeros wordBits (word / 2 ^ from)) fits trailing-set
-
-  pub nextBit-trailing : NextBit word from (from + trailingZeros wordBits (word / 2 ^ from))
-  nextBit-trailing = record {
-    from-le = omega arith;
-    next-le = omega (arith, trailing-lt);
-    none-before = λ y k m o. trailing-none wordBits (word / 2 ^ from) (y - from) (omega (arith, k, m))
-        (ap (λ (x : ℕ). x % 2) (bit-rest word from y k) ∙ o);
-    set = λ k. trailing-set;
-  }

@@ -1,15 +1,14 @@
--- Both words of sets say whether one lies within another, and which member comes next.
+-- Both words of sets say what joining two of them changes.
 -- Assumes nothing.
 use mathlib.Core.Path.{_≡_, refl, sym, ap, _∙_}
-use mathlib.Core.Logic.{_⊎_, inl, inr}
+use mathlib.Core.Logic.{inl}
 use mathlib.Core.List.{List}
-use Prim.Native.Nat.{ℕ, zero, suc, _+_, _-_, _*_, _/_, _%_, _^_, _≤_, _<_}
+use Prim.Native.Nat.{ℕ, zero, suc, _+_, _*_, _/_, _%_, _^_, _<_}
 use native.Mathlib.Omega.{arith}
 use lib.Bits.{bitOr, or-comm}
 use lib.ListN.{length, getD, set}
 use lib.Seq.{lt-length-set, getD-set-same, getD-set-other}
-use Rattle.lts.specs.TestsLaws.{lt-or-le}
-use Rattle.sets.specs.Inner.Sets.{wordBits, NextBit, Member, Joined, Within, NextMember}
+use Rattle.sets.specs.Inner.Sets.{wordBits, Member, Joined}
 use Rattle.sets.specs.Laws.BitsLaws.{or-of-bits, bits-of-or}
 use Rattle.sets.specs.Laws.SetsLaws.{member-of-bit, bit-of-member, member-of-word, word-of-member}
 use Rattle.sets.specs.Laws.SetsLaws.{joined-store, joined-set}
@@ -20,8 +19,8 @@ module _ {sets others : List ℕ} {k j : ℕ} where
   -- Neither word adds a bit.
   pub within-of-words : {a b c d : ℕ} → a ≡ getD sets (2 * k + 0) 0 → b ≡ getD sets (2 * k + 1) 0
       → c ≡ getD others (2 * j + 0) 0 → d ≡ getD others (2 * j + 1) 0 → bitOr a c ≡ c → bitOr b d ≡ d
-      → Within sets k others j
-  within-of-words {a} {b} {c} {d} ea eb ec ed l h = record { within = λ x m. go x m (x / wordBits) refl }
+      → (x : ℕ) → Member sets k x → Member others j x
+  within-of-words {a} {b} {c} {d} ea eb ec ed l h x m = go x m (x / wordBits) refl
     where
       at : (list : List ℕ) (n z x : ℕ) → x / wordBits ≡ z → getD list (2 * n + z) 0 ≡ getD list (2 * n + x / wordBits) 0
       at list n z x f = ap (λ (y : ℕ). getD list (2 * n + y) 0) (sym f)
@@ -34,13 +33,6 @@ module _ {sets others : List ℕ} {k j : ℕ} where
           member-of-bit (ed ∙ at others j 1 x f) (m .member-lt)
           (bits-of-or b d (x % wordBits) h (bit-of-member (eb ∙ at sets k 1 x f) m))
       go x m (suc (suc z)) f = absurd (omega (arith, m .member-lt, f))
-
-  -- Word h of the set adds no bit.
-  pub word-of-within : (h : ℕ) {a c : ℕ} → a ≡ getD sets (2 * k + h) 0 → c ≡ getD others (2 * j + h) 0 → h < 2
-      → a < 2 ^ wordBits → Within sets k others j → bitOr a c ≡ c
-  word-of-within h {a} {c} d e l fits w =
-      or-of-bits wordBits a c fits
-      (λ i m b. word-of-member h refl e m (w .within (wordBits * h + i) (member-of-word h refl d l m b)))
 
 -- ---- a set added to set k
 
@@ -65,7 +57,7 @@ pub joined-same-words : {sets : List ℕ} {k j p q : ℕ} → p ≡ 2 * k → q 
     → bitOr (getD sets (p + 1) 0) (getD sets (q + 1) 0) ≡ getD sets (p + 1) 0 → Joined k (Member sets j) sets sets
 joined-same-words {sets} {k} {j} {p} {q} d e l h = record {
   joined = within-of-words (at q f) (at (q + 1) g) (at p m) (at (p + 1) n)
-      (or-comm (getD sets q 0) (getD sets p 0) ∙ l) (or-comm (getD sets (q + 1) 0) (getD sets (p + 1) 0) ∙ h) .within;
+      (or-comm (getD sets q 0) (getD sets p 0) ∙ l) (or-comm (getD sets (q + 1) 0) (getD sets (p + 1) 0) ∙ h);
   kept = λ i x b. b;
   only = λ i x b. inl b;
 }
@@ -95,43 +87,3 @@ words-of-stored {sets} p {v} {w} l e =
       sym (getD-set-same (set sets p v) (p + 1) w 0 (lt-length-set sets p v l))
           ∙ ap (λ (s : List ℕ). getD s (p + 1) 0) e,
     )
-
--- ---- the next member
-
--- It stands in the first word,
-pub nextMember-low : {sets : List ℕ} {k w from r : ℕ} → w ≡ getD sets (2 * k + 0) 0 → NextBit w from r → r < wordBits
-    → NextMember sets k from r
-nextMember-low e n l = record {
-  from-le = n .from-le;
-  next-le = omega (arith, l);
-  none-before = λ y f m b. n .none-before y f m (word-of-member 0 (omega arith) e (omega (arith, l, m)) b);
-  member = λ m. member-of-word 0 (omega arith) e (omega arith) l (n .set l);
-}
-
--- in the second word, where `from` stands too,
-pub nextMember-high : {sets : List ℕ} {k w from r : ℕ} → w ≡ getD sets (2 * k + 1) 0 → wordBits ≤ from
-    → NextBit w (from - wordBits) r → NextMember sets k from (wordBits + r)
-nextMember-high e l n = record {
-  from-le = omega (arith, l, n .from-le);
-  next-le = omega (arith, n .next-le);
-  none-before = λ y f m b.
-      n .none-before (y - wordBits) (omega (arith, l, f)) (omega (arith, l, f, m))
-      (word-of-member 1 (omega (arith, l, f)) e (omega (arith, m, n .next-le)) b);
-  member = λ m. member-of-word 1 (omega arith) e (omega arith) (omega (arith, m)) (n .set (omega (arith, m)));
-}
-
--- or in the second word, with none left in the first.
-pub nextMember-after : {sets : List ℕ} {k v w from r s : ℕ} → v ≡ getD sets (2 * k + 0) 0 → w ≡ getD sets (2 * k + 1) 0
-    → NextBit v from r → wordBits ≤ r → NextBit w 0 s → NextMember sets k from (wordBits + s)
-nextMember-after {sets} {k} {v} {w} {from} {r} {s} d e m l n = record {
-  from-le = omega (arith, m .from-le, m .next-le);
-  next-le = omega (arith, n .next-le);
-  none-before = λ y g h b. none y g h b (lt-or-le y wordBits);
-  member = λ h. member-of-word 1 (omega arith) e (omega arith) (omega (arith, h)) (n .set (omega (arith, h)));
-}
-  where
-    none : (y : ℕ) → from ≤ y → y < wordBits + s → Member sets k y → (y < wordBits) ⊎ (wordBits ≤ y) → ⊥
-    none y g h b (inl c) = m .none-before y g (omega (arith, c, l)) (word-of-member 0 (omega arith) d c b)
-    none y g h b (inr c) =
-        n .none-before (y - wordBits) (omega arith) (omega (arith, c, h))
-        (word-of-member 1 (omega (arith, c)) e (omega (arith, c, b .member-lt)) b)

@@ -4,8 +4,8 @@ use mathlib.Core.Logic.{_⊎_}
 use mathlib.Core.Path.{_≡_}
 use Prim.Native.Nat.{ℕ, _+_, _≤_, _<_}
 use lib.ListN.{getD}
-use Rattle.lts.specs.Alike.{Moves, Relation}
-use Rattle.lts.specs.Book.{Present, LowerEntry, SoundAt}
+use Rattle.lts.specs.Alike.{Relation}
+use Rattle.lts.specs.Book.{Present, LowerEntry}
 use Rattle.text.specs.Limits.{stateLimit, pairPlace}
 use Rattle.books.specs.Books.{entryNumber, bookOf}
 use Rattle.sets.specs.Inner.Sets.{Member}
@@ -44,14 +44,6 @@ pub record LowerBy (book : List ℕ) (depth : ℕ) (there back : List ℕ) : Typ
 pub record LowerAdded (P : ℕ → Type 0) (there back there′ back′ : List ℕ) : Type 0 where
   pub firsts : Pairs (λ t u. P (pairPlace t u) ⊎ Member there t u) there′
   pub seconds : Pairs (λ t u. P (pairPlace u t) ⊎ Member back t u) back′
-
--- No entry before r that P holds of is bad; r is `limit`, or a bad entry before it.
-pub record FirstOf (Move : Moves) (P : ℕ → Type 0) (book : List ℕ) (limit r : ℕ) : Type 0 where
-  pub number-le : r ≤ limit
-  pub sound : (p q : ℕ) → p < stateLimit → q < stateLimit → P (pairPlace p q) → pairPlace p q < r
-      → SoundAt Move (bookOf book) p q
-  pub bad : (p q : ℕ) → p < stateLimit → q < stateLimit → pairPlace p q ≡ r → r < limit
-      → ¬ (SoundAt Move (bookOf book) p q)
 
 -- The flags say which labels are listed.
 pub record Flagged (labels : List ℕ) (count : ℕ) (flags : List ℕ) : Type 0 where

@@ -7,6 +7,7 @@ use Prim.Native.Nat.{ℕ, _+_, _≤_, _<_}
 use lib.Dec.{ltb}
 use lib.ListN.{getD}
 use Rattle.lts.specs.Alike.{Moves, Alike, Separated}
+use Rattle.lts.specs.Game.{Separates}
 use Rattle.lts.specs.Book.{Entry, Opens, FirstPlay, OwnEntry, noEntry}
 use Rattle.text.specs.Limits.{stateLimit, pairPlace, bookLength}
 use Rattle.text.specs.Lists.{Past}
@@ -15,7 +16,7 @@ use Rattle.sets.specs.Inner.SetValues.{In}
 use Rattle.sets.specs.declared.set.Set.{Set}
 use Rattle.held.specs.Held.{targetRow, HeldAt}
 use Rattle.ranking.specs.Inner.TableWrites.{SeparatedBy}
-use Rattle.splitters.specs.Inner.Splitters.{Rounds}
+use Rattle.splitters.specs.Inner.Splitters.{Rounded, Rounds}
 use Rattle.books.specs.Books.{entryNumber}
 use Rattle.weak_books.specs.Inner.OpensTo.{OpensTo}
 use Rattle.weak_books.specs.declared.opening.Opening.{Opening}
@@ -27,11 +28,6 @@ OtherClass class t u = ¬ (Same class t u)
 -- p has no opening with the first i labels of the list.
 pub record NoneOpens (labels : List ℕ) (i : ℕ) (slots pool class : List ℕ) (p q : ℕ) : Type 0 where
   pub none : (j t : ℕ) → j < i → ¬ (OpensTo (HeldAt slots pool (targetRow (getD labels j 0))) (OtherClass class) p q t)
-
--- Of the targets `all`, those that are not left have an answer of their class.
-pub record Tried (class : List ℕ) (answers all left : Set) : Type 0 where
-  pub left-in : (t : ℕ) → In left t → In all t
-  pub gone : (t : ℕ) → In all t → ¬ (In left t) → ¬ ((u : ℕ) → In answers u → OtherClass class t u)
 
 -- The first opening of p against q all of whose answers are of other classes, by label and then by target; its target
 -- is 128 if there is none.
@@ -76,7 +72,7 @@ pub record Beside (p : ℕ) (others : Set) (x y : ℕ) : Type 0 where
   pub other : In others y
 
 -- Of n states the round that made `next` of `class` has separated p and q, which is below p.
-pub record Parted (n : ℕ) (class next : List ℕ) (p q : ℕ) : Type 0 where
+pub record SeparatedBelow (n : ℕ) (class next : List ℕ) (p q : ℕ) : Type 0 where
   pub first-lt : p < n
   pub lower : q < p
   pub separated : SeparatedBy class next p q
@@ -86,7 +82,7 @@ pub record Parted (n : ℕ) (class next : List ℕ) (p q : ℕ) : Type 0 where
 pub record RoundEntered (Move : Moves) (n k : ℕ) (class next : List ℕ) (classes classes′ : ℕ) (entry exit : List ℕ)
     : Type 0 where
   pub stays : classes′ ≡ classes → exit ≡ entry
-  pub entered : classes < classes′ → Entered Move class (k + 1) (Parted n class next) entry exit
+  pub entered : classes < classes′ → Entered Move class (k + 1) (SeparatedBelow n class next) entry exit
 
 -- P holds of x and y, and the one of them that `pick` names is not left.
 pub record Done (P : ℕ → ℕ → Type 0) (pick : ℕ → ℕ → ℕ) (left : Set) (x y : ℕ) : Type 0 where
@@ -107,3 +103,14 @@ pub record Booked (Move : Moves) (n k first : ℕ) (book₀ book class members o
   pub rounds : Rounds Move n k first class members origin fresh when classes together
   pub entries : BookUpTo Move n k book
   pub past : Past bookLength book₀ book
+
+-- What the last round leaves, which makes no further class, and what all of them left in the book; each one before it
+-- separated a pair.
+pub record BookEnded (Move : Moves) (n last : ℕ) (class members origin fresh when : List ℕ) (classes : ℕ)
+    (entry exit : List ℕ) : Type 0 where
+  pub before : List ℕ
+  pub together : Set
+  pub rounded : Rounded Move n last before class members origin fresh when classes classes together
+  pub separates : (j : ℕ) → j < last → Separates Move n j
+  pub entries : BookUpTo Move n last exit
+  pub past : Past bookLength entry exit

@@ -10,33 +10,41 @@ use Rattle.lts.specs.Book.{Entry, Present, Opens, LowerRank, noEntry}
 use Rattle.text.specs.Limits.{stateLimit, pairPlace, bookLength}
 use Rattle.text.specs.Lists.{Past}
 use Rattle.sets.specs.Inner.Sets.{Member}
+use Rattle.sets.specs.Inner.SetValues.{In}
+use Rattle.sets.specs.declared.set.Set.{Set}
 use Rattle.books.specs.Books.{entryNumber}
 use Rattle.held.specs.HeldTests.{labelLimit}
 use Rattle.weak_books.specs.Inner.OpensTo.{OpensTo, LowestTo}
 
--- ---- one label, by sets: set p of the keys has the targets of p, and set t of the lower ones what is lower beside t
+-- ---- one label, by sets: set p of `targets` has the targets of p, and set t of the lower ones what is lower beside t
 
 -- The entry e of p and q has become e′: an entry stays, and where there was none, p opens with the label a if it can.
-pub data EntryOpened (keys lower : List ℕ) (depth a p q : ℕ) (e e′ : Entry) : Type 0 where
-  stays : Present e → e′ ≡ e → EntryOpened keys lower depth a p q e e′
-  opens-not : e′ ≡ e → ((t : ℕ) → ¬ (OpensTo (Member keys) (Member lower) p q t))
-      → EntryOpened keys lower depth a p q e e′
+pub data EntryOpened (targets lower : List ℕ) (depth a p q : ℕ) (e e′ : Entry) : Type 0 where
+  stays : Present e → e′ ≡ e → EntryOpened targets lower depth a p q e e′
+  opens-not : e′ ≡ e → ((t : ℕ) → ¬ (OpensTo (Member targets) (Member lower) p q t))
+      → EntryOpened targets lower depth a p q e e′
   opens-with : (t : ℕ) → e .side ≡ 0 → e′ ≡ record { side = 1; action = a; target = t; depth = depth } → t < stateLimit
-      → LowestTo (Member keys) (Member lower) p q t → EntryOpened keys lower depth a p q e e′
+      → LowestTo (Member targets) (Member lower) p q t → EntryOpened targets lower depth a p q e e′
 
 -- The same of that entry alone.
-pub record PairOpened (keys lower : List ℕ) (depth a p q : ℕ) (entry exit : List ℕ) : Type 0 where
-  pub opened : EntryOpened keys lower depth a p q (entryNumber entry (pairPlace p q)) (entryNumber exit (pairPlace p q))
+pub record PairOpened (targets lower : List ℕ) (depth a p q : ℕ) (entry exit : List ℕ) : Type 0 where
+  pub opened : EntryOpened targets lower depth a p q (entryNumber entry (pairPlace p q))
+      (entryNumber exit (pairPlace p q))
   pub kept : (k : ℕ) → ¬ (k ≡ pairPlace p q) → entryNumber exit k ≡ entryNumber entry k
   pub past : Past bookLength entry exit
 
 -- The same of each p and each q of set p, where the number of their entry is from `from` up to `to`.
-pub record LabelOpened (keys lower at : List ℕ) (depth a from to : ℕ) (entry exit : List ℕ) : Type 0 where
+pub record LabelOpened (targets lower at : List ℕ) (depth a from to : ℕ) (entry exit : List ℕ) : Type 0 where
   pub opened : (p q : ℕ) → Member at p q → from ≤ pairPlace p q → pairPlace p q < to
-      → EntryOpened keys lower depth a p q (entryNumber entry (pairPlace p q)) (entryNumber exit (pairPlace p q))
+      → EntryOpened targets lower depth a p q (entryNumber entry (pairPlace p q)) (entryNumber exit (pairPlace p q))
   pub kept : (k : ℕ) → ((p q : ℕ) → Member at p q → from ≤ k → k < to → ¬ (k ≡ pairPlace p q))
       → entryNumber exit k ≡ entryNumber entry k
   pub past : Past bookLength entry exit
+
+-- The members of set p from q on are left.
+pub record MembersLeft (sets : List ℕ) (p q : ℕ) (left : Set) : Type 0 where
+  pub left-in : (x : ℕ) → In left x → Member sets p x
+  pub later : (x : ℕ) → Member sets p x → q ≤ x → In left x
 
 -- ---- labels
 

@@ -6,7 +6,7 @@ use Prim.Native.Nat.{ℕ, _<_}
 use lib.ListN.{getD}
 use Rattle.text.specs.Limits.{pairPlace}
 use Rattle.sets.specs.Inner.Sets.{Member}
-use Rattle.books.specs.Inner.Openings.{RankIn}
+use Rattle.ranking.specs.Inner.LowerRanks.{RankIn}
 
 -- Set p has the states whose rank beside p is r, for each p below `to`; the other sets are empty.
 pub record AtRank (n : ℕ) (table : List ℕ) (r to : ℕ) (sets : List ℕ) : Type 0 where

@@ -10,7 +10,7 @@ use Rattle.sets.specs.Inner.Sets.{Member}
 
 -- Set p has the targets of the moves of p, whatever their label.
 abbrev pub SetMove : List ℕ → Moves
-SetMove keys p a q = Member keys p q
+SetMove sets p a q = Member sets p q
 
 -- The entry of p and q is there and has an action that Label holds of.
 pub record EntryUnder (Label : ℕ → Type 0) (book : List ℕ) (p q : ℕ) : Type 0 where

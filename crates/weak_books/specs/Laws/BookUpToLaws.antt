@@ -21,7 +21,7 @@ use Rattle.ranking.specs.Inner.ClassList.{Classes}
 use Rattle.ranking.specs.Inner.TableWrites.{SeparatedBy, RankUpTo, RanksUpTo}
 use Rattle.books.specs.Books.{entryNumber, BookFilled}
 use Rattle.books.specs.Inner.Filling.{BookEmpty}
-use Rattle.weak_books.specs.Inner.Entering.{OtherClass, EntryApart, Entered, Parted, BookUpTo}
+use Rattle.weak_books.specs.Inner.Entering.{OtherClass, EntryApart, Entered, SeparatedBelow, BookUpTo}
 
 -- ---- plays of n states
 
@@ -78,11 +78,11 @@ module _ {Move : Moves} {n k : ℕ} {class : List ℕ} {rank : ℕ → ℕ → �
     }
 
     module _ {next book book′ : List ℕ} (states-le : n ≤ stateLimit) (D : Classes Move n (k + 1) next)
-        (W : Entered Move class (k + 1) (Parted n class next) book book′) where
+        (W : Entered Move class (k + 1) (SeparatedBelow n class next) book book′) where
       -- What a round separates is of one class before it, and of two after it.
-      parted-of-separated : {p q : ℕ} → p < n → q < n → Separated Move p q (k + 1)
-          → Parted n class next p q ⊎ Parted n class next q p
-      parted-of-separated {p} {q} lp lq x = go (lt-or-le q p) (lt-or-le p q)
+      separatedBelow-of-separated : {p q : ℕ} → p < n → q < n → Separated Move p q (k + 1)
+          → SeparatedBelow n class next p q ⊎ SeparatedBelow n class next q p
+      separatedBelow-of-separated {p} {q} lp lq x = go (lt-or-le q p) (lt-or-le p q)
         where
           same : Same class p q
           same = C .same-of-alike p q lp lq (x .alike-before k (omega arith))
@@ -90,7 +90,7 @@ module _ {Move : Moves} {n k : ℕ} {class : List ℕ} {rank : ℕ → ℕ → �
           apart : OtherClass next p q
           apart e = x .not-alike (D .alike-of-same p q lp lq e)
 
-          go : (q < p) ⊎ (p ≤ q) → (p < q) ⊎ (q ≤ p) → Parted n class next p q ⊎ Parted n class next q p
+          go : (q < p) ⊎ (p ≤ q) → (p < q) ⊎ (q ≤ p) → SeparatedBelow n class next p q ⊎ SeparatedBelow n class next q p
           go (inl l) _ = inl (record {
             first-lt = lp;
             lower = l;
@@ -138,7 +138,7 @@ module _ {Move : Moves} {n k : ℕ} {class : List ℕ} {rank : ℕ → ℕ → �
               let y = subst (Separated Move p q) e x in
               subst (λ (j : ℕ). OwnEntry Move p q j (entryNumber book′ (pairPlace p q))) (sym e)
               (ownEntry-of-apart lp lq (W .entered p q (omega (arith, lp, states-le)) (omega (arith, lq, states-le))
-              (parted-of-separated lp lq y)))
+              (separatedBelow-of-separated lp lq y)))
 
 -- ---- the first round, and the last
 

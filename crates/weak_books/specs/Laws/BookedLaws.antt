@@ -16,7 +16,7 @@ use Rattle.ranking.specs.Inner.TableWrites.{SeparatedBy}
 use Rattle.splitters.specs.Inner.Partition.{Partition, ClassSets}
 use Rattle.splitters.specs.Inner.Splitters.{Rounded, Rounds}
 use Rattle.splitters.specs.Laws.RoundLaws.{rounds-suc}
-use Rattle.weak_books.specs.Inner.Entering.{Entered, Parted, RoundEntered, BookUpTo, Booked}
+use Rattle.weak_books.specs.Inner.Entering.{Entered, SeparatedBelow, RoundEntered, BookUpTo, Booked, BookEnded}
 use Rattle.weak_books.specs.Laws.BookUpToLaws.{bookUpTo-suc}
 
 pub classSets-of-partition : {n : ℕ} {class members : List ℕ} {classes : ℕ} {together : Set} → n ≤ stateLimit
@@ -40,7 +40,7 @@ separated-not-answers R p q lp lq s a = s .not-same-after (R .same-of-answers p 
 -- The entries of a round that made further classes, and those of one that made none.
 module _ {Move : Moves} {n k : ℕ} {class next : List ℕ} {classes classes′ : ℕ} where
   pub roundEntered-more : {book book′ : List ℕ} → ¬ (classes′ ≡ classes)
-      → Entered Move class (k + 1) (Parted n class next) book book′
+      → Entered Move class (k + 1) (SeparatedBelow n class next) book book′
       → RoundEntered Move n k class next classes classes′ book book′
   roundEntered-more d w = record { stays = λ e. absurd (d e); entered = λ _. w }
 
@@ -65,7 +65,15 @@ module _ {Move : Moves} {n k first : ℕ} {book₀ book class members origin fre
         past = past-trans (B .past) (W .past);
       }
 
-  -- Another one leaves the book as it was.
-  pub entries-of-booked : classes′ ≡ classes → BookUpTo Move n k book′ × Past bookLength book₀ book′
-  entries-of-booked e =
-      subst (λ (b : List ℕ). BookUpTo Move n k b × Past bookLength book₀ b) (sym (E .stays e)) (B .entries, B .past)
+  -- Another one leaves the book as it was, and is the last.
+  pub bookEnded-of-last : {members′ origin′ fresh′ when′ : List ℕ} {together′ : Set}
+      → Rounded Move n k class next members′ origin′ fresh′ when′ classes classes′ together′ → classes′ ≡ classes
+      → BookEnded Move n k next members′ origin′ fresh′ when′ classes book₀ book′
+  bookEnded-of-last {members′} {origin′} {fresh′} {when′} {together′} R e = record {
+    before = class;
+    together = together′;
+    rounded = subst (λ (c : ℕ). Rounded Move n k class next members′ origin′ fresh′ when′ classes c together′) e R;
+    separates = B .rounds .separates;
+    entries = subst (BookUpTo Move n k) (sym (E .stays e)) (B .entries);
+    past = subst (Past bookLength book₀) (sym (E .stays e)) (B .past);
+  }

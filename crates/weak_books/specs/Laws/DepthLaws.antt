@@ -6,11 +6,12 @@ use Prim.Native.Nat.{ℕ, _+_, _≤_, _<_}
 use native.Mathlib.Omega.{arith}
 use lib.ListN.{getD}
 use Rattle.lts.specs.Alike.{Moves}
-use Rattle.lts.specs.AlikeLaws.{rank-unique}
 use Rattle.lts.specs.Book.{Opens, LowerRank}
+use Rattle.lts.specs.BookLaws.{opens-map}
 use Rattle.lts.specs.TestsLaws.{lt-or-le}
 use Rattle.text.specs.Limits.{stateLimit, pairPlace}
 use Rattle.ranking.specs.Table.{Ranks}
+use Rattle.ranking.specs.Laws.LowerRanksLaws.{lowerRank-of-rankIn, rankIn-of-lowerRank}
 use Rattle.sets.specs.Inner.Sets.{Member}
 use Rattle.books.specs.Books.{entryNumber}
 use Rattle.books.specs.Inner.Filling.{BookEmpty}
@@ -52,17 +53,9 @@ module _ {Move : Moves} {n : ℕ} {table : List ℕ} (states-le : n ≤ stateLim
   module _ (target-lt : (p a q : ℕ) → Move p a q → q < n) (R : Ranks Move n table) where
     module _ {d : ℕ} {lower : List ℕ} (s : LowerSets n table d lower) where
       opens-ranked : {p q : ℕ} (a t : ℕ) → Opens Move (Member lower) p q a t → Opens Move (LowerRank Move d) p q a t
-      opens-ranked a t o = record {
-        opening = o .opening;
-        answers = λ u m.
-            let b = s .only t u (o .answers u m) in
-            record {
-              rank = getD table (pairPlace t u) 0;
-              rank-is = R .ranks t u (b .0) (b .1);
-              rank-pos = b .2 .rank-pos;
-              rank-lt = b .2 .rank-lt;
-            };
-      }
+      opens-ranked a t = opens-map (λ m. m) (λ u m. m) (λ x y h.
+          let b = s .only x y h in
+          lowerRank-of-rankIn R (b .0) (b .1) (b .2))
 
       opens-in-sets : {p q : ℕ} (a t : ℕ) → Opens Move (LowerRank Move d) p q a t → Opens Move (Member lower) p q a t
       opens-in-sets {p} {q} a t o = record {
@@ -70,10 +63,7 @@ module _ {Move : Moves} {n : ℕ} {table : List ℕ} (states-le : n ≤ stateLim
         answers = λ u m.
             let lt = target-lt p a t (o .opening) in
             let lu = target-lt q a u m in
-            let h = o .answers u m in
-            let e = rank-unique Move t u _ _ (R .ranks t u lt lu) (h .rank-is) in
-            s .lower t u lt lu
-            (record { rank-pos = omega (arith, e, h .rank-pos); rank-lt = omega (arith, e, h .rank-lt) });
+            s .lower t u lt lu (rankIn-of-lowerRank R lt lu (o .answers u m));
       }
 
     -- With all labels done, the next depth begins.

@@ -11,10 +11,10 @@ use Rattle.lts.specs.Alike.{Moves}
 use Rattle.lts.specs.Book.{SoundAt}
 use Rattle.text.specs.Limits.{stateLimit, tableLength, entrySize, pairPlace}
 use Rattle.books.specs.Books.{entryNumber, bookOf}
-use Rattle.books.specs.Inner.Sides.{LowerNumber, SoundTo}
+use Rattle.books.specs.Inner.Sides.{LowerNumber, FirstOf}
 use Rattle.books.specs.Laws.ChecksLaws.{at-number}
 use Rattle.weak_books.specs.Inner.Bounds.{byteValues}
-use Rattle.weak_books.specs.Inner.Depths.{OnChain, Chained, FirstOf}
+use Rattle.weak_books.specs.Inner.Depths.{OnChain, Chained}
 use Rattle.weak_books.specs.Laws.ChainsLaws.{onChain-nil, onChain-cases}
 
 -- ---- some entries
@@ -107,11 +107,3 @@ module _ {Move : Moves} {book : List ℕ} where
         (record { present = present; depth-lt = omega (arith, byte (entrySize * pairPlace p q + 3), e) }) l present;
     bad = f .bad;
   }
-
-pub soundTo-of-firstOf : {Move : Moves} {book : List ℕ} {k : ℕ}
-    → FirstOf Move (λ x. x < tableLength) book tableLength k → SoundTo Move book k
-soundTo-of-firstOf f = record {
-  number-le = f .number-le;
-  sound = λ p q lp lq l. f .sound p q lp lq (omega (arith, lp, lq)) l;
-  bad = λ p q lp lq e. f .bad p q lp lq e (omega (arith, lp, lq, e));
-}

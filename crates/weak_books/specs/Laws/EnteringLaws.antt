@@ -17,7 +17,7 @@ use Rattle.sets.specs.declared.set.Set.{Set}
 use Rattle.ranking.specs.Inner.TableWrites.{SeparatedBy}
 use Rattle.splitters.specs.Inner.Partition.{ClassSets}
 use Rattle.books.specs.Books.{entryNumber}
-use Rattle.weak_books.specs.Inner.Entering.{EntryApart, PairEntered, Entered, Beside, Parted, Done}
+use Rattle.weak_books.specs.Inner.Entering.{EntryApart, PairEntered, Entered, Beside, SeparatedBelow, Done}
 
 -- ---- one after another
 
@@ -122,11 +122,11 @@ module _ {Move : Moves} {class : List ℕ} {depth : ℕ} where
 
 -- ---- what a round has separated
 
-pub parted-set : {n : ℕ} {class members next members′ : List ℕ} {p : ℕ} {a b r : Set} → ClassSets n class members
-    → ClassSets n next members′ → p < n → SetOf (Member members (getD class p 0)) a
+pub separatedBelow-set : {n : ℕ} {class members next members′ : List ℕ} {p : ℕ} {a b r : Set}
+    → ClassSets n class members → ClassSets n next members′ → p < n → SetOf (Member members (getD class p 0)) a
     → SetOf (Member members′ (getD next p 0)) b → SetOf (λ q. In a q × ¬ (In b q)) r
     → SetOf (λ q. (q < n) × SeparatedBy class next p q) r
-parted-set {p = p} C D lp A B R = record {
+separatedBelow-set {p = p} C D lp A B R = record {
   all = λ q h. R .all q (
     A .all q (C .alike p q lp (h .0) (h .1 .same-before)),
     λ i. h .1 .not-same-after (D .only p q lp (B .only q i) .1),
@@ -160,9 +160,9 @@ pair-beside {p} {q} {others} b x y (e, f) = (
 
 module _ {n : ℕ} {class next : List ℕ} {p : ℕ} {others : Set} (lp : p < n)
     (S : SetOf (λ q. (q < n) × SeparatedBy class next p q) others) where
-  pub parted-of-beside : (x y : ℕ) → Beside p others x y → Parted n class next x y × (x ≡ p)
-  parted-of-beside x y h = (
-    subst (λ (z : ℕ). Parted n class next z y) (sym (h .first-is)) (record {
+  pub separatedBelow-of-beside : (x y : ℕ) → Beside p others x y → SeparatedBelow n class next x y × (x ≡ p)
+  separatedBelow-of-beside x y h = (
+    subst (λ (z : ℕ). SeparatedBelow n class next z y) (sym (h .first-is)) (record {
       first-lt = lp;
       lower = h .lower;
       separated = S .only y (h .other) .1;
@@ -170,9 +170,9 @@ module _ {n : ℕ} {class next : List ℕ} {p : ℕ} {others : Set} (lp : p < n)
     h .first-is,
   )
 
-  pub beside-of-parted : (x y : ℕ) → Parted n class next x y → x ≡ p → Beside p others x y
-  beside-of-parted x y h e =
-      let g = subst (λ (z : ℕ). Parted n class next z y) e h in
+  pub beside-of-separatedBelow : (x y : ℕ) → SeparatedBelow n class next x y → x ≡ p → Beside p others x y
+  beside-of-separatedBelow x y h e =
+      let g = subst (λ (z : ℕ). SeparatedBelow n class next z y) e h in
       record {
         first-is = e;
         lower = g .lower;

@@ -12,8 +12,8 @@ use lib.ListN.{getD}
 use Rattle.lts.specs.Alike.{Moves, Answers}
 use Rattle.lts.specs.AlikeLaws.{answers-map}
 use Rattle.lts.specs.Game.{Opening as Unanswered, by-first, by-second, Game}
-use Rattle.lts.specs.Book.{Entry, Opens, Plays, first-opens, second-opens}
-use Rattle.lts.specs.BookLaws.{opens-map, plays-side-pos, opens-of-first}
+use Rattle.lts.specs.Book.{Entry, Opens}
+use Rattle.lts.specs.BookLaws.{firstPlay-of-first, firstPlay-of-second}
 use Rattle.lts.specs.TestsLaws.{T-cases, T-eqb, lt-or-le}
 use Rattle.text.specs.Limits.{stateLimit, pairPlace}
 use Rattle.text.specs.Laws.ListsLaws.{past-trans}
@@ -22,7 +22,6 @@ use Rattle.books.specs.Inner.Filling.{EntryWritten}
 use Rattle.weak_books.specs.declared.opening.Opening.{Opening}
 use Rattle.weak_books.specs.Inner.Entering.{OtherClass, FirstApart, sideEntry, openingEntry}
 use Rattle.weak_books.specs.Inner.Entering.{EntryApart, PairEntered}
-use Rattle.weak_books.specs.Laws.FilledLaws.{action-lowest, target-lowest}
 
 -- ---- the entry of two openings
 
@@ -78,33 +77,16 @@ module _ {Move : Moves} {class : List ℕ} {p q : ℕ} {one other : Opening}
     (F : FirstApart Move class p q one) (S : FirstApart Move class q p other) where
   by-first-side : (depth : ℕ) → one .target < stateLimit → EntryApart Move class depth p q
       (record { side = 1; action = one .label; target = one .target; depth = depth })
-  by-first-side depth l = record {
-    depth-is = refl;
-    opening = record {
-      plays = first-opens refl (F .opens l);
-      first-side = λ s b u x. omega (arith, plays-side-pos x);
-      lowest-action = λ b u x. action-lowest (λ c v o. F .first c v o .1) b u (opens-of-first refl x);
-      lowest-target = λ u x. target-lowest (λ c v o. F .first c v o .1) u (opens-of-first refl x);
-    };
-  }
-
-  -- The second side opens where the first does not.
-  only-second : stateLimit ≤ one .target → (s b u : ℕ) → Plays Move (OtherClass class) p q s b u
-      → (s ≡ 2) × Opens Move (OtherClass class) q p b u
-  only-second l s b u (first-opens e o) = absurd (omega (arith, l, F .first b u o .0))
-  only-second l s b u (second-opens e o) = (e, opens-map (λ m. m) (λ u m. m) (λ x y d e. d (sym e)) o)
+  by-first-side depth l =
+      record { depth-is = refl; opening = firstPlay-of-first (F .opens l) (λ b u o. F .first b u o .1) }
 
   by-second-side : (depth : ℕ) → stateLimit ≤ one .target → other .target < stateLimit
       → EntryApart Move class depth p q
       (record { side = 2; action = other .label; target = other .target; depth = depth })
   by-second-side depth l k = record {
     depth-is = refl;
-    opening = record {
-      plays = second-opens refl (opens-map (λ m. m) (λ u m. m) (λ x y d e. d (sym e)) (S .opens k));
-      first-side = λ s b u x. omega (arith, only-second l s b u x .0);
-      lowest-action = λ b u x. action-lowest (λ c v o. S .first c v o .1) b u (only-second l 2 b u x .1);
-      lowest-target = λ u x. target-lowest (λ c v o. S .first c v o .1) u (only-second l 2 _ u x .1);
-    };
+    opening = firstPlay-of-second (λ x y d e. d (sym e)) (λ b u o. omega (arith, l, F .first b u o .0)) (S .opens k)
+        (λ b u o. S .first b u o .1);
   }
 
   pub entryApart-of-first : {n : ℕ} {round : (ℕ → ℕ → Bool) → ℕ → ℕ → Bool} → Game Move n round

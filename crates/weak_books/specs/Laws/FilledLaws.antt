@@ -3,16 +3,16 @@
 use mathlib.Core.Bool.{Bool}
 use mathlib.Core.List.{List}
 use mathlib.Core.Logic.{_⊎_, inl, ⊎-elim}
-use mathlib.Core.Path.{_≡_, refl, sym, ap, _∙_, subst}
+use mathlib.Core.Path.{refl, sym, ap, _∙_, subst}
 use Prim.Native.Nat.{ℕ, _+_, _≤_, _<_}
 use native.Mathlib.Omega.{arith}
 use lib.ListN.{getD}
-use Rattle.lts.specs.Alike.{Moves, Relation, Rank}
+use Rattle.lts.specs.Alike.{Moves, Rank}
 use Rattle.lts.specs.AlikeLaws.{rank-unique, rank-sym}
 use Rattle.lts.specs.Game.{Game}
-use Rattle.lts.specs.Book.{Entry, Opens, Plays, first-opens, second-opens, LowerRank, OwnEntry}
-use Rattle.lts.specs.BookLaws.{plays-side-pos, opens-of-first}
-use Rattle.lts.specs.OwnBookLaws.{opens-turned, opens-turned-back, play-exists}
+use Rattle.lts.specs.Book.{Entry, LowerRank, OwnEntry}
+use Rattle.lts.specs.BookLaws.{firstPlay-of-first, opens-by-second, firstPlay-of-second}
+use Rattle.lts.specs.OwnBookLaws.{lowerRank-sym, play-exists}
 use Rattle.text.specs.Limits.{stateLimit, pairPlace, bookLength}
 use Rattle.text.specs.Lists.{Past}
 use Rattle.text.specs.Laws.ListsLaws.{past-trans}
@@ -30,43 +30,19 @@ pub labelMove-label-lt : {n : ℕ} {from sources targets : List ℕ} → LabelLi
     → LabelMove n from sources targets p a q → a < labelLimit
 labelMove-label-lt L p a q m = label-lt (labelMove-label L m)
 
--- ---- the first opening of a side
-
-module _ {Move : Moves} {Leads : Relation} {p q a t : ℕ}
-    (m : (b u : ℕ) → Opens Move Leads p q b u → (a < b) ⊎ ((a ≡ b) × (t ≤ u))) where
-  pub action-lowest : (b u : ℕ) → Opens Move Leads p q b u → a ≤ b
-  action-lowest b u o = ⊎-elim (λ l. omega (arith, l)) (λ x. omega (arith, x .0)) (m b u o)
-
-  pub target-lowest : (u : ℕ) → Opens Move Leads p q a u → t ≤ u
-  target-lowest u o = ⊎-elim (λ l. absurd (omega (arith, l))) (λ x. x .1) (m a u o)
-
 module _ {Move : Moves} {n : ℕ} {round : (ℕ → ℕ → Bool) → ℕ → ℕ → Bool} (G : Game Move n round)
     (label-lt : (p a q : ℕ) → Move p a q → a < labelLimit) where
   -- ---- the entry of two states
 
   module _ {p q r : ℕ} (lp : p < n) (lq : q < n) (rank : Rank Move p q r) (pos : 0 < r) where
-    -- The second side opens where the first cannot.
-    by-second : ((a t : ℕ) → a < labelLimit → ¬ (Opens Move (LowerRank Move r) p q a t)) → (s b u : ℕ)
-        → Plays Move (LowerRank Move r) p q s b u → (s ≡ 2) × Opens Move (LowerRank Move r) q p b u
-    by-second h s b u (first-opens e o) = absurd (h b u (label-lt p b u (o .opening)) o)
-    by-second h s b u (second-opens e o) = (e, opens-turned o)
-
     pub own-of-opened : {e o e′ : Entry} → OpenedBelow Move (LowerRank Move r) r p q labelLimit e
         → OpenedBelow Move (LowerRank Move r) r q p labelLimit o → EntryTurned r e o e′ → OwnEntry Move p q r e′
     own-of-opened (first a t z o m) _ w =
         let f = w .stays (λ s. omega (arith, s, ap (λ (x : Entry). x .side) z)) ∙ z in
-        subst (OwnEntry Move p q r) (sym f) (record {
-          depth-is = refl;
-          opening = record {
-            plays = first-opens refl o;
-            first-side = λ s b u x. omega (arith, plays-side-pos x);
-            lowest-action = λ b u x. action-lowest m b u (opens-of-first refl x);
-            lowest-target = λ u x. target-lowest m u (opens-of-first refl x);
-          };
-        })
+        subst (OwnEntry Move p q r) (sym f) (record { depth-is = refl; opening = firstPlay-of-first o m })
     own-of-opened (none z h) (none _ g) w =
         let x = play-exists Move n _ G p q r lp lq rank pos in
-        let o = by-second h (x .0) (x .1) (x .2) (x .3) .1 in
+        let o = opens-by-second (λ y z. lowerRank-sym) (λ b u k. h b u (label-lt p b u (k .opening)) k) (x .3) .1 in
         absurd (g (x .1) (x .2) (label-lt q (x .1) (x .2) (o .opening)) o)
     own-of-opened (none z h) (first a t y o m) w =
         let f =
@@ -75,12 +51,7 @@ module _ {Move : Moves} {n : ℕ} {round : (ℕ → ℕ → Bool) → ℕ → �
         ∙ ap (λ (x : Entry). record { side = 2; action = x .action; target = x .target; depth = r }) y in
         subst (OwnEntry Move p q r) (sym f) (record {
           depth-is = refl;
-          opening = record {
-            plays = second-opens refl (opens-turned-back o);
-            first-side = λ s b u x. omega (arith, by-second h s b u x .0);
-            lowest-action = λ b u x. action-lowest m b u (by-second h 2 b u x .1);
-            lowest-target = λ u x. target-lowest m u (by-second h 2 a u x .1);
-          };
+          opening = firstPlay-of-second (λ y z. lowerRank-sym) (λ b u k. h b u (label-lt p b u (k .opening)) k) o m;
         })
 
   -- ---- the book

@@ -14,17 +14,26 @@ use Rattle.sets.specs.Inner.Sets.{Member}
 use Rattle.sets.specs.Inner.SetValues.{In, SetOf, Least}
 use Rattle.sets.specs.Laws.SetValuesLaws.{in-or-not}
 use Rattle.sets.specs.declared.set.Set.{Set}
-use Rattle.held.specs.Held.{targetRow, HeldAt, HeldList, HeldMove}
+use Rattle.held.specs.Held.{slotPlace, targetRow, HeldAt, HeldList, HeldMove}
 use Rattle.splitters.specs.Inner.Partition.{ClassSets}
 use Rattle.sets.specs.Laws.WalkLaws.{least-rises}
 use Rattle.weak_books.specs.declared.opening.Opening.{Opening}
-use Rattle.weak_books.specs.Inner.Entering.{OtherClass, NoneOpens, Tried, FirstApart}
-use Rattle.weak_books.specs.Inner.OpensTo.{OpensTo, LowestTo}
+use Rattle.weak_books.specs.Inner.Entering.{OtherClass, NoneOpens, FirstApart}
+use Rattle.weak_books.specs.Inner.OpensTo.{Irreflexive, OpensTo, LowestTo, Tried}
+use Rattle.weak_books.specs.Laws.OpensToLaws.{lowestTo-within, lowestTo-of-tried}
 
 -- ---- one row
 
-pub tried-start : {class : List ℕ} {answers all : Set} → Tried class answers all all
-tried-start = record { left-in = λ t i. i; gone = λ t i d. absurd (d i) }
+-- No state is of another class than itself.
+pub otherClass-irreflexive : (class : List ℕ) → Irreflexive (OtherClass class)
+otherClass-irreflexive class t d = d refl
+
+-- With the same slot, each target of p is one of q.
+pub lowestTo-same-slot : (slots pool class : List ℕ) (row p q : ℕ)
+    → getD slots (slotPlace row p) 0 ≡ getD slots (slotPlace row q) 0
+    → LowestTo (HeldAt slots pool row) (OtherClass class) p q stateLimit
+lowestTo-same-slot slots pool class row p q e =
+    lowestTo-within (otherClass-irreflexive class) (λ t m. subst (λ (j : ℕ). Member pool j t) e m)
 
 -- Without the class of t, the least that is left is greater.
 pub least-past : {n : ℕ} {class members : List ℕ} {t t′ : ℕ} {alike left left′ : Set} → ClassSets n class members
@@ -37,8 +46,8 @@ module _ {n : ℕ} {class members : List ℕ} {t : ℕ} {answers alike joint : S
     (lt : t < n) (A : SetOf (Member members (getD class t 0)) alike)
     (J : SetOf (λ x. In alike x × In answers x) joint) where
   -- There is an answer, so that no target of that class opens.
-  pub tried-next : {all left left′ : Set} → Tried class answers all left → ¬ ((u : ℕ) → ¬ (In joint u))
-      → SetOf (λ x. In left x × ¬ (In alike x)) left′ → Tried class answers all left′
+  pub tried-next : {all left left′ : Set} → Tried (OtherClass class) answers all left → ¬ ((u : ℕ) → ¬ (In joint u))
+      → SetOf (λ x. In left x × ¬ (In alike x)) left′ → Tried (OtherClass class) answers all left′
   tried-next {all} {left} {left′} T some L = record {
     left-in = λ x i. T .left-in x (L .only x i .0);
     gone = λ x i d f. go x i d f (in-or-not left x) (in-or-not alike x);
@@ -53,37 +62,15 @@ module _ {n : ℕ} {class members : List ℕ} {t : ℕ} {answers alike joint : S
           let e = C .only t x lt (A .only x g) .1 in
           f u (b .1) (sym e ∙ C .only t u lt (A .only u (b .0)) .1))
 
--- What is tried next is a target.
-pub target-of-tried : {P : ℕ → Type 0} {class : List ℕ} {targets answers all left : Set} {t : ℕ} → SetOf P targets
-    → SetOf (λ x. In targets x × ¬ (In answers x)) all → Tried class answers all left → Least left t → t < stateLimit
-    → P t
-target-of-tried {t = t} P L T least l = P .only t (L .only t (T .left-in t (least .member l)) .0)
-
 module _ {Target : Relation} {p q : ℕ} {targets answers all : Set} (P : SetOf (Target p) targets)
     (Q : SetOf (Target q) answers) (L : SetOf (λ x. In targets x × ¬ (In answers x)) all) {class : List ℕ} {left : Set}
-    {t : ℕ} (T : Tried class answers all left) (least : Least left t) where
-  lowestTo-of-tried : (t < stateLimit → (u : ℕ) → In answers u → OtherClass class t u)
-      → LowestTo Target (OtherClass class) p q t
-  lowestTo-of-tried apart = record {
-    lowest-le = least .least-le;
-    none-before = λ u l o. T .gone u (L .all u (P .all u (o .opening), λ i. o .answers u (Q .only u i) refl))
-        (least .none-before u l) (λ x i. o .answers x (Q .only x i));
-    opens = λ l. record {
-      opening = target-of-tried P L T least l;
-      answers = λ u h. apart l u (Q .all u h);
-    };
-  }
-
-  -- No target is left.
-  pub lowestTo-none : ¬ (t < stateLimit) → LowestTo Target (OtherClass class) p q t
-  lowestTo-none d = lowestTo-of-tried (λ l. absurd (d l))
-
+    {t : ℕ} (T : Tried (OtherClass class) answers all left) (least : Least left t) where
   -- No answer is of the class of t.
   pub lowestTo-here : {n : ℕ} {members : List ℕ} {alike joint : Set} → ClassSets n class members → t < n
       → SetOf (Member members (getD class t 0)) alike → SetOf (λ x. In alike x × In answers x) joint
       → ((u : ℕ) → Target q u → u < n) → ((u : ℕ) → ¬ (In joint u)) → LowestTo Target (OtherClass class) p q t
-  lowestTo-here C lt A J small none =
-      lowestTo-of-tried (λ _ u i e. none u (J .all u (A .all u (C .alike t u lt (small u (Q .only u i)) e), i)))
+  lowestTo-here C lt A J small none = lowestTo-of-tried P Q L T least (otherClass-irreflexive class)
+      (λ _ u i e. none u (J .all u (A .all u (C .alike t u lt (small u (Q .only u i)) e), i)))
 
 pub lowestTo-row : (Row : ℕ → Relation) {Leads : Relation} {r s p q t : ℕ} → r ≡ s → LowestTo (Row r) Leads p q t
     → LowestTo (Row s) Leads p q t

@@ -8,55 +8,29 @@ use Rattle.lts.specs.Book.{Entry, Present}
 use Rattle.lts.specs.TestsLaws.{lt-or-le}
 use Rattle.text.specs.Limits.{stateLimit, pairPlace}
 use Rattle.text.specs.Laws.ListsLaws.{past-refl, past-trans}
-use Rattle.sets.specs.Inner.Sets.{Member, Within, NextMember}
+use Rattle.sets.specs.declared.set.Set.{Set}
+use Rattle.sets.specs.Inner.Sets.{Member}
+use Rattle.sets.specs.Inner.SetValues.{In, SetOf, Least}
+use Rattle.sets.specs.Laws.WalkLaws.{least-after}
 use Rattle.books.specs.Books.{entryNumber}
 use Rattle.books.specs.Inner.Filling.{EntryWritten}
-use Rattle.weak_books.specs.Inner.OpensTo.{OpensTo, LowestTo}
+use Rattle.weak_books.specs.Inner.OpensTo.{LowestTo}
 use Rattle.weak_books.specs.Inner.Opened.{EntryOpened, stays, opens-not, opens-with}
-use Rattle.weak_books.specs.Inner.Opened.{PairOpened, LabelOpened}
-
--- ---- the lowest target
-
-module _ {keys lower : List ℕ} {p q : ℕ} where
-  -- None of the targets before t opens.
-  pub none-start : {t : ℕ} → NextMember keys p 0 t → (u : ℕ) → u < t → ¬ (OpensTo (Member keys) (Member lower) p q u)
-  none-start n u l o = n .none-before u (omega arith) l (o .opening)
-
-  pub none-next : {t t′ : ℕ} → ((u : ℕ) → u < t → ¬ (OpensTo (Member keys) (Member lower) p q u))
-      → ¬ (Within keys q lower t) → NextMember keys p (t + 1) t′ → (u : ℕ) → u < t′
-      → ¬ (OpensTo (Member keys) (Member lower) p q u)
-  none-next {t} h w n u l o = ⊎-elim
-      (λ k. h u k o)
-      (λ k. ⊎-elim
-      (λ j. n .none-before u (omega (arith, j)) l (o .opening))
-      (λ j.
-      let e : u ≡ t = omega (arith, k, j) in
-      w (record { within = λ x m. subst (λ (y : ℕ). Member lower y x) e (o .answers x m) }))
-      (lt-or-le t u))
-      (lt-or-le u t)
-
-  -- Where each target of p is one of q, the opening itself would be an answer.
-  pub lowest-within : ((t : ℕ) → ¬ (Member lower t t)) → Within keys p keys q
-      → LowestTo (Member keys) (Member lower) p q stateLimit
-  lowest-within apart w = record {
-    lowest-le = omega arith;
-    none-before = λ u l o. apart u (o .answers u (w .within u (o .opening)));
-    opens = λ l. absurd (omega arith);
-  }
+use Rattle.weak_books.specs.Inner.Opened.{PairOpened, LabelOpened, MembersLeft}
 
 -- ---- one entry
 
-module _ {keys lower : List ℕ} {d a p q : ℕ} where
+module _ {targets lower : List ℕ} {d a p q : ℕ} where
   pub pairOpened-stays : {book : List ℕ} → Present (entryNumber book (pairPlace p q))
-      → PairOpened keys lower d a p q book book
+      → PairOpened targets lower d a p q book book
   pairOpened-stays {book} present = record {
     opened = stays present refl;
     kept = λ k h. refl;
     past = past-refl book;
   }
 
-  pub pairOpened-none : {t : ℕ} {book : List ℕ} → ¬ (t < stateLimit) → LowestTo (Member keys) (Member lower) p q t
-      → PairOpened keys lower d a p q book book
+  pub pairOpened-none : {t : ℕ} {book : List ℕ} → ¬ (t < stateLimit) → LowestTo (Member targets) (Member lower) p q t
+      → PairOpened targets lower d a p q book book
   pairOpened-none {t} {book} l n = record {
     opened = opens-not refl (λ u o. n .none-before u (omega (arith, l, o .opening .member-lt)) o);
     kept = λ k h. refl;
@@ -64,9 +38,9 @@ module _ {keys lower : List ℕ} {d a p q : ℕ} where
   }
 
   pub pairOpened-entry : {t : ℕ} {book book′ : List ℕ} → entryNumber book (pairPlace p q) .side ≡ 0 → t < stateLimit
-      → LowestTo (Member keys) (Member lower) p q t
+      → LowestTo (Member targets) (Member lower) p q t
       → EntryWritten (pairPlace p q) (record { side = 1; action = a; target = t; depth = d }) book book′
-      → PairOpened keys lower d a p q book book′
+      → PairOpened targets lower d a p q book book′
   pairOpened-entry {t} e l n w = record {
     opened = opens-with t e (w .written) l n;
     kept = w .kept;
@@ -75,39 +49,63 @@ module _ {keys lower : List ℕ} {d a p q : ℕ} where
 
 -- ---- many entries
 
+-- The walk over set p is at q.
+module _ {at : List ℕ} {p q : ℕ} {left : Set} where
+  pub membersLeft-start : SetOf (Member at p) left → MembersLeft at p q left
+  membersLeft-start S = record { left-in = S .only; later = λ x m l. S .all x m }
+
+  pub none-at-start : SetOf (Member at p) left → Least left q → (x : ℕ) → 0 ≤ x → x < q → ¬ (Member at p x)
+  none-at-start S least x _ l m = least .none-before x l (S .all x m)
+
+  module _ {r : ℕ} {left′ : Set} (M : MembersLeft at p q left) (least : Least left q) (l : q < stateLimit)
+      (L : SetOf (λ x. In left x × ¬ (x ≡ q)) left′) (next : Least left′ r) where
+    pub member-after : q < r
+    member-after = least-after least l (L .only) next
+
+    pub membersLeft-next : MembersLeft at p r left′
+    membersLeft-next = record {
+      left-in = λ x i. M .left-in x (L .only x i .0);
+      later = λ x m k.
+          L .all x (M .later x m (omega (arith, member-after, k)), λ e. omega (arith, e, member-after, k));
+    }
+
+    pub none-after-member : (x : ℕ) → q + 1 ≤ x → x < r → ¬ (Member at p x)
+    none-after-member x k h m =
+        next .none-before x h (L .all x (M .later x m (omega (arith, k)), λ e. omega (arith, e, k)))
+
 -- Between two members of a row there is none.
-pub no-member-between : {at : List ℕ} {p i j : ℕ} → NextMember at p i j → (u v : ℕ) → Member at u v
-    → pairPlace p i ≤ pairPlace u v → pairPlace u v < pairPlace p j → ⊥
-no-member-between {at} {p} {i} {j} n u v m l h =
-    let e : u ≡ p = omega (arith, n .next-le, m .member-lt, l, h) in
-    n .none-before v (omega (arith, n .next-le, m .member-lt, l, h)) (omega (arith, e, h))
+pub no-member-between : {at : List ℕ} {p i j : ℕ} → j ≤ stateLimit → ((x : ℕ) → i ≤ x → x < j → ¬ (Member at p x))
+    → (u v : ℕ) → Member at u v → pairPlace p i ≤ pairPlace u v → pairPlace u v < pairPlace p j → ⊥
+no-member-between {at} {p} {i} {j} le none u v m l h =
+    let e : u ≡ p = omega (arith, le, m .member-lt, l, h) in
+    none v (omega (arith, le, m .member-lt, l, h)) (omega (arith, e, h))
     (subst (λ (y : ℕ). Member at y v) e m)
 
-module _ {keys lower at : List ℕ} {d a : ℕ} where
+module _ {targets lower at : List ℕ} {d a : ℕ} where
   -- Where no two states are, nothing is written.
   pub labelOpened-none : {i j : ℕ} (book : List ℕ)
       → ((p q : ℕ) → Member at p q → i ≤ pairPlace p q → pairPlace p q < j → ⊥)
-      → LabelOpened keys lower at d a i j book book
+      → LabelOpened targets lower at d a i j book book
   labelOpened-none book none = record {
     opened = λ p q m l k. absurd (none p q m l k);
     kept = λ k h. refl;
     past = past-refl book;
   }
 
-  pub labelOpened-to : {i j k : ℕ} {book book′ : List ℕ} → j ≡ k → LabelOpened keys lower at d a i j book book′
-      → LabelOpened keys lower at d a i k book book′
-  labelOpened-to {i} {book = book} {book′} e = subst (λ (x : ℕ). LabelOpened keys lower at d a i x book book′) e
+  pub labelOpened-to : {i j k : ℕ} {book book′ : List ℕ} → j ≡ k → LabelOpened targets lower at d a i j book book′
+      → LabelOpened targets lower at d a i k book book′
+  labelOpened-to {i} {book = book} {book′} e = subst (λ (x : ℕ). LabelOpened targets lower at d a i x book book′) e
 
   pub labelOpened-then : {i j k : ℕ} {book book′ book″ : List ℕ} → i ≤ j → j ≤ k
-      → LabelOpened keys lower at d a i j book book′ → LabelOpened keys lower at d a j k book′ book″
-      → LabelOpened keys lower at d a i k book book″
+      → LabelOpened targets lower at d a i j book book′ → LabelOpened targets lower at d a j k book′ book″
+      → LabelOpened targets lower at d a i k book book″
   labelOpened-then {i} {j} {k} {book} {book′} {book″} li lk x y = record {
     opened = λ p q m l h. ⊎-elim
         (λ g.
-        subst (EntryOpened keys lower d a p q (entryNumber book (pairPlace p q)))
+        subst (EntryOpened targets lower d a p q (entryNumber book (pairPlace p q)))
         (sym (y .kept (pairPlace p q) (λ u v n f _ _. omega (arith, f, g)))) (x .opened p q m l g))
         (λ g.
-        subst (λ (e : Entry). EntryOpened keys lower d a p q e (entryNumber book″ (pairPlace p q)))
+        subst (λ (e : Entry). EntryOpened targets lower d a p q e (entryNumber book″ (pairPlace p q)))
         (x .kept (pairPlace p q) (λ u v n _ f _. omega (arith, f, g))) (y .opened p q m g h))
         (lt-or-le (pairPlace p q) j);
     kept = λ z h.
@@ -116,15 +114,15 @@ module _ {keys lower at : List ℕ} {d a : ℕ} where
     past = past-trans (x .past) (y .past);
   }
 
-  pub labelOpened-pair : {p q : ℕ} {book book′ : List ℕ} → Member at p q → PairOpened keys lower d a p q book book′
-      → LabelOpened keys lower at d a (pairPlace p q) (pairPlace p (q + 1)) book book′
+  pub labelOpened-pair : {p q : ℕ} {book book′ : List ℕ} → Member at p q → PairOpened targets lower d a p q book book′
+      → LabelOpened targets lower at d a (pairPlace p q) (pairPlace p (q + 1)) book book′
   labelOpened-pair {p} {q} {book} {book′} m x = record {
     opened = λ u v n l h.
         let e : u ≡ p = omega (arith, m .member-lt, n .member-lt, l, h) in
         let f : v ≡ q = omega (arith, m .member-lt, n .member-lt, l, h) in
-        subst (λ (y : ℕ). EntryOpened keys lower d a y v (entryNumber book (pairPlace y v))
+        subst (λ (y : ℕ). EntryOpened targets lower d a y v (entryNumber book (pairPlace y v))
         (entryNumber book′ (pairPlace y v))) (sym e)
-        (subst (λ (y : ℕ). EntryOpened keys lower d a p y (entryNumber book (pairPlace p y))
+        (subst (λ (y : ℕ). EntryOpened targets lower d a p y (entryNumber book (pairPlace p y))
         (entryNumber book′ (pairPlace p y))) (sym f) (x .opened));
     kept = λ k h. x .kept k (λ e. h p q m (omega (arith, e)) (omega (arith, e)) e);
     past = x .past;
@@ -132,10 +130,11 @@ module _ {keys lower at : List ℕ} {d a : ℕ} where
 
   -- A member of a row, and then up to the next one.
   pub labelOpened-next : {p q r : ℕ} {book book′ book″ : List ℕ} → Member at p q
-      → LabelOpened keys lower at d a (pairPlace p 0) (pairPlace p q) book book′
-      → PairOpened keys lower d a p q book′ book″ → NextMember at p (q + 1) r
-      → LabelOpened keys lower at d a (pairPlace p 0) (pairPlace p r) book book″
-  labelOpened-next {p} {q} {r} {book″ = book″} m x y n =
-      labelOpened-then (omega arith) (omega (arith, n .from-le))
+      → LabelOpened targets lower at d a (pairPlace p 0) (pairPlace p q) book book′
+      → PairOpened targets lower d a p q book′ book″ → q < r → r ≤ stateLimit
+      → ((x : ℕ) → q + 1 ≤ x → x < r → ¬ (Member at p x))
+      → LabelOpened targets lower at d a (pairPlace p 0) (pairPlace p r) book book″
+  labelOpened-next {p} {q} {r} {book″ = book″} m x y l le none =
+      labelOpened-then (omega arith) (omega (arith, l))
       (labelOpened-then (omega arith) (omega arith) x (labelOpened-pair m y))
-      (labelOpened-none book″ (no-member-between n))
+      (labelOpened-none book″ (no-member-between le none))

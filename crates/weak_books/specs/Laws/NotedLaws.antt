@@ -128,7 +128,7 @@ module _ {Move : Moves} {book used : List ℕ} {labelled k : ℕ}
   soundTo-of-labels : SoundTo Move book k
   soundTo-of-labels = record {
     number-le = omega (arith, F .number-le, N .number-le);
-    sound = λ p q lp lq l present. F .sound p q l
+    sound = λ p q lp lq _ l present. F .sound p q l
         (record {
           first-lt = lp;
           second-lt = lq;
@@ -136,7 +136,7 @@ module _ {Move : Moves} {book used : List ℕ} {labelled k : ℕ}
           label = label-at p q (omega (arith, l, F .number-le)) present;
         })
         present;
-    bad = λ p q lp lq e s. bad p q lp lq e s (eq-or-not k labelled);
+    bad = λ p q lp lq e _ s. bad p q lp lq e s (eq-or-not k labelled);
   }
     where
       bad : (p q : ℕ) → p < stateLimit → q < stateLimit → pairPlace p q ≡ k → SoundAt Move (bookOf book) p q

@@ -34,22 +34,22 @@ module _ {Move : Moves} {d p q : ℕ} where
   openedBelow-same f g (none z h) = none z (λ a t l o. h a t l (g a t o))
   openedBelow-same f g (first a t z o m) = first a t z (f a t o) (λ b u x. m b u (g b u x))
 
-module _ {Move : Moves} {a p q : ℕ} {keys lower : List ℕ} (K : Targets Move a keys) (lp : p < stateLimit)
+module _ {Move : Moves} {a p q : ℕ} {targets lower : List ℕ} (K : Targets Move a targets) (lp : p < stateLimit)
     (lq : q < stateLimit) where
-  opens-of-to : {t : ℕ} → OpensTo (Member keys) (Member lower) p q t → Opens Move (Member lower) p q a t
+  opens-of-to : {t : ℕ} → OpensTo (Member targets) (Member lower) p q t → Opens Move (Member lower) p q a t
   opens-of-to {t} o = record {
     opening = K .only p t lp (o .opening);
     answers = λ u m. o .answers u (K .reached q u m);
   }
 
-  to-of-opens : {b t : ℕ} → b ≡ a → Opens Move (Member lower) p q b t → OpensTo (Member keys) (Member lower) p q t
+  to-of-opens : {b t : ℕ} → b ≡ a → Opens Move (Member lower) p q b t → OpensTo (Member targets) (Member lower) p q t
   to-of-opens {b} {t} e o = record {
     opening = K .reached p t (subst (λ (x : ℕ). Move p x t) e (o .opening));
     answers = λ u m. o .answers u (subst (λ (x : ℕ). Move q x u) (sym e) (K .only q u lq m));
   }
 
   pub openedBelow-suc : {d : ℕ} {e e′ : Entry} → OpenedBelow Move (Member lower) d p q a e
-      → EntryOpened keys lower d a p q e e′ → OpenedBelow Move (Member lower) d p q (a + 1) e′
+      → EntryOpened targets lower d a p q e e′ → OpenedBelow Move (Member lower) d p q (a + 1) e′
   openedBelow-suc (none z h) (stays present f) = absurd (present (ap (λ (x : Entry). x .side) z))
   openedBelow-suc (none z h) (opens-not f g) =
       none (f ∙ z) (λ b t l o.
@@ -78,8 +78,8 @@ module _ {n : ℕ} {at : List ℕ} where
       → OnlyAt n at book book″
   onlyAt-trans x y = record { kept = λ k h. y .kept k h ∙ x .kept k h; past = past-trans (x .past) (y .past) }
 
-  pub onlyAt-of-label : {keys lower : List ℕ} {d a : ℕ} {book book′ : List ℕ}
-      → LabelOpened keys lower at d a 0 (pairPlace n 0) book book′ → OnlyAt n at book book′
+  pub onlyAt-of-label : {targets lower : List ℕ} {d a : ℕ} {book book′ : List ℕ}
+      → LabelOpened targets lower at d a 0 (pairPlace n 0) book book′ → OnlyAt n at book book′
   onlyAt-of-label x = record {
     kept = λ k h. x .kept k (λ p q m _ l e. h p q (omega (arith, l, e)) m e);
     past = x .past;
@@ -98,8 +98,8 @@ module _ {Move : Moves} {n : ℕ} {lower at : List ℕ} {d : ℕ} where
       → OpenedTo Move n lower at d j book
   openedTo-at {book = book} e = subst (λ (x : ℕ). OpenedTo Move n lower at d x book) e
 
-  pub openedTo-suc : {a : ℕ} {keys book book′ : List ℕ} → n ≤ stateLimit → Targets Move a keys
-      → OpenedTo Move n lower at d a book → LabelOpened keys lower at d a 0 (pairPlace n 0) book book′
+  pub openedTo-suc : {a : ℕ} {targets book book′ : List ℕ} → n ≤ stateLimit → Targets Move a targets
+      → OpenedTo Move n lower at d a book → LabelOpened targets lower at d a 0 (pairPlace n 0) book book′
       → OpenedTo Move n lower at d (a + 1) book′
   openedTo-suc states-le K x y = record {
     opened = λ p q l m.

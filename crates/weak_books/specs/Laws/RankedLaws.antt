@@ -11,6 +11,7 @@ use Rattle.lts.specs.TestsLaws.{lt-or-le}
 use Rattle.text.specs.Limits.{pairPlace}
 use Rattle.ranking.specs.Table.{Ranks}
 use Rattle.sets.specs.Inner.Sets.{Member, Empty, Joined}
+use Rattle.sets.specs.Laws.SetsLaws.{joined-map, joined-union}
 use Rattle.weak_books.specs.Inner.RankSets.{AtRank, LowerSets, JoinedBelow}
 
 -- ---- one set
@@ -23,16 +24,6 @@ module _ {k : ℕ} {P : ℕ → Type 0} where
     only = λ j x m. inl m;
   }
 
-  pub joined-then : {Q R : ℕ → Type 0} {sets sets′ sets″ : List ℕ} → Joined k P sets sets′ → Joined k Q sets′ sets″
-      → ((x : ℕ) → P x → R x) → ((x : ℕ) → Q x → R x) → ((x : ℕ) → R x → P x ⊎ Q x) → Joined k R sets sets″
-  joined-then u v f g h = record {
-    joined = λ x r. ⊎-elim (λ y. v .kept k x (u .joined x y)) (λ y. v .joined x y) (h x r);
-    kept = λ j x m. v .kept j x (u .kept j x m);
-    only = λ j x m.
-        ⊎-elim (λ y. ⊎-elim (λ z. inl z) (λ z. inr (z .0, f x (z .1))) (u .only j x y)) (λ y. inr (y .0, g x (y .1)))
-        (v .only j x m);
-  }
-
 -- ---- one rank
 
 -- The states below `to` of rank r beside p.
@@ -43,9 +34,10 @@ module _ (table : List ℕ) {r : ℕ} where
   pub rowAtRank-suc : {p q : ℕ} {sets sets′ sets″ : List ℕ} → Joined p (RowAtRank table r p q) sets sets′
       → Joined p (λ x. (x ≡ q) × (getD table (pairPlace p x) 0 ≡ r)) sets′ sets″
       → Joined p (RowAtRank table r p (q + 1)) sets sets″
-  rowAtRank-suc {p} {q} u v = joined-then u v (λ x h. (omega (arith, h .0), h .1)) (λ x h. (omega (arith, h .0), h .1))
-      (λ x h.
-      ⊎-elim (λ l. inl (l, h .1)) (λ l. inr (omega (arith, l, h .0), h .1)) (lt-or-le x q))
+  rowAtRank-suc {p} {q} u v = joined-map
+      (λ x h. ⊎-elim (λ l. (omega (arith, l .0), l .1)) (λ e. (omega (arith, e .0), e .1)) h)
+      (λ x h. ⊎-elim (λ l. inl (l, h .1)) (λ l. inr (omega (arith, l, h .0), h .1)) (lt-or-le x q))
+      (joined-union u v)
 
   pub rowAtRank-at : {p q n : ℕ} {sets sets′ : List ℕ} → q ≡ n → Joined p (RowAtRank table r p q) sets sets′
       → Joined p (RowAtRank table r p n) sets sets′

@@ -3,75 +3,57 @@
 use mathlib.Core.List.{List}
 use mathlib.Core.Logic.{_⊎_, inl, inr}
 use mathlib.Core.Path.{_≡_, sym, ap, subst}
-use Prim.Native.Nat.{ℕ, _+_, _/_, _%_, _≤_, _<_}
+use Prim.Native.Nat.{ℕ, _+_, _/_, _%_, _<_}
 use native.Mathlib.Omega.{arith}
-use Rattle.lts.specs.TestsLaws.{eq-or-not, lt-or-le}
+use Rattle.lts.specs.TestsLaws.{eq-or-not}
 use Rattle.lts.specs.Alike.{Moves, Relation}
 use Rattle.lts.specs.Book.{Entry, Present, Opens, Plays, first-opens, second-opens, SoundAt}
 use Rattle.lts.specs.BookLaws.{opens-map}
 use Rattle.text.specs.Limits.{stateLimit, tableLength, pairPlace}
 use Rattle.books.specs.Books.{entryNumber, bookOf}
 use Rattle.books.specs.Laws.ChecksLaws.{at-number}
-use Rattle.sets.specs.Inner.Sets.{Member, NextMember}
+use Rattle.sets.specs.Inner.Sets.{Member}
 use Rattle.silent.specs.Inner.Targets.{Targets}
 use Rattle.weak_books.specs.Inner.OpensTo.{OpensTo}
 use Rattle.weak_books.specs.Inner.Tested.{SetMove, EntryUnder, SoundIf, FirstUnder}
 
--- ---- the members of a set, one after the other
-
--- P holds of each member of set q below x.
-abbrev pub EachBelow : List ℕ → ℕ → (ℕ → Type 0) → ℕ → Type 0
-EachBelow keys q P x = (y : ℕ) → y < x → Member keys q y → P y
-
-module _ {keys : List ℕ} {q : ℕ} (P : ℕ → Type 0) where
-  pub eachBelow-first : {x : ℕ} → NextMember keys q 0 x → EachBelow keys q P x
-  eachBelow-first m y l h = absurd (m .none-before y (omega arith) l h)
-
-  pub eachBelow-next : {x y : ℕ} → EachBelow keys q P x → P x → NextMember keys q (x + 1) y → EachBelow keys q P y
-  eachBelow-next {x} {y} each here m z l h = go (eq-or-not z x) (lt-or-le z x)
-    where
-      go : (z ≡ x) ⊎ ¬ (z ≡ x) → (z < x) ⊎ (x ≤ z) → P z
-      go (inl e) _ = subst P (sym e) here
-      go (inr d) (inl k) = each z k h
-      go (inr d) (inr k) = absurd (m .none-before z (omega (arith, d, k)) l h)
-
 -- ---- an opening by targets
 
-pub opens-of-sets : {keys : List ℕ} {R : Relation} {p q a t : ℕ} → OpensTo (Member keys) R p q t
-    → Opens (SetMove keys) R p q a t
+pub opens-of-sets : {sets : List ℕ} {R : Relation} {p q a t : ℕ} → OpensTo (Member sets) R p q t
+    → Opens (SetMove sets) R p q a t
 opens-of-sets o = record { opening = o .opening; answers = o .answers }
 
-pub sets-of-opens : {keys : List ℕ} {R : Relation} {p q a t : ℕ} → Opens (SetMove keys) R p q a t
-    → OpensTo (Member keys) R p q t
+pub sets-of-opens : {sets : List ℕ} {R : Relation} {p q a t : ℕ} → Opens (SetMove sets) R p q a t
+    → OpensTo (Member sets) R p q t
 sets-of-opens o = record { opening = o .opening; answers = o .answers }
 
 -- The targets under the label of the entry are its moves.
-module _ {Move : Moves} {a : ℕ} {keys : List ℕ} (K : Targets Move a keys) {p q : ℕ} (lp : p < stateLimit)
+module _ {Move : Moves} {a : ℕ} {sets : List ℕ} (K : Targets Move a sets) {p q : ℕ} (lp : p < stateLimit)
     (lq : q < stateLimit) {R : Relation} {side t : ℕ} where
-  plays-of-targets : Plays (SetMove keys) R p q side a t → Plays Move R p q side a t
+  plays-of-targets : Plays (SetMove sets) R p q side a t → Plays Move R p q side a t
   plays-of-targets (first-opens e o) =
       first-opens e (opens-map (K .only p t lp) (λ u. K .reached q u) (λ x y h. h) o)
   plays-of-targets (second-opens e o) =
       second-opens e (opens-map (K .only q t lq) (λ u. K .reached p u) (λ x y h. h) o)
 
-  targets-of-plays : Plays Move R p q side a t → Plays (SetMove keys) R p q side a t
+  targets-of-plays : Plays Move R p q side a t → Plays (SetMove sets) R p q side a t
   targets-of-plays (first-opens e o) =
       first-opens e (opens-map (K .reached p t) (λ u. K .only q u lq) (λ x y h. h) o)
   targets-of-plays (second-opens e o) =
       second-opens e (opens-map (K .reached q t) (λ u. K .only p u lp) (λ x y h. h) o)
 
-module _ {Move : Moves} {a : ℕ} {keys : List ℕ} (K : Targets Move a keys) (book : List ℕ) where
-  soundIf-of-targets : (p q : ℕ) → SoundIf (SetMove keys) (λ b. b ≡ a) book p q → SoundIf Move (λ b. b ≡ a) book p q
+module _ {Move : Moves} {a : ℕ} {sets : List ℕ} (K : Targets Move a sets) (book : List ℕ) where
+  soundIf-of-targets : (p q : ℕ) → SoundIf (SetMove sets) (λ b. b ≡ a) book p q → SoundIf Move (λ b. b ≡ a) book p q
   soundIf-of-targets p q s e present =
-      plays-of-targets (subst (λ (b : ℕ). Targets Move b keys) (sym (e .label)) K) (e .first-lt) (e .second-lt)
+      plays-of-targets (subst (λ (b : ℕ). Targets Move b sets) (sym (e .label)) K) (e .first-lt) (e .second-lt)
       (s e present)
 
-  targets-of-soundIf : (p q : ℕ) → SoundIf Move (λ b. b ≡ a) book p q → SoundIf (SetMove keys) (λ b. b ≡ a) book p q
+  targets-of-soundIf : (p q : ℕ) → SoundIf Move (λ b. b ≡ a) book p q → SoundIf (SetMove sets) (λ b. b ≡ a) book p q
   targets-of-soundIf p q s e present =
-      targets-of-plays (subst (λ (b : ℕ). Targets Move b keys) (sym (e .label)) K) (e .first-lt) (e .second-lt)
+      targets-of-plays (subst (λ (b : ℕ). Targets Move b sets) (sym (e .label)) K) (e .first-lt) (e .second-lt)
       (s e present)
 
-  pub firstUnder-of-targets : {limit k : ℕ} → FirstUnder (SetMove keys) (λ b. b ≡ a) book limit k
+  pub firstUnder-of-targets : {limit k : ℕ} → FirstUnder (SetMove sets) (λ b. b ≡ a) book limit k
       → FirstUnder Move (λ b. b ≡ a) book limit k
   firstUnder-of-targets f = record {
     number-le = f .number-le;

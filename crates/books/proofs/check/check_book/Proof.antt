@@ -1,6 +1,5 @@
 -- The groups are those of the moves, so what is found of the groups, and of staying, holds of the moves.
-use native.Mathlib.Omega.{arith}
-use Rattle.books.specs.Laws.ChecksLaws.{checkDone-sound, checkDone-bad, checkDone-same}
+use Rattle.books.specs.Laws.ChecksLaws.{checkDone-of-told, checkDone-same}
 use Rattle.books.specs.Laws.StillLaws.{stillMove-of-still, still-of-stillMove}
 use borrow.Author.Needs.{needs}
 use Rattle.books.proofs.check.check_book.Statement.{statement}
@@ -15,21 +14,16 @@ index-moves-requires c κs = search needs
 first-bad-requires : tie.Need-first-bad-requires
 first-bad-requires c κs = search needs
 
+bad-or-sound-requires : tie.Need-bad-or-sound-requires
+bad-or-sound-requires c κs = search needs
+
 returns : tie.Need-returns
 returns c =
     let indexed = c .before .before .before .before in
     let index = indexed .index-moves .ensures in
     let L = indexed .before .before .before .pre .0 in
     checkDone-same (stillMove-of-still L index) (still-of-stillMove L index)
-    (checkDone-bad (c .before .first-bad .ensures) (c .if1 .taken))
-
-returns-2 : tie.Need-returns-2
-returns-2 c =
-    let indexed = c .before .before .before .before in
-    let index = indexed .index-moves .ensures in
-    let L = indexed .before .before .before .pre .0 in
-    checkDone-same (stillMove-of-still L index) (still-of-stillMove L index)
-    (checkDone-sound (c .before .first-bad .ensures) (omega arith))
+    (checkDone-of-told (c .before .first-bad .ensures) (c .bad-or-sound .ensures))
 
 pub check-book-spec : {M : Type 1} → statement M
 check-book-spec =
@@ -38,5 +32,5 @@ check-book-spec =
     slice-aggregate-index-moves
     index-moves-requires
     first-bad-requires
-    returns
-    returns-2)
+    bad-or-sound-requires
+    returns)

@@ -6,8 +6,8 @@ use borrow.Author.Needs.{needs}
 use Rattle.books.proofs.check.is_lower.Statement.{statement}
 use Rattle.books.proofs.check.is_lower.Tie as tie
 
-lead-place-requires : tie.Need-lead-place-requires
-lead-place-requires c κs = search needs
+side-place-requires : tie.Need-side-place-requires
+side-place-requires c κs = search needs
 
 mul-at : tie.Need-mul-at
 mul-at c = search needs
@@ -19,7 +19,7 @@ returns : tie.Need-returns
 returns c h =
     let placed = c .before .before in
     let a = placed .before .before .args in
-    let number-is = placed .lead-place .ensures .0 in
+    let number-is = placed .side-place .ensures .0 in
     number-of-lower (a .book .now) (a .depth) (a .forward) (a .t .0) (a .u .0) number-is h .present (c .if1 .taken)
 
 add-if2 : tie.Need-add-if2
@@ -32,7 +32,7 @@ returns-2 : tie.Need-returns-2
 returns-2 c h =
     let placed = c .before .before .before .before in
     let a = placed .before .before .args in
-    let number-is = placed .lead-place .ensures .0 in
+    let number-is = placed .side-place .ensures .0 in
     let lower = number-of-lower (a .book .now) (a .depth) (a .forward) (a .t .0) (a .u .0) number-is h in
     omega (arith, c .if2 .taken, lower .depth-lt)
 
@@ -40,8 +40,8 @@ returns-3 : tie.Need-returns-3
 returns-3 c =
     let placed = c .before .before .before .before in
     let a = placed .before .before .args in
-    let number-is = placed .lead-place .ensures .0 in
-    let lower : LowerNumber (a .book .now) (a .depth) (placed .lead-place .result) =
+    let number-is = placed .side-place .ensures .0 in
+    let lower : LowerNumber (a .book .now) (a .depth) (placed .side-place .result) =
     record { present = c .before .before .if1 .left; depth-lt = omega arith } in
     lower-of-number (a .book .now) (a .depth) (a .forward) (a .t .0) (a .u .0) number-is lower
 
@@ -49,7 +49,7 @@ pub is-lower-spec : {M : Type 1} → statement M
 is-lower-spec =
     tie.close
     (tie.spec
-    lead-place-requires
+    side-place-requires
     mul-at
     shared-slice-read-if1
     returns

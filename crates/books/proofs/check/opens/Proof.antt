@@ -13,8 +13,8 @@ returns c o =
     let tested = c .before .has-move in
     decides-refused (tested .result) _ (tested .ensures) (c .if1 .taken) (o .opening)
 
-all-lower-requires : tie.Need-all-lower-requires
-all-lower-requires c κs =
+answers-lower-entries-requires : tie.Need-answers-lower-entries-requires
+answers-lower-entries-requires c κs =
     let P = c .before .before .before .pre in
     let tested = c .before .has-move in
     let move = decides-passed (tested .result) _ (tested .ensures) (c .if1 .left) in
@@ -24,8 +24,8 @@ returns-2 : tie.Need-returns-2
 returns-2 c =
     let tested = c .before .before .has-move in
     let move = decides-passed (tested .result) _ (tested .ensures) (c .before .if1 .left) in
-    decides-iff (c .all-lower .result) (λ h. record { opening = move; answers = h }) (λ o. o .answers)
-    (c .all-lower .ensures)
+    decides-iff (c .answers-lower-entries .result) (λ h. record { opening = move; answers = h }) (λ o. o .answers)
+    (c .answers-lower-entries .ensures)
 
 pub opens-spec : {M : Type 1} → statement M
-opens-spec = tie.close (tie.spec has-move-requires returns all-lower-requires returns-2)
+opens-spec = tie.close (tie.spec has-move-requires returns answers-lower-entries-requires returns-2)

@@ -61,8 +61,8 @@ element-copy-out-t22 c =
     let l = c .before .loop-test .taken in
     omega (arith, l, to, start .pre .0 .last-le (start .args .p .0 + 1) (omega (arith, start .pre .1 .1 .0)))
 
-all-lower-requires : tie.Need-all-lower-requires Inv-loop μ-loop
-all-lower-requires c κs =
+answers-lower-ranks-requires : tie.Need-answers-lower-ranks-requires Inv-loop μ-loop
+answers-lower-ranks-requires c κs =
     let start = c .before .before .before .before .before .before .before in
     let L = start .pre .0 in
     let lp = start .pre .1 .1 .0 in
@@ -87,7 +87,8 @@ returns c =
     let at = c .before .before .before .before .before .loop in
     let from = c .before .before .before .before .before .before .moves-from .ensures in
     let to = c .before .before .before .before .before .before .before .moves-to .ensures in
-    let lower = decides-true (c .before .all-lower .result) _ (c .before .all-lower .ensures) (c .if1 .taken) in
+    let tested = c .before .answers-lower-ranks in
+    let lower = decides-true (tested .result) _ (tested .ensures) (c .if1 .taken) in
     record {
       from-le = omega (arith, from, at .inv .0);
       to-le = omega (arith, to, at .inv .1);
@@ -105,7 +106,8 @@ loop-again : tie.Need-loop-again Inv-loop μ-loop
 loop-again c =
     let start = c .before .before .before .before .before .before .before .before .before in
     let inv = c .before .before .before .before .before .loop .inv in
-    let refused = decides-false (c .before .all-lower .result) _ (c .before .all-lower .ensures) (c .if1 .left) in (
+    let tested = c .before .answers-lower-ranks in
+    let refused = decides-false (tested .result) _ (tested .ensures) (c .if1 .left) in (
       omega (arith, inv .0),
       omega (arith, c .before .before .before .before .loop-test .taken),
       below-more _ _ (inv .2) (λ l h. refused (λ u m. h u (start .pre .1 .0 .back _ _ u m))),
@@ -136,7 +138,7 @@ first-opening-spec =
     element-copy-out-t17
     mul-t19
     element-copy-out-t22
-    all-lower-requires
+    answers-lower-ranks-requires
     returns
     add-i
     loop-less

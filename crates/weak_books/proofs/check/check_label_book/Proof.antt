@@ -1,6 +1,6 @@
 -- Entries with other actions apart, the first bad entry is found label by label.
 use native.Mathlib.Omega.{arith}
-use Rattle.books.specs.Laws.ChecksLaws.{checkDone-sound, checkDone-bad}
+use Rattle.books.specs.Laws.ChecksLaws.{checkDone-of-told}
 use Rattle.weak_books.specs.Laws.NotedLaws.{usedTo-le, soundTo-of-tests}
 use borrow.Author.Needs.{needs}
 use Rattle.weak_books.proofs.check.check_label_book.Statement.{statement}
@@ -37,6 +37,9 @@ first-bad-low-requires c κs =
       ),
     )
 
+bad-or-sound-requires : tie.Need-bad-or-sound-requires
+bad-or-sound-requires c κs = search needs
+
 returns : tie.Need-returns
 returns c =
     let tested = c .before .before .before .before .before in
@@ -45,17 +48,7 @@ returns c =
     let L = noted .before .before .before .pre .0 in
     let found = soundTo-of-tests L (noted .note-actions .ensures) (sought .silent-targets .ensures)
     (tested .first-bad-under .ensures) (c .before .first-bad-low .ensures) in
-    checkDone-bad found (c .if1 .taken)
-
-returns-2 : tie.Need-returns-2
-returns-2 c =
-    let tested = c .before .before .before .before .before in
-    let sought = tested .before .before in
-    let noted = sought .before .before .before .before .before .before in
-    let L = noted .before .before .before .pre .0 in
-    let found = soundTo-of-tests L (noted .note-actions .ensures) (sought .silent-targets .ensures)
-    (tested .first-bad-under .ensures) (c .before .first-bad-low .ensures) in
-    checkDone-sound found (omega (arith, c .if1 .left))
+    checkDone-of-told found (c .bad-or-sound .ensures)
 
 pub check-label-book-spec : {M : Type 1} → statement M
 check-label-book-spec =
@@ -67,5 +60,5 @@ check-label-book-spec =
     silent-targets-requires
     first-bad-under-requires
     first-bad-low-requires
-    returns
-    returns-2)
+    bad-or-sound-requires
+    returns)

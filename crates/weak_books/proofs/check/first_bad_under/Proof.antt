@@ -11,16 +11,16 @@ use Rattle.weak_books.proofs.check.first_bad_under.Statement.{statement
 use Rattle.weak_books.proofs.check.first_bad_under.Tie as tie
 
 abbrev Inv-loop : tie.InvT-loop
-Inv-loop keys book a limit k₀ k =
-    (k ≤ limit) × SoundUnder (SetMove keys) (λ (b : ℕ). b ≡ a .0) book k
+Inv-loop sets book a limit k₀ k =
+    (k ≤ limit) × SoundUnder (SetMove sets) (λ (b : ℕ). b ≡ a .0) book k
 
 abbrev μ-loop : tie.MeasureT-loop
-μ-loop keys book a limit k₀ k = limit - k
+μ-loop sets book a limit k₀ k = limit - k
 
 loop-holds : tie.Need-loop-holds Inv-loop μ-loop
 loop-holds c =
     let a = c .before .args in
-    (omega arith, soundUnder-zero (SetMove (a .keys .now)) (λ (b : ℕ). b ≡ a .a .0) (a .book .now))
+    (omega arith, soundUnder-zero (SetMove (a .sets .now)) (λ (b : ℕ). b ≡ a .a .0) (a .book .now))
 
 sound-if-under-requires : tie.Need-sound-if-under-requires Inv-loop μ-loop
 sound-if-under-requires c κs = search needs
@@ -30,7 +30,7 @@ returns c =
     let tested = c .before .sound-if-under in
     let in-loop = c .before .before in
     let a = in-loop .before .before .before .args in
-    firstUnder-bad (SetMove (a .keys .now)) (λ (b : ℕ). b ≡ a .a .0) (a .book .now) (in-loop .loop-test .taken)
+    firstUnder-bad (SetMove (a .sets .now)) (λ (b : ℕ). b ≡ a .a .0) (a .book .now) (in-loop .loop-test .taken)
     (decides-refused (tested .result) _ (tested .ensures) (c .if1 .taken)) (in-loop .before .loop .inv .1)
 
 add-k : tie.Need-add-k Inv-loop μ-loop
@@ -45,7 +45,7 @@ loop-again c =
     let at-loop = c .before .before .before in
     let a = at-loop .before .before .args in
     let here = decides-passed (tested .result) _ (tested .ensures) (c .if1 .left) in
-    let more = soundUnder-add-one (SetMove (a .keys .now)) (λ (b : ℕ). b ≡ a .a .0) (a .book .now) here
+    let more = soundUnder-add-one (SetMove (a .sets .now)) (λ (b : ℕ). b ≡ a .a .0) (a .book .now) here
     (at-loop .loop .inv .1) in
     (omega arith, more)
 
@@ -54,7 +54,7 @@ returns-2 c =
     let at-loop = c .before in
     let a = at-loop .before .before .args in
     let e : at-loop .loop .k ≡ a .limit = omega arith in
-    firstUnder-none (SetMove (a .keys .now)) (λ (b : ℕ). b ≡ a .a .0) (a .book .now) e (at-loop .loop .inv .1)
+    firstUnder-none (SetMove (a .sets .now)) (λ (b : ℕ). b ≡ a .a .0) (a .book .now) e (at-loop .loop .inv .1)
 
 pub first-bad-under-spec : {M : Type 1} → statement M
 first-bad-under-spec =

@@ -18,7 +18,7 @@ shared-slice-read-if1 c = search needs
 returns : tie.Need-returns
 returns c =
     let a = c .before .before .before .args in
-    soundIf-absent (a .book .now) (a .k) (SetMove (a .keys .now)) (λ (b : ℕ). b ≡ a .a .0) (c .if1 .taken)
+    soundIf-absent (a .book .now) (a .k) (SetMove (a .sets .now)) (λ (b : ℕ). b ≡ a .a .0) (c .if1 .taken)
 
 add-byte-value : tie.Need-add-byte-value
 add-byte-value c = search needs
@@ -33,7 +33,7 @@ returns-2 : tie.Need-returns-2
 returns-2 c =
     let read = c .before .before in
     let a = read .before .before .before .before .before .args in
-    soundIf-other (a .book .now) (a .k) (SetMove (a .keys .now)) (λ (b : ℕ). b ≡ a .a .0)
+    soundIf-other (a .book .now) (a .k) (SetMove (a .sets .now)) (λ (b : ℕ). b ≡ a .a .0)
     (λ e. c .if2 .taken (read .byte-value .ensures ∙ e))
 
 cast-t11 : tie.Need-cast-t11
@@ -56,7 +56,7 @@ returns-3 c =
     let start = present .before .before .before in
     let a = start .args in
     decides-iff (c .sound-under .result) (λ s _. s)
-    (soundIf-at-number (a .book .now) (a .k) (SetMove (a .keys .now)) (λ (b : ℕ). b ≡ a .a .0) (start .pre .0)
+    (soundIf-at-number (a .book .now) (a .k) (SetMove (a .sets .now)) (λ (b : ℕ). b ≡ a .a .0) (start .pre .0)
     (present .if1 .left) (sym (read .byte-value .ensures) ∙ c .before .if2 .left)) (c .sound-under .ensures)
 
 pub sound-if-under-spec : {M : Type 1} → statement M

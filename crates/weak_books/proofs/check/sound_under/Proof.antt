@@ -44,7 +44,7 @@ returns c =
     let a = placed .before .before .args in
     let entry-is = bookOf-number (a .book .now) (a .p .0) (a .q .0) (placed .pair-place .ensures) refl
     (target .byte-value .ensures) in
-    sound-first (SetMove (a .keys .now)) (bookOf (a .book .now)) (a .p .0) (a .q .0) _ entry-is (c .before .if1 .taken)
+    sound-first (SetMove (a .sets .now)) (bookOf (a .book .now)) (a .p .0) (a .q .0) _ entry-is (c .before .if1 .taken)
     (c .opens-under .result)
     (decides-iff (c .opens-under .result) opens-of-sets sets-of-opens (c .opens-under .ensures))
 
@@ -58,7 +58,7 @@ returns-2 c =
     let a = placed .before .before .args in
     let entry-is = bookOf-number (a .book .now) (a .p .0) (a .q .0) (placed .pair-place .ensures) refl
     (target .byte-value .ensures) in
-    sound-second (SetMove (a .keys .now)) (bookOf (a .book .now)) (a .p .0) (a .q .0) _ entry-is (c .before .if2 .taken)
+    sound-second (SetMove (a .sets .now)) (bookOf (a .book .now)) (a .p .0) (a .q .0) _ entry-is (c .before .if2 .taken)
     (c .opens-under2 .result)
     (decides-iff (c .opens-under2 .result) opens-of-sets sets-of-opens (c .opens-under2 .ensures))
 
@@ -68,7 +68,7 @@ returns-3 c =
     let start = placed .before .before in
     let a = start .args in
     let entry-is = bookOf-number (a .book .now) (a .p .0) (a .q .0) (placed .pair-place .ensures) refl refl in
-    bad-side (SetMove (a .keys .now)) (bookOf (a .book .now)) (a .p .0) (a .q .0) _ entry-is
+    bad-side (SetMove (a .sets .now)) (bookOf (a .book .now)) (a .p .0) (a .q .0) _ entry-is
     (subst Present entry-is (start .pre .1)) (c .before .if1 .left) (c .if2 .left)
 
 pub sound-under-spec : {M : Type 1} → statement M

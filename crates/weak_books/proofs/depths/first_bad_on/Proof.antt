@@ -5,8 +5,9 @@ use Prim.Native.Nat.{ℕ, _+_, _-_, _≤_}
 use native.Mathlib.Omega.{arith}
 use Rattle.text.specs.Limits.{tableLength}
 use Rattle.text.specs.Laws.DecidesLaws.{decides-passed, decides-refused}
+use Rattle.books.specs.Inner.Sides.{FirstOf}
 use Rattle.held.specs.Held.{HeldMove}
-use Rattle.weak_books.specs.Inner.Depths.{OnChain, first, later, AtDepth, LowerBy, FirstOf}
+use Rattle.weak_books.specs.Inner.Depths.{OnChain, first, later, AtDepth, LowerBy}
 use Rattle.weak_books.specs.Laws.DepthsLaws.{firstOf-bad, firstOf-sound, firstOf-past}
 use Rattle.weak_books.specs.Laws.DepthsLaws.{firstOf-at, firstOf-nil, firstOf-cons}
 use borrow.Author.Needs.{needs}

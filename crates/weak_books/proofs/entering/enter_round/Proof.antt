@@ -6,16 +6,18 @@ use Rattle.text.specs.Limits.{stateLimit}
 use Rattle.sets.specs.Inner.SetValues.{In, Least}
 use Rattle.held.specs.Held.{HeldMove}
 use Rattle.sets.specs.Laws.WalkLaws.{least-after}
-use Rattle.weak_books.specs.Inner.Entering.{Entered, Parted, Done}
-use Rattle.weak_books.specs.Laws.EnteringLaws.{done-start, done-next, done-end, beside-or-not, parted-of-beside}
-use Rattle.weak_books.specs.Laws.EnteringLaws.{beside-of-parted}
+use Rattle.weak_books.specs.Inner.Entering.{Entered, SeparatedBelow, Done}
+use Rattle.weak_books.specs.Laws.EnteringLaws.{done-start, done-next, done-end, beside-or-not}
+use Rattle.weak_books.specs.Laws.EnteringLaws.{separatedBelow-of-beside}
+use Rattle.weak_books.specs.Laws.EnteringLaws.{beside-of-separatedBelow}
 use Rattle.weak_books.proofs.entering.enter_round.Statement.{statement}
 use Rattle.weak_books.proofs.entering.enter_round.Tie as tie
 
 abbrev Inv-loop : tie.InvT-loop
 Inv-loop n labels count slots pool class members next next-members depth book₀ left₀ p₀ book left p =
     Least left p × ((x : ℕ) → In left x → In left₀ x)
-    × Entered (HeldMove labels count slots pool) class depth (Done (Parted n class next) (λ x y. x) left) book₀ book
+    × Entered (HeldMove labels count slots pool) class depth (Done (SeparatedBelow n class next) (λ x y. x) left) book₀
+    book
 
 abbrev μ-loop : tie.MeasureT-loop
 μ-loop n labels count slots pool class members next next-members depth book₀ left₀ p₀ book left p =
@@ -26,7 +28,7 @@ abbrev μ-loop : tie.MeasureT-loop
 abbrev begin : tie.At-loop Inv-loop μ-loop → tie.Start Inv-loop μ-loop
 begin c = c .before .before .before
 
-abbrev finding : tie.After-enter-beside Inv-loop μ-loop → tie.After-parted-from Inv-loop μ-loop
+abbrev finding : tie.After-enter-beside Inv-loop μ-loop → tie.After-separated-from Inv-loop μ-loop
 finding c = c .before .before
 
 -- What is visited is a state.
@@ -52,8 +54,8 @@ loop-holds c =
           (λ e. omega (arith, e, h .lower))),
     )
 
-parted-from-requires : tie.Need-parted-from-requires Inv-loop μ-loop
-parted-from-requires c κs =
+separated-from-requires : tie.Need-separated-from-requires Inv-loop μ-loop
+separated-from-requires c κs =
     let P = begin (c .before) .pre in
     ((visited-lt c, P .1 .0 .states-le), P .1 .1 .0)
 
@@ -65,7 +67,7 @@ enter-beside-requires c κs =
     let P = begin at-loop .pre in
     let p = at-loop .loop .p in
     let lp = visited-lt in-loop in
-    let S = found .parted-from .ensures in (
+    let S = found .separated-from .ensures in (
       (lp, omega (arith, at-loop .loop .inv .2 .past .same-length, P .0)),
       (
         P .1 .0,
@@ -95,10 +97,10 @@ loop-again c =
     let inv = in-loop .before .loop .inv in
     let lp = visited-lt in-loop in
     let rest = c .before .drop-least .ensures _ (inv .0) in
-    let S = found .parted-from .ensures in (
+    let S = found .separated-from .ensures in (
       c .least2 .ensures,
       λ x i. inv .1 x (rest .only x i .0),
-      done-next (beside-or-not _ _) (parted-of-beside lp S) (beside-of-parted lp S) rest
+      done-next (beside-or-not _ _) (separatedBelow-of-beside lp S) (beside-of-separatedBelow lp S) rest
           (inv .2) (entered .enter-beside .ensures),
     )
 
@@ -120,7 +122,7 @@ enter-round-spec =
     μ-loop
     least-requires
     loop-holds
-    parted-from-requires
+    separated-from-requires
     enter-beside-requires
     drop-least-requires
     least-requires-2

@@ -26,13 +26,13 @@ each-of-others P {u = u} rest here each x i = go (eq-or-not x u)
     go (inr d) = each x (rest .all x (i, d))
 
 abbrev Inv-loop : tie.InvT-loop
-Inv-loop slots pool row book forward t depth left₀ u₀ left u =
+Inv-loop book forward t depth left₀ u₀ left u =
     Least left u × ((x : ℕ) → In left x → In left₀ x)
     × (((x : ℕ) → In left x → BySide forward (LowerEntry (bookOf book) depth) (t .0) x)
     → (x : ℕ) → In left₀ x → BySide forward (LowerEntry (bookOf book) depth) (t .0) x)
 
 abbrev μ-loop : tie.MeasureT-loop
-μ-loop slots pool row book forward t depth left₀ u₀ left u = stateLimit - u
+μ-loop book forward t depth left₀ u₀ left u = stateLimit - u
 
 -- ---- places of the function
 
@@ -40,9 +40,6 @@ abbrev turn : tie.After-least2 Inv-loop μ-loop → tie.At-loop Inv-loop μ-loop
 turn c = c .before .before .before .before .before
 
 -- ---- needs
-
-held-requires : tie.Need-held-requires Inv-loop μ-loop
-held-requires c κs = search needs
 
 least-requires : tie.Need-least-requires Inv-loop μ-loop
 least-requires c κs = search needs
@@ -57,10 +54,9 @@ returns : tie.Need-returns Inv-loop μ-loop
 returns c all =
     let tested = c .before .is-lower in
     let at-loop = c .before .before .before in
-    let answers = at-loop .before .before .held .ensures in
     let inv = at-loop .loop .inv in
     decides-refused (tested .result) _ (tested .ensures) (c .if1 .taken)
-    (all _ (answers .only _ (inv .1 _ (inv .0 .member (c .before .before .loop-test .taken)))))
+    (all _ (inv .1 _ (inv .0 .member (c .before .before .loop-test .taken))))
 
 drop-least-requires : tie.Need-drop-least-requires Inv-loop μ-loop
 drop-least-requires c κs = search needs
@@ -78,7 +74,7 @@ loop-again : tie.Need-loop-again Inv-loop μ-loop
 loop-again c =
     let tested = c .before .before .before .is-lower in
     let inv = turn c .loop .inv in
-    let a = turn c .before .before .before .before .args in
+    let a = turn c .before .before .before .args in
     let rest = c .before .drop-least .ensures _ (inv .0) in
     let here = decides-passed (tested .result) _ (tested .ensures) (c .before .before .if1 .left) in
     let Lower = BySide (a .forward) (LowerEntry (bookOf (a .book .now)) (a .depth)) (a .t .0) in (
@@ -90,8 +86,7 @@ loop-again c =
 returns-2 : tie.Need-returns-2 Inv-loop μ-loop
 returns-2 c u h =
     let inv = c .before .loop .inv in
-    let answers = c .before .before .before .held .ensures in
-    inv .2 (λ x i. absurd (none-of-least (inv .0) (omega arith) x i)) u (answers .all u h)
+    inv .2 (λ x i. absurd (none-of-least (inv .0) (omega arith) x i)) u h
 
 pub answers-lower-spec : {M : Type 1} → statement M
 answers-lower-spec =
@@ -99,7 +94,6 @@ answers-lower-spec =
     (tie.spec
     Inv-loop
     μ-loop
-    held-requires
     least-requires
     loop-holds
     is-lower-requires

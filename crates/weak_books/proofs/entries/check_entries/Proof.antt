@@ -1,7 +1,6 @@
 -- Where nothing is stored yet no label is flagged; the first bad entry is told.
-use native.Mathlib.Omega.{arith}
 use Rattle.text.specs.Laws.ListLaws.{getD-zeros}
-use Rattle.books.specs.Laws.ChecksLaws.{checkDone-sound, checkDone-bad}
+use Rattle.books.specs.Laws.ChecksLaws.{checkDone-of-told}
 use Rattle.weak_books.specs.Inner.Bounds.{byteValues}
 use Rattle.weak_books.specs.Laws.BoundsLaws.{label-lt}
 use borrow.Author.Needs.{needs}
@@ -16,13 +15,13 @@ flag-labels-requires c κs =
 first-bad-in-order-requires : tie.Need-first-bad-in-order-requires
 first-bad-in-order-requires c κs = search needs
 
-returns : tie.Need-returns
-returns c = checkDone-bad (c .before .first-bad-in-order .ensures) (c .if1 .taken)
+bad-or-sound-requires : tie.Need-bad-or-sound-requires
+bad-or-sound-requires c κs = search needs
 
-returns-2 : tie.Need-returns-2
-returns-2 c = checkDone-sound (c .before .first-bad-in-order .ensures) (λ l. omega (arith, l, c .if1 .left))
+returns : tie.Need-returns
+returns c = checkDone-of-told (c .before .first-bad-in-order .ensures) (c .bad-or-sound .ensures)
 
 pub check-entries-spec : {M : Type 1} → statement M
 check-entries-spec =
     tie.close
-    (tie.spec flag-labels-requires first-bad-in-order-requires returns returns-2)
+    (tie.spec flag-labels-requires first-bad-in-order-requires bad-or-sound-requires returns)

@@ -4,8 +4,8 @@ use native.Mathlib.Omega.{arith}
 use Rattle.text.specs.Limits.{tableLength}
 use Rattle.text.specs.Laws.DecidesLaws.{decides-passed, decides-refused}
 use Rattle.held.specs.Held.{HeldMove}
-use Rattle.weak_books.specs.Laws.EntriesLaws.{SoundBefore, soundBefore-zero, soundBefore-add-one}
-use Rattle.weak_books.specs.Laws.EntriesLaws.{soundTo-of-bad, soundTo-of-all}
+use Rattle.books.specs.Laws.EntriesLaws.{SoundBefore, soundBefore-zero, soundBefore-add-one}
+use Rattle.books.specs.Laws.EntriesLaws.{soundTo-of-bad, soundTo-of-all}
 use borrow.Author.Needs.{needs}
 use Rattle.weak_books.proofs.entries.first_bad_in_order.Statement.{statement}
 use Rattle.weak_books.proofs.entries.first_bad_in_order.Tie as tie

@@ -9,11 +9,11 @@ use Rattle.weak_books.proofs.firsts.open_rows.Statement.{statement}
 use Rattle.weak_books.proofs.firsts.open_rows.Tie as tie
 
 abbrev Inv-loop : tie.InvT-loop
-Inv-loop n keys lower at a depth book₀ p₀ book p =
-    (p ≤ n) × LabelOpened keys lower at depth a 0 (pairPlace p 0) book₀ book
+Inv-loop n targets lower at a depth book₀ p₀ book p =
+    (p ≤ n) × LabelOpened targets lower at depth a 0 (pairPlace p 0) book₀ book
 
 abbrev μ-loop : tie.MeasureT-loop
-μ-loop n keys lower at a depth book₀ p₀ book p = n - p
+μ-loop n targets lower at a depth book₀ p₀ book p = n - p
 
 loop-holds : tie.Need-loop-holds Inv-loop μ-loop
 loop-holds c = (omega arith, labelOpened-none _ (λ u v m l h. omega (arith, l, h)))

@@ -13,8 +13,8 @@ hold-labels-requires c κs =
     let pre = c .before .before .before .before .pre in
     (pre .0, pooled-zero (getD-zeros slotsLength) (empty-zeros poolLength))
 
-is-wide-requires : tie.Need-is-wide-requires
-is-wide-requires c κs =
+has-many-moves-requires : tie.Need-has-many-moves-requires
+has-many-moves-requires c κs =
     let some = c .before .before .before in
     some .before .hold-labels .ensures .0 (some .if1 .taken)
 
@@ -51,7 +51,7 @@ check-books-spec =
     tie.close
     (tie.spec
     hold-labels-requires
-    is-wide-requires
+    has-many-moves-requires
     check-held-book-requires
     returns
     check-entries-requires

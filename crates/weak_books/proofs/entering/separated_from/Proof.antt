@@ -2,9 +2,9 @@
 use native.Mathlib.Omega.{arith}
 use borrow.Author.Needs.{needs}
 use Rattle.held.specs.Laws.PoolLaws.{setOf-number}
-use Rattle.weak_books.specs.Laws.EnteringLaws.{parted-set}
-use Rattle.weak_books.proofs.entering.parted_from.Statement.{statement}
-use Rattle.weak_books.proofs.entering.parted_from.Tie as tie
+use Rattle.weak_books.specs.Laws.EnteringLaws.{separatedBelow-set}
+use Rattle.weak_books.proofs.entering.separated_from.Statement.{statement}
+use Rattle.weak_books.proofs.entering.separated_from.Tie as tie
 
 class-at-requires : tie.Need-class-at-requires
 class-at-requires c κs = search needs
@@ -37,11 +37,12 @@ returns c =
     let first = second .before .before .before in
     let noted = first .before .before .before in
     let P = noted .before .before .pre in
-    parted-set (P .1 .0) (P .1 .1) (P .0 .0) (setOf-number (noted .before .class-at .ensures) (first .set-at .ensures))
+    separatedBelow-set (P .1 .0) (P .1 .1) (P .0 .0)
+    (setOf-number (noted .before .class-at .ensures) (first .set-at .ensures))
     (setOf-number (noted .class-at2 .ensures) (second .set-at2 .ensures)) (c .without .ensures)
 
-pub parted-from-spec : {M : Type 1} → statement M
-parted-from-spec =
+pub separated-from-spec : {M : Type 1} → statement M
+separated-from-spec =
     tie.close
     (tie.spec
     class-at-requires

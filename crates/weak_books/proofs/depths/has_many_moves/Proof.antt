@@ -4,14 +4,14 @@ use native.Mathlib.Omega.{arith}
 use lib.ListN.{getD}
 use borrow.Author.Count.{below-more}
 use Rattle.text.specs.Laws.DecidesLaws.{decides-true, decides-false}
-use Rattle.weak_books.specs.Inner.Wide.{WideLabel}
+use Rattle.weak_books.specs.Inner.ManyMoves.{ManyMoves}
 use borrow.Author.Needs.{needs}
-use Rattle.weak_books.proofs.depths.is_wide.Statement.{statement}
-use Rattle.weak_books.proofs.depths.is_wide.Tie as tie
+use Rattle.weak_books.proofs.depths.has_many_moves.Statement.{statement}
+use Rattle.weak_books.proofs.depths.has_many_moves.Tie as tie
 
 abbrev Inv-loop : tie.InvT-loop
 Inv-loop n labels count slots pool i₀ i =
-    (i ≤ count) × ((j : ℕ) → j < i → ¬ (WideLabel slots pool (getD labels j 0)))
+    (i ≤ count) × ((j : ℕ) → j < i → ¬ (ManyMoves slots pool (getD labels j 0)))
 
 abbrev μ-loop : tie.MeasureT-loop
 μ-loop n labels count slots pool i₀ i = count - i
@@ -22,26 +22,26 @@ loop-holds c = (omega arith, λ j l. absurd (omega (arith, l)))
 cast-at : tie.Need-cast-at Inv-loop μ-loop
 cast-at c = search needs
 
-mul-is-wide-label : tie.Need-mul-is-wide-label Inv-loop μ-loop
-mul-is-wide-label c = search needs
+mul-has-many-moves-with : tie.Need-mul-has-many-moves-with Inv-loop μ-loop
+mul-has-many-moves-with c = search needs
 
-element-copy-out-is-wide-label : tie.Need-element-copy-out-is-wide-label Inv-loop μ-loop
-element-copy-out-is-wide-label c = search needs
+element-copy-out-has-many-moves-with : tie.Need-element-copy-out-has-many-moves-with Inv-loop μ-loop
+element-copy-out-has-many-moves-with c = search needs
 
-is-wide-label-requires : tie.Need-is-wide-label-requires Inv-loop μ-loop
-is-wide-label-requires c κs =
+has-many-moves-with-requires : tie.Need-has-many-moves-with-requires Inv-loop μ-loop
+has-many-moves-with-requires c κs =
     let in-loop = c .before in
     let H = in-loop .before .before .pre in
     (H .label (in-loop .before .loop .i) (in-loop .loop-test .taken), H .slot-lt)
 
 returns : tie.Need-returns Inv-loop μ-loop
 returns c =
-    let tested = c .before .is-wide-label in
+    let tested = c .before .has-many-moves-with in
     let in-loop = c .before .before .before in
     record {
       number = in-loop .before .loop .i;
       number-lt = in-loop .loop-test .taken;
-      wide = decides-true (tested .result) _ (tested .ensures) (c .if1 .taken);
+      many = decides-true (tested .result) _ (tested .ensures) (c .if1 .taken);
     }
 
 add-i : tie.Need-add-i Inv-loop μ-loop
@@ -52,30 +52,30 @@ loop-less c = search needs
 
 loop-again : tie.Need-loop-again Inv-loop μ-loop
 loop-again c =
-    let tested = c .before .is-wide-label in
+    let tested = c .before .has-many-moves-with in
     let in-loop = c .before .before .before in
     let at-loop = in-loop .before in
     let a = at-loop .before .args in (
       omega (arith, in-loop .loop-test .taken),
-      below-more (λ j. ¬ (WideLabel (a .slots .now) (a .pool .now) (getD (a .labels .now) j 0))) (at-loop .loop .i)
+      below-more (λ j. ¬ (ManyMoves (a .slots .now) (a .pool .now) (getD (a .labels .now) j 0))) (at-loop .loop .i)
           (at-loop .loop .inv .1) (decides-false (tested .result) _ (tested .ensures) (c .if1 .left)),
     )
 
 returns-2 : tie.Need-returns-2 Inv-loop μ-loop
 returns-2 c w =
-    c .before .loop .inv .1 (w .number) (omega (arith, w .number-lt, c .loop-test .left)) (w .wide)
+    c .before .loop .inv .1 (w .number) (omega (arith, w .number-lt, c .loop-test .left)) (w .many)
 
-pub is-wide-spec : {M : Type 1} → statement M
-is-wide-spec =
+pub has-many-moves-spec : {M : Type 1} → statement M
+has-many-moves-spec =
     tie.close
     (tie.spec
     Inv-loop
     μ-loop
     loop-holds
     cast-at
-    mul-is-wide-label
-    element-copy-out-is-wide-label
-    is-wide-label-requires
+    mul-has-many-moves-with
+    element-copy-out-has-many-moves-with
+    has-many-moves-with-requires
     returns
     add-i
     loop-less

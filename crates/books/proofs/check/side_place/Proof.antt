@@ -2,10 +2,10 @@
 use mathlib.Core.Bool.{true, false}
 use mathlib.Core.Path.{_≡_, sym, _∙_}
 use native.Mathlib.Omega.{arith}
-use Rattle.books.specs.Laws.SidesLaws.{leadPlace-first, leadPlace-second}
+use Rattle.books.specs.Laws.SidesLaws.{sidePlace-first, sidePlace-second}
 use borrow.Author.Needs.{needs}
-use Rattle.books.proofs.check.lead_place.Statement.{statement}
-use Rattle.books.proofs.check.lead_place.Tie as tie
+use Rattle.books.proofs.check.side_place.Statement.{statement}
+use Rattle.books.proofs.check.side_place.Tie as tie
 
 pair-place-requires : tie.Need-pair-place-requires
 pair-place-requires c κs = search needs
@@ -14,7 +14,7 @@ returns : tie.Need-returns
 returns c =
     let a = c .before .before .args in
     let e : a .forward ≡ true = c .before .if1 .taken in
-    (c .pair-place .ensures ∙ sym (leadPlace-first (a .t .0) (a .u .0) e), omega arith)
+    (c .pair-place .ensures ∙ sym (sidePlace-first (a .t .0) (a .u .0) e), omega arith)
 
 pair-place-requires-2 : tie.Need-pair-place-requires-2
 pair-place-requires-2 c κs = search needs
@@ -23,7 +23,7 @@ returns-2 : tie.Need-returns-2
 returns-2 c =
     let a = c .before .before .args in
     let e : a .forward ≡ false = c .before .if1 .left in
-    (c .pair-place2 .ensures ∙ sym (leadPlace-second (a .t .0) (a .u .0) e), omega arith)
+    (c .pair-place2 .ensures ∙ sym (sidePlace-second (a .t .0) (a .u .0) e), omega arith)
 
-pub lead-place-spec : {M : Type 1} → statement M
-lead-place-spec = tie.close (tie.spec pair-place-requires returns pair-place-requires-2 returns-2)
+pub side-place-spec : {M : Type 1} → statement M
+side-place-spec = tie.close (tie.spec pair-place-requires returns pair-place-requires-2 returns-2)

@@ -34,13 +34,13 @@ module _ (Move : Moves) (book : List ℕ) where
       → SoundBefore Move book k → SoundTo Move book k
   soundTo-of-bad {k} l h s = record {
     number-le = omega arith;
-    sound = s;
-    bad = λ p q lp lq e. at-number (λ x y. ¬ (SoundAt Move (bookOf book) x y)) h p q lq e;
+    sound = λ p q lp lq _. s p q lp lq;
+    bad = λ p q lp lq e _. at-number (λ x y. ¬ (SoundAt Move (bookOf book) x y)) h p q lq e;
   }
 
   pub soundTo-of-all : {k : ℕ} → k ≡ tableLength → SoundBefore Move book k → SoundTo Move book k
   soundTo-of-all {k} e s = record {
     number-le = omega arith;
-    sound = s;
-    bad = λ p q lp lq d. absurd (omega arith);
+    sound = λ p q lp lq _. s p q lp lq;
+    bad = λ p q lp lq d l. absurd (omega (arith, e, l));
   }

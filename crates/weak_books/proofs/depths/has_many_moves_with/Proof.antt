@@ -6,11 +6,11 @@ use borrow.Author.Count.{below-more}
 use Rattle.text.specs.Limits.{stateLimit}
 use Rattle.sets.specs.Inner.SetValues.{SetOf}
 use Rattle.held.specs.Held.{targetRow, HeldAt}
-use Rattle.weak_books.specs.Inner.Wide.{Many}
-use Rattle.weak_books.specs.Laws.WideLaws.{many-not}
+use Rattle.weak_books.specs.Inner.ManyMoves.{Many}
+use Rattle.weak_books.specs.Laws.ManyMovesLaws.{many-not}
 use borrow.Author.Needs.{needs}
-use Rattle.weak_books.proofs.depths.is_wide_label.Statement.{statement}
-use Rattle.weak_books.proofs.depths.is_wide_label.Tie as tie
+use Rattle.weak_books.proofs.depths.has_many_moves_with.Statement.{statement}
+use Rattle.weak_books.proofs.depths.has_many_moves_with.Tie as tie
 
 abbrev Inv-loop : tie.InvT-loop
 Inv-loop slots pool a row p₀ p =
@@ -78,8 +78,8 @@ returns-2 : tie.Need-returns-2 Inv-loop μ-loop
 returns-2 c w =
     c .before .loop .inv .1 (w .state) (omega (arith, w .state-lt, c .loop-test .left)) (w .many)
 
-pub is-wide-label-spec : {M : Type 1} → statement M
-is-wide-label-spec =
+pub has-many-moves-with-spec : {M : Type 1} → statement M
+has-many-moves-with-spec =
     tie.close
     (tie.spec
     Inv-loop

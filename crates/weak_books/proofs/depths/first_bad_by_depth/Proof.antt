@@ -2,17 +2,17 @@
 use Prim.Native.Nat.{_≤_, _-_}
 use native.Mathlib.Omega.{arith}
 use Rattle.text.specs.Limits.{tableLength}
-use Rattle.books.specs.Inner.Sides.{LowerNumber}
+use Rattle.books.specs.Inner.Sides.{LowerNumber, FirstOf}
 use Rattle.sets.specs.Inner.Sets.{setsLength}
 use Rattle.sets.specs.Laws.SetsLaws.{empty-zeros}
 use Rattle.held.specs.Held.{HeldMove}
 use Rattle.weak_books.specs.Inner.Bounds.{byteValues}
-use Rattle.weak_books.specs.Inner.Depths.{LowerBy, FirstOf}
+use Rattle.weak_books.specs.Inner.Depths.{LowerBy}
 use Rattle.weak_books.specs.Laws.LowerLaws.{lowerBy-zero, lowerBy-next}
 use Rattle.weak_books.specs.Laws.DepthsLaws.{firstLower-zero, firstLower-next, firstLower-all}
 use borrow.Author.Needs.{needs}
-use Rattle.weak_books.proofs.depths.first_bad.Statement.{statement}
-use Rattle.weak_books.proofs.depths.first_bad.Tie as tie
+use Rattle.weak_books.proofs.depths.first_bad_by_depth.Statement.{statement}
+use Rattle.weak_books.proofs.depths.first_bad_by_depth.Tie as tie
 
 abbrev Inv-loop : tie.InvT-loop
 Inv-loop n labels count slots pool flags book head link there₀ back₀ bad₀ d₀ there back bad d =
@@ -78,8 +78,8 @@ returns c =
     let bytes = c .before .before .shared-slice-known .given in
     firstLower-all (omega (arith, inv .0, c .loop-test .left)) (λ i. omega (arith, bytes i)) (inv .2)
 
-pub first-bad-spec : {M : Type 1} → statement M
-first-bad-spec =
+pub first-bad-by-depth-spec : {M : Type 1} → statement M
+first-bad-by-depth-spec =
     tie.close
     (tie.spec
     Inv-loop

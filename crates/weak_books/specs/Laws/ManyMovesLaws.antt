@@ -9,7 +9,7 @@ use Rattle.sets.specs.Inner.SetValues.{wordOf, SetOf}
 use Rattle.sets.specs.Laws.BitsLaws.{or-of-bits}
 use Rattle.sets.specs.Laws.SetValuesLaws.{in-of-word, word-of-in, words-lt}
 use Rattle.sets.specs.declared.set.Set.{Set}
-use Rattle.weak_books.specs.Inner.Wide.{few, Many}
+use Rattle.weak_books.specs.Inner.ManyMoves.{fewAnswers, Many}
 
 -- Two sets of the same numbers have the same words.
 module _ {P : ℕ → Type 0} {s t : Set} (S : SetOf P s) (T : SetOf P t) (fits : (h : ℕ) → wordOf s h < 2 ^ wordBits)
@@ -28,7 +28,7 @@ module _ {P : ℕ → Type 0} {s t : Set} (S : SetOf P s) (T : SetOf P t) (fits 
 
 -- Not many where the set of the numbers is small.
 pub many-not : {P : ℕ → Type 0} {s : Set} → SetOf P s → s .0 < 2 ^ wordBits → s .1 < 2 ^ wordBits
-    → ¬ (few < ones (s .0) + ones (s .1)) → ¬ (Many P)
+    → ¬ (fewAnswers < ones (s .0) + ones (s .1)) → ¬ (Many P)
 many-not S l m d w =
-    d (subst (λ (x : ℕ). few < x) (size-unique (w .set-of) S (words-lt (w .first-lt) (w .second-lt)) (words-lt l m))
-    (w .more))
+    d (subst (λ (x : ℕ). fewAnswers < x)
+    (size-unique (w .set-of) S (words-lt (w .first-lt) (w .second-lt)) (words-lt l m)) (w .more))
