@@ -42,8 +42,7 @@ showable→WordLists {m} {table = table} x still = record {
     stored = x .lists .stored;
     index-length = x .index-length;
     index = x .index;
-    roles-length = x .lists .roles-length;
-    roles-are = x .lists .roles-are;
+    roles-of = x .lists .roles-of;
   };
   table-length = x .lists .table-length;
   ranks = λ p q a b.

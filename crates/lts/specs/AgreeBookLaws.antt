@@ -90,6 +90,7 @@ module _ (Idle : ℕ → Type 0) (M N : Moves) (n : ℕ) (A : Agree (λ p. p < n
     };
   }
 
+  -- Of moves that agree on the n states alone, and but for idle ones: more than `ownBook-same` can take.
   pub ownBook-agree : (limit : ℕ) (book : Book) → OwnBook M n limit book → OwnBook N n limit book
   ownBook-agree limit book o = record {
     apart = λ p q r lp lq x l.

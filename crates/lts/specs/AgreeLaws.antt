@@ -111,6 +111,7 @@ module _ (C Idle : ℕ → Type 0) (M N : Moves) (A : Agree C Idle M N) where
         let o = bisimilar↔BisimilarBy N n roundN GN p q lp lq in
         (λ b. o .1 (bisimilarBy-forth p q cp cq (m .0 b)), λ b. m .1 (bisimilarBy-back p q cp cq (o .0 b)))
 
+    -- Of moves that agree on a set alone, and but for idle ones: more than `rank-same` can take.
     pub rank-agree : (p q r : ℕ) → p < n → q < n → C p → C q → Rank M p q r ↔ Rank N p q r
     rank-agree p q r lp lq cp cq = (forth, back)
       where
@@ -154,6 +155,7 @@ module _ {M N : Moves} (forth : (p a q : ℕ) → M p a q → N p a q) (back : (
   }
 
 module _ {M N : Moves} (forth : (p a q : ℕ) → M p a q → N p a q) (back : (p a q : ℕ) → N p a q → M p a q) where
+  -- Of the same moves, for all numbers: `rank-agree` would ask for tests of the rounds, and for states below n.
   pub rank-same : (p q : ℕ) {k : ℕ} → Rank M p q k → Rank N p q k
   rank-same p q (bisimilar b) = bisimilar (bisimilar-same forth back p q b)
   rank-same p q {k} (separated d x) =

@@ -11,8 +11,8 @@ pub data Opening (Move : Moves) (R : ℕ → ℕ → Bool) (p q : ℕ) : Type 0 
   by-first : (a p′ : ℕ) → Move p a p′ → ((q′ : ℕ) → Move q a q′ → T (not (R p′ q′))) → Opening Move R p q
   by-second : (a q′ : ℕ) → Move q a q′ → ((p′ : ℕ) → Move p a p′ → T (not (R p′ q′))) → Opening Move R p q
 
--- `round` plays one round, inside the relation that it is given, and the moves of n states stay among them: a silent
--- move of no steps may be there for every number (document 02, (vii)).
+-- `round` plays one round, inside the relation that it is given, and the moves of the n states stay among them; where
+-- those of other numbers lead is not asked.
 pub record Game (Move : Moves) (n : ℕ) (round : (ℕ → ℕ → Bool) → ℕ → ℕ → Bool) : Type 0 where
   pub target-lt : (p a q : ℕ) → p < n → Move p a q → q < n
   pub passes : (R : ℕ → ℕ → Bool) (p q : ℕ) → T (round R p q) → Answers Move (λ x y. T (R x y)) p q

@@ -221,6 +221,7 @@ module _ {M N : Moves} (forth : (p a q : ℕ) → M p a q → N p a q) (back : (
       there : {s b u : ℕ} → Plays N (LowerRank N r) p q s b u → Plays M (LowerRank M r) p q s b u
       there = plays-map back forth (lowerRank-same back forth r)
 
+  -- Of the same moves: `ownBook-agree` would ask for tests of the rounds.
   pub ownBook-same : (n limit : ℕ) (book : Book) → OwnBook M n limit book → OwnBook N n limit book
   ownBook-same n limit book o = record {
     apart = λ p q r lp lq x l.

@@ -100,8 +100,10 @@ fn put_ends(store: &[u16], j: Step, at: u16, sources: &mut [u16], targets: &mut 
     requires { ⌜ Stored (now store) (modelAt (now store)) ⌝ }
     requires { ⌜ (j .0 < length (modelAt (now store) .steps)) × (at < length (now sources))
         × (at < length (now targets)) ⌝ }
-    ensures { λ _. ⌜ now (sources .exit) ≡ set (now (sources .entry)) at (source (modelAt (now (store .entry))) (j .0)) ⌝ }
-    ensures { λ _. ⌜ now (targets .exit) ≡ set (now (targets .entry)) at (target (modelAt (now (store .entry))) (j .0)) ⌝ }
+    ensures { λ _. ⌜ now (sources .exit)
+        ≡ set (now (sources .entry)) at (source (modelAt (now (store .entry))) (j .0)) ⌝ }
+    ensures { λ _. ⌜ now (targets .exit)
+        ≡ set (now (targets .entry)) at (target (modelAt (now (store .entry))) (j .0)) ⌝ }
 {
     let p = model::store::source(store, j);
     let q = model::store::target(store, j);

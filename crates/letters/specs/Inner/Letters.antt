@@ -6,7 +6,6 @@ use Prim.Native.Nat.{ℕ, _≤_, _<_}
 use lib.Dec.{T}
 use lib.ListN.{length, getD}
 use Rattle.lts.specs.Alike.{Separated, Rank}
-use Rattle.text.specs.Limits.{actionLimit}
 use Rattle.text.specs.Limits.{tableLength, wordLength, pairPlace}
 use Rattle.text.specs.First.{First}
 use Rattle.text.specs.Model.{Model}
@@ -16,7 +15,7 @@ use Rattle.verdicts.specs.declared.judging.Verdict.{Verdict}
 use Rattle.verdicts.specs.Verdicts.{Judged}
 use Rattle.model.specs.Inner.Index.{Index}
 use Rattle.verdicts.specs.Inner.ModelLists.{ModelLists}
-use Rattle.model.specs.Inner.Roles.{Roles}
+use Rattle.model.specs.Inner.Roles.{RolesOf}
 use Rattle.model.specs.Inner.Stored.{Stored}
 use Rattle.letters.specs.declared.branch.Found.{Found}
 use Rattle.letters.specs.declared.branch.Found.the-variants.{At, Nothing}
@@ -74,8 +73,7 @@ pub record StepLists (m : Model) (store begins roles : List ℕ) : Type 0 where
   pub stored : Stored store m
   pub index-length : indexLength ≤ length begins
   pub index : Index m (m .head .states) begins
-  pub roles-length : actionLimit ≤ length roles
-  pub roles-are : Roles (view m .levels) (m .head .actions) roles
+  pub roles-of : RolesOf m roles
 
 -- The same with the ranks of its reachable states, where no silent step can be reached: those under low steps.
 pub record WordLists (m : Model) (store begins roles table : List ℕ) : Type 0 where

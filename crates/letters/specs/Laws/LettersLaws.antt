@@ -74,13 +74,13 @@ stepOf-at e x = record { number-lt = x .number-lt; source-is = x .source-is; act
 module _ {m : Model} {store begins roles : List ℕ} (L : StepLists m store begins roles) {a j : ℕ} (e : a ≡ action m j)
     (l : j < length (m .steps)) where
   pub role-fits : a < length roles
-  role-fits = omega (arith, e, L .roles-length, L .stored .actions-le, L .stored .action-lt j l)
+  role-fits = omega (arith, e, L .roles-of .roles-length, L .stored .actions-le, L .stored .action-lt j l)
 
   pub letter-low : getD roles a 0 ≡ low → T (view m .levels .low? (action m j))
-  letter-low z = low-of-role (L .roles-are) e (L .stored .action-lt j l) z
+  letter-low z = low-of-role (L .roles-of .roles-are) e (L .stored .action-lt j l) z
 
   pub letter-role : T (view m .levels .low? (action m j)) → getD roles a 0 ≡ low
-  letter-role t = role-of-low (L .roles-are) e (L .stored .action-lt j l) t
+  letter-role t = role-of-low (L .roles-of .roles-are) e (L .stored .action-lt j l) t
 
   pub unanswered-of : {q : ℕ} → getD roles a 0 ≡ low → ((i : ℕ) → ¬ (StepOf m q a i)) → Unanswered m q j
   unanswered-of z none = record {

@@ -27,8 +27,7 @@ module _ {m : Model} {v : Verdict} {distances table begins roles distances′ ta
   judging→Showable store word st b r w = record {
     lists = record {
       stored = st;
-      roles-length = r;
-      roles-are = x .roles;
+      roles-of = record { roles-length = r; roles-are = x .roles };
       distances-length = distances-long;
       distances-are = x .filled .distances-filled .list;
       table-length = table-long;

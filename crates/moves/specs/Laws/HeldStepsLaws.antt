@@ -78,7 +78,8 @@ module _ {s : List ℕ} {m : Model} (st : Stored s m) {labels slots pool : List 
         lowStep-of-before (all .target-only a p q l (x .source-lt) (x .held));
     complete = λ p a q x.
         let y = before-of-lowStep x in
-        let l : a < m .head .actions = omega (arith, y .holds .low-as .action-is, st .action-lt (y .number) (y .to-lt)) in
+        let l : a < m .head .actions =
+        omega (arith, y .holds .low-as .action-is, st .action-lt (y .number) (y .to-lt)) in
         let z = L .listed a l (y .holds .low-as .is-low) in
         record {
           source-lt = omega (arith, y .holds .source-is, st .source-lt (y .number) (y .to-lt), st .states-le);

@@ -138,7 +138,9 @@ lowHeld-skip {m} {j} f H = record {
   where
     go : {a p q : ℕ} → LowBefore m j a p q ⊎ LowAt m a j p q → LowBefore m j a p q
     go (inl x) = x
-    go (inr x) = absurd (f (subst (λ (b : ℕ). T (view m .levels .low? b)) (sym (x .low-as .action-is)) (x .low-as .is-low)))
+    go (inr x) =
+        let y = x .low-as in
+        absurd (f (subst (λ (b : ℕ). T (view m .levels .low? b)) (sym (y .action-is)) (y .is-low)))
 
     before : {a p q : ℕ} → LowBefore m (j + 1) a p q → LowBefore m j a p q
     before x = go (lowBefore-cases x)

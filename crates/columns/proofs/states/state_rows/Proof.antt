@@ -116,7 +116,7 @@ step-name-requires c κs =
     let b = L .index .at (s .args .p .0) (omega (arith, l)) in (
       (s .pre .0, L .stored),
       (
-        record { roles-length = L .roles-length; roles-are = L .roles-are },
+        L .roles-of,
         (
           record { from-le = inv .0; number-lt = own .0; begins = begins-at (sym (own .1)) b },
           λ x.

@@ -27,7 +27,8 @@ slice-aggregate-fill-plain-table c = search needs
 fill-plain-table-requires : tie.Need-fill-plain-table-requires
 fill-plain-table-requires c κs =
     let pre = c .before .before .before .before .before .before .before .before .pre in
-    (pre .0, (record { roles-length = omega arith; roles-are = c .before .before .before .roles2 .ensures }, pre .1 .0 .0))
+    let roles = c .before .before .before .roles2 .ensures in
+    (pre .0, (record { roles-length = omega arith; roles-are = roles }, pre .1 .0 .0))
 
 clear-requires : tie.Need-clear-requires
 clear-requires c κs = search needs

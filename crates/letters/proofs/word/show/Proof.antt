@@ -20,7 +20,7 @@ enum-told c = search needs
 first-silent-requires : tie.Need-first-silent-requires
 first-silent-requires c κs =
     let L = c .before .before .before .before .before .before .before .before .before .pre .lists in
-    (L .stored, (record { roles-length = L .roles-length; roles-are = L .roles-are }, (L .distances-length, L .distances-are)))
+    (L .stored, (L .roles-of, (L .distances-length, L .distances-are)))
 
 enum-known-j-2 : tie.Need-enum-known-j-2
 enum-known-j-2 c = search needs

@@ -122,8 +122,7 @@ state-lines-requires c κs =
           stored = lists .stored;
           index-length = showable .index-length;
           index = showable .index;
-          roles-length = lists .roles-length;
-          roles-are = lists .roles-are;
+          roles-of = lists .roles-of;
         },
         (lists, omega (arith, states-room end)),
       ),

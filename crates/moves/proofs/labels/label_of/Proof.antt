@@ -10,24 +10,29 @@ is-low-requires : tie.Need-is-low-requires
 is-low-requires c κs = search needs
 
 returns : tie.Need-returns
-returns c = let low = decides-true (c .before .is-low .result) _ (c .before .is-low .ensures) (c .if1 .taken) in
+returns c =
+    let low = decides-true (c .before .is-low .result) _ (c .before .is-low .ensures) (c .if1 .taken) in
     onlyLabel-low (c .before .before .before .pre .1) low (λ y. omega (arith, low, y))
 
 is-silent-requires : tie.Need-is-silent-requires
 is-silent-requires c κs = search needs
 
 returns-2 : tie.Need-returns-2
-returns-2 c = let at-low = c .before .before .before in
+returns-2 c =
+    let at-low = c .before .before .before in
     let other = decides-false (at-low .is-low .result) _ (at-low .is-low .ensures) (c .before .before .if1 .left) in
-    onlyLabel-silent other (decides-true (c .before .is-silent .result) _ (c .before .is-silent .ensures) (c .if2 .taken))
+    let tested = c .before .is-silent in
+    onlyLabel-silent other (decides-true (tested .result) _ (tested .ensures) (c .if2 .taken))
 
 add-result : tie.Need-add-result
 add-result c = search needs
 
 returns-3 : tie.Need-returns-3
-returns-3 c = let at-low = c .before .before .before in
+returns-3 c =
+    let at-low = c .before .before .before in
     let other = decides-false (at-low .is-low .result) _ (at-low .is-low .ensures) (c .before .before .if1 .left) in
-    onlyLabel-none other (decides-false (c .before .is-silent .result) _ (c .before .is-silent .ensures) (c .if2 .left))
+    let tested = c .before .is-silent in
+    onlyLabel-none other (decides-false (tested .result) _ (tested .ensures) (c .if2 .left))
 
 pub label-of-spec : {M : Type 1} → statement M
 label-of-spec =

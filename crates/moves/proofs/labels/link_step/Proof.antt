@@ -14,7 +14,8 @@ action-requires : tie.Need-action-requires
 action-requires c κs = search needs
 
 label-of-requires : tie.Need-label-of-requires
-label-of-requires c κs = let pre = c .before .before .before .before .before .pre in
+label-of-requires c κs =
+    let pre = c .before .before .before .before .before .pre in
     let j = pre .1 .1 .1 .0 in
     let e = ap (λ (x : Action). x .0) (c .action .ensures) ∙ stored-action (pre .0) _ j in
     let l = pre .0 .action-lt _ j in
@@ -30,7 +31,8 @@ mul-next : tie.Need-mul-next
 mul-next c = search needs
 
 slice-read-next : tie.Need-slice-read-next
-slice-read-next c = let labelled = c .before .before in
+slice-read-next c =
+    let labelled = c .before .before in
     let pre = labelled .before .before .before .before .before .before .pre in
     omega (arith, labelled .label-of .ensures .label-le, pre .1 .1 .0 .0)
 
@@ -38,14 +40,16 @@ mul-nexts : tie.Need-mul-nexts
 mul-nexts c = search needs
 
 slice-write-nexts : tie.Need-slice-write-nexts
-slice-write-nexts c = let pre = c .before .before .before .before .before .before .before .before .pre in
+slice-write-nexts c =
+    let pre = c .before .before .before .before .before .before .before .before .pre in
     omega (arith, pre .1 .1 .1 .0, pre .0 .steps-le, pre .1 .1 .0 .1)
 
 mul-heads : tie.Need-mul-heads
 mul-heads c = search needs
 
 slice-write-heads : tie.Need-slice-write-heads
-slice-write-heads c = let labelled = c .before .before in
+slice-write-heads c =
+    let labelled = c .before .before in
     let pre = labelled .before .before .before .before .before .before .pre in
     omega (arith, labelled .label-of .ensures .label-le, pre .1 .1 .0 .0)
 
@@ -56,7 +60,8 @@ same-length-2 : tie.Need-same-length-2
 same-length-2 c = search needs
 
 returns : tie.Need-returns
-returns c = let labelled = c .before .before in
+returns c =
+    let labelled = c .before .before in
     let acted = labelled .before in
     let start = acted .before .before .before .before .before in
     let pre = start .pre in

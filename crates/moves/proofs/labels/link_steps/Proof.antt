@@ -11,7 +11,8 @@ use Rattle.moves.proofs.labels.link_steps.Statement.{statement}
 use Rattle.moves.proofs.labels.link_steps.Tie as tie
 
 abbrev Inv-loop : tie.InvT-loop
-Inv-loop store roles heads₀ nexts₀ j₀ heads nexts j = (j ≤ length (modelAt store .steps)) × (length heads ≡ length heads₀) × (length nexts ≡ length nexts₀)
+Inv-loop store roles heads₀ nexts₀ j₀ heads nexts j =
+    (j ≤ length (modelAt store .steps)) × (length heads ≡ length heads₀) × (length nexts ≡ length nexts₀)
     × Linked (modelAt store) j heads nexts
 
 abbrev μ-loop : tie.MeasureT-loop
@@ -21,21 +22,23 @@ steps-requires : tie.Need-steps-requires Inv-loop μ-loop
 steps-requires c κs = search needs
 
 loop-holds : tie.Need-loop-holds Inv-loop μ-loop
-loop-holds c = let start = c .before .before .before .before .before in
+loop-holds c =
+    let start = c .before .before .before .before .before in
     let pre = start .pre in
+    let a = start .args in
     let e = c .steps .ensures ∙ stored-steps (pre .0) in (
       omega (arith, e),
       refl,
       refl,
-      subst (λ (k : ℕ). Linked (modelAt (start .args .store .now)) k (start .args .heads .now) (start .args .nexts .now))
-          (sym e) (pre .1 .1 .1),
+      subst (λ (k : ℕ). Linked (modelAt (a .store .now)) k (a .heads .now) (a .nexts .now)) (sym e) (pre .1 .1 .1),
     )
 
 sub-j : tie.Need-sub-j Inv-loop μ-loop
 sub-j c = search needs
 
 link-step-requires : tie.Need-link-step-requires Inv-loop μ-loop
-link-step-requires c κs = let at-loop = c .before .before .before in
+link-step-requires c κs =
+    let at-loop = c .before .before .before in
     let start = at-loop .before .before .before .before .before .before in
     let pre = start .pre in
     let l = at-loop .loop in
@@ -59,7 +62,8 @@ loop-less : tie.Need-loop-less Inv-loop μ-loop
 loop-less c = search needs
 
 loop-again : tie.Need-loop-again Inv-loop μ-loop
-loop-again c = let after = c .before .before .before .before in
+loop-again c =
+    let after = c .before .before .before .before in
     let at-loop = after .before .before .before .before in
     let inv = at-loop .loop .inv in
     let f = after .link-step in
@@ -72,7 +76,8 @@ same-length-2 : tie.Need-same-length-2 Inv-loop μ-loop
 same-length-2 c = c .before .loop .inv .2
 
 returns : tie.Need-returns Inv-loop μ-loop
-returns c = let at-loop = c .before in
+returns c =
+    let at-loop = c .before in
     let start = at-loop .before .before .before .before .before .before in
     let l = at-loop .loop in
     let e : l .j ≡ 0 = omega (arith, c .loop-test .left) in

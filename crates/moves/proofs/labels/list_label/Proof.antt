@@ -15,7 +15,8 @@ use Rattle.moves.proofs.labels.list_label.Statement.{statement}
 use Rattle.moves.proofs.labels.list_label.Tie as tie
 
 abbrev Inv-loop : tie.InvT-loop
-Inv-loop store heads nexts label begin sources₀ targets₀ n of j₀ at₀ sources targets j at = (n ≡ length (modelAt store .steps)) × (j ≤ n) × (length sources ≡ length sources₀)
+Inv-loop store heads nexts label begin sources₀ targets₀ n of j₀ at₀ sources targets j at =
+    (n ≡ length (modelAt store .steps)) × (j ≤ n) × (length sources ≡ length sources₀)
     × (length targets ≡ length targets₀) × (j < n → StepLabel (modelAt store) label j)
     × Appended (Among (LabelledAs (modelAt store) label) 0 j) begin at sources₀ targets₀ sources targets
     × PlacedTo (modelAt store) label j at
@@ -30,11 +31,13 @@ mul-j : tie.Need-mul-j Inv-loop μ-loop
 mul-j c = search needs
 
 shared-slice-read-j : tie.Need-shared-slice-read-j Inv-loop μ-loop
-shared-slice-read-j c = let pre = c .before .before .before .before .before .before .before .pre in
+shared-slice-read-j c =
+    let pre = c .before .before .before .before .before .before .before .pre in
     omega (arith, pre .1 .1 .0 .0, pre .1 .0 .0)
 
 loop-holds : tie.Need-loop-holds Inv-loop μ-loop
-loop-holds c = let pre = c .before .before .before .before .before .before .before .pre in
+loop-holds c =
+    let pre = c .before .before .before .before .before .before .before .pre in
     let e = c .before .steps .ensures ∙ stored-steps (pre .0) in
     let f = pre .1 .0 .2 .head _ (pre .1 .1 .0 .0) in (
       e,
@@ -47,7 +50,8 @@ loop-holds c = let pre = c .before .before .before .before .before .before .befo
     )
 
 put-ends-requires : tie.Need-put-ends-requires Inv-loop μ-loop
-put-ends-requires c κs = let at-loop = c .before .before .before in
+put-ends-requires c κs =
+    let at-loop = c .before .before .before in
     let start = at-loop .before .before .before .before .before .before .before .before in
     let pre = start .pre in
     let inv = at-loop .loop .inv in
@@ -57,7 +61,8 @@ put-ends-requires c κs = let at-loop = c .before .before .before in
     (pre .0, (j, omega (arith, room, inv .2, pre .1 .1 .1 .0), omega (arith, room, inv .3, pre .1 .1 .1 .1)))
 
 add-at : tie.Need-add-at Inv-loop μ-loop
-add-at c = let in-loop = c .before .before .before .before .before .before .before in
+add-at c =
+    let in-loop = c .before .before .before .before .before .before .before in
     let at-loop = in-loop .before in
     let start = at-loop .before .before .before .before .before .before .before .before in
     let inv = at-loop .loop .inv in
@@ -72,13 +77,15 @@ mul-j-2 : tie.Need-mul-j-2 Inv-loop μ-loop
 mul-j-2 c = search needs
 
 shared-slice-read-j-2 : tie.Need-shared-slice-read-j-2 Inv-loop μ-loop
-shared-slice-read-j-2 c = let at-loop = c .before .before .before .before .before .before .before .before .before in
+shared-slice-read-j-2 c =
+    let at-loop = c .before .before .before .before .before .before .before .before .before in
     let pre = at-loop .before .before .before .before .before .before .before .before .pre in
     let t = c .before .before .before .before .before .before .before .before .loop-test .taken in
     omega (arith, at-loop .loop .inv .0, t, pre .0 .steps-le, pre .1 .0 .1)
 
 loop-less : tie.Need-loop-less Inv-loop μ-loop
-loop-less c = let in-loop = c .before .before .before .before .before .before .before .before in
+loop-less c =
+    let in-loop = c .before .before .before .before .before .before .before .before in
     let pre = in-loop .before .before .before .before .before .before .before .before .before .pre in
     let inv = in-loop .before .loop .inv in
     let t = in-loop .loop-test .taken in
@@ -86,7 +93,8 @@ loop-less c = let in-loop = c .before .before .before .before .before .before .b
     omega (arith, f .from-le, t)
 
 loop-again : tie.Need-loop-again Inv-loop μ-loop
-loop-again c = let in-loop = c .before .before .before .before .before .before .before .before in
+loop-again c =
+    let in-loop = c .before .before .before .before .before .before .before .before in
     let at-loop = in-loop .before in
     let start = at-loop .before .before .before .before .before .before .before .before in
     let pre = start .pre in
@@ -114,7 +122,8 @@ same-length-2 : tie.Need-same-length-2 Inv-loop μ-loop
 same-length-2 c = c .before .loop .inv .3
 
 returns : tie.Need-returns Inv-loop μ-loop
-returns c = let inv = c .before .loop .inv in
+returns c =
+    let inv = c .before .loop .inv in
     (appended-to (omega (arith, inv .0, inv .1, c .loop-test .left)) (inv .5), placedTo-label (inv .6))
 
 pub list-label-spec : {M : Type 1} → statement M

@@ -16,8 +16,13 @@ slice-aggregate-list-labels c = search needs
 list-labels-requires : tie.Need-list-labels-requires
 list-labels-requires c κs =
     let made = c .before .before .before .before .before in
-    let pre = made .before .before .before .before .before .before .pre in
-    (pre .0, (record { roles-length = omega arith; roles-are = made .roles2 .ensures }, (omega arith, omega arith, omega arith)))
+    let pre = made .before .before .before .before .before .before .pre in (
+      pre .0,
+      (
+        record { roles-length = omega arith; roles-are = made .roles2 .ensures },
+        (omega arith, omega arith, omega arith),
+      ),
+    )
 
 same-length : tie.Need-same-length
 same-length c = search needs

@@ -33,7 +33,8 @@ same-length-2 : tie.Need-same-length-2
 same-length-2 c = search needs
 
 returns : tie.Need-returns
-returns c = let start = c .before .before .before .before .before in
+returns c =
+    let start = c .before .before .before .before .before in
     let pre = start .pre in
     let a = start .args in
     let p = ap (λ (x : State). x .0) (c .before .source .ensures) ∙ stored-source (pre .0) _ (pre .1 .0) in

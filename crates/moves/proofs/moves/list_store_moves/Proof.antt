@@ -26,8 +26,13 @@ list-moves-requires : tie.Need-list-moves-requires
 list-moves-requires c κs =
     let indexed = c .before .before .before .before .before .before .before .before .before in
     let pre = indexed .before .before .before .before .before .before .pre in
-    let roles = c .before .before .before .before .before .before .roles2 .ensures in
-    (pre .0, ((omega arith, indexed .index .ensures), (record { roles-length = omega arith; roles-are = roles }, (omega arith, omega arith, omega arith))))
+    let roles = c .before .before .before .before .before .before .roles2 .ensures in (
+      pre .0,
+      (
+        (omega arith, indexed .index .ensures),
+        (record { roles-length = omega arith; roles-are = roles }, (omega arith, omega arith, omega arith)),
+      ),
+    )
 
 same-length : tie.Need-same-length
 same-length c = search needs

@@ -63,14 +63,15 @@ loop-again c =
     let k : at-loop .loop .a < modelAt (at-loop .before .before .before .before .args .store .now) .head .actions =
     omega (arith, inv .0, l) in
     let told = tested .is-low .ensures in
+    let R = pre .1 .roles-are in
     ⊎-elim
     (λ w.
     let room : at-loop .loop .count < length (at-loop .loop .labels) = omega (arith, w .1) in
-    let low = low-of-role (pre .1 .roles-are) refl k (decides-true (tested .is-low .result) _ told (w .0 .taken)) in
+    let low = low-of-role R refl k (decides-true (tested .is-low .result) _ told (w .0 .taken)) in
     rw (w .3, w .4) (rw (w .2 .ensures) (inv .0, omega (arith, l), lowLabels-more (inv .2) low room)))
     (λ w.
     let other = decides-false (tested .is-low .result) _ told (w .0 .left) in
-    rw (w .1, w .2) (inv .0, omega (arith, l), lowLabels-skip (inv .2) (λ t. other (role-of-low (pre .1 .roles-are) refl k t))))
+    rw (w .1, w .2) (inv .0, omega (arith, l), lowLabels-skip (inv .2) (λ t. other (role-of-low R refl k t))))
     (c .if1 .came)
 
 returns : tie.Need-returns Inv-loop μ-loop

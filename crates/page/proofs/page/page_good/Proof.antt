@@ -40,8 +40,7 @@ judged-page-requires c κs =
         showable = record {
           lists = record {
             stored = good→Stored _ (lent .long .store-length) (lent .good);
-            roles-length = omega (arith, judged .judge-good .kept);
-            roles-are = j .roles;
+            roles-of = record { roles-length = omega (arith, judged .judge-good .kept); roles-are = j .roles };
             distances-length = omega (
               arith,
               j .filled .distances-filled .past .same-length,
