@@ -8,7 +8,7 @@ use Rattle.lts.specs.Book.{SoundAt, Sound}
 use Rattle.lts.specs.Weak.{Weak}
 use Rattle.text.specs.Faults.{Outcome, answers, refuses}
 use Rattle.text.specs.Limits.{stateLimit, pairPlace}
-use Rattle.comparing.specs.MoveList.{Listed}
+use Rattle.by_state.specs.MoveList.{Listed}
 use Rattle.books.specs.Books.{bookOf}
 use Rattle.books.specs.declared.check.Checked.{Checked}
 use Rattle.books.specs.declared.check.Checked.the-variants as checked

@@ -2,7 +2,7 @@
 // lower rank.
 use crate::groups::index_moves;
 use crate::openings::first_opening;
-use comparing::lists::moves_to;
+use by_state::lists::moves_to;
 use ranking::table::clear;
 use ranking::table::pair_place;
 use ranking::table::rank_at;
@@ -16,7 +16,7 @@ ghost use mathlib.Core.Path.{_≡_};
 ghost use Prim.Native.Nat.{_≤_, _<_};
 ghost use lib.ListN.{length, getD};
 ghost use Rattle.text.specs.Limits.{stateLimit, tableLength, pairPlace, bookLength};
-ghost use Rattle.comparing.specs.MoveList.{Listed, MoveList, Ordered};
+ghost use Rattle.by_state.specs.MoveList.{Listed, MoveList, Ordered};
 ghost use Rattle.ranking.specs.Table.{Ranks};
 ghost use Rattle.lts.specs.Book.{noEntry};
 ghost use Rattle.books.specs.Books.{entryNumber, BookFilled};

@@ -18,7 +18,7 @@ ghost use Prim.Native.Nat.{ℕ, _≤_, _<_};
 ghost use lib.ListN.{length, getD};
 ghost use Rattle.text.specs.Decides.{Decides};
 ghost use Rattle.text.specs.Limits.{stateLimit, actionLimit, tableLength, bookLength};
-ghost use Rattle.comparing.specs.MoveList.{MoveList, Ordered};
+ghost use Rattle.by_state.specs.MoveList.{MoveList, Ordered};
 ghost use Rattle.lts.specs.Book.{LowerEntry, Opens, SoundAt};
 ghost use Rattle.books.specs.Books.{bookOf};
 ghost use Rattle.books.specs.Checks.{checkedOutcome, CheckDone, StillMove};

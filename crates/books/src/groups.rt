@@ -1,8 +1,8 @@
 // Moves by state and action. Those of a state with one action are a group: they stand side by side, for the moves of a
 // state are listed by action.
-use comparing::lists::moves_from;
-use comparing::lists::moves_to;
-use comparing::lists::wide;
+use by_state::lists::moves_from;
+use by_state::lists::moves_to;
+use by_state::lists::wide;
 use text::Action;
 use text::State;
 use text::limits::ACTION_LIMIT;
@@ -13,7 +13,7 @@ ghost use mathlib.Core.Path.{_≡_};
 ghost use Prim.Native.Nat.{_+_, _≤_, _<_};
 ghost use lib.ListN.{length, getD};
 ghost use Rattle.text.specs.Limits.{stateLimit, actionLimit, groupPlace, groupsLength};
-ghost use Rattle.comparing.specs.MoveList.{MoveList, Ordered};
+ghost use Rattle.by_state.specs.MoveList.{MoveList, Ordered};
 ghost use Rattle.books.specs.Inner.Groups.{IndexedTo, Given, IndexOf};
 
 // The number of the group of p and a.

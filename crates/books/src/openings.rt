@@ -1,8 +1,8 @@
 // The search for an opening: a move of one state, to which each answer of the other leads to a lower rank.
 use crate::groups::group_from;
 use crate::groups::group_to;
-use comparing::lists::moves_from;
-use comparing::lists::moves_to;
+use by_state::lists::moves_from;
+use by_state::lists::moves_to;
 use ranking::table::rank_at;
 use text::Action;
 use text::State;
@@ -13,7 +13,7 @@ ghost use Prim.Native.Nat.{_+_, _≤_, _<_};
 ghost use lib.ListN.{length, getD};
 ghost use Rattle.text.specs.Decides.{Decides};
 ghost use Rattle.text.specs.Limits.{stateLimit, actionLimit, tableLength};
-ghost use Rattle.comparing.specs.MoveList.{Listed, MoveList};
+ghost use Rattle.by_state.specs.MoveList.{Listed, MoveList};
 ghost use Rattle.books.specs.Inner.Groups.{Indexed, Groups, IndexOf};
 ghost use Rattle.ranking.specs.Inner.LowerRanks.{RankIn};
 ghost use Rattle.books.specs.Inner.Openings.{LowerAnswers, FirstOpening};

@@ -18,8 +18,8 @@ abbrev pub labelCount : ℕ
 labelCount = actionLimit + 1
 
 -- Two rows for each label.
-abbrev pub rowCount : ℕ
-rowCount = 2 * labelCount
+abbrev pub slotRows : ℕ
+slotRows = 2 * labelCount
 
 -- The sets of the pool that slots have. Set 0 has no member.
 abbrev pub poolSets : ℕ
@@ -35,10 +35,10 @@ slotPlace row p = stateLimit * row + p
 
 -- How many slots there are, and how many words of sets.
 abbrev pub slotsLength : ℕ
-slotsLength = rowCount * stateLimit
+slotsLength = slotRows * stateLimit
 
 abbrev pub poolLength : ℕ
-poolLength = 2 * rowSet rowCount
+poolLength = 2 * rowSet slotRows
 
 -- The label a is one of the first `count` of the list.
 abbrev pub LabelIn : List ℕ → ℕ → ℕ → Type 0

@@ -6,7 +6,7 @@ use crate::SEEN_LENGTH;
 use crate::SLOTS_LENGTH;
 use crate::slots::hold_row;
 use crate::slots::target_row;
-use comparing::stores::put;
+use by_state::stores::put;
 use sets::SETS_LENGTH;
 use silent::LABELS_LENGTH;
 use silent::targets::low_targets;

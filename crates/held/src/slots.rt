@@ -3,8 +3,8 @@ use crate::POOL_LENGTH;
 use crate::POOL_SETS;
 use crate::SEEN_LENGTH;
 use crate::SLOTS_LENGTH;
-use comparing::lists::wide;
-use comparing::stores::put;
+use by_state::lists::wide;
+use by_state::stores::put;
 use sets::SETS_LENGTH;
 use sets::set::Set;
 use sets::set::insert;
@@ -25,14 +25,14 @@ ghost use Rattle.text.specs.Decides.{Decides};
 ghost use Rattle.text.specs.Limits.{stateLimit, actionLimit};
 ghost use Rattle.sets.specs.Inner.Sets.{Member};
 ghost use Rattle.sets.specs.Inner.SetValues.{SetOf};
-ghost use Rattle.held.specs.Held.{rowCount, poolSets, rowSet, slotPlace, targetRow, HeldAt};
+ghost use Rattle.held.specs.Held.{slotRows, poolSets, rowSet, slotPlace, targetRow, HeldAt};
 ghost use Rattle.held.specs.Inner.Slots.{seenLength, Pooled, FreeFrom, Separate, Shared, MemberAdded};
 ghost use Rattle.held.specs.Inner.Slots.{RowsKept, RowHeld, SetHeld};
 
 // The row of the targets of moves with the label a.
 pub fn target_row(a: u16) -> u16
     requires { ⌜ (a < actionLimit) ⊎ (a ≡ silentLabel) ⌝ }
-    ensures { λ r. ⌜ (r ≡ targetRow a) × (r + 1 < rowCount) ⌝ }
+    ensures { λ r. ⌜ (r ≡ targetRow a) × (r + 1 < slotRows) ⌝ }
 {
     if a < ACTION_LIMIT {
         return 2 * a;
@@ -42,7 +42,7 @@ pub fn target_row(a: u16) -> u16
 
 // The slot of p in a row.
 fn slot_place(row: u16, p: State) -> usize
-    requires { ⌜ (row < rowCount) × (p .0 < stateLimit) ⌝ }
+    requires { ⌜ (row < slotRows) × (p .0 < stateLimit) ⌝ }
     ensures { λ r. ⌜ r ≡ slotPlace row (p .0) ⌝ }
 {
     ROW * row as usize + p.0 as usize
@@ -50,7 +50,7 @@ fn slot_place(row: u16, p: State) -> usize
 
 // The set of p in a row.
 pub fn held(slots: &[u16; SLOTS_LENGTH], pool: &[u64; POOL_LENGTH], row: u16, p: State) -> Set
-    requires { ⌜ (row < rowCount) × (p .0 < stateLimit) × ((i : ℕ) → getD (now slots) i 0 < poolSets) ⌝ }
+    requires { ⌜ (row < slotRows) × (p .0 < stateLimit) × ((i : ℕ) → getD (now slots) i 0 < poolSets) ⌝ }
     ensures { λ r. ⌜ SetOf (HeldAt (now (slots .entry)) (now (pool .entry)) row (p .0)) r ⌝ }
 {
     let at = slot_place(row, p);
@@ -59,7 +59,7 @@ pub fn held(slots: &[u16; SLOTS_LENGTH], pool: &[u64; POOL_LENGTH], row: u16, p:
 
 // The number, in the pool, of the set of a row's states.
 fn row_set(row: u16) -> usize
-    requires { ⌜ row < rowCount ⌝ }
+    requires { ⌜ row < slotRows ⌝ }
     ensures { λ r. ⌜ r ≡ rowSet row ⌝ }
 {
     POOL_SETS as usize + row as usize
@@ -67,7 +67,7 @@ fn row_set(row: u16) -> usize
 
 // The states that have a set of their own in a row.
 pub fn occupied(pool: &[u64; POOL_LENGTH], row: u16) -> Set
-    requires { ⌜ row < rowCount ⌝ }
+    requires { ⌜ row < slotRows ⌝ }
     ensures { λ r. ⌜ SetOf (Member (now (pool .entry)) (rowSet row)) r ⌝ }
 {
     set_at(pool, row_set(row))
@@ -126,7 +126,7 @@ fn hold_set(
     pool: &mut [u64; POOL_LENGTH],
     seen: &mut [u16; SEEN_LENGTH],
 ) -> u16
-    requires { ⌜ (row < rowCount) × (p .0 < stateLimit) × (used < poolSets) ⌝ }
+    requires { ⌜ (row < slotRows) × (p .0 < stateLimit) × (used < poolSets) ⌝ }
     requires { ⌜ Pooled used (now slots) (now pool) × FreeFrom (slotPlace row (p .0)) (now slots) ⌝ }
     ensures { λ r. ⌜ SetHeld row (p .0) s (now (slots .entry)) (now (pool .entry)) (now (slots .exit))
         (now (pool .exit)) ⌝ }
@@ -154,7 +154,7 @@ pub fn hold_row(
     pool: &mut [u64; POOL_LENGTH],
     seen: &mut [u16; SEEN_LENGTH],
 ) -> u16
-    requires { ⌜ (row < rowCount) × (used + stateLimit ≤ poolSets) × Pooled used (now slots) (now pool)
+    requires { ⌜ (row < slotRows) × (used + stateLimit ≤ poolSets) × Pooled used (now slots) (now pool)
         × FreeFrom (slotPlace row 0) (now slots) ⌝ }
     ensures { λ r. ⌜ RowHeld (now (sets .entry)) row stateLimit (now (slots .exit)) (now (pool .exit)) ⌝ }
     ensures { λ r. ⌜ RowsKept row (now (slots .entry)) (now (pool .entry)) (now (slots .exit)) (now (pool .exit)) ⌝ }
@@ -178,7 +178,7 @@ pub fn add_held(
     slots: &mut [u16; SLOTS_LENGTH],
     pool: &mut [u64; POOL_LENGTH],
 ) -> u16
-    requires { ⌜ (row < rowCount) × (p .0 < stateLimit) × (x .0 < stateLimit) × (used < poolSets) ⌝ }
+    requires { ⌜ (row < slotRows) × (p .0 < stateLimit) × (x .0 < stateLimit) × (used < poolSets) ⌝ }
     requires { ⌜ Separate used (now slots) (now pool) ⌝ }
     ensures { λ r. ⌜ MemberAdded row (p .0) (x .0) (now (slots .entry)) (now (pool .entry)) (now (slots .exit))
         (now (pool .exit)) ⌝ }
@@ -198,7 +198,7 @@ pub fn add_held(
 
 // Whether p and q have the same slot in a row, and so the same set.
 pub fn same_slot(slots: &[u16; SLOTS_LENGTH], row: u16, p: State, q: State) -> bool
-    requires { ⌜ (row < rowCount) × (p .0 < stateLimit) × (q .0 < stateLimit) ⌝ }
+    requires { ⌜ (row < slotRows) × (p .0 < stateLimit) × (q .0 < stateLimit) ⌝ }
     ensures { λ r. ⌜ Decides r (getD (now (slots .entry)) (slotPlace row (p .0)) 0
         ≡ getD (now (slots .entry)) (slotPlace row (q .0)) 0) ⌝ }
 {

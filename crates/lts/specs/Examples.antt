@@ -31,7 +31,7 @@ use Rattle.lts.specs.DistanceLaws.{distance-suc}
 use Rattle.lts.specs.Checked.{lowStep?, lowRound, lowRank, weakRound, weakRank, bnid?, deterministic?}
 use Rattle.lts.specs.CheckedLaws.{decided-low}
 use Rattle.lts.specs.Examples.Listed.{System, view, tests}
-use Rattle.lts.specs.Examples.ListedLaws.{decided, listed-deterministic, listed-game}
+use Rattle.lts.specs.Examples.ListedLaws.{decided, listed-deterministic, lowStep-game}
 use Rattle.lts.specs.Examples.ListedLaws.{listed-rank, listed-weak-game, listed-weak-rank}
 use Rattle.lts.specs.Examples.ListedLaws.{listed-labels, listed-passed, listed-refused}
 use Rattle.lts.specs.Examples.ByHand.{page-scan-scan}
@@ -202,7 +202,7 @@ page-low-rank-next : Rank (LowStep pageView) 1 3 1
 page-low-rank-next = listed-rank pageSystem usual 1 3 1 (omega arith) (omega arith) (computed .page-low-rank-next)
 
 page-word : FirstWord pageView 0 2 (scan ∷ scan ∷ [])
-page-word = first-word-cons pageView (lowRound pageView (tests pageSystem)) (listed-game pageSystem usual)
+page-word = first-word-cons pageView (lowRound pageView (tests pageSystem)) (lowStep-game pageSystem usual)
     page-deterministic 0 0 2 scan 1 3 (scan ∷ []) (begin tt) (onward {a = print} (begin {p = 0} tt) tt)
     (separated-of-rank (LowStep pageView) 0 2 2 (omega arith) page-low-rank) (tt, tt) (tt, tt)
     (separated-of-rank (LowStep pageView) 1 3 1 (omega arith) page-low-rank-next)

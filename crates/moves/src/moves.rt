@@ -17,7 +17,7 @@ ghost use Rattle.model.specs.Inner.Stored.{Stored};
 ghost use Rattle.model.specs.Inner.Index.{Index};
 ghost use Rattle.model.specs.Inner.Roles.{RolesOf};
 ghost use Rattle.text.specs.Limits.{indexLength};
-ghost use Rattle.comparing.specs.MoveList.{Lists, Rising, Ordered};
+ghost use Rattle.by_state.specs.MoveList.{Lists, Rising, Ordered};
 ghost use Rattle.moves.specs.Inner.Listing.{Appended, Among, LowAs};
 ghost use Rattle.model.specs.System.{view};
 ghost use Rattle.lts.specs.Weak.{LowStep};

@@ -29,7 +29,7 @@ fn list_low(store: &[u16], roles: &[u16], labels: &mut [u16; LABEL_COUNT]) -> u1
     let mut count = 0;
     for a in 0..n {
         if is_low(roles, Action(a)) {
-            comparing::stores::put(labels, count as usize, a);
+            by_state::stores::put(labels, count as usize, a);
             count += 1;
         }
     }

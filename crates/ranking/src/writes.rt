@@ -1,6 +1,6 @@
 // What a round writes into the table: its number, for each two states that it separates. One of them changed its class.
 use crate::table::pair_place;
-use comparing::lists::class_at;
+use by_state::lists::class_at;
 use text::State;
 use text::limits::ROW;
 ghost use Prim.Native.Nat.{ℕ, _≤_, _<_};

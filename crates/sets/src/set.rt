@@ -8,7 +8,7 @@ ghost use lib.ListN.{length};
 ghost use Rattle.text.specs.Decides.{Decides};
 ghost use Rattle.text.specs.Limits.{stateLimit};
 ghost use Rattle.sets.specs.Inner.Sets.{Member, Joined};
-ghost use Rattle.sets.specs.Inner.SetValues.{In, SetOf, Least, GreatestOf, SetPut};
+ghost use Rattle.sets.specs.Inner.SetValues.{In, SetOf, LeastOf, GreatestOf, SetPut};
 
 // The bits of a word.
 pub const WORD_BITS: u16 = 64;
@@ -92,7 +92,7 @@ pub fn is_equal(a: Set, b: Set) -> bool
 
 // The least member, or 128.
 pub fn least(a: Set) -> u16
-    ensures { λ r. ⌜ Least a r ⌝ }
+    ensures { λ r. ⌜ LeastOf a r ⌝ }
 {
     if a.0 != 0 {
         return u64::trailing_zeros(a.0) as u16;
@@ -102,7 +102,7 @@ pub fn least(a: Set) -> u16
 
 // The set without its least member, if it has one.
 pub fn drop_least(a: Set) -> Set
-    ensures { λ r. ⌜ ((p : ℕ) → Least a p → SetOf (λ x. In a x × ¬ (x ≡ p)) r) ⌝ }
+    ensures { λ r. ⌜ ((p : ℕ) → LeastOf a p → SetOf (λ x. In a x × ¬ (x ≡ p)) r) ⌝ }
 {
     if a.0 != 0 {
         return Set(a.0 & (a.0 - 1), a.1);

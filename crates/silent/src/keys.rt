@@ -1,6 +1,6 @@
 // The keys of states: for each label, the classes that the moves of each state with this label lead to.
 use crate::LABELS_LENGTH;
-use comparing::lists::wide;
+use by_state::lists::wide;
 use sets::SETS_LENGTH;
 use sets::add_member;
 use sets::clear_sets;
@@ -17,10 +17,10 @@ ghost use Prim.Native.Nat.{ℕ, _≤_, _<_};
 ghost use lib.ListN.{length, getD};
 ghost use Rattle.lts.specs.Weak.{silentLabel};
 ghost use Rattle.text.specs.Limits.{stateLimit, actionLimit};
-ghost use Rattle.comparing.specs.Inner.Numbered.{ClassNumbers};
+ghost use Rattle.by_state.specs.Inner.Numbered.{ClassNumbers};
 ghost use Rattle.sets.specs.Inner.Sets.{Member, Joined};
 ghost use Rattle.silent.specs.Labelled.{LabelStep, LabelList, TickLabel, LabelMove};
-ghost use Rattle.silent.specs.Inner.Keys.{turnPlace, OfStates, OwnClasses, Passed, ClosedUnder, Closed};
+ghost use Rattle.silent.specs.Inner.Keys.{turnPlace, OfStates, OwnClasses, SpreadOnce, ClosedUnder, Closed};
 ghost use Rattle.silent.specs.Inner.Keys.{Gathered, Keys};
 
 // Makes set p the class of p alone, for each of n states.
@@ -78,7 +78,7 @@ fn pass(
 ) -> bool
     requires { ⌜ LabelList n (now from) (now sources) (now targets) ⌝ }
     requires { ⌜ OfStates n (now sets) ⌝ }
-    ensures { λ r. ⌜ Passed (TickLabel (now (from .entry)) (now (sources .entry)) (now (targets .entry))) n
+    ensures { λ r. ⌜ SpreadOnce (TickLabel (now (from .entry)) (now (sources .entry)) (now (targets .entry))) n
         (now (sets .entry)) (now (sets .exit)) ⌝ }
     ensures { λ r. ⌜ (r ≡ false
         → ClosedUnder (TickLabel (now (from .entry)) (now (sources .entry)) (now (targets .entry)))

@@ -1,8 +1,8 @@
 // A partition split by a set of states.
 use crate::Parts;
-use comparing::Class;
-use comparing::lists::class_at;
-use comparing::stores::put;
+use by_state::Class;
+use by_state::lists::class_at;
+use by_state::stores::put;
 use sets::SETS_LENGTH;
 use sets::set::Set;
 use sets::set::both;

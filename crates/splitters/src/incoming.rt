@@ -16,7 +16,7 @@ use text::limits::STATE_LIMIT;
 ghost use Prim.Native.Nat.{ℕ, _≤_, _<_};
 ghost use Rattle.text.specs.Limits.{stateLimit};
 ghost use Rattle.sets.specs.Inner.Sets.{Member};
-ghost use Rattle.held.specs.Held.{rowCount, HeldList};
+ghost use Rattle.held.specs.Held.{slotRows, HeldList};
 ghost use Rattle.splitters.specs.Inner.Splitters.{Into, RowNoted};
 
 // Up to so many labels are all noted.
@@ -24,7 +24,7 @@ const FEW: u16 = 16;
 
 // Notes the label of number i, whose sources stand in this row, for each state that its moves lead to.
 fn note_label(pool: &[u64; POOL_LENGTH], row: u16, i: u16, into: &mut [u64; SETS_LENGTH])
-    requires { ⌜ (row < rowCount) × (i < stateLimit) ⌝ }
+    requires { ⌜ (row < slotRows) × (i < stateLimit) ⌝ }
     ensures { λ _. ⌜ RowNoted (now (pool .entry)) row i (now (into .entry)) (now (into .exit)) ⌝ }
 {
     let mut left = occupied(pool, row);

@@ -18,13 +18,13 @@ use text::State;
 use text::limits::STATE_LIMIT;
 ghost use Prim.Native.Nat.{_+_, _<_};
 ghost use Rattle.sets.specs.Inner.SetValues.{In, SetOf};
-ghost use Rattle.held.specs.Held.{rowCount, poolSets, Turned};
+ghost use Rattle.held.specs.Held.{slotRows, poolSets, Turned};
 ghost use Rattle.held.specs.Inner.Slots.{Pooled};
 ghost use Rattle.splitters.specs.Inner.Splitters.{InSome, LeadsInto, LedFrom};
 
 // What the members of a set have together, in their sets of this row.
 pub fn joint(slots: &[u16; SLOTS_LENGTH], pool: &[u64; POOL_LENGTH], row: u16, set: Set) -> Set
-    requires { ⌜ (row < rowCount) × Pooled poolSets (now slots) (now pool) ⌝ }
+    requires { ⌜ (row < slotRows) × Pooled poolSets (now slots) (now pool) ⌝ }
     ensures { λ r. ⌜ SetOf (LedFrom (now (slots .entry)) (now (pool .entry)) row set) r ⌝ }
 {
     let mut found = none();
@@ -41,7 +41,7 @@ pub fn joint(slots: &[u16; SLOTS_LENGTH], pool: &[u64; POOL_LENGTH], row: u16, s
 // The states with a move into a set: `row` has the targets, and the next one the sources. If the set has all targets,
 // they are those with any move.
 pub fn sources(slots: &[u16; SLOTS_LENGTH], pool: &[u64; POOL_LENGTH], row: u16, set: Set) -> Set
-    requires { ⌜ (row + 1 < rowCount) × Pooled poolSets (now slots) (now pool) ⌝ }
+    requires { ⌜ (row + 1 < slotRows) × Pooled poolSets (now slots) (now pool) ⌝ }
     requires { ⌜ Turned (now slots) (now pool) row (row + 1) ⌝ }
     ensures { λ r. ⌜ SetOf (LedFrom (now (slots .entry)) (now (pool .entry)) (row + 1) set) r ⌝ }
 {
@@ -77,7 +77,7 @@ pub fn leading(
     set: Set,
     goal: Set,
 ) -> Set
-    requires { ⌜ (row < rowCount) × (back < rowCount) × Pooled poolSets (now slots) (now pool) ⌝ }
+    requires { ⌜ (row < slotRows) × (back < slotRows) × Pooled poolSets (now slots) (now pool) ⌝ }
     requires { ⌜ Turned (now slots) (now pool) row back ⌝ }
     ensures { λ r. ⌜ SetOf (λ p. In set p × LeadsInto (now (slots .entry)) (now (pool .entry)) row goal p) r ⌝ }
 {

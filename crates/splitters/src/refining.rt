@@ -4,7 +4,7 @@ use crate::dividing::split;
 use crate::leading::leading;
 use crate::leading::sources;
 use crate::leading::union;
-use comparing::lists::wide;
+use by_state::lists::wide;
 use held::LABEL_COUNT;
 use held::POOL_LENGTH;
 use held::SLOTS_LENGTH;
@@ -22,7 +22,7 @@ use text::limits::ROW;
 ghost use Prim.Native.Nat.{ℕ, _+_, _≤_, _<_};
 ghost use lib.ListN.{getD};
 ghost use Rattle.text.specs.Limits.{stateLimit};
-ghost use Rattle.held.specs.Held.{rowCount, poolSets, Turned, HeldList};
+ghost use Rattle.held.specs.Held.{slotRows, poolSets, Turned, HeldList};
 ghost use Rattle.held.specs.Inner.Slots.{Pooled};
 ghost use Rattle.splitters.specs.Inner.Partition.{Partition, SplitTwice};
 ghost use Rattle.splitters.specs.Inner.Splitters.{Fresh, SetsKept, LeadsInto, Into};
@@ -45,7 +45,7 @@ fn split_moves(
 ) -> Parts
     requires { ⌜ (n ≤ stateLimit) × (old ≤ parts .classes) ⌝ }
     requires { ⌜ Partition n (now class) (now members) (parts .classes) (parts .together) ⌝ }
-    requires { ⌜ (row + 1 < rowCount) × Pooled poolSets (now slots) (now pool) ⌝ }
+    requires { ⌜ (row + 1 < slotRows) × Pooled poolSets (now slots) (now pool) ⌝ }
     requires { ⌜ Turned (now slots) (now pool) row (row + 1) ⌝ }
     ensures { λ r. ⌜ Partition n (now (class .exit)) (now (members .exit)) (r .classes) (r .together)
         × (parts .classes ≤ r .classes) ⌝ }

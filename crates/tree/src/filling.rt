@@ -1,8 +1,8 @@
 // Fills the table from the splitting tree: the row of a state is that of its class.
 use crate::rows::fill_rows;
 use crate::rows::write_parts;
-use comparing::Class;
-use comparing::lists::class_at;
+use by_state::Class;
+use by_state::lists::class_at;
 use sets::SETS_LENGTH;
 use text::State;
 use text::limits::ROW;

@@ -1,7 +1,7 @@
 // The table by classes, a row for each class and an entry for each state: the round that separated the class from the
 // state's.
 use crate::put;
-use comparing::Class;
+use by_state::Class;
 use sets::SETS_LENGTH;
 use sets::set::Set;
 use sets::set::drop_least;

@@ -4,8 +4,8 @@ use crate::BYTE_VALUES;
 use books::check::Checked;
 use books::check::bad_or_sound;
 use books::check::byte_value;
-use comparing::lists::wide;
-use comparing::stores::put;
+use by_state::lists::wide;
+use by_state::stores::put;
 use held::LABEL_COUNT;
 use held::POOL_LENGTH;
 use held::SLOTS_LENGTH;
@@ -35,7 +35,7 @@ ghost use Rattle.books.specs.Books.{entryNumber, bookOf};
 ghost use Rattle.books.specs.Checks.{checkedOutcome, CheckDone};
 ghost use Rattle.books.specs.Inner.Sides.{FirstOf, SoundTo};
 ghost use Rattle.sets.specs.Inner.Sets.{Member};
-ghost use Rattle.held.specs.Held.{labelCount, rowCount, poolSets, HeldAt, HeldList, HeldMove};
+ghost use Rattle.held.specs.Held.{labelCount, slotRows, poolSets, HeldAt, HeldList, HeldMove};
 ghost use Rattle.weak_books.specs.Inner.Bounds.{byteValues};
 ghost use Rattle.weak_books.specs.Inner.Depths.{OnChain, AtDepth, Chained, LowerBy, LowerAdded};
 ghost use Rattle.weak_books.specs.Inner.Depths.{Flagged};
@@ -91,7 +91,7 @@ fn opens_in_row(
     q: State,
     t: State,
 ) -> bool
-    requires { ⌜ (p .0 < stateLimit) × (q .0 < stateLimit) × (row < rowCount)
+    requires { ⌜ (p .0 < stateLimit) × (q .0 < stateLimit) × (row < slotRows)
         × ((i : ℕ) → getD (now slots) i 0 < poolSets) ⌝ }
     ensures { λ r. ⌜ Decides r (OpensTo (HeldAt (now (slots .entry)) (now (pool .entry)) row)
         (Member (now (lower .entry))) (p .0) (q .0) (t .0)) ⌝ }

@@ -2,7 +2,7 @@
 use crate::opening::Opening;
 use crate::opening::find_opening;
 use books::book::put_entry;
-use comparing::lists::class_at;
+use by_state::lists::class_at;
 use held::LABEL_COUNT;
 use held::POOL_LENGTH;
 use held::SLOTS_LENGTH;
@@ -20,7 +20,7 @@ ghost use Prim.Native.Nat.{ℕ, _≤_, _<_};
 ghost use lib.ListN.{length};
 ghost use Rattle.lts.specs.Alike.{Answers};
 ghost use Rattle.text.specs.Limits.{stateLimit, pairPlace, bookLength};
-ghost use Rattle.comparing.specs.Inner.Numbered.{Same};
+ghost use Rattle.by_state.specs.Inner.Numbered.{Same};
 ghost use Rattle.sets.specs.Inner.SetValues.{In, SetOf};
 ghost use Rattle.held.specs.Held.{HeldList, HeldMove};
 ghost use Rattle.ranking.specs.Inner.TableWrites.{SeparatedBy};

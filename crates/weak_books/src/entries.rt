@@ -29,7 +29,7 @@ ghost use Rattle.books.specs.Books.{bookOf};
 ghost use Rattle.books.specs.Checks.{checkedOutcome, CheckDone};
 ghost use Rattle.books.specs.Inner.Sides.{BySide, SoundTo};
 ghost use Rattle.sets.specs.Inner.SetValues.{In};
-ghost use Rattle.held.specs.Held.{rowCount, poolSets, HeldAt, HeldList, HeldMove};
+ghost use Rattle.held.specs.Held.{slotRows, poolSets, HeldAt, HeldList, HeldMove};
 ghost use Rattle.weak_books.specs.Inner.Depths.{Flagged};
 ghost use Rattle.weak_books.specs.Inner.OpensTo.{OpensTo};
 
@@ -63,7 +63,7 @@ fn opens_by_answers(
     t: State,
     depth: u8,
 ) -> bool
-    requires { ⌜ (row < rowCount) × ((i : ℕ) → getD (now slots) i 0 < poolSets) ⌝ }
+    requires { ⌜ (row < slotRows) × ((i : ℕ) → getD (now slots) i 0 < poolSets) ⌝ }
     requires { ⌜ (p .0 < stateLimit) × (q .0 < stateLimit) × (bookLength ≤ length (now book)) ⌝ }
     ensures { λ r. ⌜ Decides r (OpensTo (HeldAt (now (slots .entry)) (now (pool .entry)) row)
         (BySide forward (LowerEntry (bookOf (now (book .entry))) depth)) (p .0) (q .0) (t .0)) ⌝ }

@@ -7,6 +7,7 @@ use held::SLOTS_LENGTH;
 use ranking::table::clear;
 use sets::SETS_LENGTH;
 use splitters::Parts;
+use splitters::RoundsDone;
 use splitters::incoming::note_labels;
 use splitters::rounds::one_class;
 use splitters::rounds::round;
@@ -37,7 +38,7 @@ fn book_round(
     class: &mut [u16; ROW],
     members: &mut [u64; SETS_LENGTH],
     origin: &mut [u16; ROW],
-    fresh: &mut [u64; SETS_LENGTH],
+    under: &mut [u64; SETS_LENGTH],
     rest: &mut [u64; SETS_LENGTH],
     when: &mut [u8; ROW],
     book: &mut [u8],
@@ -45,10 +46,10 @@ fn book_round(
     requires { ⌜ HeldList n (now labels) count (now slots) (now pool)
         × Into (now labels) count (now slots) (now into) ⌝ }
     requires { ⌜ (k < parts .classes) × Ready (HeldMove (now labels) count (now slots) (now pool)) n k first (now class)
-        (now members) (now origin) (now fresh) (now when) (parts .classes) (parts .together) ⌝ }
+        (now members) (now origin) (now under) (now when) (parts .classes) (parts .together) ⌝ }
     requires { ⌜ bookLength ≤ length (now book) ⌝ }
     ensures { λ r. ⌜ Rounded (HeldMove (now (labels .entry)) count (now (slots .entry)) (now (pool .entry))) n k
-        (now (class .entry)) (now (class .exit)) (now (members .exit)) (now (origin .exit)) (now (fresh .exit))
+        (now (class .entry)) (now (class .exit)) (now (members .exit)) (now (origin .exit)) (now (under .exit))
         (now (when .exit)) (parts .classes) (r .classes) (r .together) ⌝ }
     ensures { λ r. ⌜ RoundEntered (HeldMove (now (labels .entry)) count (now (slots .entry)) (now (pool .entry))) n k
         (now (class .entry)) (now (class .exit)) (parts .classes) (r .classes) (now (book .entry))
@@ -69,7 +70,7 @@ fn book_round(
         class,
         members,
         origin,
-        fresh,
+        under,
         rest,
         when,
     );
@@ -93,12 +94,6 @@ fn book_round(
     next
 }
 
-// The last round that separated a pair, and how many classes there are then.
-struct LastEntered {
-    number: u8,
-    classes: u16,
-}
-
 // Goes round until a round separates no further pair.
 fn book_rounds(
     n: u16,
@@ -111,19 +106,19 @@ fn book_rounds(
     class: &mut [u16; ROW],
     members: &mut [u64; SETS_LENGTH],
     origin: &mut [u16; ROW],
-    fresh: &mut [u64; SETS_LENGTH],
+    under: &mut [u64; SETS_LENGTH],
     rest: &mut [u64; SETS_LENGTH],
     when: &mut [u8; ROW],
     book: &mut [u8],
-) -> LastEntered
+) -> RoundsDone
     requires { ⌜ HeldList n (now labels) count (now slots) (now pool)
         × Into (now labels) count (now slots) (now into) ⌝ }
     requires { ⌜ Rounds (HeldMove (now labels) count (now slots) (now pool)) n 0 0 (now class) (now members)
-        (now origin) (now fresh) (now when) (parts .classes) (parts .together) ⌝ }
+        (now origin) (now under) (now when) (parts .classes) (parts .together) ⌝ }
     requires { ⌜ (bookLength ≤ length (now book))
         × BookUpTo (HeldMove (now labels) count (now slots) (now pool)) n 0 (now book) ⌝ }
     ensures { λ r. ⌜ BookEnded (HeldMove (now (labels .entry)) count (now (slots .entry)) (now (pool .entry))) n
-        (r .number) (now (class .exit)) (now (members .exit)) (now (origin .exit)) (now (fresh .exit))
+        (r .last) (now (class .exit)) (now (members .exit)) (now (origin .exit)) (now (under .exit))
         (now (when .exit)) (r .classes) (now (book .entry)) (now (book .exit)) ⌝ }
 {
     let mut parts = parts;
@@ -144,7 +139,7 @@ fn book_rounds(
             class,
             members,
             origin,
-            fresh,
+            under,
             rest,
             when,
             book,
@@ -156,8 +151,8 @@ fn book_rounds(
         parts = next;
         k += 1;
     };
-    LastEntered {
-        number: last,
+    RoundsDone {
+        last,
         classes: parts.classes,
     }
 }
@@ -184,13 +179,13 @@ pub fn fill_held_book(
     let mut class = [0u16; ROW];
     let mut members = [0u64; SETS_LENGTH];
     let mut origin = [0u16; ROW];
-    let mut fresh = [0u64; SETS_LENGTH];
+    let mut under = [0u64; SETS_LENGTH];
     let mut rest = [0u64; SETS_LENGTH];
     let mut into = [0u64; SETS_LENGTH];
     let mut when = [0u8; ROW];
     note_labels(n, labels, count, slots, pool, &mut into);
     let parts = one_class(n, &mut members);
-    let last = book_rounds(
+    let done = book_rounds(
         n,
         labels,
         count,
@@ -201,20 +196,20 @@ pub fn fill_held_book(
         &mut class,
         &mut members,
         &mut origin,
-        &mut fresh,
+        &mut under,
         &mut rest,
         &mut when,
         book,
     );
     fill_table(
         n,
-        last.classes,
+        done.classes,
         &class,
         &members,
         &origin,
-        &fresh,
+        &under,
         &when,
         table,
     );
-    last.number
+    done.last
 }

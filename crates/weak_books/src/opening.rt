@@ -1,5 +1,5 @@
 // The first opening of a state against another: a move to which no answer leads to the same class.
-use comparing::lists::class_at;
+use by_state::lists::class_at;
 use held::LABEL_COUNT;
 use held::POOL_LENGTH;
 use held::SLOTS_LENGTH;
@@ -18,7 +18,7 @@ use text::limits::STATE_LIMIT;
 ghost use Prim.Native.Nat.{ℕ, _≤_, _<_};
 ghost use lib.ListN.{getD};
 ghost use Rattle.text.specs.Limits.{stateLimit};
-ghost use Rattle.held.specs.Held.{rowCount, poolSets, HeldAt, HeldList, HeldMove};
+ghost use Rattle.held.specs.Held.{slotRows, poolSets, HeldAt, HeldList, HeldMove};
 ghost use Rattle.splitters.specs.Inner.Partition.{ClassSets};
 ghost use Rattle.held.specs.HeldTests.{labelLimit};
 ghost use Rattle.weak_books.specs.Inner.OpensTo.{LowestTo};
@@ -41,7 +41,7 @@ fn lowest_left(
     p: State,
     q: State,
 ) -> u16
-    requires { ⌜ (n ≤ stateLimit) × (p .0 < stateLimit) × (q .0 < stateLimit) × (row < rowCount)
+    requires { ⌜ (n ≤ stateLimit) × (p .0 < stateLimit) × (q .0 < stateLimit) × (row < slotRows)
         × ((i : ℕ) → getD (now slots) i 0 < poolSets) ⌝ }
     requires { ⌜ ((x y : ℕ) → x < stateLimit → HeldAt (now slots) (now pool) row x y → y < n) ⌝ }
     requires { ⌜ ClassSets n (now class) (now members) ⌝ }
@@ -74,7 +74,7 @@ fn lowest_apart(
     p: State,
     q: State,
 ) -> u16
-    requires { ⌜ (n ≤ stateLimit) × (p .0 < stateLimit) × (q .0 < stateLimit) × (row < rowCount)
+    requires { ⌜ (n ≤ stateLimit) × (p .0 < stateLimit) × (q .0 < stateLimit) × (row < slotRows)
         × ((i : ℕ) → getD (now slots) i 0 < poolSets) ⌝ }
     requires { ⌜ ((x y : ℕ) → x < stateLimit → HeldAt (now slots) (now pool) row x y → y < n) ⌝ }
     requires { ⌜ ClassSets n (now class) (now members) ⌝ }

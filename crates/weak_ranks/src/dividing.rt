@@ -1,6 +1,6 @@
 // Classes divided by keys. The number of a class is its lowest state, its lead.
-use comparing::lists::class_at;
-use comparing::stores::put;
+use by_state::lists::class_at;
+use by_state::stores::put;
 use sets::SETS_LENGTH;
 use sets::set::is_equal;
 use sets::set::set_at;

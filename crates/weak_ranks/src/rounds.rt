@@ -1,7 +1,7 @@
 // The rounds: in each, the classes are divided by the keys of all labels.
 use crate::dividing::divide_by_keys;
-use comparing::lists::class_at;
-use comparing::stores::put;
+use by_state::lists::class_at;
+use by_state::stores::put;
 use ranking::table::clear;
 use ranking::writes::write_rows;
 use sets::SETS_LENGTH;

@@ -4,7 +4,7 @@ use mathlib.Core.Path.{_≡_}
 use Prim.Native.Nat.{ℕ, _+_, _≤_, _<_}
 use lib.ListN.{getD}
 use Rattle.text.specs.Limits.{stateLimit, actionLimit, stepLimit, groupPlace, groupsLength}
-use Rattle.comparing.specs.MoveList.{Listed}
+use Rattle.by_state.specs.MoveList.{Listed}
 
 -- The moves of p with the action a are a group: they stand from place groups[64p + a] up to place groups[64p + a + 1].
 pub record InGroup (groups : List ℕ) (p a i : ℕ) : Type 0 where

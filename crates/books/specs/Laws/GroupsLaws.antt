@@ -10,8 +10,8 @@ use lib.ListN.{length, getD, set}
 use lib.Seq.{getD-set-same, getD-set-other}
 use Rattle.lts.specs.TestsLaws.{lt-or-le, eq-or-not, le-of-not-lt}
 use Rattle.text.specs.Limits.{stateLimit, actionLimit, groupPlace, groupsLength}
-use Rattle.comparing.specs.MoveList.{Listed, MoveList, Ordered}
-use Rattle.comparing.specs.Laws.MoveListLaws.{rising-le, place-lt-last, listed-decided}
+use Rattle.by_state.specs.MoveList.{Listed, MoveList, Ordered}
+use Rattle.by_state.specs.Laws.MoveListLaws.{rising-le, place-lt-last, listed-decided}
 use Rattle.books.specs.Inner.Groups.{Indexed, Groups, IndexOf, PlaceOf, GroupAt, IndexedTo, Given}
 
 -- ---- giving places a value

@@ -9,7 +9,7 @@ use Rattle.lts.specs.Weak.{Weak}
 use Rattle.lts.specs.WeakLaws.{weak-map}
 use Rattle.text.specs.Faults.{Outcome}
 use Rattle.text.specs.Limits.{stateLimit}
-use Rattle.comparing.specs.MoveList.{Listed, Lists, Ordered}
+use Rattle.by_state.specs.MoveList.{Listed, Lists, Ordered}
 use Rattle.books.specs.Books.{bookOf, BookFilled}
 use Rattle.books.specs.Checks.{CheckDone, StillMove}
 use Rattle.books.specs.Laws.ChecksLaws.{checkDone-same}

@@ -10,8 +10,8 @@ use Rattle.lts.specs.TestsLaws.{lt-or-le}
 use Rattle.lts.specs.Book.{Opens, LowerRank, FirstPlay}
 use Rattle.lts.specs.BookLaws.{firstPlay-of-first, opens-by-second, firstPlay-of-second}
 use Rattle.lts.specs.OwnBookLaws.{lowerRank-sym, play-exists}
-use Rattle.comparing.specs.MoveList.{Listed, MoveList, Ordered}
-use Rattle.comparing.specs.Laws.MoveListLaws.{listed-game, listed-target-lt}
+use Rattle.by_state.specs.MoveList.{Listed, MoveList, Ordered}
+use Rattle.by_state.specs.Laws.MoveListLaws.{listed-game, listed-target-lt}
 use Rattle.ranking.specs.Table.{Ranks}
 use Rattle.ranking.specs.Laws.LowerRanksLaws.{lowerRank-of-rankIn, rankIn-of-lowerRank}
 use Rattle.books.specs.Inner.Openings.{LowerAnswers, FirstOpening}

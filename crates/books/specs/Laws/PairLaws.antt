@@ -8,8 +8,8 @@ use lib.ListN.{getD}
 use Rattle.lts.specs.Alike.{Rank}
 use Rattle.lts.specs.Book.{noEntry}
 use Rattle.text.specs.Limits.{pairPlace}
-use Rattle.comparing.specs.MoveList.{Listed, MoveList, Ordered}
-use Rattle.comparing.specs.Laws.MoveListLaws.{place-lt-last}
+use Rattle.by_state.specs.MoveList.{Listed, MoveList, Ordered}
+use Rattle.by_state.specs.Laws.MoveListLaws.{place-lt-last}
 use Rattle.ranking.specs.Table.{Ranks}
 use Rattle.books.specs.Books.{entryNumber}
 use Rattle.books.specs.Inner.Openings.{FirstOpening}

@@ -16,8 +16,8 @@ use Rattle.lts.specs.WeakLaws.{silent-source-lt, weak-agree-all}
 use Rattle.text.specs.Decides.{Decides}
 use Rattle.text.specs.Limits.{actionLimit}
 use Rattle.text.specs.Laws.DecidesLaws.{decides-iff}
-use Rattle.comparing.specs.MoveList.{Listed, MoveList}
-use Rattle.comparing.specs.Laws.MoveListLaws.{listed-target-lt, listed-action-lt}
+use Rattle.by_state.specs.MoveList.{Listed, MoveList}
+use Rattle.by_state.specs.Laws.MoveListLaws.{listed-target-lt, listed-action-lt}
 use Rattle.books.specs.Checks.{StillMove}
 use Rattle.books.specs.Inner.Groups.{IndexOf, Indexed}
 use Rattle.books.specs.Inner.Still.{Still, moves, stays, StaysUnanswered, UnansweredBy, first-stays, second-stays}

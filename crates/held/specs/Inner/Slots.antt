@@ -9,7 +9,7 @@ use Rattle.text.specs.Limits.{stateLimit}
 use Rattle.sets.specs.Inner.Sets.{Member}
 use Rattle.sets.specs.Inner.SetValues.{In, SetOf}
 use Rattle.sets.specs.declared.set.Set.{Set}
-use Rattle.held.specs.Held.{rowCount, poolSets, slotPlace, targetRow, sourceRow}
+use Rattle.held.specs.Held.{slotRows, poolSets, slotPlace, targetRow, sourceRow}
 use Rattle.held.specs.Held.{LabelIn, HeldAt, HeldLabel, Occupied}
 
 -- The sets from `used` on are free, set 0 has no member, and the set of each row has its states.
@@ -47,16 +47,16 @@ pub record Shared (used number : ℕ) (s : Set) (pool pool′ : List ℕ) : Type
 
 -- The sets of all rows but this one are as they were.
 pub record RowsKept (row : ℕ) (slots pool slots′ pool′ : List ℕ) : Type 0 where
-  pub there : (r p x : ℕ) → r < rowCount → ¬ (r ≡ row) → p < stateLimit → HeldAt slots pool r p x
+  pub there : (r p x : ℕ) → r < slotRows → ¬ (r ≡ row) → p < stateLimit → HeldAt slots pool r p x
       → HeldAt slots′ pool′ r p x
-  pub back : (r p x : ℕ) → r < rowCount → ¬ (r ≡ row) → p < stateLimit → HeldAt slots′ pool′ r p x
+  pub back : (r p x : ℕ) → r < slotRows → ¬ (r ≡ row) → p < stateLimit → HeldAt slots′ pool′ r p x
       → HeldAt slots pool r p x
 
 -- The sets of all labels but a are as they were.
 pub record LabelsKept (a : ℕ) (slots pool slots′ pool′ : List ℕ) : Type 0 where
-  pub there : (r p x : ℕ) → r < rowCount → ¬ (r ≡ targetRow a) → ¬ (r ≡ sourceRow a) → p < stateLimit
+  pub there : (r p x : ℕ) → r < slotRows → ¬ (r ≡ targetRow a) → ¬ (r ≡ sourceRow a) → p < stateLimit
       → HeldAt slots pool r p x → HeldAt slots′ pool′ r p x
-  pub back : (r p x : ℕ) → r < rowCount → ¬ (r ≡ targetRow a) → ¬ (r ≡ sourceRow a) → p < stateLimit
+  pub back : (r p x : ℕ) → r < slotRows → ¬ (r ≡ targetRow a) → ¬ (r ≡ sourceRow a) → p < stateLimit
       → HeldAt slots′ pool′ r p x → HeldAt slots pool r p x
 
 -- The set of each state below `to` in this row is that of the list.

@@ -10,7 +10,7 @@ use Rattle.silent.specs.Labelled.{LabelList, LabelMove}
 use Rattle.silent.specs.Inner.Targets.{Targets}
 use Rattle.silent.specs.Laws.LabelledLaws.{labelMove-source-lt, labelMove-target-lt}
 use Rattle.silent.specs.Laws.TurnedLaws.{labelList-turned, labelMove-turned}
-use Rattle.held.specs.Held.{rowCount, targetRow, sourceRow, HeldAt, HeldLabel}
+use Rattle.held.specs.Held.{slotRows, targetRow, sourceRow, HeldAt, HeldLabel}
 use Rattle.held.specs.Inner.Slots.{RowsKept, LabelsKept, RowHeld}
 
 -- The moves are among the states that there can be.
@@ -27,7 +27,7 @@ module _ {n : ℕ} {from sources targets : List ℕ} (L : LabelList n from sourc
 
   -- The one row has the targets of the moves, and the next one those of the moves turned round.
   pub heldLabel-of-rows : {a row : ℕ} {sets sets′ slots slots′ pool pool′ : List ℕ} → row ≡ targetRow a
-      → row + 1 < rowCount → Targets (LabelMove n from sources targets) a sets
+      → row + 1 < slotRows → Targets (LabelMove n from sources targets) a sets
       → Targets (LabelMove n from targets sources) a sets′ → RowHeld sets row stateLimit slots pool
       → RowsKept (row + 1) slots pool slots′ pool′ → RowHeld sets′ (row + 1) stateLimit slots′ pool′
       → HeldLabel (LabelMove n from sources targets) slots′ pool′ a
@@ -58,7 +58,7 @@ labelsKept-of-rows e K J = record {
 
 -- Another label's rows are kept.
 pub heldLabel-kept : {Move : Moves} {a b : ℕ} {slots slots′ pool pool′ : List ℕ} → AmongStates Move
-    → sourceRow b < rowCount → ¬ (targetRow b ≡ targetRow a) → ¬ (targetRow b ≡ sourceRow a)
+    → sourceRow b < slotRows → ¬ (targetRow b ≡ targetRow a) → ¬ (targetRow b ≡ sourceRow a)
     → ¬ (sourceRow b ≡ targetRow a) → LabelsKept a slots pool slots′ pool′ → HeldLabel Move slots pool b
     → HeldLabel Move slots′ pool′ b
 heldLabel-kept {a = a} {b} A l d f g K h = record {

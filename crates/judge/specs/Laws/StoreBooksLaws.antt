@@ -17,7 +17,7 @@ use Rattle.model.specs.System.{view}
 use Rattle.model.specs.Inner.Stored.{Stored}
 use Rattle.model.specs.Laws.System.RankBoundLaws.{low-step-game, weak-move-game}
 use Rattle.silent.specs.Labelled.{LabelMove}
-use Rattle.comparing.specs.MoveList.{Listed, Lists}
+use Rattle.by_state.specs.MoveList.{Listed, Lists}
 use Rattle.ranking.specs.Table.{Ranks}
 use Rattle.moves.specs.Labels.{LabelsOf}
 use Rattle.moves.specs.Laws.LabelsLaws.{weakMove-of-labels, labels-of-weakMove, low-weak-agree}

@@ -47,8 +47,8 @@ module _ (M : System) where
     pub listed-deterministic : T (deterministic? (view L M) (tests M)) → Deterministic (view L M)
     listed-deterministic t = deterministic?→Deterministic (view L M) (tests M) (decided L) t
 
-    pub listed-game : Game (LowStep (view L M)) (M .states) (lowRound (view L M) (tests M))
-    listed-game = low-game (view L M) (tests M) (decided L)
+    pub lowStep-game : Game (LowStep (view L M)) (M .states) (lowRound (view L M) (tests M))
+    lowStep-game = low-game (view L M) (tests M) (decided L)
 
     pub listed-rank : (p q r : ℕ) → p < M .states → q < M .states → lowRank (view L M) (tests M) p q ≡ r
         → Rank (LowStep (view L M)) p q r

@@ -7,7 +7,7 @@ use lib.Dec.{T}
 use lib.ListN.{getD}
 use Rattle.text.specs.Model.{Model}
 use Rattle.model.specs.System.{action, target, view}
-use Rattle.comparing.specs.MoveList.{Listed}
+use Rattle.by_state.specs.MoveList.{Listed}
 
 -- From place `from` up to place `to` the two lists have the pairs of Out, each of them; the places before are as they
 -- were.

@@ -16,7 +16,7 @@ use Rattle.text.specs.Model.{Model}
 use Rattle.model.specs.System.{action, view}
 use Rattle.model.specs.Inner.Stored.{Stored}
 use Rattle.model.specs.Laws.System.RankBoundLaws.{low-step-game, weak-move-game}
-use Rattle.comparing.specs.MoveList.{Listed}
+use Rattle.by_state.specs.MoveList.{Listed}
 use Rattle.silent.specs.Labelled.{LabelStep, LabelList, LabelMove}
 use Rattle.ranking.specs.Table.{Ranked}
 use Rattle.ranking.specs.Laws.RankedLaws.{ranked-map}

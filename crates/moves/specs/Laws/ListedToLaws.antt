@@ -12,7 +12,7 @@ use Rattle.lts.specs.TestsLaws.{lt-or-le}
 use Rattle.text.specs.Limits.{stepLimit}
 use Rattle.text.specs.Model.{Model}
 use Rattle.model.specs.Inner.Stored.{Stored}
-use Rattle.comparing.specs.MoveList.{Listed, Lists, Rising, Ordered}
+use Rattle.by_state.specs.MoveList.{Listed, Lists, Rising, Ordered}
 use Rattle.moves.specs.Laws.RisingLaws.{rising-kept}
 use Rattle.moves.specs.Inner.Listing.{Appended, ListedTo}
 use Rattle.model.specs.System.{view}

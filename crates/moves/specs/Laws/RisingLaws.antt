@@ -10,7 +10,7 @@ use Rattle.text.specs.Model.{Model}
 use Rattle.model.specs.System.{source, action}
 use Rattle.model.specs.Inner.Stored.{Stored}
 use Rattle.model.specs.Inner.Index.{Begins}
-use Rattle.comparing.specs.MoveList.{Rising}
+use Rattle.by_state.specs.MoveList.{Rising}
 use Rattle.moves.specs.Inner.Listing.{Appended, Among, LowAs}
 
 pub rising-nil : {at : ℕ} {actions targets : List ℕ} → Rising at at actions targets

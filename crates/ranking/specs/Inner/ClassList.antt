@@ -6,7 +6,7 @@ use Prim.Native.Nat.{ℕ, _<_}
 use lib.ListN.{getD}
 use Rattle.lts.specs.Alike.{Moves, Answers, Alike}
 use Rattle.lts.specs.Game.{Settled, Separates}
-use Rattle.comparing.specs.Inner.Numbered.{Same}
+use Rattle.by_state.specs.Inner.Numbered.{Same}
 
 -- The classes of k-alike states among n.
 pub record Classes (Move : Moves) (n k : ℕ) (class : List ℕ) : Type 0 where

@@ -9,7 +9,7 @@ use Rattle.lts.specs.Alike.{Moves, Alike, Separated}
 use Rattle.lts.specs.Game.{Settled, Separates}
 use Rattle.text.specs.Limits.{stateLimit}
 use Rattle.text.specs.Limits.{pairPlace}
-use Rattle.comparing.specs.Inner.Numbered.{Same}
+use Rattle.by_state.specs.Inner.Numbered.{Same}
 
 -- "Entry 128p + q"
 abbrev pub entryOf : List ℕ → ℕ → ℕ → ℕ

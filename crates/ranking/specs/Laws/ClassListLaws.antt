@@ -8,7 +8,7 @@ use Rattle.lts.specs.Alike.{Moves, Answers, Alike}
 use Rattle.lts.specs.AlikeLaws.{alike-suc, answers-below}
 use Rattle.lts.specs.Game.{Settled, Separates}
 use Rattle.lts.specs.PigeonholeLaws.{injective-le}
-use Rattle.comparing.specs.Inner.Numbered.{Same}
+use Rattle.by_state.specs.Inner.Numbered.{Same}
 use Rattle.ranking.specs.Inner.ClassList.{Classes, Refined, Changed}
 use Rattle.ranking.specs.Inner.TableWrites.{SeparatedBy}
 

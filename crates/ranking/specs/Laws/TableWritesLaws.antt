@@ -12,7 +12,7 @@ use Rattle.lts.specs.Alike.{Moves, Alike, Separated}
 use Rattle.lts.specs.AlikeLaws.{alike-le}
 use Rattle.lts.specs.TestsLaws.{eq-or-not, both-or-not}
 use Rattle.text.specs.Limits.{stateLimit, tableLength, pairPlace}
-use Rattle.comparing.specs.Inner.Numbered.{Same}
+use Rattle.by_state.specs.Inner.Numbered.{Same}
 use Rattle.ranking.specs.Inner.ClassList.{Classes, Changed}
 use Rattle.ranking.specs.Inner.TableWrites.{entryOf, SeparatedBy, Outside, PairWritten, RoundWritten}
 use Rattle.ranking.specs.Inner.TableWrites.{Written, SeparationWritten, RowWritten, RowsWritten}

@@ -23,7 +23,7 @@ pub record SetOf (P : ℕ → Type 0) (s : Set) : Type 0 where
   pub only : (x : ℕ) → In s x → P x
 
 -- The least member of s is x; x is 128 if there is none.
-pub record Least (s : Set) (x : ℕ) : Type 0 where
+pub record LeastOf (s : Set) (x : ℕ) : Type 0 where
   pub least-le : x ≤ stateLimit
   pub none-before : (y : ℕ) → y < x → ¬ (In s y)
   pub member : x < stateLimit → In s x

@@ -14,11 +14,11 @@ use lib.Count.{trailingZeros, under}
 use Rattle.lts.specs.TestsLaws.{lt-or-le}
 use Rattle.sets.specs.Inner.Sets.{wordBits}
 
-bit-lt : (n : ℕ) → n % 2 < 2
-bit-lt n = omega arith
+rem-two-lt : (n : ℕ) → n % 2 < 2
+rem-two-lt n = omega arith
 
 pub bit-cases : (n : ℕ) → (n % 2 ≡ 0) ⊎ (n % 2 ≡ 1)
-bit-cases n = go (n % 2) (bit-lt n)
+bit-cases n = go (n % 2) (rem-two-lt n)
   where
     go : (r : ℕ) → r < 2 → (r ≡ 0) ⊎ (r ≡ 1)
     go zero l = inl refl
@@ -35,7 +35,7 @@ max-lt-two x y h k =
 or-odd : (a b : ℕ) → bitOr a b % 2 ≡ max (a % 2) (b % 2)
 or-odd a b =
     ap (λ (x : ℕ). x % 2) (or-step a b)
-    ∙ digits-mod (bitOr (a / 2) (b / 2)) (max-lt-two (a % 2) (b % 2) (bit-lt a) (bit-lt b))
+    ∙ digits-mod (bitOr (a / 2) (b / 2)) (max-lt-two (a % 2) (b % 2) (rem-two-lt a) (rem-two-lt b))
 
 bit-or : (a b i : ℕ) → bitOr a b / 2 ^ i % 2 ≡ max (a / 2 ^ i % 2) (b / 2 ^ i % 2)
 bit-or a b i = ap (λ (x : ℕ). x % 2) (or-shr a b i) ∙ or-odd (a / 2 ^ i) (b / 2 ^ i)

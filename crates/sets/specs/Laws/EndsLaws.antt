@@ -12,7 +12,7 @@ use Rattle.text.specs.Limits.{stateLimit}
 use Rattle.lts.specs.TestsLaws.{eq-of-not-lt, eq-or-not, lt-or-le}
 use Rattle.sets.specs.declared.set.Set.{Set}
 use Rattle.sets.specs.Inner.Sets.{wordBits, NextBit}
-use Rattle.sets.specs.Inner.SetValues.{wordOf, In, SetOf, Least, GreatestOf}
+use Rattle.sets.specs.Inner.SetValues.{wordOf, In, SetOf, LeastOf, GreatestOf}
 use Rattle.sets.specs.Laws.BitsLaws.{bit-zero, bit-place-lt, trailing-bit, trailing-none}
 use Rattle.sets.specs.Laws.MasksLaws.{bit-and-left, bit-top, zero-of-bits, dropped-bit, dropped-other}
 use Rattle.sets.specs.Laws.SetValuesLaws.{in-of-bit, bit-of-in, in-of-word, word-of-in, none-of-or}
@@ -39,14 +39,14 @@ nextBit-lt {w} {x} fits some n = go (lt-or-le x wordBits)
     go (inl l) = l
     go (inr l) = absurd (some (zero-of-bits w fits (λ i k. n .none-before i (omega arith) (omega (arith, l, k)))))
 
-pub least-low : {s : Set} {x : ℕ} → NextBit (s .0) 0 x → x < wordBits → Least s x
+pub least-low : {s : Set} {x : ℕ} → NextBit (s .0) 0 x → x < wordBits → LeastOf s x
 least-low n l = record {
   least-le = omega (arith, l);
   none-before = λ y k m. n .none-before y (omega arith) k (word-of-in 0 (omega arith) (omega (arith, k, l)) m);
   member = λ k. in-of-word 0 (omega arith) (omega arith) l (n .set l);
 }
 
-pub least-high : {s : Set} {x : ℕ} → s .0 ≡ 0 → NextBit (s .1) 0 x → Least s (wordBits + x)
+pub least-high : {s : Set} {x : ℕ} → s .0 ≡ 0 → NextBit (s .1) 0 x → LeastOf s (wordBits + x)
 least-high {s} {x} e n = record {
   least-le = omega (arith, n .next-le);
   none-before = λ y k m. none y k m (lt-or-le y wordBits);
@@ -60,7 +60,7 @@ least-high {s} {x} e n = record {
         n .none-before (y - wordBits) (omega arith) (omega (arith, k, l))
         (word-of-in 1 (omega (arith, l)) (omega (arith, l, m .member-lt)) m)
 
-least-unique : {s : Set} {x y : ℕ} → Least s x → Least s y → x ≡ y
+least-unique : {s : Set} {x y : ℕ} → LeastOf s x → LeastOf s y → x ≡ y
 least-unique {s} {x} {y} m n =
     eq-of-not-lt x y (λ l. n .none-before x l (m .member (omega (arith, l, n .least-le))))
     (λ l. m .none-before y l (n .member (omega (arith, l, m .least-le))))
@@ -102,7 +102,7 @@ dropped {s} {r} h {i} {p} c l n e f = record {
       λ g. d (omega (arith, g, c, l)),
     )
 
-module _ {s : Set} (p : ℕ) (m : Least s p) where
+module _ {s : Set} (p : ℕ) (m : LeastOf s p) where
   pub dropped-low : s .0 < 2 ^ wordBits → ¬ (s .0 ≡ 0)
       → SetOf (λ x. In s x × ¬ (x ≡ p)) (bitAnd (s .0) (s .0 - 1), s .1)
   dropped-low fits some =

@@ -34,15 +34,15 @@ complement-odd : (n p w : ℕ) → n ≡ p * 2 → w < n → (n - 1 - w) % 2 + w
 complement-odd n p w e l = omega arith
 
 -- Of bit i of a word and of its complement, one is set.
-pub bit-not : (k w i : ℕ) → w < 2 ^ k → i < k → (2 ^ k - 1 - w) / 2 ^ i % 2 + w / 2 ^ i % 2 ≡ 1
-bit-not zero w i l m = absurd (omega arith)
-bit-not (suc k) w zero l m =
+pub bit-complement : (k w i : ℕ) → w < 2 ^ k → i < k → (2 ^ k - 1 - w) / 2 ^ i % 2 + w / 2 ^ i % 2 ≡ 1
+bit-complement zero w i l m = absurd (omega arith)
+bit-complement (suc k) w zero l m =
     ap₂ (λ (x y : ℕ). x + y) (bit-first (2 ^ suc k - 1 - w)) (bit-first w)
     ∙ complement-odd (2 ^ suc k) (2 ^ k) w (pow-suc 2 k) l
-bit-not (suc k) w (suc i) l m =
+bit-complement (suc k) w (suc i) l m =
     let p : 2 ^ suc k ≡ 2 ^ k * 2 = pow-suc 2 k in
     let half : (2 ^ suc k - 1 - w) / 2 ≡ 2 ^ k - 1 - w / 2 = omega arith in
-    let ih = bit-not k (w / 2) i (omega arith) (omega arith) in
+    let ih = bit-complement k (w / 2) i (omega arith) (omega arith) in
     ap₂ (λ (x y : ℕ). x % 2 + y % 2)
     (sym (bit-half (2 ^ suc k - 1 - w) i) ∙ ap (λ (x : ℕ). x / 2 ^ i) half) (sym (bit-half w i))
     ∙ ih

@@ -11,7 +11,7 @@ use Rattle.sets.specs.declared.set.Set.{Set}
 use Rattle.sets.specs.Inner.Sets.{wordBits}
 use Rattle.sets.specs.Inner.SetValues.{wordOf, In, SetOf}
 use Rattle.sets.specs.Laws.BitsLaws.{bit-zero, bit-or-left, bit-or-right, bit-or-cases, bit-pow, bit-pow-unique}
-use Rattle.sets.specs.Laws.MasksLaws.{bit-and-intro, bit-and-left, bit-and-right, bit-not}
+use Rattle.sets.specs.Laws.MasksLaws.{bit-and-intro, bit-and-left, bit-and-right, bit-complement}
 use Rattle.sets.specs.Laws.SetValuesLaws.{in-of-bit, bit-of-in, in-of-word, words-lt, setOf-map, setOf-union}
 
 pub setOf-none : SetOf (λ x. ⊥) (0, 0)
@@ -125,7 +125,7 @@ module _ (a b : Set) where
       word (suc h) = refl
 
       complement : (x : ℕ) → other x / 2 ^ (x % wordBits) % 2 + at b x / 2 ^ (x % wordBits) % 2 ≡ 1
-      complement x = bit-not wordBits (at b x) (x % wordBits) (words-lt k l (x / wordBits)) (omega arith)
+      complement x = bit-complement wordBits (at b x) (x % wordBits) (words-lt k l (x / wordBits)) (omega arith)
 
       set : (x : ℕ) → In a x × ¬ (In b x) → other x / 2 ^ (x % wordBits) % 2 ≡ 1
       set x m =

@@ -3,14 +3,14 @@
 use mathlib.Core.Path.{_≡_, refl, sym, ap, _∙_}
 use mathlib.Core.Logic.{inl}
 use mathlib.Core.List.{List}
-use Prim.Native.Nat.{ℕ, zero, suc, _+_, _*_, _/_, _%_, _^_, _<_}
+use Prim.Native.Nat.{ℕ, zero, suc, _+_, _*_, _/_, _%_, _<_}
 use native.Mathlib.Omega.{arith}
 use lib.Bits.{bitOr, or-comm}
 use lib.ListN.{length, getD, set}
 use lib.Seq.{lt-length-set, getD-set-same, getD-set-other}
 use Rattle.sets.specs.Inner.Sets.{wordBits, Member, Joined}
-use Rattle.sets.specs.Laws.BitsLaws.{or-of-bits, bits-of-or}
-use Rattle.sets.specs.Laws.SetsLaws.{member-of-bit, bit-of-member, member-of-word, word-of-member}
+use Rattle.sets.specs.Laws.BitsLaws.{bits-of-or}
+use Rattle.sets.specs.Laws.SetsLaws.{member-of-bit, bit-of-member}
 use Rattle.sets.specs.Laws.SetsLaws.{joined-store, joined-set}
 
 -- ---- a set within another

@@ -32,7 +32,7 @@ pub record Closed (Tick : Relation) (n : ℕ) (entry exit : List ℕ) : Type 0 w
 
 -- The same of a single pass over the silent steps: set p has got those of the states that one silent step leads to, and
 -- maybe some of those that further ones lead to.
-pub record Passed (Tick : Relation) (n : ℕ) (entry exit : List ℕ) : Type 0 where
+pub record SpreadOnce (Tick : Relation) (n : ℕ) (entry exit : List ℕ) : Type 0 where
   pub kept : (p x : ℕ) → Member entry p x → Member exit p x
   pub along : (p q x : ℕ) → Tick p q → Member entry q x → Member exit p x
   pub only : (p x : ℕ) → p < stateLimit → Member exit p x → (q : ℕ) × Silent Tick n p q × Member entry q x

@@ -19,7 +19,7 @@ pub record AlongSilent (Tick : Relation) (n : ℕ) (entry exit : List ℕ) : Typ
   pub only : (p x : ℕ) → p < stateLimit → Member exit p x → (q : ℕ) × Silent Tick n p q × Member entry q x
 
 -- A pass over the places from `begin` up to `end` has made its turns before i.
-pub record PassedTo (from sources targets : List ℕ) (n : ℕ) (backward : Bool) (begin end i : ℕ) (entry sets : List ℕ)
+pub record SpreadTo (from sources targets : List ℕ) (n : ℕ) (backward : Bool) (begin end i : ℕ) (entry sets : List ℕ)
     : Type 0 where
   pub kept : (p x : ℕ) → Member entry p x → Member sets p x
   pub along : (j x : ℕ) → begin ≤ j → j < i → Member entry (getD targets (turnPlace backward begin end j) 0) x

@@ -14,7 +14,7 @@ use Rattle.lts.specs.Weak.{Silent, stay, tick}
 use Rattle.lts.specs.WeakTests.{DecidedTick}
 use Rattle.text.specs.Limits.{stateLimit}
 use Rattle.sets.specs.Inner.Sets.{Member}
-use Rattle.silent.specs.Inner.Keys.{OfStates, Passed, ClosedUnder, Closed}
+use Rattle.silent.specs.Inner.Keys.{OfStates, SpreadOnce, ClosedUnder, Closed}
 use Rattle.silent.specs.Inner.Loops.{toward, ClosedWithin}
 use Rattle.silent.specs.Laws.LoopsLaws.{alongSilent-refl, alongSilent-trans}
 use Rattle.silent.specs.Laws.TowardLaws.{silent→Within}
@@ -27,7 +27,7 @@ module _ {Tick : Relation} {n : ℕ} where
   }
 
   pub closedWithin-suc : {k : ℕ} {entry sets exit : List ℕ} → n ≤ stateLimit → ClosedWithin Tick n k entry sets
-      → Passed Tick n sets exit → ClosedWithin Tick n (k + 1) entry exit
+      → SpreadOnce Tick n sets exit → ClosedWithin Tick n (k + 1) entry exit
   closedWithin-suc {k} {entry} {sets} {exit} l h P = record {
     near = λ p q x w m. go p q x m (within-suc-cases (within-le {k = suc k} (omega arith) w));
     silent = alongSilent-trans l (h .silent) (record { only = P .only });
@@ -40,14 +40,14 @@ module _ {Tick : Relation} {n : ℕ} where
       go p q x m (inr (r, a, w, t)) = P .along p r x (t .1) (h .near r q x w m)
 
   -- After a pass the sets are closed under one step.
-  closed-along : {k : ℕ} {entry sets exit : List ℕ} → ClosedWithin Tick n k entry sets → Passed Tick n sets exit
+  closed-along : {k : ℕ} {entry sets exit : List ℕ} → ClosedWithin Tick n k entry sets → SpreadOnce Tick n sets exit
       → ClosedUnder Tick exit → {p q : ℕ} (x : ℕ) → Silent Tick n p q → Member entry q x → Member exit p x
   closed-along h P U {p} {q} x (stay l) m =
       P .kept p x (h .near p q x (within-le (omega arith) (within-start (refl, l))) m)
   closed-along h P U x (tick {p = p} {q = r} t s) m = U .along p r x t (closed-along h P U x s m)
 
   pub closed-of-closedUnder : {k : ℕ} {entry sets exit : List ℕ} → n ≤ stateLimit → ClosedWithin Tick n k entry sets
-      → Passed Tick n sets exit → ClosedUnder Tick exit → Closed Tick n entry exit
+      → SpreadOnce Tick n sets exit → ClosedUnder Tick exit → Closed Tick n entry exit
   closed-of-closedUnder l h P U = record {
     reached = λ p q x s m. closed-along h P U x s m;
     only = alongSilent-trans l (h .silent) (record { only = P .only }) .only;

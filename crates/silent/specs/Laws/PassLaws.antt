@@ -13,9 +13,9 @@ use Rattle.lts.specs.Weak.{Silent, tick}
 use Rattle.text.specs.Limits.{stateLimit, actionLimit}
 use Rattle.sets.specs.Inner.Sets.{Member, Joined}
 use Rattle.silent.specs.Labelled.{LabelStep, LabelList, TickLabel}
-use Rattle.silent.specs.Inner.Keys.{turnPlace, OfStates, Passed, ClosedUnder}
+use Rattle.silent.specs.Inner.Keys.{turnPlace, OfStates, SpreadOnce, ClosedUnder}
 use Rattle.silent.specs.Laws.LoopsLaws.{alongSilent-refl}
-use Rattle.silent.specs.Inner.Loops.{PassedTo, ClosedTo}
+use Rattle.silent.specs.Inner.Loops.{SpreadTo, ClosedTo}
 
 -- ---- the turns of a pass
 
@@ -49,21 +49,21 @@ turn-states-lt {at = at} L e l =
     (omega (arith, s, L .states-le), omega (arith, t, L .states-le))
 
 module _ {n : ℕ} {from sources targets : List ℕ} {b : Bool} where
-  pub passedTo-none : {sets : List ℕ} (begin end : ℕ) → OfStates n sets
-      → PassedTo from sources targets n b begin end begin sets sets
-  passedTo-none begin end o = record {
+  pub spreadTo-none : {sets : List ℕ} (begin end : ℕ) → OfStates n sets
+      → SpreadTo from sources targets n b begin end begin sets sets
+  spreadTo-none begin end o = record {
     kept = λ p x m. m;
     along = λ j x l u m. absurd (omega arith);
     silent = alongSilent-refl o;
   }
 
-  pub passedTo-suc : {begin end i at : ℕ} {entry sets exit : List ℕ} → LabelList n from sources targets
+  pub spreadTo-suc : {begin end i at : ℕ} {entry sets exit : List ℕ} → LabelList n from sources targets
       → begin ≡ getD from actionLimit 0 → end ≡ getD from (actionLimit + 1) 0
       → (at ≡ turnPlace b begin end i) × (begin ≤ at) × (at < end)
       → Joined (getD sources at 0) (Member sets (getD targets at 0)) sets exit
-      → PassedTo from sources targets n b begin end i entry sets
-      → PassedTo from sources targets n b begin end (i + 1) entry exit
-  passedTo-suc {begin} {end} {i} {at} {entry} {sets} {exit} L d e (at-is, lo, hi) J h = record {
+      → SpreadTo from sources targets n b begin end i entry sets
+      → SpreadTo from sources targets n b begin end (i + 1) entry exit
+  spreadTo-suc {begin} {end} {i} {at} {entry} {sets} {exit} L d e (at-is, lo, hi) J h = record {
     kept = λ p x m. J .kept p x (h .kept p x m);
     along = λ k x l u m. along k x l u m (eq-or-not k i);
     silent = record { only = λ p x l m. only p x l (J .only p x m) };
@@ -95,10 +95,10 @@ module _ {n : ℕ} {from sources targets : List ℕ} {b : Bool} where
           } in
           (r .0, tick s (r .1), r .2)
 
-  pub passedTo→Passed : {begin end i : ℕ} {entry sets : List ℕ} → begin ≡ getD from actionLimit 0
-      → end ≡ getD from (actionLimit + 1) 0 → end ≤ i → PassedTo from sources targets n b begin end i entry sets
-      → Passed (TickLabel from sources targets) n entry sets
-  passedTo→Passed {begin} {end} {i} {entry} {sets} d e l h = record {
+  pub passedTo→SpreadOnce : {begin end i : ℕ} {entry sets : List ℕ} → begin ≡ getD from actionLimit 0
+      → end ≡ getD from (actionLimit + 1) 0 → end ≤ i → SpreadTo from sources targets n b begin end i entry sets
+      → SpreadOnce (TickLabel from sources targets) n entry sets
+  passedTo→SpreadOnce {begin} {end} {i} {entry} {sets} d e l h = record {
     kept = h .kept;
     along = λ p q x s m.
         let r = turn-of-step b d e s in

@@ -8,7 +8,7 @@ use lib.Seq.{getD-set-same, getD-set-other}
 use borrow.Author.Count.{below-more}
 use Rattle.lts.specs.Alike.{Moves}
 use Rattle.text.specs.Limits.{stateLimit}
-use Rattle.comparing.specs.Inner.Numbered.{ClassNumbers}
+use Rattle.by_state.specs.Inner.Numbered.{ClassNumbers}
 use Rattle.sets.specs.Inner.Sets.{Member}
 use Rattle.silent.specs.Inner.Keys.{Keys}
 use Rattle.silent.specs.Inner.Targets.{OwnNumbers, Targets}

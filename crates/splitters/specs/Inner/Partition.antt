@@ -7,7 +7,7 @@ use Prim.Native.Nat.{ℕ, _≤_, _<_}
 use lib.Dec.{ltb}
 use lib.ListN.{getD}
 use Rattle.text.specs.Limits.{stateLimit}
-use Rattle.comparing.specs.Inner.Numbered.{Same}
+use Rattle.by_state.specs.Inner.Numbered.{Same}
 use Rattle.sets.specs.Inner.Sets.{Member}
 use Rattle.sets.specs.Inner.SetValues.{In}
 use Rattle.sets.specs.declared.set.Set.{Set}

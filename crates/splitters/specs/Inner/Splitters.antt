@@ -10,7 +10,7 @@ use lib.ListN.{getD}
 use Rattle.lts.specs.Alike.{Moves, Relation}
 use Rattle.lts.specs.Game.{Separates}
 use Rattle.text.specs.Limits.{stateLimit}
-use Rattle.comparing.specs.Inner.Numbered.{Same}
+use Rattle.by_state.specs.Inner.Numbered.{Same}
 use Rattle.sets.specs.Inner.Sets.{Member}
 use Rattle.sets.specs.Inner.SetValues.{In}
 use Rattle.sets.specs.declared.set.Set.{Set}

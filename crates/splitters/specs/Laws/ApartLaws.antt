@@ -9,7 +9,7 @@ use lib.Dec.{eqb}
 use lib.ListN.{getD}
 use borrow.Author.Tests.{eq-eqb, ne-eqb}
 use Rattle.lts.specs.TestsLaws.{eq-or-not, lt-or-le}
-use Rattle.comparing.specs.Inner.Numbered.{Same}
+use Rattle.by_state.specs.Inner.Numbered.{Same}
 use Rattle.held.specs.Held.{chosen}
 use Rattle.ranking.specs.Inner.TableWrites.{SeparatedBy, RoundWritten}
 use Rattle.tree.specs.Inner.Rows.{RoundNoted}

@@ -8,14 +8,14 @@ use Prim.Native.Nat.{ℕ, _≤_, _<_}
 use native.Mathlib.Omega.{arith}
 use Rattle.lts.specs.TestsLaws.{eq-or-not}
 use Rattle.text.specs.Limits.{stateLimit}
-use Rattle.comparing.specs.Inner.Numbered.{Same}
+use Rattle.by_state.specs.Inner.Numbered.{Same}
 use Rattle.sets.specs.Inner.SetValues.{In, SetOf}
 use Rattle.sets.specs.Laws.SetValuesLaws.{in-or-not}
 use Rattle.sets.specs.declared.set.Set.{Set}
 use Rattle.held.specs.Held.{Turned}
 use Rattle.splitters.specs.Inner.Partition.{Partition, Split, SplitTwice}
 use Rattle.splitters.specs.Inner.Splitters.{LeadsInto, LedFrom}
-use Rattle.splitters.specs.Laws.SplitLaws.{split-none, split-map, homesKept-trans, Finer}
+use Rattle.splitters.specs.Laws.SplitLaws.{split-empty, split-map, homesKept-trans, Finer}
 
 -- ---- sets cut down to states whose class has another
 
@@ -114,8 +114,8 @@ module _ {n old : ℕ} {P Q : ℕ → Type 0} {c o : List ℕ} where
 
   -- No state is in the first set: nothing is split.
   pub splitTwice-none : {s : Set} → CutTo n c P s → ((x : ℕ) → ¬ (In s x)) → SplitTwice n old P Q c o c o
-  splitTwice-none cut none = splitTwice-of-splits (split-cut cut (split-none (λ p _. none p)))
+  splitTwice-none cut none = splitTwice-of-splits (split-cut cut (split-empty (λ p _. none p)))
       (split-cut (record {
         all = λ p q lp lq e d h. cut .all p q lp lq e d (h .0);
         only = λ p _ i. absurd (none p i);
-      }) (split-none (λ p _. none p)))
+      }) (split-empty (λ p _. none p)))

@@ -8,7 +8,7 @@ use lib.ListN.{getD}
 use Rattle.lts.specs.TestsLaws.{eq-or-not}
 use Rattle.text.specs.Limits.{stateLimit}
 use Rattle.sets.specs.Inner.Sets.{Member, Joined}
-use Rattle.sets.specs.Inner.SetValues.{In, SetOf, Least}
+use Rattle.sets.specs.Inner.SetValues.{In, SetOf, LeastOf}
 use Rattle.sets.specs.declared.set.Set.{Set}
 use Rattle.held.specs.Held.{rowSet, slotPlace, sourceRow, Occupied}
 use Rattle.splitters.specs.Inner.Splitters.{Into, RowNoted}
@@ -43,7 +43,7 @@ module _ {pool : List ℕ} {row i : ℕ} {left : Set} {entry : List ℕ} where
       noted x (inr k) (inr d) = inr (w .all x (k, d))
 
   -- None is left.
-  pub rowNoted-end : {q : ℕ} {exit : List ℕ} → NotedBut pool row i left entry exit → Least left q → stateLimit ≤ q
+  pub rowNoted-end : {q : ℕ} {exit : List ℕ} → NotedBut pool row i left entry exit → LeastOf left q → stateLimit ≤ q
       → RowNoted pool row i entry exit
   rowNoted-end {q} {exit} f h l = record { noted = λ x m. noted x (f .noted x m); kept = f .kept }
     where

@@ -9,7 +9,7 @@ use Rattle.lts.specs.Alike.{Relation}
 use Rattle.lts.specs.TestsLaws.{eq-or-not}
 use Rattle.text.specs.Limits.{stateLimit}
 use Rattle.sets.specs.Inner.Sets.{Member}
-use Rattle.sets.specs.Inner.SetValues.{In, SetOf, Least, GreatestOf}
+use Rattle.sets.specs.Inner.SetValues.{In, SetOf, LeastOf, GreatestOf}
 use Rattle.sets.specs.Laws.SetValuesLaws.{setOf-map, in-or-not}
 use Rattle.sets.specs.declared.set.Set.{Set}
 use Rattle.held.specs.Held.{rowSet, HeldAt, Turned, Occupied}
@@ -51,7 +51,7 @@ module _ {Of : Relation} {set : Set} where
       only x (inl m) = j .only x m
       only x (inr m) = record { member = t; in-set = j .left-in t i; related = o .only x m }
 
-  pub unionTo-end : {left found : Set} {t : ℕ} → UnionTo Of set left found → Least left t → stateLimit ≤ t
+  pub unionTo-end : {left found : Set} {t : ℕ} → UnionTo Of set left found → LeastOf left t → stateLimit ≤ t
       → SetOf (SomeMember Of set) found
   unionTo-end {left} {found} j l h = record {
     all = λ x m. all x (j .all (m .member) x (m .in-set) (m .related));
@@ -99,7 +99,7 @@ pub record LeadingTo (slots pool : List ℕ) (row : ℕ) (set goal left found : 
   pub only : (x : ℕ) → In found x → LeadsInto slots pool row goal x
 
 -- What p tells of is left no more, p itself among it, and those of it that lead into the goal are found.
-pub record Tells (slots pool : List ℕ) (row : ℕ) (goal : Set) (p : ℕ) (found left found′ left′ : Set) : Type 0 where
+pub record LeadingTurn (slots pool : List ℕ) (row : ℕ) (goal : Set) (p : ℕ) (found left found′ left′ : Set) : Type 0 where
   pub less : (x : ℕ) → In left′ x → In left x × ¬ (x ≡ p)
   pub kept : (x : ℕ) → In found x → In found′ x
   pub all : (x : ℕ) → In left x → LeadsInto slots pool row goal x → In found′ x ⊎ In left′ x
@@ -107,10 +107,10 @@ pub record Tells (slots pool : List ℕ) (row : ℕ) (goal : Set) (p : ℕ) (fou
 
 module _ {slots pool : List ℕ} {row : ℕ} {goal : Set} where
   -- No target of p is in the goal: p tells of itself alone.
-  pub tells-none : {p t : ℕ} {own common found left left′ : Set} → SetOf (HeldAt slots pool row p) own
+  pub leadingTurn-none : {p t : ℕ} {own common found left left′ : Set} → SetOf (HeldAt slots pool row p) own
       → SetOf (λ x. In own x × In goal x) common → GreatestOf common t → stateLimit ≤ t
-      → SetOf (λ x. In left x × ¬ (x ≡ p)) left′ → Tells slots pool row goal p found left found left′
-  tells-none {p} {t} {own} {common} {found} {left} {left′} o b g h s = record {
+      → SetOf (λ x. In left x × ¬ (x ≡ p)) left′ → LeadingTurn slots pool row goal p found left found left′
+  leadingTurn-none {p} {t} {own} {common} {found} {left} {left′} o b g h s = record {
     less = s .only;
     kept = λ x i. i;
     all = λ x i l. all x i l (eq-or-not x p);
@@ -126,12 +126,12 @@ module _ {slots pool : List ℕ} {row : ℕ} {goal : Set} where
       all x i l (inr d) = inr (s .all x (i, d))
 
   -- A target t of p is: all that lead to t are told, p among them.
-  pub tells-some : {p t back : ℕ} {own common told found left found′ left′ : Set} → Turned slots pool row back
+  pub leadingTurn-some : {p t back : ℕ} {own common told found left found′ left′ : Set} → Turned slots pool row back
       → p < stateLimit → SetOf (HeldAt slots pool row p) own → SetOf (λ x. In own x × In goal x) common
       → GreatestOf common t → t < stateLimit → SetOf (HeldAt slots pool back t) told
       → SetOf (λ x. In found x ⊎ In told x) found′ → SetOf (λ x. In left x × ¬ (In told x)) left′
-      → Tells slots pool row goal p found left found′ left′
-  tells-some {p} {t} {back} {own} {common} {told} {found} {left} {found′} {left′} turned k o b g h s u w = record {
+      → LeadingTurn slots pool row goal p found left found′ left′
+  leadingTurn-some {p} {t} {back} {own} {common} {told} {found} {left} {found′} {left′} turned k o b g h s u w = record {
     less = λ x i. (w .only x i .0, λ e. w .only x i .1 (subst (In told) (sym e) p-told));
     kept = λ x i. u .all x (inl i);
     all = λ x i l. all x i (in-or-not told x);
@@ -154,9 +154,9 @@ module _ {slots pool : List ℕ} {row : ℕ} {goal : Set} where
       })
 
   -- The same of equal sets.
-  pub tells-eq : {p : ℕ} {found left found′ left′ found″ left″ : Set} → found″ ≡ found′ → left″ ≡ left′
-      → Tells slots pool row goal p found left found′ left′ → Tells slots pool row goal p found left found″ left″
-  tells-eq e d t = rw (e, d) t
+  pub leadingTurn-eq : {p : ℕ} {found left found′ left′ found″ left″ : Set} → found″ ≡ found′ → left″ ≡ left′
+      → LeadingTurn slots pool row goal p found left found′ left′ → LeadingTurn slots pool row goal p found left found″ left″
+  leadingTurn-eq e d t = rw (e, d) t
 
   module _ {set : Set} where
     pub leadingTo-start : {found : Set} → SetOf (λ x. ⊥) found → LeadingTo slots pool row set goal set found
@@ -166,7 +166,7 @@ module _ {slots pool : List ℕ} {row : ℕ} {goal : Set} where
     }
 
     pub leadingTo-next : {left left′ found found′ : Set} {p : ℕ} → LeadingTo slots pool row set goal left found
-        → Tells slots pool row goal p found left found′ left′ → LeadingTo slots pool row set goal left′ found′
+        → LeadingTurn slots pool row goal p found left found′ left′ → LeadingTo slots pool row set goal left′ found′
     leadingTo-next {left} {left′} {found} {found′} a t = record {
       all = λ x i l. all x l (a .all x i l);
       only = λ x i. only x (t .only x i);
@@ -180,7 +180,7 @@ module _ {slots pool : List ℕ} {row : ℕ} {goal : Set} where
         only x (inl i) = a .only x i
         only x (inr l) = l
 
-    pub leadingTo-end : {left found r : Set} {p : ℕ} → LeadingTo slots pool row set goal left found → Least left p
+    pub leadingTo-end : {left found r : Set} {p : ℕ} → LeadingTo slots pool row set goal left found → LeastOf left p
         → stateLimit ≤ p → SetOf (λ x. In found x × In set x) r
         → SetOf (λ x. In set x × LeadsInto slots pool row goal x) r
     leadingTo-end {left} {found} a l h b = record {

@@ -8,7 +8,7 @@ use native.Mathlib.Omega.{arith}
 use lib.ListN.{getD}
 use Rattle.lts.specs.PigeonholeLaws.{injective-le}
 use Rattle.lts.specs.TestsLaws.{eq-or-not, lt-or-le}
-use Rattle.comparing.specs.Inner.Numbered.{Same}
+use Rattle.by_state.specs.Inner.Numbered.{Same}
 use Rattle.sets.specs.Inner.Sets.{Member}
 use Rattle.sets.specs.Inner.SetValues.{In, SetOf}
 use Rattle.sets.specs.Laws.SetValuesLaws.{in-or-not}
@@ -99,9 +99,9 @@ module _ {n c classes : ℕ} {class members : List ℕ} {together moved kept : S
           (h .0, h .1, same (h .0) (λ m. e (sym (h .2) ∙ moved-in (h .0) m .1)) ∙ h .2)
 
   -- There is a number for the new class.
-  pub classes-lt : classes < n
+  pub classes-lt-states : classes < n
   unfolding numberOf
-  classes-lt = omega (arith, numbers-le (classes + 1) n f (some-next f new same))
+  classes-lt-states = omega (arith, numbers-le (classes + 1) n f (some-next f new same))
     where
       f : ℕ → ℕ
       f p = numberOf (in-or-not moved p) classes (getD class p 0)

@@ -7,9 +7,9 @@ use Prim.Native.Nat.{ℕ, _+_, _≤_, _<_}
 use native.Mathlib.Omega.{arith}
 use lib.ListN.{getD}
 use Rattle.lts.specs.TestsLaws.{eq-or-not, lt-or-le}
-use Rattle.comparing.specs.Inner.Numbered.{Same}
+use Rattle.by_state.specs.Inner.Numbered.{Same}
 use Rattle.sets.specs.Inner.Sets.{Member}
-use Rattle.sets.specs.Inner.SetValues.{In, SetOf, Least}
+use Rattle.sets.specs.Inner.SetValues.{In, SetOf, LeastOf}
 use Rattle.sets.specs.declared.set.Set.{Set}
 use Rattle.held.specs.Held.{slotPlace, targetRow, sourceRow, HeldAt, Turned, HeldList}
 use Rattle.splitters.specs.Inner.Partition.{Partition, SplitTwice}
@@ -199,7 +199,7 @@ module _ (labels : List ℕ) {n count : ℕ} {slots pool : List ℕ} {old : ℕ}
         cases k b (e, (x, h, d, a)) (inr y) = inl (e, (x, h, λ z. d (w .all x (z, y)), a))
 
     -- All are used.
-    pub usedBut-end : {i j : ℕ} {left : Set} → Least left i → count ≤ i
+    pub usedBut-end : {i j : ℕ} {left : Set} → LeastOf left i → count ≤ i
         → UsedSplit n old slots pool (UsedBut j labels count left) fresh rest c o c′ o′
         → UsedSplit n old slots pool (UsedClass j labels count) fresh rest c o c′ o′
     usedBut-end h l = usedSplit-same (λ k b u. (u .0, (u .1 .0, u .1 .1, u .1 .3)))

@@ -2,7 +2,7 @@
 use mathlib.Core.List.{List}
 use mathlib.Core.Path.{refl, sym, _∙_}
 use Prim.Native.Nat.{ℕ, _<_}
-use Rattle.comparing.specs.Inner.Numbered.{Same}
+use Rattle.by_state.specs.Inner.Numbered.{Same}
 use Rattle.splitters.specs.Inner.Partition.{SplitBy, HomesKept, Split}
 
 -- ---- nothing is split
@@ -24,9 +24,9 @@ pub split-refl : {n old : ℕ} {P : ℕ → Type 0} {class origin : List ℕ}
 split-refl f = record { by = splitBy-refl f; homes = homesKept-refl }
 
 -- No state is on the one side.
-pub split-none : {n old : ℕ} {P : ℕ → Type 0} {class origin : List ℕ} → ((p : ℕ) → p < n → ¬ (P p))
+pub split-empty : {n old : ℕ} {P : ℕ → Type 0} {class origin : List ℕ} → ((p : ℕ) → p < n → ¬ (P p))
     → Split n old P class origin class origin
-split-none f = split-refl (λ p q l _ _ h. absurd (f p l h))
+split-empty f = split-refl (λ p q l _ _ h. absurd (f p l h))
 
 -- ---- one split after another
 

@@ -6,14 +6,14 @@ use mathlib.Core.Path.{_≡_, sym, _∙_, subst}
 use Prim.Native.Nat.{ℕ, _<_}
 use lib.ListN.{getD}
 use Rattle.lts.specs.TestsLaws.{eq-or-not}
-use Rattle.comparing.specs.Inner.Numbered.{Same}
+use Rattle.by_state.specs.Inner.Numbered.{Same}
 use Rattle.sets.specs.Inner.Sets.{Member}
 use Rattle.sets.specs.Inner.SetValues.{In, SetOf}
 use Rattle.sets.specs.Laws.SetValuesLaws.{in-or-not}
 use Rattle.sets.specs.declared.set.Set.{Set}
 use Rattle.splitters.specs.Inner.Partition.{Partition, Split, TwoParts}
 use Rattle.splitters.specs.Inner.Splitting.{LeftOf}
-use Rattle.splitters.specs.Laws.SplitLaws.{SidesKept, split-refl, split-none, split-trans}
+use Rattle.splitters.specs.Laws.SplitLaws.{SidesKept, split-refl, split-empty, split-trans}
 use Rattle.splitters.specs.Laws.SplitLaws.{split-map, split-iff}
 use Rattle.sets.specs.Laws.SearchLaws.{some-of-not-none}
 
@@ -61,7 +61,7 @@ module _ {n c classes : ℕ} {class members : List ℕ} {together : Set}
     -- None of the class is in the set,
     pub split-outside : {old : ℕ} {part : Set} {o : List ℕ} → SetOf (λ x. In whole x × In set x) part
         → ((x : ℕ) → ¬ (In part x)) → Split n old (λ p. (getD class p 0 ≡ c) × In set p) class o class o
-    split-outside A none = split-none (λ p lp h. none p (A .all p (in-whole P W p lp (h .0), h .1)))
+    split-outside A none = split-empty (λ p lp h. none p (A .all p (in-whole P W p lp (h .0), h .1)))
 
     -- or each,
     pub split-inside : {old : ℕ} {rest : Set} {o : List ℕ} → SetOf (λ x. In whole x × ¬ (In set x)) rest

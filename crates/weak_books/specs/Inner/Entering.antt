@@ -7,16 +7,15 @@ use Prim.Native.Nat.{ℕ, _+_, _≤_, _<_}
 use lib.Dec.{ltb}
 use lib.ListN.{getD}
 use Rattle.lts.specs.Alike.{Moves, Alike, Separated}
-use Rattle.lts.specs.Game.{Separates}
 use Rattle.lts.specs.Book.{Entry, Opens, FirstPlay, OwnEntry, noEntry}
 use Rattle.text.specs.Limits.{stateLimit, pairPlace, bookLength}
 use Rattle.text.specs.Lists.{Past}
-use Rattle.comparing.specs.Inner.Numbered.{Same}
+use Rattle.by_state.specs.Inner.Numbered.{Same}
 use Rattle.sets.specs.Inner.SetValues.{In}
 use Rattle.sets.specs.declared.set.Set.{Set}
 use Rattle.held.specs.Held.{targetRow, HeldAt}
 use Rattle.ranking.specs.Inner.TableWrites.{SeparatedBy}
-use Rattle.splitters.specs.Inner.Splitters.{Rounded, Rounds}
+use Rattle.splitters.specs.Inner.Splitters.{Rounds, LastRounded}
 use Rattle.books.specs.Books.{entryNumber}
 use Rattle.weak_books.specs.Inner.OpensTo.{OpensTo}
 use Rattle.weak_books.specs.declared.opening.Opening.{Opening}
@@ -98,19 +97,16 @@ pub record BookUpTo (Move : Moves) (n k : ℕ) (book : List ℕ) : Type 0 where
       → entryNumber book (pairPlace p q) ≡ noEntry
 
 -- After k rounds: what a further one finds, and what these have left in the book.
-pub record Booked (Move : Moves) (n k first : ℕ) (book₀ book class members origin fresh when : List ℕ) (classes : ℕ)
+pub record Booked (Move : Moves) (n k first : ℕ) (book₀ book class members origin under when : List ℕ) (classes : ℕ)
     (together : Set) : Type 0 where
-  pub rounds : Rounds Move n k first class members origin fresh when classes together
+  pub rounds : Rounds Move n k first class members origin under when classes together
   pub entries : BookUpTo Move n k book
   pub past : Past bookLength book₀ book
 
 -- What the last round leaves, which makes no further class, and what all of them left in the book; each one before it
 -- separated a pair.
-pub record BookEnded (Move : Moves) (n last : ℕ) (class members origin fresh when : List ℕ) (classes : ℕ)
+pub record BookEnded (Move : Moves) (n last : ℕ) (class members origin under when : List ℕ) (classes : ℕ)
     (entry exit : List ℕ) : Type 0 where
-  pub before : List ℕ
-  pub together : Set
-  pub rounded : Rounded Move n last before class members origin fresh when classes classes together
-  pub separates : (j : ℕ) → j < last → Separates Move n j
+  pub rounded : LastRounded Move n last class members origin under when classes
   pub entries : BookUpTo Move n last exit
   pub past : Past bookLength entry exit

@@ -16,7 +16,7 @@ use Rattle.lts.specs.Book.{Entry, Plays, first-opens, second-opens, LowerRank, 
 use Rattle.lts.specs.TestsLaws.{lt-or-le}
 use Rattle.text.specs.Limits.{stateLimit, pairPlace, bookLength}
 use Rattle.text.specs.Lists.{Past}
-use Rattle.comparing.specs.Inner.Numbered.{Same}
+use Rattle.by_state.specs.Inner.Numbered.{Same}
 use Rattle.ranking.specs.Inner.ClassList.{Classes}
 use Rattle.ranking.specs.Inner.TableWrites.{SeparatedBy, RankUpTo, RanksUpTo}
 use Rattle.books.specs.Books.{entryNumber, BookFilled}

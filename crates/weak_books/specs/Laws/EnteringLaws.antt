@@ -11,7 +11,7 @@ use Rattle.lts.specs.TestsLaws.{lt-or-le, eq-or-not, both-or-not}
 use Rattle.text.specs.Limits.{stateLimit, pairPlace}
 use Rattle.text.specs.Laws.ListsLaws.{past-refl, past-trans}
 use Rattle.sets.specs.Inner.Sets.{Member}
-use Rattle.sets.specs.Inner.SetValues.{In, SetOf, Least}
+use Rattle.sets.specs.Inner.SetValues.{In, SetOf, LeastOf}
 use Rattle.sets.specs.Laws.SetValuesLaws.{in-or-not}
 use Rattle.sets.specs.declared.set.Set.{Set}
 use Rattle.ranking.specs.Inner.TableWrites.{SeparatedBy}
@@ -115,7 +115,7 @@ module _ {Move : Moves} {class : List ℕ} {depth : ℕ} where
             go (inl i) (inr f) = absurd (d .visited (L .all (pick x y) (i, f)))
 
     -- All are done where the least that is left is past them.
-    pub done-end : {v : ℕ} {left : Set} {book book′ : List ℕ} → Least left v → ((x y : ℕ) → P x y → pick x y < v)
+    pub done-end : {v : ℕ} {left : Set} {book book′ : List ℕ} → LeastOf left v → ((x y : ℕ) → P x y → pick x y < v)
         → Entered Move class depth (Done P pick left) book book′ → Entered Move class depth P book book′
     done-end least f w = entered-same (λ x y d. d .holds)
         (λ x y h. record { holds = h; visited = least .none-before (pick x y) (f x y h) }) w

@@ -17,7 +17,7 @@ use Rattle.lts.specs.BookLaws.{firstPlay-of-first, firstPlay-of-second}
 use Rattle.lts.specs.TestsLaws.{T-cases, T-eqb, lt-or-le}
 use Rattle.text.specs.Limits.{stateLimit, pairPlace}
 use Rattle.text.specs.Laws.ListsLaws.{past-trans}
-use Rattle.comparing.specs.Inner.Numbered.{Same}
+use Rattle.by_state.specs.Inner.Numbered.{Same}
 use Rattle.books.specs.Inner.Filling.{EntryWritten}
 use Rattle.weak_books.specs.declared.opening.Opening.{Opening}
 use Rattle.weak_books.specs.Inner.Entering.{OtherClass, FirstApart, sideEntry, openingEntry}

@@ -11,7 +11,7 @@ use Rattle.lts.specs.Book.{Opens}
 use Rattle.lts.specs.TestsLaws.{lt-or-le}
 use Rattle.text.specs.Limits.{stateLimit}
 use Rattle.sets.specs.Inner.Sets.{Member}
-use Rattle.sets.specs.Inner.SetValues.{In, SetOf, Least}
+use Rattle.sets.specs.Inner.SetValues.{In, SetOf, LeastOf}
 use Rattle.sets.specs.Laws.SetValuesLaws.{in-or-not}
 use Rattle.sets.specs.declared.set.Set.{Set}
 use Rattle.held.specs.Held.{slotPlace, targetRow, HeldAt, HeldList, HeldMove}
@@ -37,8 +37,8 @@ lowestTo-same-slot slots pool class row p q e =
 
 -- Without the class of t, the least that is left is greater.
 pub least-past : {n : ℕ} {class members : List ℕ} {t t′ : ℕ} {alike left left′ : Set} → ClassSets n class members
-    → t < n → SetOf (Member members (getD class t 0)) alike → Least left t
-    → SetOf (λ x. In left x × ¬ (In alike x)) left′ → Least left′ t′ → t < t′
+    → t < n → SetOf (Member members (getD class t 0)) alike → LeastOf left t
+    → SetOf (λ x. In left x × ¬ (In alike x)) left′ → LeastOf left′ t′ → t < t′
 least-past {t = t} C lt A least = least-rises least (A .all t (C .alike t t lt lt refl))
 
 -- The class of t as a set, and the answers in it.
@@ -64,7 +64,7 @@ module _ {n : ℕ} {class members : List ℕ} {t : ℕ} {answers alike joint : S
 
 module _ {Target : Relation} {p q : ℕ} {targets answers all : Set} (P : SetOf (Target p) targets)
     (Q : SetOf (Target q) answers) (L : SetOf (λ x. In targets x × ¬ (In answers x)) all) {class : List ℕ} {left : Set}
-    {t : ℕ} (T : Tried (OtherClass class) answers all left) (least : Least left t) where
+    {t : ℕ} (T : Tried (OtherClass class) answers all left) (least : LeastOf left t) where
   -- No answer is of the class of t.
   pub lowestTo-here : {n : ℕ} {members : List ℕ} {alike joint : Set} → ClassSets n class members → t < n
       → SetOf (Member members (getD class t 0)) alike → SetOf (λ x. In alike x × In answers x) joint

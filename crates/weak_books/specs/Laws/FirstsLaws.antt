@@ -10,7 +10,7 @@ use Rattle.text.specs.Limits.{stateLimit, pairPlace}
 use Rattle.text.specs.Laws.ListsLaws.{past-refl, past-trans}
 use Rattle.sets.specs.declared.set.Set.{Set}
 use Rattle.sets.specs.Inner.Sets.{Member}
-use Rattle.sets.specs.Inner.SetValues.{In, SetOf, Least}
+use Rattle.sets.specs.Inner.SetValues.{In, SetOf, LeastOf}
 use Rattle.sets.specs.Laws.WalkLaws.{least-after}
 use Rattle.books.specs.Books.{entryNumber}
 use Rattle.books.specs.Inner.Filling.{EntryWritten}
@@ -54,11 +54,11 @@ module _ {at : List ℕ} {p q : ℕ} {left : Set} where
   pub membersLeft-start : SetOf (Member at p) left → MembersLeft at p q left
   membersLeft-start S = record { left-in = S .only; later = λ x m l. S .all x m }
 
-  pub none-at-start : SetOf (Member at p) left → Least left q → (x : ℕ) → 0 ≤ x → x < q → ¬ (Member at p x)
+  pub none-at-start : SetOf (Member at p) left → LeastOf left q → (x : ℕ) → 0 ≤ x → x < q → ¬ (Member at p x)
   none-at-start S least x _ l m = least .none-before x l (S .all x m)
 
-  module _ {r : ℕ} {left′ : Set} (M : MembersLeft at p q left) (least : Least left q) (l : q < stateLimit)
-      (L : SetOf (λ x. In left x × ¬ (x ≡ q)) left′) (next : Least left′ r) where
+  module _ {r : ℕ} {left′ : Set} (M : MembersLeft at p q left) (least : LeastOf left q) (l : q < stateLimit)
+      (L : SetOf (λ x. In left x × ¬ (x ≡ q)) left′) (next : LeastOf left′ r) where
     pub member-after : q < r
     member-after = least-after least l (L .only) next
 

@@ -8,7 +8,7 @@ use Rattle.lts.specs.TestsLaws.{eq-or-not}
 use Rattle.lts.specs.Alike.{Relation}
 use Rattle.text.specs.Limits.{stateLimit}
 use Rattle.sets.specs.declared.set.Set.{Set}
-use Rattle.sets.specs.Inner.SetValues.{In, SetOf, Least}
+use Rattle.sets.specs.Inner.SetValues.{In, SetOf, LeastOf}
 use Rattle.sets.specs.Laws.SetValuesLaws.{in-or-not}
 use Rattle.weak_books.specs.Inner.OpensTo.{Irreflexive, LowestTo, Tried}
 
@@ -40,13 +40,13 @@ tried-without {Leads} {answers} {all} {left} {left′} {t} T some L = record {
 
 -- What is tried next is a target.
 pub target-of-tried : {P : ℕ → Type 0} {Leads : Relation} {targets answers all left : Set} {t : ℕ} → SetOf P targets
-    → SetOf (λ x. In targets x × ¬ (In answers x)) all → Tried Leads answers all left → Least left t → t < stateLimit
+    → SetOf (λ x. In targets x × ¬ (In answers x)) all → Tried Leads answers all left → LeastOf left t → t < stateLimit
     → P t
 target-of-tried {t = t} P L T least l = P .only t (L .only t (T .left-in t (least .member l)) .0)
 
 module _ {Target Leads : Relation} {p q : ℕ} {targets answers all : Set} (P : SetOf (Target p) targets)
     (Q : SetOf (Target q) answers) (L : SetOf (λ x. In targets x × ¬ (In answers x)) all) {left : Set} {t : ℕ}
-    (T : Tried Leads answers all left) (least : Least left t) (apart : Irreflexive Leads) where
+    (T : Tried Leads answers all left) (least : LeastOf left t) (apart : Irreflexive Leads) where
   pub lowestTo-of-tried : (t < stateLimit → (u : ℕ) → In answers u → Leads t u) → LowestTo Target Leads p q t
   lowestTo-of-tried leads = record {
     lowest-le = least .least-le;

@@ -7,7 +7,7 @@ use Prim.Native.Nat.{ℕ, _+_, _≤_, _<_}
 use lib.ListN.{length, getD, set}
 use Rattle.lts.specs.Alike.{Moves}
 use Rattle.lts.specs.Weak.{silentLabel}
-use Rattle.comparing.specs.Inner.Numbered.{Same}
+use Rattle.by_state.specs.Inner.Numbered.{Same}
 use Rattle.sets.specs.Inner.Sets.{SameSet}
 
 -- The number of a class is one of its states, and none is lower.

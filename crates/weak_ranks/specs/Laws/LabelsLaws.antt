@@ -9,7 +9,7 @@ use Rattle.lts.specs.Alike.{Moves}
 use Rattle.lts.specs.Weak.{silentLabel}
 use Rattle.lts.specs.TestsLaws.{lt-or-le}
 use Rattle.text.specs.Limits.{stateLimit}
-use Rattle.comparing.specs.Inner.Numbered.{Same}
+use Rattle.by_state.specs.Inner.Numbered.{Same}
 use Rattle.sets.specs.Inner.Sets.{SameSet, Member}
 use Rattle.silent.specs.Inner.Keys.{Keys}
 use Rattle.ranking.specs.Inner.ClassList.{Refined}

@@ -9,7 +9,7 @@ use Rattle.lts.specs.Alike.{Moves}
 use Rattle.lts.specs.Game.{Separates}
 use Rattle.lts.specs.TestsLaws.{eq-or-not}
 use Rattle.text.specs.Limits.{stateLimit}
-use Rattle.comparing.specs.Inner.Numbered.{ClassNumbers}
+use Rattle.by_state.specs.Inner.Numbered.{ClassNumbers}
 use Rattle.ranking.specs.Inner.ClassList.{Classes, Refined, Changed, RoundSeparates}
 use Rattle.ranking.specs.Laws.ClassListLaws.{classes-suc, separates-of-separatedBy, settled-of-unchanged}
 use Rattle.weak_ranks.specs.Inner.Dividing.{LeadClasses}

@@ -3,7 +3,7 @@ use Prim.Native.Nat.{_+_, _<_}
 use native.Mathlib.Omega.{arith}
 use lib.ListN.{getD}
 use borrow.Author.Needs.{needs}
-use Rattle.comparing.specs.Laws.MoveListLaws.{place-lt-last}
+use Rattle.by_state.specs.Laws.MoveListLaws.{place-lt-last}
 use Rattle.books.specs.Laws.PairLaws.{pair-none, pair-first, second-place-lt, pair-second}
 use Rattle.books.proofs.book.fill_pair.Statement.{statement}
 use Rattle.books.proofs.book.fill_pair.Tie as tie

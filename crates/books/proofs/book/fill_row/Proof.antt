@@ -2,7 +2,7 @@
 use Prim.Native.Nat.{_≤_, _-_}
 use native.Mathlib.Omega.{arith}
 use borrow.Author.Needs.{needs}
-use Rattle.comparing.specs.MoveList.{Listed}
+use Rattle.by_state.specs.MoveList.{Listed}
 use Rattle.books.specs.Inner.Filling.{RowFilled}
 use Rattle.books.specs.Laws.RowsLaws.{rowFilled-zero, rowFilled-suc, rowFilled-at, row-empty}
 use Rattle.books.proofs.book.fill_row.Statement.{statement}

@@ -2,7 +2,7 @@
 use Prim.Native.Nat.{_≤_, _-_}
 use native.Mathlib.Omega.{arith}
 use borrow.Author.Needs.{needs}
-use Rattle.comparing.specs.MoveList.{Listed}
+use Rattle.by_state.specs.MoveList.{Listed}
 use Rattle.books.specs.Inner.Filling.{RowsFilled}
 use Rattle.books.specs.Laws.RowsLaws.{rowsFilled-zero, rowsFilled-suc, rowsFilled-at, rows-empty}
 use Rattle.books.proofs.book.fill_rows.Statement.{statement}

@@ -5,8 +5,8 @@ use lib.ListN.{getD}
 use borrow.Author.Needs.{needs}
 use borrow.Author.Count.{below-more}
 use Rattle.text.specs.Laws.DecidesLaws.{decides-true, decides-false}
-use Rattle.comparing.specs.MoveList.{Listed}
-use Rattle.comparing.specs.Laws.MoveListLaws.{place-lt-last}
+use Rattle.by_state.specs.MoveList.{Listed}
+use Rattle.by_state.specs.Laws.MoveListLaws.{place-lt-last}
 use Rattle.books.specs.Inner.Openings.{LowerAnswers}
 use Rattle.books.proofs.openings.first_opening.Statement.{statement}
 use Rattle.books.proofs.openings.first_opening.Tie as tie

@@ -3,7 +3,7 @@ use mathlib.Core.Path.{_≡_, _∙_}
 use borrow.Author.Needs.{needs}
 use Rattle.model.specs.StoredModel.{modelAt}
 use Rattle.model.specs.Laws.System.StoredLaws.{stored-states}
-use Rattle.comparing.specs.Laws.MoveListLaws.{moveList-of-lists}
+use Rattle.by_state.specs.Laws.MoveListLaws.{moveList-of-lists}
 use Rattle.books.specs.Laws.ListedLaws.{ordered-of-lists, bookFilled-of-listed}
 use Rattle.judge.specs.Laws.StoreBooksLaws.{ranks-of-lists}
 use Rattle.judge.proofs.book.fill_steps.Statement.{statement}

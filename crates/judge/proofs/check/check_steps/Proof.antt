@@ -2,7 +2,7 @@
 use mathlib.Core.Path.{_∙_}
 use borrow.Author.Needs.{needs}
 use Rattle.model.specs.Laws.System.StoredLaws.{stored-states}
-use Rattle.comparing.specs.Laws.MoveListLaws.{moveList-of-lists}
+use Rattle.by_state.specs.Laws.MoveListLaws.{moveList-of-lists}
 use Rattle.books.specs.Laws.ListedLaws.{ordered-of-lists, checkDone-of-listed}
 use Rattle.judge.proofs.check.check_steps.Statement.{statement}
 use Rattle.judge.proofs.check.check_steps.Tie as tie

@@ -6,7 +6,7 @@ use lib.ListN.{length, getD, length-set}
 use borrow.Author.Needs.{needs}
 use Rattle.model.specs.StoredModel.{modelAt}
 use Rattle.model.specs.Laws.System.StoredLaws.{stored-states}
-use Rattle.comparing.specs.MoveList.{Ordered}
+use Rattle.by_state.specs.MoveList.{Ordered}
 use Rattle.moves.specs.Inner.Listing.{ListedTo}
 use Rattle.moves.specs.Laws.ListedToLaws.{listedTo-zero, listedTo-suc, ordered-zero, ordered-suc}
 use Rattle.moves.specs.Laws.ListedToLaws.{lists-of-listedTo}

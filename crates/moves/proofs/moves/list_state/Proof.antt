@@ -6,7 +6,7 @@ use lib.ListN.{length}
 use borrow.Author.Needs.{needs}
 use Rattle.model.specs.StoredModel.{modelAt}
 use Rattle.moves.specs.Inner.Listing.{Appended, Among, LowAs}
-use Rattle.comparing.specs.MoveList.{Rising}
+use Rattle.by_state.specs.MoveList.{Rising}
 use Rattle.model.specs.Laws.System.IndexLaws.{begins-le}
 use Rattle.moves.specs.Laws.ListingLaws.{appended-no-step, appended-steps, appended-state}
 use Rattle.moves.specs.Laws.RisingLaws.{rising-nil, rising-suc}

@@ -4,8 +4,8 @@ use Prim.Native.Nat.{_+_, _≤_, _-_}
 use native.Mathlib.Omega.{arith}
 use lib.ListN.{getD}
 use Rattle.text.specs.Limits.{actionLimit, stepLimit}
-use Rattle.silent.specs.Inner.Loops.{PassedTo, ClosedTo}
-use Rattle.silent.specs.Laws.PassLaws.{turn-states-lt, passedTo-none, passedTo-suc, passedTo→Passed}
+use Rattle.silent.specs.Inner.Loops.{SpreadTo, ClosedTo}
+use Rattle.silent.specs.Laws.PassLaws.{turn-states-lt, spreadTo-none, spreadTo-suc, passedTo→SpreadOnce}
 use Rattle.silent.specs.Laws.PassLaws.{closedTo-none, closedTo-suc, closedTo→ClosedUnder}
 use borrow.Author.Needs.{needs}
 use Rattle.silent.proofs.keys.pass.Statement.{statement}
@@ -14,7 +14,7 @@ use Rattle.silent.proofs.keys.pass.Tie as tie
 abbrev Inv-loop : tie.InvT-loop
 Inv-loop n from sources targets backward sets₀ begin end marks₀ again₀ i₀ sets marks again i =
     (begin ≡ getD from actionLimit 0) × (end ≡ getD from (actionLimit + 1) 0) × (end ≤ stepLimit) × (begin ≤ i)
-    × (i ≤ end) × PassedTo from sources targets n backward begin end i sets₀ sets
+    × (i ≤ end) × SpreadTo from sources targets n backward begin end i sets₀ sets
     × ClosedTo sources targets backward begin end i again marks sets
 
 abbrev μ-loop : tie.MeasureT-loop
@@ -58,7 +58,7 @@ loop-holds c =
       omega (arith, ends .ensures, L .last-le),
       omega arith,
       omega (arith, begins .ensures, ends .ensures, L .rising actionLimit (omega arith)),
-      passedTo-none (begins .result) (ends .result) (start .pre .1),
+      spreadTo-none (begins .result) (ends .result) (start .pre .1),
       closedTo-none (begins .result) (ends .result) refl,
     )
 
@@ -111,14 +111,14 @@ loop-again c =
       inv .2,
       omega arith,
       omega arith,
-      passedTo-suc L (inv .0) (inv .1) place (told .0) (inv .5),
+      spreadTo-suc L (inv .0) (inv .1) place (told .0) (inv .5),
       closedTo-suc (place .0) (turn-states-lt L (inv .1) (place .2) .1) (told .0) (told .1) (inv .6),
     )
 
 returns : tie.Need-returns Inv-loop μ-loop
 returns c =
     let h = c .before .loop .inv in
-    (passedTo→Passed (h .0) (h .1) (omega arith) (h .5), closedTo→ClosedUnder (h .0) (h .1) (omega arith) (h .6))
+    (passedTo→SpreadOnce (h .0) (h .1) (omega arith) (h .5), closedTo→ClosedUnder (h .0) (h .1) (omega arith) (h .6))
 
 pub pass-spec : {M : Type 1} → statement M
 pass-spec =

@@ -4,7 +4,7 @@ use native.Mathlib.Omega.{arith}
 use mathlib.Core.Path.{refl}
 use Rattle.text.specs.Limits.{stateLimit}
 use Rattle.splitters.specs.Laws.DividingLaws.{homesKept-put, partition-next}
-use Rattle.splitters.specs.Laws.PartitionLaws.{classes-lt, splitBy-moved}
+use Rattle.splitters.specs.Laws.PartitionLaws.{classes-lt-states, splitBy-moved}
 use borrow.Author.Needs.{needs}
 use Rattle.splitters.proofs.dividing.divide.Statement.{statement}
 use Rattle.splitters.proofs.dividing.divide.Tie as tie
@@ -19,7 +19,7 @@ moving c = c .before .before .before .before .before
 
 -- The new number is one of a class.
 new-lt : (c : tie.Start) → c .args .parts .classes < stateLimit
-new-lt c = omega (arith, classes-lt (c .pre .1 .0) (c .pre .0 .1) (c .pre .1 .1), c .pre .0 .0)
+new-lt c = omega (arith, classes-lt-states (c .pre .1 .0) (c .pre .0 .1) (c .pre .1 .1), c .pre .0 .0)
 
 -- ---- needs
 

@@ -3,7 +3,7 @@ use mathlib.Core.List.{List}
 use Prim.Native.Nat.{ℕ, _-_}
 use native.Mathlib.Omega.{arith}
 use Rattle.text.specs.Limits.{stateLimit}
-use Rattle.sets.specs.Inner.SetValues.{Least}
+use Rattle.sets.specs.Inner.SetValues.{LeastOf}
 use Rattle.splitters.specs.Inner.Partition.{Moved}
 use Rattle.sets.specs.Laws.WalkLaws.{walk-nearer, none-of-least}
 use Rattle.splitters.specs.Laws.DividingLaws.{moved-none, moved-other}
@@ -13,7 +13,7 @@ use Rattle.splitters.proofs.dividing.move_states.Tie as tie
 
 abbrev Inv-loop : tie.InvT-loop
 Inv-loop c class₀ left₀ p₀ class left p =
-    Least left p × ((t : List ℕ) → Moved left (c .0) class t → Moved left₀ (c .0) class₀ t)
+    LeastOf left p × ((t : List ℕ) → Moved left (c .0) class t → Moved left₀ (c .0) class₀ t)
 
 abbrev μ-loop : tie.MeasureT-loop
 μ-loop c class₀ left₀ p₀ class left p = stateLimit - p

@@ -3,10 +3,10 @@ use mathlib.Core.List.{List}
 use Prim.Native.Nat.{ℕ, _-_, _≤_}
 use native.Mathlib.Omega.{arith}
 use Rattle.text.specs.Limits.{stateLimit}
-use Rattle.sets.specs.Inner.SetValues.{In, Least}
+use Rattle.sets.specs.Inner.SetValues.{In, LeastOf}
 use Rattle.splitters.specs.Inner.Partition.{Partition, Split}
 use Rattle.splitters.specs.Inner.Splitting.{LeftOf}
-use Rattle.splitters.specs.Laws.SplitLaws.{split-none}
+use Rattle.splitters.specs.Laws.SplitLaws.{split-empty}
 use Rattle.splitters.specs.Laws.SplittingLaws.{leftOf-together, split-together, class-of-left-lt}
 use Rattle.splitters.specs.Laws.SplittingLaws.{whole-has, leftOf-less, split-less}
 use Rattle.sets.specs.Laws.WalkLaws.{least-rises, none-of-least}
@@ -16,7 +16,7 @@ use Rattle.splitters.proofs.dividing.split.Tie as tie
 
 abbrev Inv-loop : tie.InvT-loop
 Inv-loop n set old class₀ members₀ origin₀ parts₀ left₀ p₀ class members origin parts left p =
-    Least left p × Partition n class members (parts .classes) (parts .together)
+    LeastOf left p × Partition n class members (parts .classes) (parts .together)
     × (parts₀ .classes ≤ parts .classes) × LeftOf n class set left
     × ((c o : List ℕ) → Split n old (In left) class origin c o → Split n old (In set) class₀ origin₀ c o)
 
@@ -107,7 +107,7 @@ returns : tie.Need-returns Inv-loop μ-loop
 returns c =
     let inv = c .before .loop .inv in
     let none = none-of-least (inv .0) (omega arith) in
-    ((inv .1, inv .2), inv .4 _ _ (split-none (λ p _. none p)))
+    ((inv .1, inv .2), inv .4 _ _ (split-empty (λ p _. none p)))
 
 pub split-spec : {M : Type 1} → statement M
 split-spec =

@@ -2,7 +2,7 @@
 use Prim.Native.Nat.{_-_}
 use native.Mathlib.Omega.{arith}
 use Rattle.text.specs.Limits.{stateLimit}
-use Rattle.sets.specs.Inner.SetValues.{Least}
+use Rattle.sets.specs.Inner.SetValues.{LeastOf}
 use Rattle.splitters.specs.Laws.IncomingLaws.{NotedBut, notedBut-start, notedBut-next, rowNoted-end}
 use Rattle.sets.specs.Laws.WalkLaws.{least-after}
 use borrow.Author.Needs.{needs}
@@ -10,7 +10,7 @@ use Rattle.splitters.proofs.incoming.note_label.Statement.{statement}
 use Rattle.splitters.proofs.incoming.note_label.Tie as tie
 
 abbrev Inv-loop : tie.InvT-loop
-Inv-loop pool row i into₀ left₀ q₀ into left q = Least left q × NotedBut pool row i left into₀ into
+Inv-loop pool row i into₀ left₀ q₀ into left q = LeastOf left q × NotedBut pool row i left into₀ into
 
 abbrev μ-loop : tie.MeasureT-loop
 μ-loop pool row i into₀ left₀ q₀ into left q = stateLimit - q

@@ -2,7 +2,7 @@
 use Prim.Native.Nat.{_-_}
 use native.Mathlib.Omega.{arith}
 use Rattle.text.specs.Limits.{stateLimit}
-use Rattle.sets.specs.Inner.SetValues.{Least}
+use Rattle.sets.specs.Inner.SetValues.{LeastOf}
 use Rattle.held.specs.Held.{HeldAt}
 use Rattle.splitters.specs.Laws.LeadingLaws.{UnionTo, unionTo-start, unionTo-next, unionTo-end}
 use Rattle.sets.specs.Laws.WalkLaws.{least-after}
@@ -11,7 +11,7 @@ use Rattle.splitters.proofs.leading.joint.Statement.{statement}
 use Rattle.splitters.proofs.leading.joint.Tie as tie
 
 abbrev Inv-loop : tie.InvT-loop
-Inv-loop slots pool row found₀ left₀ t₀ found left t = Least left t × UnionTo (HeldAt slots pool row) left₀ left found
+Inv-loop slots pool row found₀ left₀ t₀ found left t = LeastOf left t × UnionTo (HeldAt slots pool row) left₀ left found
 
 abbrev μ-loop : tie.MeasureT-loop
 μ-loop slots pool row found₀ left₀ t₀ found left t = stateLimit - t

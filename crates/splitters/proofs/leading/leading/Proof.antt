@@ -3,9 +3,9 @@ use mathlib.Core.Logic.{⊎-elim}
 use Prim.Native.Nat.{_-_, _<_}
 use native.Mathlib.Omega.{arith}
 use Rattle.text.specs.Limits.{stateLimit}
-use Rattle.sets.specs.Inner.SetValues.{Least}
+use Rattle.sets.specs.Inner.SetValues.{LeastOf}
 use Rattle.splitters.specs.Laws.LeadingLaws.{LeadingTo, leadingTo-start, leadingTo-next, leadingTo-end}
-use Rattle.splitters.specs.Laws.LeadingLaws.{Tells, tells-none, tells-some, tells-eq}
+use Rattle.splitters.specs.Laws.LeadingLaws.{LeadingTurn, leadingTurn-none, leadingTurn-some, leadingTurn-eq}
 use Rattle.sets.specs.Laws.WalkLaws.{least-after}
 use borrow.Author.Needs.{needs}
 use Rattle.splitters.proofs.leading.leading.Statement.{statement}
@@ -13,7 +13,7 @@ use Rattle.splitters.proofs.leading.leading.Tie as tie
 
 abbrev Inv-loop : tie.InvT-loop
 Inv-loop slots pool row back set goal found₀ left₀ p₀ found left p =
-    Least left p × LeadingTo slots pool row set goal left found
+    LeastOf left p × LeadingTo slots pool row set goal left found
 
 abbrev μ-loop : tie.MeasureT-loop
 μ-loop slots pool row back set goal found₀ left₀ p₀ found left p = stateLimit - p
@@ -31,7 +31,7 @@ going c = turn c .before
 
 -- What the least state that is left tells of.
 tells : (c : tie.Joined1 Inv-loop μ-loop)
-    → Tells (begin (going c) .args .slots .now) (begin (going c) .args .pool .now) (begin (going c) .args .row)
+    → LeadingTurn (begin (going c) .args .slots .now) (begin (going c) .args .pool .now) (begin (going c) .args .row)
     (begin (going c) .args .goal) (going c .loop .p) (going c .loop .found) (going c .loop .left) (c .if1 .found)
     (c .if1 .left)
 tells c =
@@ -40,11 +40,11 @@ tells c =
     let common = c .before .before .both .ensures in
     let t = c .before .greatest .ensures in
     ⊎-elim
-    (λ w. tells-eq (w .4) (w .5)
-    (tells-some (begin (going c) .pre .1) p-lt own common t (w .0 .taken) (w .1 .ensures) (w .2 .ensures)
+    (λ w. leadingTurn-eq (w .4) (w .5)
+    (leadingTurn-some (begin (going c) .pre .1) p-lt own common t (w .0 .taken) (w .1 .ensures) (w .2 .ensures)
     (w .3 .ensures)))
-    (λ w. tells-eq (w .2) (w .3)
-    (tells-none own common t (w .0 .left) (w .1 .ensures _ (going c .loop .inv .0))))
+    (λ w. leadingTurn-eq (w .2) (w .3)
+    (leadingTurn-none own common t (w .0 .left) (w .1 .ensures _ (going c .loop .inv .0))))
     (c .if1 .came)
 
 -- ---- needs

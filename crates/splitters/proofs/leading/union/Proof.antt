@@ -3,7 +3,7 @@ use Prim.Native.Nat.{_-_}
 use native.Mathlib.Omega.{arith}
 use Rattle.text.specs.Limits.{stateLimit}
 use Rattle.sets.specs.Inner.Sets.{Member}
-use Rattle.sets.specs.Inner.SetValues.{Least}
+use Rattle.sets.specs.Inner.SetValues.{LeastOf}
 use Rattle.splitters.specs.Laws.LeadingLaws.{UnionTo, unionTo-start, unionTo-next, unionTo-end}
 use Rattle.sets.specs.Laws.WalkLaws.{least-after}
 use borrow.Author.Needs.{needs}
@@ -11,7 +11,7 @@ use Rattle.splitters.proofs.leading.union.Statement.{statement}
 use Rattle.splitters.proofs.leading.union.Tie as tie
 
 abbrev Inv-loop : tie.InvT-loop
-Inv-loop sets found₀ left₀ q₀ found left q = Least left q × UnionTo (Member sets) left₀ left found
+Inv-loop sets found₀ left₀ q₀ found left q = LeastOf left q × UnionTo (Member sets) left₀ left found
 
 abbrev μ-loop : tie.MeasureT-loop
 μ-loop sets found₀ left₀ q₀ found left q = stateLimit - q

@@ -2,7 +2,7 @@
 use Prim.Native.Nat.{_-_, _≤_, _<_}
 use native.Mathlib.Omega.{arith}
 use Rattle.text.specs.Limits.{stateLimit}
-use Rattle.sets.specs.Inner.SetValues.{Least}
+use Rattle.sets.specs.Inner.SetValues.{LeastOf}
 use Rattle.held.specs.Laws.HeldLaws.{heldList-pooled}
 use Rattle.splitters.specs.Inner.Partition.{Partition}
 use Rattle.splitters.specs.Inner.MoveSplits.{UsedSplit}
@@ -15,7 +15,7 @@ use Rattle.splitters.proofs.refining.refine_class.Tie as tie
 abbrev Inv-loop : tie.InvT-loop
 Inv-loop n labels count slots pool into j old fresh rest class₀ members₀ origin₀ new from parts₀ left₀ i₀ class
     members origin parts left i =
-    Least left i × (parts₀ .classes ≤ parts .classes) × Partition n class members (parts .classes) (parts .together)
+    LeastOf left i × (parts₀ .classes ≤ parts .classes) × Partition n class members (parts .classes) (parts .together)
     × UsedSplit n old slots pool (UsedBut j labels count left) fresh rest class₀ origin₀ class origin
 
 abbrev μ-loop : tie.MeasureT-loop

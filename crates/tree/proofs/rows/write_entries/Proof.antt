@@ -3,7 +3,7 @@ use mathlib.Core.Path.{_≡_, refl}
 use Prim.Native.Nat.{ℕ, _-_, _*_}
 use native.Mathlib.Omega.{arith}
 use Rattle.text.specs.Limits.{stateLimit}
-use Rattle.sets.specs.Inner.SetValues.{In, Least}
+use Rattle.sets.specs.Inner.SetValues.{In, LeastOf}
 use Rattle.sets.specs.Laws.WalkLaws.{least-after, none-of-least}
 use Rattle.tree.specs.Inner.Rows.{EntriesWritten}
 use Rattle.tree.specs.Laws.EntriesLaws.{entriesWritten-none, entriesWritten-map, entriesWritten-other}
@@ -13,7 +13,7 @@ use Rattle.tree.proofs.rows.write_entries.Tie as tie
 
 abbrev Inv-loop : tie.InvT-loop
 Inv-loop rows₀ v at left₀ x₀ rows left x =
-    Least left x × ((y : ℕ) → In left y → In left₀ y)
+    LeastOf left x × ((y : ℕ) → In left y → In left₀ y)
     × ((c : ℕ) → at ≡ stateLimit * c → EntriesWritten c (λ y. In left₀ y × ¬ (In left y)) (λ _. v) rows₀ rows)
 
 abbrev μ-loop : tie.MeasureT-loop

@@ -5,7 +5,7 @@ use native.Mathlib.Omega.{arith}
 use borrow.Author.Needs.{needs}
 use Rattle.lts.specs.TestsLaws.{eq-or-not, both-or-not}
 use Rattle.text.specs.Limits.{stateLimit}
-use Rattle.sets.specs.Inner.SetValues.{In, Least}
+use Rattle.sets.specs.Inner.SetValues.{In, LeastOf}
 use Rattle.held.specs.Held.{HeldMove}
 use Rattle.sets.specs.Laws.WalkLaws.{least-after}
 use Rattle.weak_books.specs.Inner.Entering.{Entered, Beside, Done}
@@ -16,7 +16,7 @@ use Rattle.weak_books.proofs.entering.enter_beside.Tie as tie
 
 abbrev Inv-loop : tie.InvT-loop
 Inv-loop n labels count slots pool class members p depth book₀ left₀ q₀ book left q =
-    Least left q × ((x : ℕ) → In left x → In left₀ x)
+    LeastOf left q × ((x : ℕ) → In left x → In left₀ x)
     × Entered (HeldMove labels count slots pool) class depth (Done (Beside (p .0) left₀) (λ x y. y) left) book₀ book
 
 abbrev μ-loop : tie.MeasureT-loop

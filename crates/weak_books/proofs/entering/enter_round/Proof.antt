@@ -3,7 +3,7 @@ use Prim.Native.Nat.{ℕ, _-_, _<_}
 use native.Mathlib.Omega.{arith}
 use borrow.Author.Needs.{needs}
 use Rattle.text.specs.Limits.{stateLimit}
-use Rattle.sets.specs.Inner.SetValues.{In, Least}
+use Rattle.sets.specs.Inner.SetValues.{In, LeastOf}
 use Rattle.held.specs.Held.{HeldMove}
 use Rattle.sets.specs.Laws.WalkLaws.{least-after}
 use Rattle.weak_books.specs.Inner.Entering.{Entered, SeparatedBelow, Done}
@@ -15,7 +15,7 @@ use Rattle.weak_books.proofs.entering.enter_round.Tie as tie
 
 abbrev Inv-loop : tie.InvT-loop
 Inv-loop n labels count slots pool class members next next-members depth book₀ left₀ p₀ book left p =
-    Least left p × ((x : ℕ) → In left x → In left₀ x)
+    LeastOf left p × ((x : ℕ) → In left x → In left₀ x)
     × Entered (HeldMove labels count slots pool) class depth (Done (SeparatedBelow n class next) (λ x y. x) left) book₀
     book
 

@@ -10,7 +10,7 @@ use Rattle.text.specs.Laws.DecidesLaws.{decides-passed, decides-refused}
 use Rattle.books.specs.Books.{bookOf}
 use Rattle.books.specs.Inner.Sides.{BySide}
 use Rattle.sets.specs.declared.set.Set.{Set}
-use Rattle.sets.specs.Inner.SetValues.{In, SetOf, Least}
+use Rattle.sets.specs.Inner.SetValues.{In, SetOf, LeastOf}
 use Rattle.sets.specs.Laws.WalkLaws.{least-after, none-of-least}
 use borrow.Author.Needs.{needs}
 use Rattle.weak_books.proofs.entries.answers_lower.Statement.{statement}
@@ -27,7 +27,7 @@ each-of-others P {u = u} rest here each x i = go (eq-or-not x u)
 
 abbrev Inv-loop : tie.InvT-loop
 Inv-loop book forward t depth left₀ u₀ left u =
-    Least left u × ((x : ℕ) → In left x → In left₀ x)
+    LeastOf left u × ((x : ℕ) → In left x → In left₀ x)
     × (((x : ℕ) → In left x → BySide forward (LowerEntry (bookOf book) depth) (t .0) x)
     → (x : ℕ) → In left₀ x → BySide forward (LowerEntry (bookOf book) depth) (t .0) x)
 

@@ -11,14 +11,14 @@ use Rattle.weak_books.proofs.filling.book_rounds.Statement.{statement}
 use Rattle.weak_books.proofs.filling.book_rounds.Tie as tie
 
 abbrev Inv-loop : tie.InvT-loop
-Inv-loop n labels count slots pool into class₀ members₀ origin₀ fresh₀ rest₀ when₀ book₀ parts₀ first₀ k₀
-    class members origin fresh rest when book parts first k =
-    Booked (HeldMove labels count slots pool) n k first book₀ book class members origin fresh when (parts .classes)
+Inv-loop n labels count slots pool into class₀ members₀ origin₀ under₀ rest₀ when₀ book₀ parts₀ first₀ k₀
+    class members origin under rest when book parts first k =
+    Booked (HeldMove labels count slots pool) n k first book₀ book class members origin under when (parts .classes)
     (parts .together)
 
 abbrev μ-loop : tie.MeasureT-loop
-μ-loop n labels count slots pool into class₀ members₀ origin₀ fresh₀ rest₀ when₀ book₀ parts₀ first₀ k₀
-    class members origin fresh rest when book parts first k =
+μ-loop n labels count slots pool into class₀ members₀ origin₀ under₀ rest₀ when₀ book₀ parts₀ first₀ k₀
+    class members origin under rest when book parts first k =
     n - parts .classes
 
 -- ---- places of the function

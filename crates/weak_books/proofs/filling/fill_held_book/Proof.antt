@@ -74,7 +74,7 @@ fill-table-requires c κs =
     let cleared = ranking (clearing entered) in
     let P = begin cleared .pre in
     let limit = P .0 .states-le in
-    let R = entered .book-rounds .ensures .rounded in (
+    let R = entered .book-rounds .ensures .rounded .rounded in (
       (
         limit,
         omega (arith, limit, R .ready .partition .classes-le),
@@ -103,7 +103,7 @@ returns c =
     let E = entered .book-rounds .ensures in
     let promise = filled .fill-table .ensures in
     let same = filled .fill-table .kept .1 .1 .1 .1 .1 .1 .1 .0 ∙ cleared .clear .ensures .past .same-length in
-    let finished = finished-of-last (E .rounded) refl (E .separates) (promise .0) (promise .1) in (
+    let finished = finished-of-last (E .rounded .rounded) refl (E .rounded .separates) (promise .0) (promise .1) in (
       ranked-of-finished (heldMove-game L) (L .some-state) (L .states-le) (cleared .clear .ensures) finished same,
       bookFilled-of-settled (heldMove-game L) (finished .settled) (E .entries)
           (past-trans (clearing entered .clear2 .ensures .past) (E .past)),

@@ -5,7 +5,7 @@ use borrow.Author.Needs.{needs}
 use Rattle.text.specs.Limits.{stateLimit}
 use Rattle.text.specs.Laws.DecidesLaws.{decides-true, decides-false}
 use Rattle.sets.specs.Inner.Sets.{Member}
-use Rattle.sets.specs.Inner.SetValues.{Least}
+use Rattle.sets.specs.Inner.SetValues.{LeastOf}
 use Rattle.sets.specs.Laws.WalkLaws.{walk-nearer}
 use Rattle.weak_books.specs.Inner.OpensTo.{Tried}
 use Rattle.weak_books.specs.Laws.HeldEntryLaws.{within-of-none, none-of-within}
@@ -14,7 +14,7 @@ use Rattle.weak_books.proofs.firsts.lowest_opening.Statement.{statement
 use Rattle.weak_books.proofs.firsts.lowest_opening.Tie as tie
 
 abbrev Inv-loop : tie.InvT-loop
-Inv-loop targets lower answers left₀ t₀ left t = Least left t × Tried (Member lower) answers left₀ left
+Inv-loop targets lower answers left₀ t₀ left t = LeastOf left t × Tried (Member lower) answers left₀ left
 
 abbrev μ-loop : tie.MeasureT-loop
 μ-loop targets lower answers left₀ t₀ left t = stateLimit - t

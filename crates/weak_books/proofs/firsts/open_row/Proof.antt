@@ -3,7 +3,7 @@ use Prim.Native.Nat.{_-_}
 use native.Mathlib.Omega.{arith}
 use borrow.Author.Needs.{needs}
 use Rattle.text.specs.Limits.{stateLimit, pairPlace}
-use Rattle.sets.specs.Inner.SetValues.{Least}
+use Rattle.sets.specs.Inner.SetValues.{LeastOf}
 use Rattle.sets.specs.Laws.WalkLaws.{walk-nearer}
 use Rattle.weak_books.specs.Inner.Opened.{LabelOpened, MembersLeft}
 use Rattle.weak_books.specs.Laws.FirstsLaws.{membersLeft-start, none-at-start, member-after, membersLeft-next}
@@ -14,7 +14,7 @@ use Rattle.weak_books.proofs.firsts.open_row.Tie as tie
 
 abbrev Inv-loop : tie.InvT-loop
 Inv-loop targets lower at a p depth book₀ left₀ q₀ book left q =
-    Least left q × MembersLeft at (p .0) q left
+    LeastOf left q × MembersLeft at (p .0) q left
     × LabelOpened targets lower at depth a (pairPlace (p .0) 0) (pairPlace (p .0) q) book₀ book
 
 abbrev μ-loop : tie.MeasureT-loop

@@ -4,7 +4,7 @@ use native.Mathlib.Omega.{arith}
 use borrow.Author.Needs.{needs}
 use Rattle.text.specs.Limits.{stateLimit}
 use Rattle.text.specs.Laws.DecidesLaws.{decides-true, decides-false}
-use Rattle.sets.specs.Inner.SetValues.{Least}
+use Rattle.sets.specs.Inner.SetValues.{LeastOf}
 use Rattle.held.specs.Laws.PoolLaws.{setOf-number}
 use Rattle.weak_books.specs.Inner.Entering.{OtherClass}
 use Rattle.weak_books.specs.Inner.OpensTo.{Tried}
@@ -15,7 +15,7 @@ use Rattle.weak_books.proofs.opening.lowest_left.Tie as tie
 
 abbrev Inv-loop : tie.InvT-loop
 Inv-loop n slots pool row class members answers left₀ t₀ left t =
-    Least left t × Tried (OtherClass class) answers left₀ left
+    LeastOf left t × Tried (OtherClass class) answers left₀ left
 
 abbrev μ-loop : tie.MeasureT-loop
 μ-loop n slots pool row class members answers left₀ t₀ left t = stateLimit - t

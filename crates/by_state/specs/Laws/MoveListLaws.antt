@@ -17,7 +17,7 @@ use Rattle.lts.specs.Game.{Game}
 use Rattle.lts.specs.Decided.{Decided, answers?}
 use Rattle.lts.specs.DecidedLaws.{decided-game}
 use Rattle.text.specs.Limits.{actionLimit}
-use Rattle.comparing.specs.MoveList.{Listed, MoveList, Lists}
+use Rattle.by_state.specs.MoveList.{Listed, MoveList, Lists}
 
 -- Place i holds a step from p with the action a to q.
 abbrev pub listedAt? : ℕ → List ℕ → List ℕ → List ℕ → ℕ → ℕ → ℕ → ℕ → Bool
