@@ -11,13 +11,14 @@ ghost use Prim.Native.Nat.{_≤_, _<_};
 ghost use lib.ListN.{length};
 ghost use Rattle.lts.specs.Weak.{silentLabel};
 ghost use Rattle.text.specs.Limits.{stateLimit, actionLimit};
+ghost use Rattle.text.specs.Lists.{Past};
 ghost use Rattle.silent.specs.Labelled.{LabelList, LabelMove};
 ghost use Rattle.silent.specs.Inner.Targets.{OwnNumbers, Targets};
 
-// Gives each of n states a class of its own.
+// Gives each of n states a class of its own, and changes nothing behind them.
 pub fn own_numbers(n: u16, class: &mut [u16])
     requires { ⌜ n ≤ length (now class) ⌝ }
-    ensures { λ _. ⌜ OwnNumbers n (now (class .exit)) ⌝ }
+    ensures { λ _. ⌜ OwnNumbers n (now (class .exit)) × Past n (now (class .entry)) (now (class .exit)) ⌝ }
 {
     let mut p = 0;
     while p < n {

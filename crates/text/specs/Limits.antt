@@ -49,7 +49,7 @@ startPlace = 3
 abbrev pub headEnd : ℕ
 headEnd = 4
 
--- "Action i from 4 + 14i: level (0 L, 1 D, 2 H), name length, twelve name bytes"
+-- "Action i from 4 + 14i: level (0 L, 1 D, 2 H), name length, twelve name bytes"; 3 is T (document 02, (vii))
 abbrev pub actionsBegin : ℕ
 actionsBegin = headEnd
 

@@ -49,12 +49,12 @@ own-numbers-requires c κs = search needs
 silent-targets-requires : tie.Need-silent-targets-requires
 silent-targets-requires c κs =
     let made = c .before .before .before in
-    (start made .pre .0, made .own-numbers .ensures)
+    (start made .pre .0, made .own-numbers .ensures .0)
 
 silent-targets-requires-2 : tie.Need-silent-targets-requires-2
 silent-targets-requires-2 c κs =
     let made = own (c .before .before) in
-    (labelList-turned (start made .pre .0), made .own-numbers .ensures)
+    (labelList-turned (start made .pre .0), made .own-numbers .ensures .0)
 
 hold-actions-requires : tie.Need-hold-actions-requires
 hold-actions-requires c κs =
@@ -63,7 +63,7 @@ hold-actions-requires c κs =
     let pre = start made .pre in (
       pre .0,
       (
-        made .own-numbers .ensures,
+        made .own-numbers .ensures .0,
         (there turned .silent-targets .ensures, (turned .silent-targets2 .ensures, pre .1)),
       ),
     )

@@ -24,7 +24,7 @@ open-depths-requires c κs =
     let pre = numbered .before .before .before .before .pre in (
       pre .0,
       (
-        numbered .own-numbers .ensures,
+        numbered .own-numbers .ensures .0,
         (
           found .silent-targets .ensures,
           (pre .1 .0, (pre .1 .1 .0, (lowerSets-zero (cleared .clear-sets .ensures), pre .1 .1 .1))),

@@ -30,7 +30,7 @@ first-bad-low-requires c κs =
     let P = noted .before .before .before .pre in
     let labels = noted .note-actions .ensures in
     let le = tested .first-bad-under .ensures .number-le in (
-      (P .0, numbered .own-numbers .ensures),
+      (P .0, numbered .own-numbers .ensures .0),
       (
         sought .silent-targets .ensures,
         (usedTo-le le (labels .used-to), (omega (arith, le, labels .number-le), P .1)),
