@@ -3,7 +3,7 @@ use mathlib.Core.Path.{_≡_, sym, ap, _∙_}
 use Prim.Native.Nat.{ℕ}
 use lib.ListN.{getD}
 use borrow.Author.Needs.{needs}
-use Rattle.sets.specs.Laws.SetValuesLaws.{decides-eqb}
+use Rattle.text.specs.Laws.DecidesLaws.{decides-eqb}
 use Rattle.held.proofs.slots.same_slot.Statement.{statement}
 use Rattle.held.proofs.slots.same_slot.Tie as tie
 
