@@ -21,7 +21,7 @@ ghost use Rattle.ranking.specs.Table.{Ranks};
 ghost use Rattle.lts.specs.Book.{noEntry};
 ghost use Rattle.books.specs.Books.{entryNumber, BookFilled};
 ghost use Rattle.books.specs.Inner.Groups.{IndexOf};
-ghost use Rattle.books.specs.Inner.Filling.{EntryWritten, PairFilled, RowFilled, RowsFilled, RowEmpty, BookEmpty};
+ghost use Rattle.books.specs.Inner.Filling.{EntryWritten, PairFilled, RowFilled, EntriesFilled, RowEmpty, BookEmpty};
 
 // Writes the entry of p and q.
 pub fn put_entry(p: State, q: State, side: u8, action: u8, target: u8, depth: u8, book: &mut [u8])
@@ -145,7 +145,7 @@ fn fill_rows(
         × (tableLength ≤ length (now table)) ⌝ }
     requires { ⌜ bookLength ≤ length (now book) ⌝ }
     requires { ⌜ BookEmpty (now book) ⌝ }
-    ensures { λ _. ⌜ RowsFilled (Listed n (now (first .entry)) (now (actions .entry)) (now (targets .entry))) n n
+    ensures { λ _. ⌜ EntriesFilled (Listed n (now (first .entry)) (now (actions .entry)) (now (targets .entry))) n n
         (now (book .entry)) (now (book .exit)) ⌝ }
 {
     for p in 0..n {

@@ -15,7 +15,7 @@ use text::limits::STATE_LIMIT;
 use text::limits::TABLE_LENGTH;
 ghost use mathlib.Core.Path.{_≡_};
 ghost use Prim.Native.Nat.{ℕ, _≤_, _<_};
-ghost use lib.ListN.{length, getD};
+ghost use lib.ListN.{length};
 ghost use Rattle.text.specs.Decides.{Decides};
 ghost use Rattle.text.specs.Limits.{stateLimit, actionLimit, tableLength, bookLength};
 ghost use Rattle.by_state.specs.MoveList.{MoveList, Ordered};

@@ -1,4 +1,4 @@
-// Sets of numbers below 128 as the bits of two words. A list has one set for each number.
+// Sets of numbers below 128 as the bits of two words, in lists or as values.
 pub mod set;
 
 use crate::set::insert;
@@ -7,12 +7,12 @@ use text::limits::ROW;
 ghost use mathlib.Core.Bool.{not};
 ghost use mathlib.Core.Path.{_≡_};
 ghost use Prim.Native.Nat.{_+_, _*_, _≤_, _<_};
-ghost use lib.ListN.{length, getD};
+ghost use lib.ListN.{length};
 ghost use Rattle.text.specs.Decides.{Decides};
 ghost use Rattle.text.specs.Limits.{stateLimit};
 ghost use Rattle.sets.specs.Inner.Sets.{setsLength, Member, Empty, Joined};
 
-// Two words for each state.
+// Two words for each set of a list that has one for each state.
 pub const SETS_LENGTH: usize = 2 * ROW;
 
 // The place of the first word of set k.

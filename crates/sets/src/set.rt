@@ -11,7 +11,7 @@ ghost use Rattle.sets.specs.Inner.Sets.{Member, Joined};
 ghost use Rattle.sets.specs.Inner.SetValues.{In, SetOf, LeastOf, GreatestOf, SetPut};
 
 // The bits of a word.
-pub const WORD_BITS: u16 = 64;
+const WORD_BITS: u16 = 64;
 
 // The last bit of a word, and the last number that a set can have.
 const LAST_BIT: u16 = WORD_BITS - 1;

@@ -42,7 +42,7 @@ fn copy_rows(table: &mut [u8], n: u16, class: &[u16; ROW], rows: &[u8; TABLE_LEN
 }
 
 // Fills the table from the splitting tree of n states: the entry of two states is the round that separated their
-// classes. The caller brings that as `apart`, of which its ranks speak; each tree gives one, `apart-exists`
+// classes. It is promised of every `apart` that tells this round; each tree has one, `apart-exists`
 // (tree/Laws/ApartExistsLaws).
 pub fn fill_table(
     n: u16,

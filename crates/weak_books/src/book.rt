@@ -18,7 +18,6 @@ use text::limits::BOOK_LENGTH;
 use text::limits::MOVES_LENGTH;
 use text::limits::ROW;
 use text::limits::SILENT_ACTION;
-ghost use mathlib.Core.Path.{_≡_};
 ghost use Prim.Native.Nat.{ℕ, _+_, _≤_, _<_};
 ghost use lib.ListN.{length, getD};
 ghost use Rattle.lts.specs.Weak.{silentLabel};

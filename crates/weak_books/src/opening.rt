@@ -31,7 +31,7 @@ pub struct Opening {
 }
 
 // The lowest target of p in this row to which no target of q is alike, or 128. Each class is tried once.
-fn lowest_left(
+fn lowest_by_class(
     n: u16,
     slots: &[u16; SLOTS_LENGTH],
     pool: &[u64; POOL_LENGTH],
@@ -63,7 +63,8 @@ fn lowest_left(
     t
 }
 
-// The same. Equal sets are mostly shared, and with the same slot each target of p is one of q.
+// The same, with a look at the slots first: equal sets are mostly shared, and with the same slot each target of p is
+// one of q.
 fn lowest_apart(
     n: u16,
     slots: &[u16; SLOTS_LENGTH],
@@ -84,7 +85,7 @@ fn lowest_apart(
     if same_slot(slots, row, p, q) {
         return STATE_LIMIT;
     }
-    lowest_left(n, slots, pool, row, class, members, p, q)
+    lowest_by_class(n, slots, pool, row, class, members, p, q)
 }
 
 // The first opening of p against q.

@@ -32,7 +32,7 @@ pub record RowFilled (Move : Moves) (p to : ℕ) (entry exit : List ℕ) : Type 
   pub past : Past bookLength entry exit
 
 -- The entries of each p below `to` and each q below n are written, and nothing else.
-pub record RowsFilled (Move : Moves) (n to : ℕ) (entry exit : List ℕ) : Type 0 where
+pub record EntriesFilled (Move : Moves) (n to : ℕ) (entry exit : List ℕ) : Type 0 where
   pub own : (p q : ℕ) → p < to → q < n → PairOwn Move p q (entryNumber exit (pairPlace p q))
   pub kept : (k : ℕ) → ((p q : ℕ) → p < to → q < n → ¬ (k ≡ pairPlace p q)) → entryNumber exit k ≡ entryNumber entry k
   pub past : Past bookLength entry exit

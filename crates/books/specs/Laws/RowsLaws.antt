@@ -14,7 +14,7 @@ use Rattle.text.specs.Inner.Clearing.{Cleared}
 use Rattle.text.specs.Laws.ListsLaws.{past-refl, past-trans}
 use Rattle.ranking.specs.Table.{Below, Greatest}
 use Rattle.books.specs.Books.{entryNumber, bookOf, BookFilled}
-use Rattle.books.specs.Inner.Filling.{PairOwn, PairFilled, RowFilled, RowsFilled, RowEmpty, BookEmpty}
+use Rattle.books.specs.Inner.Filling.{PairOwn, PairFilled, RowFilled, EntriesFilled, RowEmpty, BookEmpty}
 
 pub empty-of-cleared : {book book′ : List ℕ} → Cleared 0 bookLength book book′ → BookEmpty book′
 empty-of-cleared {book′ = book′} c k l =
@@ -53,21 +53,21 @@ module _ {Move : Moves} where
 
   -- ---- all rows
 
-  pub rowsFilled-zero : {n : ℕ} (book : List ℕ) → RowsFilled Move n 0 book book
-  rowsFilled-zero book = record {
+  pub entriesFilled-zero : {n : ℕ} (book : List ℕ) → EntriesFilled Move n 0 book book
+  entriesFilled-zero book = record {
     own = λ p q l. absurd (omega arith);
     kept = λ k h. refl;
     past = past-refl book;
   }
 
-  pub rowsFilled-at : {n p m : ℕ} {book book′ : List ℕ} → p ≡ m → RowsFilled Move n p book book′
-      → RowsFilled Move n m book book′
-  rowsFilled-at {n} {book = book} {book′} e = subst (λ (r : ℕ). RowsFilled Move n r book book′) e
+  pub entriesFilled-at : {n p m : ℕ} {book book′ : List ℕ} → p ≡ m → EntriesFilled Move n p book book′
+      → EntriesFilled Move n m book book′
+  entriesFilled-at {n} {book = book} {book′} e = subst (λ (r : ℕ). EntriesFilled Move n r book book′) e
 
   module _ {n : ℕ} (states-le : n ≤ stateLimit) where
-    pub rowsFilled-suc : {p : ℕ} {book book′ book″ : List ℕ} → RowsFilled Move n p book book′
-        → RowFilled Move p n book′ book″ → RowsFilled Move n (p + 1) book book″
-    rowsFilled-suc {p} {book″ = book″} x y = record {
+    pub entriesFilled-suc : {p : ℕ} {book book′ book″ : List ℕ} → EntriesFilled Move n p book book′
+        → RowFilled Move p n book′ book″ → EntriesFilled Move n (p + 1) book book″
+    entriesFilled-suc {p} {book″ = book″} x y = record {
       own = λ r q l k.
           below-more (λ z. PairOwn Move z q (entryNumber book″ (pairPlace z q))) p
           (λ z j.
@@ -77,12 +77,12 @@ module _ {Move : Moves} where
       past = past-trans (x .past) (y .past);
     }
 
-    pub rows-empty : {p : ℕ} {book book′ : List ℕ} → BookEmpty book → p < n → RowsFilled Move n p book book′
+    pub rows-empty : {p : ℕ} {book book′ : List ℕ} → BookEmpty book → p < n → EntriesFilled Move n p book book′
         → RowEmpty p n book′
     rows-empty {p} empty l x q k =
         x .kept (pairPlace p q) (λ r u j h e. omega (arith, j, h, k)) ∙ empty (pairPlace p q) (omega arith)
 
-    pub own-of-rows : {book book′ : List ℕ} → BookEmpty book → RowsFilled Move n n book book′
+    pub own-of-rows : {book book′ : List ℕ} → BookEmpty book → EntriesFilled Move n n book book′
         → OwnBook Move n stateLimit (bookOf book′)
     own-of-rows empty x = record {
       apart = λ p q r lp lq. x .own p q lp lq .apart r;
@@ -93,7 +93,7 @@ module _ {Move : Moves} where
     }
 
     -- The book that is filled after it was cleared.
-    pub bookFilled : {book book′ book″ : List ℕ} → Cleared 0 bookLength book book′ → RowsFilled Move n n book′ book″
+    pub bookFilled : {book book′ book″ : List ℕ} → Cleared 0 bookLength book book′ → EntriesFilled Move n n book′ book″
         → BookFilled Move n book book″
     bookFilled c x = record { own = own-of-rows (empty-of-cleared c) x; past = past-trans (c .past) (x .past) }
 

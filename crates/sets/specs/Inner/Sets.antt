@@ -14,11 +14,10 @@ wordBits = 64
 abbrev pub setsLength : ℕ
 setsLength = 2 * stateLimit
 
--- The least bit of a word from `from` on stands at place x; x is 64 if there is none.
-pub record NextBit (word from x : ℕ) : Type 0 where
-  pub from-le : from ≤ x
-  pub next-le : x ≤ wordBits
-  pub none-before : (y : ℕ) → from ≤ y → y < x → ¬ (word / 2 ^ y % 2 ≡ 1)
+-- The least bit of a word stands at place x; x is 64 if there is none.
+pub record FirstBit (word x : ℕ) : Type 0 where
+  pub first-le : x ≤ wordBits
+  pub none-before : (y : ℕ) → y < x → ¬ (word / 2 ^ y % 2 ≡ 1)
   pub set : x < wordBits → word / 2 ^ x % 2 ≡ 1
 
 -- x is a member of set k.

@@ -11,7 +11,7 @@ use lib.Count.{trailingZeros, trailing-le, trailing-of-zero, leadingZeros, leadi
 use Rattle.text.specs.Limits.{stateLimit}
 use Rattle.lts.specs.TestsLaws.{eq-of-not-lt, eq-or-not, lt-or-le}
 use Rattle.sets.specs.declared.set.Set.{Set}
-use Rattle.sets.specs.Inner.Sets.{wordBits, NextBit}
+use Rattle.sets.specs.Inner.Sets.{wordBits, FirstBit}
 use Rattle.sets.specs.Inner.SetValues.{wordOf, In, SetOf, LeastOf, GreatestOf}
 use Rattle.sets.specs.Laws.BitsLaws.{bit-zero, bit-place-lt, trailing-bit, trailing-none}
 use Rattle.sets.specs.Laws.MasksLaws.{bit-and-left, bit-top, zero-of-bits, dropped-bit, dropped-other}
@@ -19,11 +19,10 @@ use Rattle.sets.specs.Laws.SetValuesLaws.{in-of-bit, bit-of-in, in-of-wo
 
 -- ---- the least member
 
-pub nextBit-first : (w : ℕ) → w < 2 ^ wordBits → NextBit w 0 (trailingZeros wordBits w)
-nextBit-first w fits = record {
-  from-le = omega arith;
-  next-le = trailing-le wordBits w;
-  none-before = λ y k m. trailing-none wordBits w y m;
+pub firstBit-trailing : (w : ℕ) → w < 2 ^ wordBits → FirstBit w (trailingZeros wordBits w)
+firstBit-trailing w fits = record {
+  first-le = trailing-le wordBits w;
+  none-before = λ y m. trailing-none wordBits w y m;
   set = λ l. go l (eq-zero-or-pos w);
 }
   where
@@ -32,23 +31,23 @@ nextBit-first w fits = record {
     go l (inr p) = trailing-bit wordBits w p fits
 
 -- A word with a bit has its first one below 64.
-pub nextBit-lt : {w x : ℕ} → w < 2 ^ wordBits → ¬ (w ≡ 0) → NextBit w 0 x → x < wordBits
-nextBit-lt {w} {x} fits some n = go (lt-or-le x wordBits)
+pub firstBit-lt : {w x : ℕ} → w < 2 ^ wordBits → ¬ (w ≡ 0) → FirstBit w x → x < wordBits
+firstBit-lt {w} {x} fits some n = go (lt-or-le x wordBits)
   where
     go : (x < wordBits) ⊎ (wordBits ≤ x) → x < wordBits
     go (inl l) = l
-    go (inr l) = absurd (some (zero-of-bits w fits (λ i k. n .none-before i (omega arith) (omega (arith, l, k)))))
+    go (inr l) = absurd (some (zero-of-bits w fits (λ i k. n .none-before i (omega (arith, l, k)))))
 
-pub least-low : {s : Set} {x : ℕ} → NextBit (s .0) 0 x → x < wordBits → LeastOf s x
+pub least-low : {s : Set} {x : ℕ} → FirstBit (s .0) x → x < wordBits → LeastOf s x
 least-low n l = record {
   least-le = omega (arith, l);
-  none-before = λ y k m. n .none-before y (omega arith) k (word-of-in 0 (omega arith) (omega (arith, k, l)) m);
+  none-before = λ y k m. n .none-before y k (word-of-in 0 (omega arith) (omega (arith, k, l)) m);
   member = λ k. in-of-word 0 (omega arith) (omega arith) l (n .set l);
 }
 
-pub least-high : {s : Set} {x : ℕ} → s .0 ≡ 0 → NextBit (s .1) 0 x → LeastOf s (wordBits + x)
+pub least-high : {s : Set} {x : ℕ} → s .0 ≡ 0 → FirstBit (s .1) x → LeastOf s (wordBits + x)
 least-high {s} {x} e n = record {
-  least-le = omega (arith, n .next-le);
+  least-le = omega (arith, n .first-le);
   none-before = λ y k m. none y k m (lt-or-le y wordBits);
   member = λ k. in-of-word 1 (omega arith) (omega arith) (omega (arith, k)) (n .set (omega (arith, k)));
 }
@@ -57,7 +56,7 @@ least-high {s} {x} e n = record {
     none y k m (inl l) =
         bit-zero y (ap (λ (v : ℕ). v / 2 ^ y % 2) (sym e) ∙ word-of-in 0 (omega arith) l m)
     none y k m (inr l) =
-        n .none-before (y - wordBits) (omega arith) (omega (arith, k, l))
+        n .none-before (y - wordBits) (omega (arith, k, l))
         (word-of-in 1 (omega (arith, l)) (omega (arith, l, m .member-lt)) m)
 
 least-unique : {s : Set} {x y : ℕ} → LeastOf s x → LeastOf s y → x ≡ y
@@ -68,7 +67,7 @@ least-unique {s} {x} {y} m n =
 -- ---- the least member taken out
 
 -- Word h loses its first bit, and the others stay.
-dropped : {s r : Set} (h : ℕ) {i p : ℕ} → p ≡ wordBits * h + i → i < wordBits → NextBit (wordOf s h) 0 i
+dropped : {s r : Set} (h : ℕ) {i p : ℕ} → p ≡ wordBits * h + i → i < wordBits → FirstBit (wordOf s h) i
     → wordOf r h ≡ bitAnd (wordOf s h) (wordOf s h - 1)
     → ((z : ℕ) → z < 2 → ¬ (z ≡ h) → wordOf r z ≡ wordOf s z) → SetOf (λ x. In s x × ¬ (x ≡ p)) r
 dropped {s} {r} h {i} {p} c l n e f = record {
@@ -106,8 +105,8 @@ module _ {s : Set} (p : ℕ) (m : LeastOf s p) where
   pub dropped-low : s .0 < 2 ^ wordBits → ¬ (s .0 ≡ 0)
       → SetOf (λ x. In s x × ¬ (x ≡ p)) (bitAnd (s .0) (s .0 - 1), s .1)
   dropped-low fits some =
-      let n = nextBit-first (s .0) fits in
-      let l = nextBit-lt fits some n in
+      let n = firstBit-trailing (s .0) fits in
+      let l = firstBit-lt fits some n in
       let e = least-unique m (least-low n l) in
       dropped 0 (omega (arith, e)) l n refl other
     where
@@ -118,8 +117,8 @@ module _ {s : Set} (p : ℕ) (m : LeastOf s p) where
   pub dropped-high : s .0 ≡ 0 → s .1 < 2 ^ wordBits → ¬ (s .1 ≡ 0)
       → SetOf (λ x. In s x × ¬ (x ≡ p)) (0, bitAnd (s .1) (s .1 - 1))
   dropped-high first fits some =
-      let n = nextBit-first (s .1) fits in
-      let l = nextBit-lt fits some n in
+      let n = firstBit-trailing (s .1) fits in
+      let l = firstBit-lt fits some n in
       let e = least-unique m (least-high first n) in
       dropped 1 (omega (arith, e)) l n refl other
     where

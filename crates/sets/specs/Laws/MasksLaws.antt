@@ -9,7 +9,7 @@ use lib.Arith.{digits-mod}
 use lib.Pow.{high, shr-shr}
 use lib.Bits.{bitAnd, bitOr, and-step, and-shr, and-le-l, and-le-r, or-add-and, or-zero-r}
 use Rattle.lts.specs.TestsLaws.{lt-or-le}
-use Rattle.sets.specs.Inner.Sets.{wordBits, NextBit}
+use Rattle.sets.specs.Inner.Sets.{wordBits, FirstBit}
 use Rattle.sets.specs.Laws.BitsLaws.{bit-half, bit-first, bit-zero, or-of-bits}
 
 and-odd : (a b : ℕ) → bitAnd a b % 2 ≡ min (a % 2) (b % 2)
@@ -80,12 +80,12 @@ pred-shr (suc i) w l f =
     (λ y k e. f (suc y) (omega (arith, k)) (sym (ap (λ (x : ℕ). x % 2) (bit-half w y)) ∙ e))
     ∙ ap (λ (x : ℕ). x - 1) (bit-half w i)
 
-module _ {w i : ℕ} (n : NextBit w 0 i) (l : i < wordBits) where
+module _ {w i : ℕ} (n : FirstBit w i) (l : i < wordBits) where
   odd : w / 2 ^ i % 2 ≡ 1
   odd = n .set l
 
   pred : (w - 1) / 2 ^ i ≡ w / 2 ^ i - 1
-  pred = pred-shr i w (some (eq-zero-or-pos w)) (λ y. n .none-before y (omega arith))
+  pred = pred-shr i w (some (eq-zero-or-pos w)) (n .none-before)
     where
       some : (w ≡ 0) ⊎ (0 < w) → 0 < w
       some (inl e) = absurd (bit-zero i (ap (λ (x : ℕ). x / 2 ^ i % 2) (sym e) ∙ odd))
@@ -111,4 +111,4 @@ module _ {w i : ℕ} (n : NextBit w 0 i) (l : i < wordBits) where
           ap (λ (x : ℕ). x % 2) (sym (shr (w - 1) (j - suc i) e) ∙ ap (λ (x : ℕ). x / 2 ^ (j - suc i)) halves
           ∙ shr w (j - suc i) e)
           ∙ b
-      go (inr m) = absurd (n .none-before j (omega arith) (omega (arith, m, d)) b)
+      go (inr m) = absurd (n .none-before j (omega (arith, m, d)) b)

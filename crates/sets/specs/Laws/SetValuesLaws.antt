@@ -81,14 +81,6 @@ in-or-not s x = go (lt-or-le x stateLimit) (bit-cases w)
     go (inl l) (inl b) = inr (λ m. absurd (omega (arith, b, m .bit-is)))
     go (inl l) (inr b) = inl (record { member-lt = l; bit-is = b })
 
--- What makes up a set is decided.
-pub setOf-or-not : {P : ℕ → Type 0} {s : Set} → SetOf P s → (x : ℕ) → P x ⊎ ¬ (P x)
-setOf-or-not {P} {s} m x = go (in-or-not s x)
-  where
-    go : In s x ⊎ ¬ (In s x) → P x ⊎ ¬ (P x)
-    go (inl i) = inl (m .only x i)
-    go (inr f) = inr (λ p. f (m .all x p))
-
 -- ---- tests
 
 pub none-of-or : {s : Set} → bitOr (s .0) (s .1) ≡ 0 → (x : ℕ) → ¬ (In s x)

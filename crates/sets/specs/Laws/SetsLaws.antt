@@ -49,22 +49,6 @@ module _ {sets : List ℕ} {k w : ℕ} where
       → w / 2 ^ (x % wordBits) % 2 ≡ 1
   bit-of-member {x} e m = ap (λ (v : ℕ). v / 2 ^ (x % wordBits) % 2) e ∙ m .bit-is
 
-  -- Member x as bit i of word h.
-  pub member-of-word : (h : ℕ) {i x : ℕ} → x ≡ wordBits * h + i → w ≡ getD sets (2 * k + h) 0 → h < 2 → i < wordBits
-      → w / 2 ^ i % 2 ≡ 1 → Member sets k x
-  member-of-word h {i} {x} c e l m b =
-      let q : h ≡ x / wordBits = omega arith in
-      let r : x % wordBits ≡ i = omega arith in
-      member-of-bit (e ∙ ap (λ (y : ℕ). getD sets (2 * k + y) 0) q) (omega arith)
-      (ap (λ (y : ℕ). w / 2 ^ y % 2) r ∙ b)
-
-  pub word-of-member : (h : ℕ) {i x : ℕ} → x ≡ wordBits * h + i → w ≡ getD sets (2 * k + h) 0 → i < wordBits
-      → Member sets k x → w / 2 ^ i % 2 ≡ 1
-  word-of-member h {i} {x} c e m b =
-      let q : h ≡ x / wordBits = omega arith in
-      let r : i ≡ x % wordBits = omega arith in
-      ap (λ (y : ℕ). w / 2 ^ y % 2) r ∙ bit-of-member (e ∙ ap (λ (y : ℕ). getD sets (2 * k + y) 0) q) b
-
 -- ---- stores
 
 -- x stands in word h of a set, as a bit of w.

@@ -21,7 +21,8 @@ least-after {a} {b} {x} {y} h g s k = go (lt-or-le x y)
         absurd (h .none-before y (omega (arith, l, m .1)) (m .0))
 
 -- and so it does where others are taken out with it.
-pub least-rises : {a gone b : Set} {x y : ℕ} → LeastOf a x → In gone x → SetOf (λ z. In a z × ¬ (In gone z)) b → LeastOf b y
+pub least-rises : {a gone b : Set} {x y : ℕ} → LeastOf a x → In gone x → SetOf (λ z. In a z × ¬ (In gone z)) b
+    → LeastOf b y
     → x < y
 least-rises {gone = gone} h g s =
     least-after h (g .member-lt) (λ z i. (s .only z i .0, λ e. s .only z i .1 (subst (In gone) (sym e) g)))

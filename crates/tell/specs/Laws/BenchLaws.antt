@@ -30,7 +30,7 @@ use Rattle.letters.specs.declared.word.End.the-variants.{Source, Target}
 use Rattle.letters.specs.Words.{FirstBranch}
 use Rattle.tell.specs.Laws.WordTestLaws.{unbranched?→DeterministicModel, still?→NoSilentStep, wordOf?→WordOf}
 use Rattle.lts.specs.Weak.{LowStep}
-use Rattle.tell.specs.Laws.BenchTestsLaws.{read, computed, words, unbranched, still, stored-of-read}
+use Rattle.tell.specs.Laws.BenchTestsLaws.{read, computed, words, unbranched, none-silent, stored-of-read}
 use Rattle.tell.specs.Laws.BenchTestsLaws.{judged-of-computed}
 
 -- Each end of the print step follows the other: where 0 stops in 3, 1 goes on to 2.
@@ -87,19 +87,19 @@ unfolding thin released?
 joint-fact = record {
   worked-refused = judged-of-computed workedText worked (read .worked) (refusedAt 1 2) (computed .worked);
   worked-deterministic = unbranched?→DeterministicModel worked (unbranched .worked);
-  worked-still = still?→NoSilentStep worked (still .worked);
+  worked-still = still?→NoSilentStep worked (none-silent .worked);
   worked-word = wordOf?→WordOf (stored-of-read workedText worked (read .worked)) 1 (scan ∷ scan ∷ []) Source
       (words .worked);
   scanned-once-passed =
       judged-of-computed scannedOnceText scannedOnce (read .scanned-once) (Passed 1) (computed .scanned-once);
   scanned-once-deterministic = unbranched?→DeterministicModel scannedOnce (unbranched .scanned-once);
-  scanned-once-still = still?→NoSilentStep scannedOnce (still .scanned-once);
+  scanned-once-still = still?→NoSilentStep scannedOnce (none-silent .scanned-once);
   released-passed = judged-of-computed releasedText released (read .released) (Passed 1) (computed .released);
   released-deterministic = unbranched?→DeterministicModel released (unbranched .released);
-  released-still = still?→NoSilentStep released (still .released);
+  released-still = still?→NoSilentStep released (none-silent .released);
   close-low-refused = judged-of-computed closeLowText closeLow (read .close-low) (refusedAt 0 1) (computed .close-low);
   close-low-deterministic = unbranched?→DeterministicModel closeLow (unbranched .close-low);
-  close-low-still = still?→NoSilentStep closeLow (still .close-low);
+  close-low-still = still?→NoSilentStep closeLow (none-silent .close-low);
   close-low-word = wordOf?→WordOf (stored-of-read closeLowText closeLow (read .close-low)) 0 (close ∷ []) Target
       (words .close-low);
   branching-refused =
@@ -109,15 +109,15 @@ joint-fact = record {
   branching-first = branching-first;
   no-steps-passed = judged-of-computed noStepsText noSteps (read .no-steps) (Passed 0) (computed .no-steps);
   no-steps-deterministic = unbranched?→DeterministicModel noSteps (unbranched .no-steps);
-  no-steps-still = still?→NoSilentStep noSteps (still .no-steps);
+  no-steps-still = still?→NoSilentStep noSteps (none-silent .no-steps);
   print-loop-passed = judged-of-computed printLoopText printLoop (read .print-loop) (Passed 0) (computed .print-loop);
   print-loop-deterministic = unbranched?→DeterministicModel printLoop (unbranched .print-loop);
-  print-loop-still = still?→NoSilentStep printLoop (still .print-loop);
+  print-loop-still = still?→NoSilentStep printLoop (none-silent .print-loop);
   unreached-print-passed =
       judged-of-computed unreachedPrintText unreachedPrint (read .unreached-print) (Passed 1)
       (computed .unreached-print);
   unreached-print-deterministic = unbranched?→DeterministicModel unreachedPrint (unbranched .unreached-print);
-  unreached-print-still = still?→NoSilentStep unreachedPrint (still .unreached-print);
+  unreached-print-still = still?→NoSilentStep unreachedPrint (none-silent .unreached-print);
   print-unreachable = print-unreachable;
   thinned = refl;
   thinned-empty = refl;
@@ -129,7 +129,7 @@ second-start = record {
   woken-refused =
       judged-of-computed wokenPrintText wokenPrint (read .woken-print) (refusedAt 0 1) (computed .woken-print);
   woken-deterministic = unbranched?→DeterministicModel wokenPrint (unbranched .woken-print);
-  woken-still = still?→NoSilentStep wokenPrint (still .woken-print);
+  woken-still = still?→NoSilentStep wokenPrint (none-silent .woken-print);
   woken-word = wordOf?→WordOf (stored-of-read wokenPrintText wokenPrint (read .woken-print)) 0 (scan ∷ []) Target
       (words .woken-print);
 }

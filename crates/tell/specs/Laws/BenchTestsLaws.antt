@@ -144,7 +144,7 @@ unbranched = record {
   depth-one = tt;
 }
 
-pub record Still : Type 0 where
+pub record NoneSilent : Type 0 where
   pub worked : T (still? worked (length (worked .steps)))
   pub scanned-once : T (still? scannedOnce (length (scannedOnce .steps)))
   pub released : T (still? released (length (released .steps)))
@@ -154,9 +154,9 @@ pub record Still : Type 0 where
   pub unreached-print : T (still? unreachedPrint (length (unreachedPrint .steps)))
   pub woken-print : T (still? wokenPrint (length (wokenPrint .steps)))
 
-pub still : Still
+pub none-silent : NoneSilent
 unfolding still? all
-still = record {
+none-silent = record {
   worked = tt;
   scanned-once = tt;
   released = tt;

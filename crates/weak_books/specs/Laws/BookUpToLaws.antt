@@ -7,7 +7,7 @@ use mathlib.Core.Path.{_≡_, refl, sym, ap, _∙_, subst}
 use Prim.Native.Nat.{ℕ, _+_, _≤_, _<_}
 use native.Mathlib.Omega.{arith}
 use lib.ListN.{getD}
-use Rattle.lts.specs.Alike.{Moves, Relation, Alike, Separated}
+use Rattle.lts.specs.Alike.{Moves, Relation, Separated}
 use Rattle.lts.specs.AlikeLaws.{alike-le, bisimilar→Alike, bisimilar-of-rank, separated-pos}
 use Rattle.lts.specs.AlikeLaws.{separated-of-rank, rank-of-separated}
 use Rattle.lts.specs.Game.{Game, Settled}

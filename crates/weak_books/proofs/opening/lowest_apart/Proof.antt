@@ -15,11 +15,11 @@ returns c =
     lowestTo-same-slot (a .slots .now) (a .pool .now) (a .class .now) (a .row) (a .p .0) (a .q .0)
     (decides-true (same .result) _ (same .ensures) (c .if1 .taken))
 
-lowest-left-requires : tie.Need-lowest-left-requires
-lowest-left-requires c κs = search needs
+lowest-by-class-requires : tie.Need-lowest-by-class-requires
+lowest-by-class-requires c κs = search needs
 
 returns-2 : tie.Need-returns-2
-returns-2 c = c .lowest-left .ensures
+returns-2 c = c .lowest-by-class .ensures
 
 pub lowest-apart-spec : {M : Type 1} → statement M
-lowest-apart-spec = tie.close (tie.spec same-slot-requires returns lowest-left-requires returns-2)
+lowest-apart-spec = tie.close (tie.spec same-slot-requires returns lowest-by-class-requires returns-2)

@@ -10,8 +10,8 @@ use Rattle.weak_books.specs.Inner.Entering.{OtherClass}
 use Rattle.weak_books.specs.Inner.OpensTo.{Tried}
 use Rattle.weak_books.specs.Laws.OpensToLaws.{tried-start, target-of-tried, lowestTo-none}
 use Rattle.weak_books.specs.Laws.FirstApartLaws.{otherClass-irreflexive, least-past, tried-next, lowestTo-here}
-use Rattle.weak_books.proofs.opening.lowest_left.Statement.{statement}
-use Rattle.weak_books.proofs.opening.lowest_left.Tie as tie
+use Rattle.weak_books.proofs.opening.lowest_by_class.Statement.{statement}
+use Rattle.weak_books.proofs.opening.lowest_by_class.Tie as tie
 
 abbrev Inv-loop : tie.InvT-loop
 Inv-loop n slots pool row class members answers left₀ t₀ left t =
@@ -126,8 +126,8 @@ returns-2 c =
     (at-loop .before .before .without .ensures) (inv .1) (inv .0)
     (otherClass-irreflexive (begin at-loop .args .class .now)) (λ l. omega (arith, l, c .loop-test .left))
 
-pub lowest-left-spec : {M : Type 1} → statement M
-lowest-left-spec =
+pub lowest-by-class-spec : {M : Type 1} → statement M
+lowest-by-class-spec =
     tie.close
     (tie.spec
     Inv-loop
