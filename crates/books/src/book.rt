@@ -21,7 +21,8 @@ ghost use Rattle.ranking.specs.Table.{Ranks};
 ghost use Rattle.lts.specs.Book.{noEntry};
 ghost use Rattle.books.specs.Books.{entryNumber, BookFilled};
 ghost use Rattle.books.specs.Inner.Groups.{IndexOf};
-ghost use Rattle.books.specs.Inner.Filling.{EntryWritten, PairFilled, RowFilled, EntriesFilled, RowEmpty, BookEmpty};
+ghost use Rattle.books.specs.Inner.Filling.{EntryWritten, PairFilled, RowFilled};
+ghost use Rattle.books.specs.Inner.Filling.{EntriesFilled, RowEmpty, BookEmpty};
 
 // Writes the entry of p and q.
 pub fn put_entry(p: State, q: State, side: u8, action: u8, target: u8, depth: u8, book: &mut [u8])
