@@ -328,6 +328,13 @@ pub fn shapes() -> Vec<(&'static str, Model)> {
     ]
 }
 
+/// The models with more sets than there is room for.
+pub const NO_ROOM: [&str; 3] = [
+    "choices of ticks, 62 actions",
+    "deep choices of ticks, 62 actions",
+    "zigzag of ticks, 62 actions",
+];
+
 /// What the names mean.
 pub const LEGEND: &str = "\
 Chain: from each state to the next; backward chain: to the one before it. Two chains of 64: with 8 actions, each state

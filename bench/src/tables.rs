@@ -4,12 +4,30 @@ use crate::process;
 use crate::shapes::{self, LEGEND};
 use crate::times::{best_of_turns, column, names, Timed, Times, PLAIN};
 
+/// What a model is compared with others by: its ticks, and whether its moves have room as sets.
+#[derive(Clone, Copy, PartialEq)]
+enum Kind {
+    Plain,
+    Ticks,
+    NoRoom,
+}
+
+impl Kind {
+    fn of(name: &str, model: &second::Model) -> Kind {
+        match model.has_silent() {
+            false => Kind::Plain,
+            true if shapes::NO_ROOM.contains(&name) => Kind::NoRoom,
+            true => Kind::Ticks,
+        }
+    }
+}
+
 /// A model with its times.
 struct Measured {
     name: &'static str,
     states: u16,
     steps: usize,
-    has_ticks: bool,
+    kind: Kind,
     letters: Result<usize, u16>,
     /// The lines of the roll.
     lines: usize,
@@ -29,7 +47,7 @@ pub fn measure() -> Report {
             name,
             states: model.states,
             steps: model.steps.len(),
-            has_ticks: model.has_silent(),
+            kind: Kind::of(name, &model),
             letters: timed.letters,
             lines: lines(&second::roll_program(&model.to_text())),
             times: timed.times(),
@@ -179,7 +197,8 @@ is Read, Judge and Word in one; program is `till`: print with its process, from 
 
 const RATIOS: &str = "\
 Our times by those of the second checker (Word's without refusals), and those of Rank, Book and Check by those of plain
-Rust and of plain Rust over bit sets, of the models without ticks and of those with ticks:
+Rust and of plain Rust over bit sets, of the models without ticks, of those with ticks, and of the three whose moves
+have no room as sets:
 ";
 
 const SECOND: &str = "\
@@ -216,22 +235,22 @@ impl Report {
         table(&head, self.models.iter().map(Measured::row))
     }
 
-    /// The models with ticks, or those without.
-    fn with(&self, ticks: bool) -> impl Iterator<Item = &Measured> {
+    /// The models of a kind.
+    fn with(&self, kind: Kind) -> impl Iterator<Item = &Measured> {
         let models = self.models.iter();
-        models.filter(move |model| model.has_ticks == ticks)
+        models.filter(move |model| model.kind == kind)
     }
 
-    /// The least and the greatest ratios of the models without ticks, and of those with ticks.
+    /// The least and the greatest ratios of the models of each kind.
     fn ratios(&self) -> String {
-        let row = |name: &str, ticks: bool, choose: fn(f64, f64) -> f64| {
+        let row = |name: &str, kind: Kind, choose: fn(f64, f64) -> f64| {
             let over = |index| {
-                let ratios = self.with(ticks).filter_map(|model| model.ratio(index));
+                let ratios = self.with(kind).filter_map(|model| model.ratio(index));
                 if_any(ratios.reduce(choose))
             };
             let second = (0..names().len()).map(over);
-            let plain = self.beside(Measured::plain, ticks, choose);
-            let bits = self.beside(Measured::bits, ticks, choose);
+            let plain = self.beside(Measured::plain, kind, choose);
+            let bits = self.beside(Measured::bits, kind, choose);
             let cells = second.chain(plain).chain(bits);
             [name.to_string()].into_iter().chain(cells).collect()
         };
@@ -240,19 +259,20 @@ impl Report {
         let mut head = [&["ratio"], &names()[..]].concat();
         head.extend(to_plain.iter().flatten().map(String::as_str));
         let rows = [
-            row("least", false, f64::min),
-            row("greatest", false, f64::max),
-            row("least with ticks", true, f64::min),
-            row("greatest with ticks", true, f64::max),
+            row("least", Kind::Plain, f64::min),
+            row("greatest", Kind::Plain, f64::max),
+            row("least with ticks", Kind::Ticks, f64::min),
+            row("greatest with ticks", Kind::Ticks, f64::max),
+            row("least without room", Kind::NoRoom, f64::min),
+            row("greatest without room", Kind::NoRoom, f64::max),
         ];
         table(&head, rows)
     }
 
-    /// The least or the greatest of our times by those of plain Rust, of models with ticks or without, in the order of
-    /// `PLAIN`.
-    fn beside(&self, other: Beside, ticks: bool, choose: fn(f64, f64) -> f64) -> [String; 3] {
+    /// The least or the greatest of our times by those of plain Rust, of the models of a kind, in the order of `PLAIN`.
+    fn beside(&self, other: Beside, kind: Kind, choose: fn(f64, f64) -> f64) -> [String; 3] {
         [0, 1, 2].map(|index| {
-            let ratios = self.with(ticks).filter_map(|model| other(model, index));
+            let ratios = self.with(kind).filter_map(|model| other(model, index));
             if_any(ratios.map(|both| both.1).reduce(choose))
         })
     }
@@ -262,13 +282,11 @@ impl Report {
         models.find(|model| model.name == name).expect("a model")
     }
 
-    /// The greatest of some times of all models.
+    /// The greatest of some times of all models but those without room.
     fn most(&self, time: fn(&Measured) -> f64) -> f64 {
-        self.models
-            .iter()
-            .map(time)
-            .reduce(f64::max)
-            .expect("some model")
+        let models = self.models.iter();
+        let with_room = models.filter(|model| model.kind != Kind::NoRoom);
+        with_room.map(time).reduce(f64::max).expect("some model")
     }
 
     /// What the README shows: a few rows, and what they mean.
@@ -287,20 +305,28 @@ impl Report {
         let times = table(&head, SHORT.map(row));
         let slowest = digits(self.most(Measured::program));
         let more = digits(self.most(Measured::more));
-        let [rank, book, check] = self.beside(Measured::plain, false, f64::max);
-        let [rank_bits, book_bits, check_bits] = self.beside(Measured::bits, false, f64::max);
-        let [rank_ticks, book_ticks, check_ticks] = self.beside(Measured::bits, true, f64::max);
+        let [rank, book, check] = self.beside(Measured::plain, Kind::Plain, f64::max);
+        let [rank_bits, book_bits, check_bits] = self.beside(Measured::bits, Kind::Plain, f64::max);
+        let [rank_ticks, book_ticks, check_ticks] =
+            self.beside(Measured::bits, Kind::Ticks, f64::max);
+        let [rank_room, book_room, check_room] = [0, 1, 2].map(|index| {
+            let models = self.with(Kind::NoRoom);
+            let times = models.map(|model| model.ours_beside(index));
+            digits(times.reduce(f64::max).expect("some model"))
+        });
         let [process, _] = self.empty.map(digits);
         format!(
             "Microseconds, the best of many calls, on {}:\n\n{times}\n\
-             The program `till` answers on every model of the benchmark within {slowest}; {process} of that go to its \
-             process, as\nan empty text shows. Roll takes at most {more} more than Page. \
+             The program `till` answers on every model of the benchmark but three within {slowest}; {process} of that \
+             go to its\nprocess, as an empty text shows. Roll takes at most {more} more than Page. \
              On models without ticks Rank takes at most {rank} times as\n\
              long as plain Rust that compares states by their moves and is not proved, Book at most {book} times and \
              Check at most {check}\ntimes; they take at most {rank_bits}, {book_bits} and {check_bits} times as long \
              as plain Rust over bit sets.\n\
              On models with ticks Rank takes at most {rank_ticks} times as long as plain Rust over bit sets, \
-             Book at most {book_ticks} times and Check\nat most {check_ticks} times.\n\
+             Book at most {book_ticks} times and Check\nat most {check_ticks} times. The three left out have more \
+             different moves than there is room for as sets, and are ranked otherwise:\nRank takes up to {rank_room} \
+             there, Book {book_room} and Check {check_room}.\n\
              `bench/TABLE.md` has every model and operation, and beside them the times of the second checker \
              and of plain Rust.\n",
             machine()
@@ -330,7 +356,7 @@ impl Report {
              A process alone: on an empty text the program takes {program}, the second checker's {second_program}.\n\n\
              ## The second checker (in brackets: our time by its time)\n\n{second}\n\
              ## Roll beside Page\n\n\
-             What Roll takes more than Page is to stay below 100. On these models it is at most {more}.\n\n{rolls}\n\
+             What Roll takes more than Page is to stay below 100. On all models with room it is at most {more}.\n\n{rolls}\n\
              ## Rank, Book and Check beside plain Rust\n\n{plain}\n"
         )
     }
