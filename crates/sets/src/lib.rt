@@ -1,9 +1,16 @@
 // Sets of numbers below 128 as the bits of two words, in lists or as values.
 pub mod set;
 
+use crate::set::Set;
+use crate::set::drop_least;
+use crate::set::either;
 use crate::set::insert;
+use crate::set::least;
+use crate::set::none;
+use crate::set::set_at;
 use text::State;
 use text::limits::ROW;
+use text::limits::STATE_LIMIT;
 ghost use mathlib.Core.Bool.{not};
 ghost use mathlib.Core.Path.{_≡_};
 ghost use Prim.Native.Nat.{_+_, _*_, _≤_, _<_};
@@ -11,6 +18,7 @@ ghost use lib.ListN.{length};
 ghost use Rattle.text.specs.Decides.{Decides};
 ghost use Rattle.text.specs.Limits.{stateLimit};
 ghost use Rattle.sets.specs.Inner.Sets.{setsLength, Member, Empty, Joined};
+ghost use Rattle.sets.specs.Inner.SetValues.{SetOf, InSome};
 
 // Two words for each set of a list that has one for each state.
 pub const SETS_LENGTH: usize = 2 * ROW;
@@ -72,4 +80,19 @@ pub fn spread(sets: &mut [u64], k: State, j: State) -> bool
     sets[at] = low;
     sets[at + 1] = high;
     true
+}
+
+// What the members of a set have together, in their sets of a list.
+pub fn union(sets: &[u64; SETS_LENGTH], of: Set) -> Set
+    ensures { λ r. ⌜ SetOf (InSome (now (sets .entry)) of) r ⌝ }
+{
+    let mut found = none();
+    let mut left = of;
+    let mut q = least(left);
+    while q < STATE_LIMIT {
+        found = either(found, set_at(sets, q as usize));
+        left = drop_least(left);
+        q = least(left);
+    }
+    found
 }

@@ -4,5 +4,6 @@ pub mod LoopsLaws
 pub mod PassLaws
 pub mod ClosedLaws
 pub mod KeysLaws
+pub mod RowsLaws
 pub mod TargetsLaws
 pub mod TurnedLaws

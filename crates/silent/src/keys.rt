@@ -5,7 +5,10 @@ use sets::SETS_LENGTH;
 use sets::add_member;
 use sets::clear_sets;
 use sets::join;
+use sets::set::put_set;
+use sets::set::set_at;
 use sets::spread;
+use sets::union;
 use text::Action;
 use text::State;
 use text::limits::ACTION_LIMIT;
@@ -22,6 +25,10 @@ ghost use Rattle.sets.specs.Inner.Sets.{Member, Joined};
 ghost use Rattle.silent.specs.Labelled.{LabelStep, LabelList, TickLabel, LabelMove};
 ghost use Rattle.silent.specs.Inner.Keys.{turnPlace, OfStates, OwnClasses, SpreadOnce, ClosedUnder, Closed};
 ghost use Rattle.silent.specs.Inner.Keys.{Gathered, Keys};
+ghost use Rattle.silent.specs.Inner.Targets.{Targets};
+
+// The passes over the silent steps that are made before sets are closed by rows.
+const FEW_PASSES: u16 = 4;
 
 // Makes set p the class of p alone, for each of n states.
 fn own_classes(n: u16, class: &[u16; ROW], sets: &mut [u64; SETS_LENGTH])
@@ -125,6 +132,49 @@ fn close_sets(
     }
 }
 
+// Gives set p, for each of n states, the members of the sets of all members of row p, in place of its own.
+fn close_by_rows(n: u16, rows: &[u64; SETS_LENGTH], sets: &mut [u64; SETS_LENGTH])
+    requires { ⌜ (n ≤ stateLimit) × OfStates n (now sets) ⌝ }
+    ensures { λ _. ⌜ Gathered (λ p q. (p < n) × Member (now (rows .entry)) p q) (now (sets .entry))
+        (now (sets .exit)) ⌝ }
+{
+    let before = *sets;
+    let mut k = 0;
+    while k < n {
+        let at = k as usize;
+        put_set(sets, at, union(&before, set_at(rows, at)));
+        k += 1;
+    }
+}
+
+// The same as close_sets, where the targets of silent moves are at hand. Where silent steps go to and fro between low
+// and high states, nearly as many passes as states can be needed: after a few of them the rows cost less.
+fn close_along(
+    n: u16,
+    from: &[u16; LABELS_LENGTH],
+    sources: &[u16; MOVES_LENGTH],
+    targets: &[u16; MOVES_LENGTH],
+    there: &[u64; SETS_LENGTH],
+    sets: &mut [u64; SETS_LENGTH],
+)
+    requires { ⌜ LabelList n (now from) (now sources) (now targets) ⌝ }
+    requires { ⌜ Targets (LabelMove n (now from) (now sources) (now targets)) silentLabel (now there) ⌝ }
+    requires { ⌜ OfStates n (now sets) ⌝ }
+    ensures { λ _. ⌜ Closed (TickLabel (now (from .entry)) (now (sources .entry)) (now (targets .entry))) n
+        (now (sets .entry)) (now (sets .exit)) ⌝ }
+{
+    let mut backward = true;
+    let mut passes = 0;
+    while passes < FEW_PASSES {
+        if !pass(n, from, sources, targets, backward, sets) {
+            return;
+        }
+        backward = !backward;
+        passes += 1;
+    }
+    close_by_rows(n, there, sets);
+}
+
 // Gives set p the members of the sets of all states that a step with the action leads to from p.
 fn gather(
     n: u16,
@@ -168,18 +218,40 @@ pub fn silent_keys(
     close_sets(n, from, sources, targets, keys);
 }
 
-// The keys of the states under an action, from those under the silent label.
+// The same, where the targets of silent moves are at hand.
+pub fn silent_keys_along(
+    n: u16,
+    from: &[u16; LABELS_LENGTH],
+    sources: &[u16; MOVES_LENGTH],
+    targets: &[u16; MOVES_LENGTH],
+    there: &[u64; SETS_LENGTH],
+    class: &[u16; ROW],
+    keys: &mut [u64; SETS_LENGTH],
+)
+    requires { ⌜ LabelList n (now from) (now sources) (now targets) ⌝ }
+    requires { ⌜ Targets (LabelMove n (now from) (now sources) (now targets)) silentLabel (now there) ⌝ }
+    requires { ⌜ ClassNumbers n (now class) ⌝ }
+    ensures { λ _. ⌜ Keys (LabelMove n (now (from .entry)) (now (sources .entry)) (now (targets .entry))) silentLabel
+        (now (class .entry)) (now (keys .exit)) ⌝ }
+{
+    own_classes(n, class, keys);
+    close_along(n, from, sources, targets, there, keys);
+}
+
+// The keys of the states under an action, from the targets of silent moves and the keys under the silent label.
 pub fn low_keys(
     n: u16,
     from: &[u16; LABELS_LENGTH],
     sources: &[u16; MOVES_LENGTH],
     targets: &[u16; MOVES_LENGTH],
+    there: &[u64; SETS_LENGTH],
     class: &[u16; ROW],
     silent: &[u64; SETS_LENGTH],
     a: Action,
     keys: &mut [u64; SETS_LENGTH],
 )
     requires { ⌜ LabelList n (now from) (now sources) (now targets) ⌝ }
+    requires { ⌜ Targets (LabelMove n (now from) (now sources) (now targets)) silentLabel (now there) ⌝ }
     requires { ⌜ ClassNumbers n (now class) ⌝ }
     requires { ⌜ a .0 < actionLimit ⌝ }
     requires { ⌜ Keys (LabelMove n (now from) (now sources) (now targets)) silentLabel (now class) (now silent) ⌝ }
@@ -187,5 +259,5 @@ pub fn low_keys(
         (now (class .entry)) (now (keys .exit)) ⌝ }
 {
     gather(n, from, sources, targets, a, silent, keys);
-    close_sets(n, from, sources, targets, keys);
+    close_along(n, from, sources, targets, there, keys);
 }

@@ -63,5 +63,5 @@ pub fn low_targets(
     ensures { λ _. ⌜ Targets (LabelMove n (now (from .entry)) (now (sources .entry)) (now (targets .entry))) (a .0)
         (now (sets .exit)) ⌝ }
 {
-    low_keys(n, from, sources, targets, own, silent, a, sets);
+    low_keys(n, from, sources, targets, silent, own, silent, a, sets);
 }

@@ -3,7 +3,6 @@ use held::POOL_LENGTH;
 use held::SLOTS_LENGTH;
 use held::slots::held;
 use held::slots::occupied;
-use sets::SETS_LENGTH;
 use sets::set::Set;
 use sets::set::both;
 use sets::set::drop_least;
@@ -12,7 +11,6 @@ use sets::set::greatest;
 use sets::set::is_empty;
 use sets::set::least;
 use sets::set::none;
-use sets::set::set_at;
 use sets::set::without;
 use text::State;
 use text::limits::STATE_LIMIT;
@@ -20,7 +18,7 @@ ghost use Prim.Native.Nat.{_+_, _<_};
 ghost use Rattle.sets.specs.Inner.SetValues.{In, SetOf};
 ghost use Rattle.held.specs.Held.{slotRows, poolSets, Turned};
 ghost use Rattle.held.specs.Inner.Slots.{Pooled};
-ghost use Rattle.splitters.specs.Inner.Splitters.{InSome, LeadsInto, LedFrom};
+ghost use Rattle.splitters.specs.Inner.Splitters.{LeadsInto, LedFrom};
 
 // What the members of a set have together, in their sets of this row.
 pub fn joint(slots: &[u16; SLOTS_LENGTH], pool: &[u64; POOL_LENGTH], row: u16, set: Set) -> Set
@@ -50,21 +48,6 @@ pub fn sources(slots: &[u16; SLOTS_LENGTH], pool: &[u64; POOL_LENGTH], row: u16,
         return occupied(pool, row);
     }
     joint(slots, pool, row + 1, both(set, targets))
-}
-
-// What the members of a set have together, in their sets of a list.
-pub fn union(sets: &[u64; SETS_LENGTH], of: Set) -> Set
-    ensures { λ r. ⌜ SetOf (InSome (now (sets .entry)) of) r ⌝ }
-{
-    let mut found = none();
-    let mut left = of;
-    let mut q = least(left);
-    while q < STATE_LIMIT {
-        found = either(found, set_at(sets, q as usize));
-        left = drop_least(left);
-        q = least(left);
-    }
-    found
 }
 
 // Those of a set that have a move into a goal: `row` has the targets, and `back` the sources. A target in the goal

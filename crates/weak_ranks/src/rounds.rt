@@ -7,7 +7,9 @@ use ranking::writes::write_rows;
 use sets::SETS_LENGTH;
 use silent::LABELS_LENGTH;
 use silent::keys::low_keys;
-use silent::keys::silent_keys;
+use silent::keys::silent_keys_along;
+use silent::targets::own_numbers;
+use silent::targets::silent_targets;
 use text::Action;
 use text::State;
 use text::limits::ACTION_LIMIT;
@@ -20,6 +22,7 @@ ghost use Rattle.lts.specs.Weak.{silentLabel};
 ghost use Rattle.text.specs.Limits.{stateLimit, tableLength};
 ghost use Rattle.silent.specs.Labelled.{LabelList, LabelMove};
 ghost use Rattle.silent.specs.Inner.Keys.{Keys};
+ghost use Rattle.silent.specs.Inner.Targets.{Targets};
 ghost use Rattle.ranking.specs.Table.{Ranked};
 ghost use Rattle.ranking.specs.Inner.ClassList.{Classes, Refined, Changed, RoundSeparates};
 ghost use Rattle.ranking.specs.Inner.TableWrites.{entryOf, Outside, RanksUpTo, Finished};
@@ -31,11 +34,13 @@ fn divide_low(
     from: &[u16; LABELS_LENGTH],
     sources: &[u16; MOVES_LENGTH],
     targets: &[u16; MOVES_LENGTH],
+    there: &[u64; SETS_LENGTH],
     class: &[u16; ROW],
     silent: &[u64; SETS_LENGTH],
     next: &mut [u16; ROW],
 )
     requires { ⌜ LabelList n (now from) (now sources) (now targets) ⌝ }
+    requires { ⌜ Targets (LabelMove n (now from) (now sources) (now targets)) silentLabel (now there) ⌝ }
     requires { ⌜ LeadClasses n (now class) × LeadClasses n (now next) ⌝ }
     requires { ⌜ Keys (LabelMove n (now from) (now sources) (now targets)) silentLabel (now class) (now silent) ⌝ }
     requires { ⌜ DividedUnder (LabelMove n (now from) (now sources) (now targets)) (LabelBelow 0) n (now class)
@@ -54,6 +59,7 @@ fn divide_low(
                 from,
                 sources,
                 targets,
+                there,
                 class,
                 silent,
                 Action(a),
@@ -71,10 +77,12 @@ fn refine_by_keys(
     from: &[u16; LABELS_LENGTH],
     sources: &[u16; MOVES_LENGTH],
     targets: &[u16; MOVES_LENGTH],
+    there: &[u64; SETS_LENGTH],
     class: &[u16; ROW],
     next: &mut [u16; ROW],
 )
     requires { ⌜ LabelList n (now from) (now sources) (now targets) ⌝ }
+    requires { ⌜ Targets (LabelMove n (now from) (now sources) (now targets)) silentLabel (now there) ⌝ }
     requires { ⌜ LeadClasses n (now class) ⌝ }
     ensures { λ _. ⌜ LeadClasses n (now (next .exit)) ⌝ }
     ensures { λ _. ⌜ Refined (LabelMove n (now (from .entry)) (now (sources .entry)) (now (targets .entry))) n
@@ -82,9 +90,9 @@ fn refine_by_keys(
 {
     let mut silent = [0u64; SETS_LENGTH];
     *next = *class;
-    silent_keys(n, from, sources, targets, class, &mut silent);
+    silent_keys_along(n, from, sources, targets, there, class, &mut silent);
     divide_by_keys(n, &silent, next);
-    divide_low(n, from, sources, targets, class, &silent, next);
+    divide_low(n, from, sources, targets, there, class, &silent, next);
 }
 
 // Lists the states whose class changes. Yields how many there are.
@@ -108,16 +116,18 @@ fn list_changed(n: u16, class: &[u16; ROW], next: &[u16; ROW], list: &mut [u16; 
 
 // One round after k of them: divides the classes, and writes its number for each two states that it separates. Yields
 // how many states changed their class.
-pub fn weak_round(
+fn weak_round(
     n: u16,
     from: &[u16; LABELS_LENGTH],
     sources: &[u16; MOVES_LENGTH],
     targets: &[u16; MOVES_LENGTH],
+    there: &[u64; SETS_LENGTH],
     k: u8,
     class: &mut [u16; ROW],
     table: &mut [u8],
 ) -> u16
     requires { ⌜ LabelList n (now from) (now sources) (now targets) ⌝ }
+    requires { ⌜ Targets (LabelMove n (now from) (now sources) (now targets)) silentLabel (now there) ⌝ }
     requires { ⌜ (k < n) × LeadClasses n (now class)
         × Classes (LabelMove n (now from) (now sources) (now targets)) n k (now class) ⌝ }
     requires { ⌜ tableLength ≤ length (now table) ⌝ }
@@ -133,7 +143,7 @@ pub fn weak_round(
 {
     let mut next = [0u16; ROW];
     let mut list = [0u16; ROW];
-    refine_by_keys(n, from, sources, targets, class, &mut next);
+    refine_by_keys(n, from, sources, targets, there, class, &mut next);
     let changed = list_changed(n, class, &next, &mut list);
     write_rows(table, class, &next, k + 1, n, &list, changed);
     *class = next;
@@ -146,9 +156,11 @@ fn weak_rounds(
     from: &[u16; LABELS_LENGTH],
     sources: &[u16; MOVES_LENGTH],
     targets: &[u16; MOVES_LENGTH],
+    there: &[u64; SETS_LENGTH],
     table: &mut [u8],
 ) -> u8
     requires { ⌜ LabelList n (now from) (now sources) (now targets) ⌝ }
+    requires { ⌜ Targets (LabelMove n (now from) (now sources) (now targets)) silentLabel (now there) ⌝ }
     requires { ⌜ tableLength ≤ length (now table) ⌝ }
     requires { ⌜ RanksUpTo (LabelMove n (now from) (now sources) (now targets)) n 0 (entryOf (now table)) ⌝ }
     ensures { λ r. ⌜ Finished (LabelMove n (now (from .entry)) (now (sources .entry)) (now (targets .entry))) n r
@@ -157,7 +169,7 @@ fn weak_rounds(
     let mut class = [0u16; ROW];
     let mut k = 0;
     let last = loop {
-        let changed = weak_round(n, from, sources, targets, k, &mut class, table);
+        let changed = weak_round(n, from, sources, targets, there, k, &mut class, table);
         if changed == 0 {
             break k;
         }
@@ -179,6 +191,10 @@ pub fn rank_labels(
     ensures { λ r. ⌜ Ranked (LabelMove n (now (from .entry)) (now (sources .entry)) (now (targets .entry))) n
         (now (table .entry)) (now (table .exit)) r ⌝ }
 {
+    let mut own = [0u16; ROW];
+    let mut there = [0u64; SETS_LENGTH];
+    own_numbers(n, &mut own);
+    silent_targets(n, from, sources, targets, &own, &mut there);
     clear(table, TABLE_LENGTH);
-    weak_rounds(n, from, sources, targets, table)
+    weak_rounds(n, from, sources, targets, &there, table)
 }

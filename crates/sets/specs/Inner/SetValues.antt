@@ -3,6 +3,7 @@
 use mathlib.Core.List.{List}
 use mathlib.Core.Path.{_≡_}
 use Prim.Native.Nat.{ℕ, zero, suc, _/_, _%_, _^_, _≤_, _<_}
+use Rattle.lts.specs.Alike.{Relation}
 use Rattle.text.specs.Limits.{stateLimit}
 use Rattle.sets.specs.declared.set.Set.{Set}
 use Rattle.sets.specs.Inner.Sets.{wordBits, Member}
@@ -39,3 +40,13 @@ pub record SetPut (k : ℕ) (s : Set) (entry exit : List ℕ) : Type 0 where
   pub put : SetOf (Member exit k) s
   pub kept : (j x : ℕ) → ¬ (j ≡ k) → Member entry j x → Member exit j x
   pub only : (j x : ℕ) → ¬ (j ≡ k) → Member exit j x → Member entry j x
+
+-- Some member of s is in the relation to x.
+pub record SomeMember (Of : Relation) (s : Set) (x : ℕ) : Type 0 where
+  pub member : ℕ
+  pub in-set : In s member
+  pub related : Of member x
+
+-- x is in the set, of the list, of some member of s.
+abbrev pub InSome : List ℕ → Set → ℕ → Type 0
+InSome sets = SomeMember (Member sets)

@@ -61,3 +61,9 @@ pub record GatheredTo (from sources targets : List ℕ) (a i : ℕ) (sets gather
   pub reached : (j x : ℕ) → getD from a 0 ≤ j → j < i → Member sets (getD targets j 0) x
       → Member gathered (getD sources j 0) x
   pub only : (p x : ℕ) → Member gathered p x → (q : ℕ) × LabelStep from sources targets a p q × Member sets q x
+
+-- Sets below k have been gathered from the rows, and the others are as they were.
+pub record RowsTo (rows entry : List ℕ) (k : ℕ) (sets : List ℕ) : Type 0 where
+  pub reached : (p q x : ℕ) → p < k → Member rows p q → Member entry q x → Member sets p x
+  pub only : (p x : ℕ) → p < k → Member sets p x → (q : ℕ) × Member rows p q × Member entry q x
+  pub rest : (p x : ℕ) → k ≤ p → Member sets p x → Member entry p x

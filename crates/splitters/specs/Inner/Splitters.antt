@@ -12,7 +12,7 @@ use Rattle.lts.specs.Game.{Separates}
 use Rattle.text.specs.Limits.{stateLimit}
 use Rattle.by_state.specs.Inner.Numbered.{Same}
 use Rattle.sets.specs.Inner.Sets.{Member}
-use Rattle.sets.specs.Inner.SetValues.{In}
+use Rattle.sets.specs.Inner.SetValues.{In, SomeMember}
 use Rattle.sets.specs.declared.set.Set.{Set}
 use Rattle.held.specs.Held.{rowSet, slotPlace, sourceRow, HeldAt}
 use Rattle.ranking.specs.Inner.ClassList.{Classes, Refined, RoundSeparates}
@@ -49,19 +49,9 @@ pub record LeadsInto (slots pool : List ℕ) (row : ℕ) (s : Set) (p : ℕ) : T
   pub held : HeldAt slots pool row p target
   pub in-set : In s target
 
--- Some member of s is in the relation to x.
-pub record SomeMember (Of : Relation) (s : Set) (x : ℕ) : Type 0 where
-  pub member : ℕ
-  pub in-set : In s member
-  pub related : Of member x
-
 -- In this row p is in the set of some member of s.
 abbrev pub LedFrom : List ℕ → List ℕ → ℕ → Set → ℕ → Type 0
 LedFrom slots pool row = SomeMember (HeldAt slots pool row)
-
--- i is in the set, of the list, of some member of s.
-abbrev pub InSome : List ℕ → Set → ℕ → Type 0
-InSome sets = SomeMember (Member sets)
 
 -- Set q has at least the numbers, in the list, of the labels of moves into q.
 pub record Into (labels : List ℕ) (count : ℕ) (slots into : List ℕ) : Type 0 where

@@ -5,7 +5,6 @@ use mathlib.Core.Logic.{_⊎_, inl, inr}
 use mathlib.Core.Path.{_≡_, sym, subst}
 use Prim.Native.Nat.{ℕ, _≤_, _<_}
 use native.Mathlib.Omega.{arith}
-use Rattle.lts.specs.Alike.{Relation}
 use Rattle.lts.specs.TestsLaws.{eq-or-not}
 use Rattle.text.specs.Limits.{stateLimit}
 use Rattle.sets.specs.Inner.Sets.{Member}
@@ -14,53 +13,10 @@ use Rattle.sets.specs.Laws.SetValuesLaws.{setOf-map, in-or-not}
 use Rattle.sets.specs.declared.set.Set.{Set}
 use Rattle.held.specs.Held.{rowSet, HeldAt, Turned, Occupied}
 use Rattle.held.specs.Laws.OccupiedLaws.{occupied-held}
-use Rattle.splitters.specs.Inner.Splitters.{SomeMember, LeadsInto, LedFrom}
+use Rattle.splitters.specs.Inner.Splitters.{LeadsInto, LedFrom}
 use Rattle.sets.specs.Laws.WalkLaws.{none-of-least}
 
 -- ---- all that members of a set have
-
--- The members of the set but those that are left are gone through.
-pub record UnionTo (Of : Relation) (set left found : Set) : Type 0 where
-  pub all : (t x : ℕ) → In set t → Of t x → In found x ⊎ In left t
-  pub only : (x : ℕ) → In found x → SomeMember Of set x
-  pub left-in : (t : ℕ) → In left t → In set t
-
-module _ {Of : Relation} {set : Set} where
-  pub unionTo-start : {found : Set} → SetOf (λ x. ⊥) found → UnionTo Of set set found
-  unionTo-start none = record {
-    all = λ t x i h. inr i;
-    only = λ x i. absurd (none .only x i);
-    left-in = λ t i. i;
-  }
-
-  pub unionTo-next : {left left′ found found′ own : Set} {t : ℕ} → UnionTo Of set left found → In left t
-      → SetOf (Of t) own → SetOf (λ x. In found x ⊎ In own x) found′
-      → SetOf (λ x. In left x × ¬ (x ≡ t)) left′ → UnionTo Of set left′ found′
-  unionTo-next {left} {left′} {found} {found′} {own} {t} j i o u w = record {
-    all = λ z x m h. all z x h (j .all z x m h) (eq-or-not z t);
-    only = λ x m. only x (u .only x m);
-    left-in = λ z m. j .left-in z (w .only z m .0);
-  }
-    where
-      all : (z x : ℕ) → Of z x → In found x ⊎ In left z → (z ≡ t) ⊎ ¬ (z ≡ t) → In found′ x ⊎ In left′ z
-      all z x h (inl m) b = inl (u .all x (inl m))
-      all z x h (inr m) (inl e) = inl (u .all x (inr (o .all x (subst (λ (y : ℕ). Of y x) e h))))
-      all z x h (inr m) (inr d) = inr (w .all z (m, d))
-
-      only : (x : ℕ) → In found x ⊎ In own x → SomeMember Of set x
-      only x (inl m) = j .only x m
-      only x (inr m) = record { member = t; in-set = j .left-in t i; related = o .only x m }
-
-  pub unionTo-end : {left found : Set} {t : ℕ} → UnionTo Of set left found → LeastOf left t → stateLimit ≤ t
-      → SetOf (SomeMember Of set) found
-  unionTo-end {left} {found} j l h = record {
-    all = λ x m. all x (j .all (m .member) x (m .in-set) (m .related));
-    only = j .only;
-  }
-    where
-      all : {t : ℕ} (x : ℕ) → In found x ⊎ In left t → In found x
-      all x (inl i) = i
-      all {t} x (inr i) = absurd (none-of-least l h t i)
 
 module _ {slots pool : List ℕ} {set : Set} (O : Occupied slots pool) (none : (x : ℕ) → ¬ (Member pool 0 x)) where
   -- Only members with a set of their own have something.

@@ -9,11 +9,11 @@ use lib.ListN.{getD}
 use Rattle.lts.specs.TestsLaws.{eq-or-not, lt-or-le}
 use Rattle.by_state.specs.Inner.Numbered.{Same}
 use Rattle.sets.specs.Inner.Sets.{Member}
-use Rattle.sets.specs.Inner.SetValues.{In, SetOf, LeastOf}
+use Rattle.sets.specs.Inner.SetValues.{In, SetOf, LeastOf, InSome}
 use Rattle.sets.specs.declared.set.Set.{Set}
 use Rattle.held.specs.Held.{slotPlace, targetRow, sourceRow, HeldAt, Turned, HeldList}
 use Rattle.splitters.specs.Inner.Partition.{Partition, SplitTwice}
-use Rattle.splitters.specs.Inner.Splitters.{LeadsInto, Into, InSome}
+use Rattle.splitters.specs.Inner.Splitters.{LeadsInto, Into}
 use Rattle.splitters.specs.Inner.MoveSplits.{IntoSet, SameMoves, SplitUnder, UsedClass, UsedLabels, UsedSplit}
 use Rattle.splitters.specs.Laws.SplitLaws.{homesKept-refl, homesKept-trans}
 

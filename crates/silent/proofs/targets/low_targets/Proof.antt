@@ -9,10 +9,13 @@ low-keys-requires c κs =
     let pre = c .before .pre in (
       pre .0,
       (
-        classNumbers-of-own (pre .0 .states-le) (pre .1 .0),
+        pre .1 .1 .1,
         (
-          pre .1 .1 .0,
-          keys-of-targets (λ p a q m. labelMove-target-lt (pre .0) m) (pre .1 .0) (pre .1 .1 .1),
+          classNumbers-of-own (pre .0 .states-le) (pre .1 .0),
+          (
+            pre .1 .1 .0,
+            keys-of-targets (λ p a q m. labelMove-target-lt (pre .0) m) (pre .1 .0) (pre .1 .1 .1),
+          ),
         ),
       ),
     )

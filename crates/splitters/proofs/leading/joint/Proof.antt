@@ -4,8 +4,7 @@ use native.Mathlib.Omega.{arith}
 use Rattle.text.specs.Limits.{stateLimit}
 use Rattle.sets.specs.Inner.SetValues.{LeastOf}
 use Rattle.held.specs.Held.{HeldAt}
-use Rattle.splitters.specs.Laws.LeadingLaws.{UnionTo, unionTo-start, unionTo-next, unionTo-end}
-use Rattle.sets.specs.Laws.WalkLaws.{least-after}
+use Rattle.sets.specs.Laws.WalkLaws.{least-after, UnionTo, unionTo-start, unionTo-next, unionTo-end}
 use borrow.Author.Needs.{needs}
 use Rattle.splitters.proofs.leading.joint.Statement.{statement}
 use Rattle.splitters.proofs.leading.joint.Tie as tie

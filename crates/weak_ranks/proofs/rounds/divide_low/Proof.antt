@@ -14,17 +14,17 @@ use Rattle.weak_ranks.proofs.rounds.divide_low.Statement.{statement}
 use Rattle.weak_ranks.proofs.rounds.divide_low.Tie as tie
 
 abbrev Inv-loop : tie.InvT-loop
-Inv-loop n from sources targets class silent next₀ keys₀ a₀ next keys a =
+Inv-loop n from sources targets there class silent next₀ keys₀ a₀ next keys a =
     (a ≤ actionLimit) × LeadClasses n next
     × DividedUnder (LabelMove n from sources targets) (LabelBelow a) n class next
 
 abbrev μ-loop : tie.MeasureT-loop
-μ-loop n from sources targets class silent next₀ keys₀ a₀ next keys a = actionLimit - a
+μ-loop n from sources targets there class silent next₀ keys₀ a₀ next keys a = actionLimit - a
 
 loop-holds : tie.Need-loop-holds Inv-loop μ-loop
 loop-holds c =
     let P = c .pre in
-    (omega arith, P .1 .0 .1, P .1 .1 .1)
+    (omega arith, P .1 .1 .0 .1, P .1 .1 .1 .1)
 
 cast-of : tie.Need-cast-of Inv-loop μ-loop
 cast-of c = search needs
@@ -48,7 +48,7 @@ low-keys-requires : tie.Need-low-keys-requires Inv-loop μ-loop
 low-keys-requires c κs =
     let at-loop = c .before .before .before .before .before in
     let P = at-loop .before .pre in
-    (P .0, (leadClasses-numbers (P .0 .states-le) (P .1 .0 .0), (omega arith, P .1 .1 .0)))
+    (P .0, (P .1 .0, (leadClasses-numbers (P .0 .states-le) (P .1 .1 .0 .0), (omega arith, P .1 .1 .1 .0))))
 
 divide-by-keys-requires : tie.Need-divide-by-keys-requires Inv-loop μ-loop
 divide-by-keys-requires c κs = search needs

@@ -34,7 +34,7 @@ write-rows-requires c κs =
     let P = begin (refining listed) .pre in
     let H = listed .list-changed .ensures in
     let limit = P .0 .states-le in
-    (P .1 .1 .0, (limit, omega (arith, limit, changed-count-le H), H .listed-lt))
+    (P .1 .1 .1 .0, (limit, omega (arith, limit, changed-count-le H), H .listed-lt))
 
 same-length : tie.Need-same-length
 same-length c = search needs
@@ -44,15 +44,15 @@ returns c =
     let listed = c .before .before .before .before .before .before .before in
     let P = begin (refining listed) .pre in
     let L = P .0 in
-    let A = P .1 .0 .1 in
-    let C = P .1 .0 .2 in
+    let A = P .1 .1 .0 .1 in
+    let C = P .1 .1 .0 .2 in
     let refined = refining listed .refine-by-keys .ensures in
     let H = listed .list-changed .ensures in
     let written = c .before .before .write-rows .ensures in (
       (refined .0, round-classes (λ p a q _ m. labelMove-target-lt L m) C (refined .1)),
       (
         round-ranks (λ p a q _ m. labelMove-target-lt L m) C (refined .1)
-            (roundWritten-of-rows H (written .0) (written .1)) (P .1 .1 .1),
+            (roundWritten-of-rows H (written .0) (written .1)) (P .1 .1 .1 .1),
         (
           written .0 .outside,
           leads-separate (λ p a q _ m. labelMove-target-lt L m) C (refined .1) A (refined .0) H,

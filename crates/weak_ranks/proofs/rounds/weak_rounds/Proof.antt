@@ -32,11 +32,11 @@ record Rounds (Move : Moves) (n k : ℕ) (entry table class : List ℕ) : Type 0
   pub table-length : length table ≡ length entry
 
 abbrev Inv-loop : tie.InvT-loop
-Inv-loop n from sources targets table₀ class₀ k₀ table class k =
+Inv-loop n from sources targets there table₀ class₀ k₀ table class k =
     Rounds (LabelMove n from sources targets) n k table₀ table class
 
 abbrev μ-loop : tie.MeasureT-loop
-μ-loop n from sources targets table₀ class₀ k₀ table class k = n - k
+μ-loop n from sources targets there table₀ class₀ k₀ table class k = n - k
 
 -- ---- places of the function
 
@@ -60,7 +60,7 @@ loop-holds : tie.Need-loop-holds Inv-loop μ-loop
 loop-holds c = record {
   leads = leadClasses-zero (getD-zeros stateLimit);
   are-classes = classes-zero (getD-zeros stateLimit);
-  ranks = c .before .pre .1 .1;
+  ranks = c .before .pre .1 .1 .1;
   separates = λ j l. absurd (omega arith);
   outside = outside-refl _;
   table-length = refl;
@@ -70,8 +70,13 @@ weak-round-requires : tie.Need-weak-round-requires Inv-loop μ-loop
 weak-round-requires c κs =
     let at-loop = c .before .before in
     let P = begin at-loop .pre in
-    let inv = at-loop .loop .inv in
-    (P .0, ((few at-loop, inv .leads, inv .are-classes), (omega (arith, P .1 .0, inv .table-length), inv .ranks)))
+    let inv = at-loop .loop .inv in (
+      P .0,
+      (
+        P .1 .0,
+        ((few at-loop, inv .leads, inv .are-classes), (omega (arith, P .1 .1 .0, inv .table-length), inv .ranks)),
+      ),
+    )
 
 add-k : tie.Need-add-k Inv-loop μ-loop
 add-k c =
@@ -94,13 +99,13 @@ loop-again c =
       ranks = after .1 .0;
       separates = below-more _ (at-loop .loop .k) (inv .separates) (after .1 .1 .1 .separates some);
       outside = outside-trans (inv .outside) (after .1 .1 .0);
-      table-length = played .weak-round .kept .1 .1 .1 .1 .1 .1 .0 ∙ inv .table-length;
+      table-length = played .weak-round .kept .1 .1 .1 .1 .1 .1 .1 .0 ∙ inv .table-length;
     }
 
 same-length : tie.Need-same-length Inv-loop μ-loop
 same-length c =
     let played = c .before .before .before in
-    played .weak-round .kept .1 .1 .1 .1 .1 .1 .0 ∙ going played .loop .inv .table-length
+    played .weak-round .kept .1 .1 .1 .1 .1 .1 .1 .0 ∙ going played .loop .inv .table-length
 
 returns : tie.Need-returns Inv-loop μ-loop
 returns c =

@@ -2,13 +2,12 @@
 use Prim.Native.Nat.{_-_}
 use native.Mathlib.Omega.{arith}
 use Rattle.text.specs.Limits.{stateLimit}
 use Rattle.sets.specs.Inner.Sets.{Member}
 use Rattle.sets.specs.Inner.SetValues.{LeastOf}
-use Rattle.splitters.specs.Laws.LeadingLaws.{UnionTo, unionTo-start, unionTo-next, unionTo-end}
-use Rattle.sets.specs.Laws.WalkLaws.{least-after}
+use Rattle.sets.specs.Laws.WalkLaws.{least-after, UnionTo, unionTo-start, unionTo-next, unionTo-end}
 use borrow.Author.Needs.{needs}
-use Rattle.splitters.proofs.leading.union.Statement.{statement}
-use Rattle.splitters.proofs.leading.union.Tie as tie
+use Rattle.sets.proofs.union.Statement.{statement}
+use Rattle.sets.proofs.union.Tie as tie
 
 abbrev Inv-loop : tie.InvT-loop
 Inv-loop sets found₀ left₀ q₀ found left q = LeastOf left q × UnionTo (Member sets) left₀ left found
