@@ -55,8 +55,8 @@ fn turn_place(begin: usize, end: usize, backward: bool, i: usize) -> usize
     i
 }
 
-// A turn of a pass: adds the members of set q to set p. Yields `again`, and true where set p has grown though it is
-// marked.
+// A turn of a pass: adds the members of set q to set p. Yields true where set p has grown though it is marked, and else
+// `again`.
 fn turn(p: State, q: State, marks: &[u8; ROW], again: bool, sets: &mut [u64; SETS_LENGTH]) -> bool
     requires { ⌜ (p .0 < stateLimit) × (q .0 < stateLimit) ⌝ }
     ensures { λ r. ⌜ Joined (p .0) (Member (now (sets .entry)) (q .0)) (now (sets .entry)) (now (sets .exit)) ⌝ }

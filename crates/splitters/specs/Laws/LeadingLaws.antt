@@ -55,11 +55,12 @@ pub record LeadingTo (slots pool : List ℕ) (row : ℕ) (set goal left found : 
   pub only : (x : ℕ) → In found x → LeadsInto slots pool row goal x
 
 -- What p tells of is left no more, p itself among it, and those of it that lead into the goal are found.
-pub record LeadingTurn (slots pool : List ℕ) (row : ℕ) (goal : Set) (p : ℕ) (found left found′ left′ : Set) : Type 0 where
-  pub less : (x : ℕ) → In left′ x → In left x × ¬ (x ≡ p)
-  pub kept : (x : ℕ) → In found x → In found′ x
-  pub all : (x : ℕ) → In left x → LeadsInto slots pool row goal x → In found′ x ⊎ In left′ x
-  pub only : (x : ℕ) → In found′ x → In found x ⊎ LeadsInto slots pool row goal x
+pub record LeadingTurn (slots pool : List ℕ) (row : ℕ) (goal : Set) (p : ℕ) (found left found′ left′ : Set) : Type 0
+  where
+    pub less : (x : ℕ) → In left′ x → In left x × ¬ (x ≡ p)
+    pub kept : (x : ℕ) → In found x → In found′ x
+    pub all : (x : ℕ) → In left x → LeadsInto slots pool row goal x → In found′ x ⊎ In left′ x
+    pub only : (x : ℕ) → In found′ x → In found x ⊎ LeadsInto slots pool row goal x
 
 module _ {slots pool : List ℕ} {row : ℕ} {goal : Set} where
   -- No target of p is in the goal: p tells of itself alone.
@@ -87,7 +88,7 @@ module _ {slots pool : List ℕ} {row : ℕ} {goal : Set} where
       → GreatestOf common t → t < stateLimit → SetOf (HeldAt slots pool back t) told
       → SetOf (λ x. In found x ⊎ In told x) found′ → SetOf (λ x. In left x × ¬ (In told x)) left′
       → LeadingTurn slots pool row goal p found left found′ left′
-  leadingTurn-some {p} {t} {back} {own} {common} {told} {found} {left} {found′} {left′} turned k o b g h s u w = record {
+  leadingTurn-some {p} {t} {told = told} {found} {left} {found′} {left′} turned k o b g h s u w = record {
     less = λ x i. (w .only x i .0, λ e. w .only x i .1 (subst (In told) (sym e) p-told));
     kept = λ x i. u .all x (inl i);
     all = λ x i l. all x i (in-or-not told x);
@@ -111,7 +112,8 @@ module _ {slots pool : List ℕ} {row : ℕ} {goal : Set} where
 
   -- The same of equal sets.
   pub leadingTurn-eq : {p : ℕ} {found left found′ left′ found″ left″ : Set} → found″ ≡ found′ → left″ ≡ left′
-      → LeadingTurn slots pool row goal p found left found′ left′ → LeadingTurn slots pool row goal p found left found″ left″
+      → LeadingTurn slots pool row goal p found left found′ left′
+      → LeadingTurn slots pool row goal p found left found″ left″
   leadingTurn-eq e d t = rw (e, d) t
 
   module _ {set : Set} where
