@@ -2,7 +2,7 @@
    fills no list past its least length. No pointer may be null, and no two lists of one call may overlap.
 
    For firmware: the archive has no globals, allocates nothing, calls nothing back, and needs only memcpy and memset
-   from outside; its code and constants take less than 53 kB of read-only memory, and a call takes less than 108 kB of
+   from outside; its code and constants take less than 54 kB of read-only memory, and a call takes less than 108 kB of
    stack (till_check less than 128 kB, till_book less than 118 kB; till_read less than 9 kB; till_reach, till_run and
    till_write less than 1 kB). It is for x86-64 and uses the SSE registers.
 
