@@ -319,13 +319,12 @@ impl Report {
             "Microseconds, the best of many calls, on {}:\n\n{times}\n\
              The program `till` answers on every model of the benchmark but three within {slowest}; {process} of that \
              go to its\nprocess, as an empty text shows. Roll takes at most {more} more than Page. \
-             On models without ticks Rank takes at most {rank} times as\n\
-             long as plain Rust that compares states by their moves and is not proved, Book at most {book} times and \
-             Check at most {check}\ntimes; they take at most {rank_bits}, {book_bits} and {check_bits} times as long \
-             as plain Rust over bit sets.\n\
+             On models without ticks Rank takes\nat most {rank} times as long as plain Rust that compares states by \
+             their moves and is not proved, Book at most {book}\ntimes and Check at most {check} times; they take at \
+             most {rank_bits}, {book_bits} and {check_bits} times as long as plain Rust over bit\nsets. \
              On models with ticks Rank takes at most {rank_ticks} times as long as plain Rust over bit sets, \
-             Book at most {book_ticks} times and Check\nat most {check_ticks} times. The three left out have more \
-             different moves than there is room for as sets, and are ranked otherwise:\nRank takes up to {rank_room} \
+             Book at most\n{book_ticks} times and Check at most {check_ticks} times. The three left out have more \
+             different moves than there is room\nfor as sets, and are ranked otherwise: Rank takes up to {rank_room} \
              there, Book {book_room} and Check {check_room}.\n\
              `bench/TABLE.md` has every model and operation, and beside them the times of the second checker \
              and of plain Rust.\n",
