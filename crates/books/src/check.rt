@@ -19,7 +19,7 @@ use text::limits::{
 use text::{Action, State};
 
 // What is found of a book: that it is sound, or the number of the first bad entry.
-#[derive(Drop)]
+#[derive(Clone, Copy)]
 pub enum Checked {
     Sound,
     Bad(usize),

@@ -3,5 +3,5 @@ pub mod lists;
 pub mod stores;
 
 // The number of a class of states.
-#[derive(Drop)]
+#[derive(Clone, Copy)]
 pub struct Class(pub u16);

@@ -14,7 +14,7 @@ pub const WIDTH: usize = 42;
 const NUMBER_WIDTH: usize = 3;
 
 // A line that is being written, by value: how far it is written, and where it began.
-#[derive(Drop)]
+#[derive(Clone, Copy)]
 pub struct RollLine {
     pub at: Position,
     pub begin: usize,

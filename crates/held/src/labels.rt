@@ -20,7 +20,7 @@ use text::limits::{ACTION_LIMIT, MOVES_LENGTH, ROW, SILENT_ACTION, STATE_LIMIT};
 const ROOM: u16 = POOL_SETS - 2 * STATE_LIMIT;
 
 // How many labels are held, and the next free set; 0 where there was no room for all.
-#[derive(Drop)]
+#[derive(Clone, Copy)]
 struct Holding {
     count: u16,
     used: u16,

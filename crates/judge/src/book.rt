@@ -15,7 +15,7 @@ use text::limits::{
 };
 
 // What Book answers.
-#[derive(Drop)]
+#[derive(Clone, Copy)]
 pub enum BookAnswer {
     Done,
     ShortList(usize),

@@ -13,7 +13,7 @@ use silent::LABELS_LENGTH;
 use text::limits::{BOOK_LENGTH, INDEX_LENGTH, MOVES_LENGTH, STORE_LENGTH};
 
 // What Check answers: what is found of the book.
-#[derive(Drop)]
+#[derive(Clone, Copy)]
 pub enum CheckAnswer {
     Checked(Checked),
     ShortList(usize),

@@ -11,7 +11,7 @@ use crate::word::WordAnswer;
 use text::limits::{DISTANCES_LENGTH, INDEX_LENGTH, ROLES_LENGTH, TABLE_LENGTH, WORD_LENGTH};
 
 // What the two answer.
-#[derive(Drop)]
+#[derive(Clone, Copy)]
 pub struct JudgeWordAnswer {
     pub judge: JudgeAnswer,
     pub word: WordAnswer,

@@ -4,7 +4,7 @@ ghost use Rattle.judge.specs.RankPromise.{rank_outcome, RankPromise};
 use text::limits::{ROLES_LENGTH, STORE_LENGTH, TABLE_LENGTH};
 
 // What Rank answers: the last round that separated two states.
-#[derive(Drop)]
+#[derive(Clone, Copy)]
 pub enum RankAnswer {
     Last(u8),
     ShortList(usize),

@@ -7,7 +7,7 @@ use text::limits::{
 };
 
 // What Word answers: what is shown of a good store.
-#[derive(Drop)]
+#[derive(Clone, Copy)]
 pub enum WordAnswer {
     Shown(Shown),
     ShortList(usize),

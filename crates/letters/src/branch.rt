@@ -11,7 +11,7 @@ ghost use Rattle.letters.specs.Inner.Letters.{FoundFirst};
 use text::Step;
 
 // A step, or none.
-#[derive(Drop)]
+#[derive(Clone, Copy)]
 pub enum Found {
     At(Step),
     Nothing,

@@ -14,7 +14,7 @@ use moves::moves::is_low;
 use text::{Action, State, Step};
 
 // A step, and the other state's step with the same action.
-#[derive(Drop)]
+#[derive(Clone, Copy)]
 pub struct Letter {
     pub from: Step,
     pub to: Step,

@@ -12,7 +12,7 @@ use text::{Action, State, Step};
 use verdicts::judging::Verdict;
 
 // An end of a step.
-#[derive(Drop)]
+#[derive(Clone, Copy)]
 pub enum End {
     Source,
     Target,
@@ -20,7 +20,7 @@ pub enum End {
 
 // What is shown of a good store: the word's length, which is the depth, and the end that allows it; or why there is
 // none.
-#[derive(Drop)]
+#[derive(Clone, Copy)]
 pub enum Shown {
     Word(usize, End),
     NotDeterministic(Step),
@@ -29,7 +29,7 @@ pub enum Shown {
 }
 
 // The last letter of a word, and the end that has it.
-#[derive(Drop)]
+#[derive(Clone, Copy)]
 struct Last {
     action: Action,
     end: End,

@@ -20,7 +20,7 @@ use verdicts::judging::Verdict;
 use writer::position::Position;
 
 // The page as it is, or on the receipt roll, whose lines have 42 columns.
-#[derive(Drop)]
+#[derive(Clone, Copy)]
 pub enum Form {
     Page,
     Roll,
@@ -41,7 +41,7 @@ fn distance_field(at: Position, out: &mut [u8], distances: &[u16], p: State) -> 
 
 // How far the page is written, by value: each writer takes it and hands back where it ended. Each asks for room for
 // just its own bytes. A line is its text, then what ends it.
-#[derive(Drop)]
+#[derive(Clone, Copy)]
 pub struct PagePosition {
     pub at: Position,
 }

@@ -12,7 +12,7 @@ use text::limits::{
 };
 
 // What Page and Roll answer: the bytes written.
-#[derive(Drop)]
+#[derive(Clone, Copy)]
 pub enum PageAnswer {
     Printed(usize),
     ShortList(usize),

@@ -17,14 +17,14 @@ use lines::lines::{Form, PagePosition};
 use read_write::read::ReadAnswer;
 
 // What `print_in_form` answers: the bytes written.
-#[derive(Drop)]
+#[derive(Clone, Copy)]
 pub enum PrintAnswer {
     Printed(usize),
     ShortList(usize),
 }
 
 // The number and the place of a refusal.
-#[derive(Drop)]
+#[derive(Clone, Copy)]
 struct Refusal {
     number: u16,
     place: u16,

@@ -7,7 +7,7 @@ use text::Fault;
 use text::limits::{STORE_LENGTH, TEXT_LIMIT};
 
 // What Read answers.
-#[derive(Drop)]
+#[derive(Clone, Copy)]
 pub enum ReadAnswer {
     Done,
     ShortList(usize),

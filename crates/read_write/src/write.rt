@@ -7,7 +7,7 @@ use text::limits::{OUT_LENGTH, STORE_LENGTH};
 use writer::position::Position;
 
 // What Write answers.
-#[derive(Drop)]
+#[derive(Clone, Copy)]
 pub enum WriteAnswer {
     Written(usize),
     ShortList(usize),

@@ -12,7 +12,7 @@ use crate::answers::TextRead;
 use crate::body::{after_line, body, first_line};
 use text::line::HeadRead;
 
-#[derive(Drop)]
+#[derive(Clone, Copy)]
 pub struct Reader<'a> {
     pub text: &'a [u8],
     pub at: usize,

@@ -17,7 +17,7 @@ const LAST_BIT: u16 = WORD_BITS - 1;
 const LAST_NUMBER: u16 = STATE_LIMIT - 1;
 
 // The word of the numbers below 64, and that of the others.
-#[derive(Drop)]
+#[derive(Clone, Copy)]
 pub struct Set(pub u64, pub u64);
 
 // The set without members.

@@ -6,14 +6,14 @@ pub mod refining;
 pub mod rounds;
 
 // How many classes there are, and the states whose class has another state.
-#[derive(Drop)]
+#[derive(Clone, Copy)]
 pub struct Parts {
     pub classes: u16,
     pub together: sets::set::Set,
 }
 
 // The last round that separated a pair, and how many classes there are then.
-#[derive(Drop)]
+#[derive(Clone, Copy)]
 pub struct RoundsDone {
     pub last: u8,
     pub classes: u16,

@@ -6,7 +6,7 @@ use judge::word::WordAnswer;
 use read_write::read::ReadAnswer;
 
 // Read's refusal; or what Judge and Word answer.
-#[derive(Drop)]
+#[derive(Clone, Copy)]
 pub enum TextAnswer {
     Unread(ReadAnswer),
     Judged(JudgeAnswer, WordAnswer),

@@ -1,5 +1,7 @@
 // The lines and fields of the text of a till model, and the numbers that they state.
 
+#![tactic(auto)]
+
 pub mod bytes;
 pub mod limits;
 pub mod line;
@@ -11,17 +13,17 @@ ghost use Rattle.std.specs.Prelude.{◌≡◌};
 ghost use Rattle.text.specs.Faults.{fault_number};
 
 // A state number never stands where an action number or a step number is meant.
-#[derive(Drop)]
+#[derive(Clone, Copy)]
 pub struct State(pub u16);
 
-#[derive(Drop)]
+#[derive(Clone, Copy)]
 pub struct Action(pub u16);
 
-#[derive(Drop)]
+#[derive(Clone, Copy)]
 pub struct Step(pub u16);
 
 // What line 1 of a text states.
-#[derive(Drop)]
+#[derive(Clone, Copy)]
 pub struct Head {
     pub states: u16,
     pub actions: u16,
@@ -30,7 +32,7 @@ pub struct Head {
 }
 
 // What the line of a step states.
-#[derive(Drop)]
+#[derive(Clone, Copy)]
 pub struct StepLine {
     pub source: State,
     pub action: Action,
@@ -41,7 +43,7 @@ pub struct StepLine {
 // or name is wrong; a number field is not 1 to 5 digits without a leading zero; a number is outside its range; a name
 // was used before; a step is not above the one before it; an extra start is not above the one before it, the first not
 // above the start in line 1; no action is high, which is told of the last action's line.
-#[derive(Drop)]
+#[derive(Clone, Copy)]
 pub enum Fault {
     Absent,
     Shape,

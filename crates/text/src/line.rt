@@ -13,21 +13,21 @@ use crate::limits::{HIGH, LOW, NAME_LIMIT, RELEASE, SILENT};
 use crate::{Fault, Head, StepLine};
 
 // Line 1: its numbers, or its fault.
-#[derive(Drop)]
+#[derive(Clone, Copy)]
 pub enum HeadRead {
     Good(Head),
     Bad(Fault),
 }
 
 // The level that a byte stands for, or none.
-#[derive(Drop)]
+#[derive(Clone, Copy)]
 pub enum LevelRead {
     Level(u16),
     NoLevel,
 }
 
 // An action's line: its level, with the name from place 4 of the line on; or its fault.
-#[derive(Drop)]
+#[derive(Clone, Copy)]
 pub enum ActionRead {
     Good(u16),
     Bad(Fault),

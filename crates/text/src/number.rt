@@ -9,7 +9,7 @@ use crate::bytes::{DIGIT, kind};
 use crate::limits::DIGIT_LIMIT;
 
 // The numbers that a field may hold: from `least` on, and below `limit`.
-#[derive(Drop)]
+#[derive(Clone, Copy)]
 pub struct Bounds {
     pub least: u16,
     pub limit: u16,
@@ -17,7 +17,7 @@ pub struct Bounds {
 
 // What a number field holds: a number within its bounds; no number, for its digits are bad; or a number outside its
 // bounds.
-#[derive(Drop)]
+#[derive(Clone, Copy)]
 pub enum Number {
     Value(u16),
     BadDigits,
@@ -26,14 +26,14 @@ pub enum Number {
 
 // What the field at a place holds that ends before the next byte of the kind that is due, and the place of that byte,
 // where its digits are not bad.
-#[derive(Drop)]
+#[derive(Clone, Copy)]
 pub struct NumberAt {
     pub number: Number,
     pub end: usize,
 }
 
 // The value of the digits at a place, and the place after them; or the bytes up to the one that is due are no number.
-#[derive(Drop)]
+#[derive(Clone, Copy)]
 pub enum DigitsRead {
     To { value: u32, end: usize },
     Bad,

@@ -16,7 +16,7 @@ use crate::number::{Bounds, Number, number_at, within};
 use crate::{Fault, Head, State, StepLine};
 
 // Which line it is: line 1, or the line of an extra start or of a step in a model whose line 1 is known.
-#[derive(Drop)]
+#[derive(Clone, Copy)]
 pub enum Row {
     HeadRow,
     StartRow(Head),
@@ -25,14 +25,14 @@ pub enum Row {
 
 // How far the numbers of a row are read: the place after the last of them, and whether one of them is outside its
 // bounds; or one has bad digits up to the byte that is due after it, or the row begins otherwise.
-#[derive(Drop)]
+#[derive(Clone, Copy)]
 pub enum RowScan {
     To { end: usize, outside: bool },
     Bad,
 }
 
 // A row: its numbers are stored, and its line ends at this place; or its fault.
-#[derive(Drop)]
+#[derive(Clone, Copy)]
 pub enum RowRead {
     Good(usize),
     Bad(Fault),

@@ -14,14 +14,14 @@ use crate::row::{COLUMNS, Row, RowRead, row_at};
 use crate::{Action, Fault, Head, State, StepLine};
 
 // An extra start and the place after its line; or the line's fault.
-#[derive(Drop)]
+#[derive(Clone, Copy)]
 pub enum StartAt {
     Good { start: State, next: usize },
     Bad(Fault),
 }
 
 // A step and the place after its line; or the line's fault.
-#[derive(Drop)]
+#[derive(Clone, Copy)]
 pub enum StepAt {
     Good { step: StepLine, next: usize },
     Bad(Fault),

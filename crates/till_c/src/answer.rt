@@ -36,7 +36,7 @@ use verdicts::judging::Verdict;
 
 // Number 0 with `count` values, or a refusal's number with its place; what is not told is 0.
 #[repr(C)]
-#[derive(Drop)]
+#[derive(Clone, Copy)]
 pub struct TillAnswer {
     pub number: u64,
     pub place: u64,
@@ -48,7 +48,7 @@ pub struct TillAnswer {
 
 // What Read, Judge and Word answer of a text, one call after the other; the answer of a call that is not made is all 0.
 #[repr(C)]
-#[derive(Drop)]
+#[derive(Clone, Copy)]
 pub struct TillTold {
     pub read: TillAnswer,
     pub judge: TillAnswer,

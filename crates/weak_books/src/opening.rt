@@ -16,7 +16,7 @@ use text::State;
 use text::limits::{ROW, STATE_LIMIT};
 
 // A label and a target, which is 128 where there is no opening.
-#[derive(Drop)]
+#[derive(Clone, Copy)]
 pub struct Opening {
     pub label: u16,
     pub target: u16,

@@ -5,7 +5,7 @@ ghost use Rattle.text.specs.Numbers.{digits};
 ghost use Rattle.model.specs.Text.{field};
 ghost use Rattle.writer.specs.Wrote.{Wrote};
 
-#[derive(Drop)]
+#[derive(Clone, Copy)]
 pub struct Position {
     pub at: usize,
 }

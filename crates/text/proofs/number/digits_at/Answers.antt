@@ -1,0 +1,107 @@
+-- `digits_at` takes up digit by digit: those passed stand from the place on, and the value of i digits is below 10 to
+-- the i.
+use mathlib.Core.Path.{◌≡◌, sym, ◌∙◌}
+use Prim.Native.Nat.{◌+◌, ◌-◌, ◌^◌, ◌≤◌, ◌<◌}
+use native.Mathlib.Nat.{pow-le-pow_right}
+use native.Mathlib.Omega.{arith}
+use lib.Dec.{lit<}
+use lib.ListN.{length, get_or}
+use Rattle.text.specs.Bytes.{digit, kind_of}
+use Rattle.text.specs.Inner.NumberAt.{DigitsFound}
+use Rattle.text.specs.Laws.BytesLaws.{digit_within}
+use Rattle.text.specs.Laws.NumbersLaws.{pow_next}
+use Rattle.text.specs.Laws.NumberAtLaws.{kind_past, digits_none, digits_next, number_other, separator_some}
+use Rattle.text.specs.Laws.NumberAtLaws.{separator-digit}
+use Rattle.text.proofs.number.digits_at.Goals as goal
+use Rattle.text.proofs.number.digits_at.Goals.{Else-i-at-ge-DIGIT_LIMIT}
+
+-- the byte is a digit, and the value so far has four digits at most
+at-digit : (c : Else-i-at-ge-DIGIT_LIMIT)
+    → let b = get_or c.args.s.now c.loop-i.i 0 in
+    (kind_of b ≡ digit) × (48 ≤ b) × (b ≤ 57) × (c.loop-i.value < 10000)
+at-digit c =
+    let b = get_or c.args.s.now c.loop-i.i 0 in
+    let k : kind_of b ≡ digit = sym c.kind-k.ensures ∙ c.if-k-ne-DIGIT.false in
+    let r = digit_within b k in
+    let n : c.loop-i.i - c.args.at ≤ 4 = omega arith in
+    let p : 10 ^ (c.loop-i.i - c.args.at) ≤ 10 ^ 4 = pow-le-pow_right (lit< tt) n in
+    (k, r.0, r.1, omega arith)
+
+pub loop-i-init : goal.loop-i-init
+loop-i-init c =
+    let a = c.args in
+    let z : a.at - a.at ≡ 0 = omega arith in
+    (omega arith, omega arith, omega arith, rw z (lit< tt), digits_none _ _)
+
+pub returns-then-k-due : goal.returns-then-k-due
+unfolding DigitsFound
+returns-then-k-due c =
+    let i = c.loop-i.invariant in
+    number_other _ _ _ _ _ (record {
+      follows = c.kind-k.ensures;
+      run = i.4;
+      short = i.1;
+      inside = i.2;
+      stopped = λ h z. absurd (c.if-k-ne-DIGIT.true (c.kind-k.ensures ∙ z));
+    }) _ c.if-k-due.true
+
+pub returns-then-k-ne-DIGIT : goal.returns-then-k-ne-DIGIT
+unfolding DigitsFound
+returns-then-k-ne-DIGIT c =
+    let i = c.loop-i.invariant in
+    record {
+      follows = sym c.if-k-due.false ∙ c.kind-k.ensures;
+      run = i.4;
+      short = i.1;
+      inside = i.2;
+      stopped = λ h z. absurd (c.if-k-ne-DIGIT.true (c.kind-k.ensures ∙ z));
+    }
+
+pub returns-then-i-at-ge-DIGIT_LIMIT : goal.returns-then-i-at-ge-DIGIT_LIMIT
+unfolding DigitsFound
+returns-then-i-at-ge-DIGIT_LIMIT c =
+    let i = c.loop-i.invariant in
+    number_other _ _ _ _ _ (record {
+      follows = c.kind-k.ensures;
+      run = i.4;
+      short = i.1;
+      inside = i.2;
+      stopped = λ h z. omega arith;
+    }) _ (λ z. separator-digit _ c.requires.1 (sym z ∙ c.if-k-ne-DIGIT.false))
+
+pub overflow_mul-value : goal.overflow_mul-value
+overflow_mul-value c = omega (arith, at-digit c)
+
+pub overflow_cast-value : goal.overflow_cast-value
+overflow_cast-value c = omega (arith, at-digit c)
+
+pub overflow_sub-value : goal.overflow_sub-value
+overflow_sub-value c = omega (arith, at-digit c)
+
+pub overflow_add-value : goal.overflow_add-value
+overflow_add-value c = omega (arith, at-digit c)
+
+pub loop-i-preserved : goal.loop-i-preserved
+loop-i-preserved c =
+    let a = c.args in
+    let lt : c.loop-i.i < length a.s.now = omega arith in
+    let s = pow_next (c.loop-i.i - a.at) in
+    let e : c.loop-i.i + 1 - a.at ≡ c.loop-i.i - a.at + 1 = omega arith in (
+      omega arith,
+      omega arith,
+      omega arith,
+      rw e (omega (arith, at-digit c)),
+      digits_next _ _ _ _ c.loop-i.invariant.4 lt (at-digit c).0,
+    )
+
+pub returns : goal.returns
+unfolding DigitsFound
+returns c =
+    let i = c.loop-i.invariant in
+    number_other _ _ _ _ _ (record {
+      follows = sym (kind_past c.args.s.now c.loop-i.i (omega arith));
+      run = i.4;
+      short = i.1;
+      inside = i.2;
+      stopped = λ h z. absurd (omega arith);
+    }) _ (λ z. separator_some _ c.requires.1 (sym z))
