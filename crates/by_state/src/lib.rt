@@ -1,4 +1,7 @@
 // What is kept in lists: the steps of each state, and the class of each.
+
+#![tactic(auto)]
+
 pub mod lists;
 pub mod stores;
 
