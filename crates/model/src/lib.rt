@@ -1,5 +1,8 @@
 // The store that holds a till model: how it is made, whether it is good, and what is found in it once for all that
 // need it.
+
+#![tactic(auto)]
+
 pub mod good;
 pub mod index;
 pub mod levels;

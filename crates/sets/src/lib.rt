@@ -1,4 +1,7 @@
 // Sets of numbers below 128 as the bits of two words, in lists or as values.
+
+#![tactic(auto)]
+
 pub mod set;
 
 ghost use Rattle.std.specs.Prelude.{not, ◌≡◌, ◌+◌, ◌*◌, ◌≤◌, ◌<◌, length};
