@@ -1,4 +1,7 @@
 // Steps by label, and sets along silent moves: the classes that the moves of each state lead to.
+
+#![tactic(auto)]
+
 pub mod keys;
 pub mod targets;
 

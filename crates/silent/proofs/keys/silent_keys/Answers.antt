@@ -1,0 +1,13 @@
+-- The own classes, closed along silent moves, are the keys under the silent label.
+use Rattle.silent.specs.Laws.KeysLaws.{own_classes→OfStates, keys_of_own}
+use Rattle.silent.proofs.keys.silent_keys.Goals as goal
+
+pub close_sets-requires : goal.close_sets-requires
+close_sets-requires c = record {
+  label_list = c.requires.label_list;
+  of_states = own_classes→OfStates c.own_classes.ensures;
+}
+
+pub returns : goal.returns
+returns c =
+    keys_of_own c.requires.label_list c.own_classes.ensures c.close_sets.ensures
