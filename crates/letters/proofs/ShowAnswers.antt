@@ -4,7 +4,7 @@ use mathlib.Core.List.{List}
 use mathlib.Core.Path.{◌≡◌, refl, sym, ap, subst}
 use Prim.Native.Nat.{ℕ}
 use lib.ListN.{get_or}
-use Rattle.lts.specs.AlikeLaws.{separated_of_rank}
+use Rattle.lts.proofs.AlikeLaws.{separated_of_rank}
 use Rattle.lts.specs.Run.{onward}
 use Rattle.text.specs.declared.Step.{Step}
 use Rattle.text.specs.Faults.{refuses}
@@ -31,7 +31,7 @@ use Rattle.letters.specs.Inner.Letters.{Showable, WordLists, SeparatedPair}
 use Rattle.letters.specs.Inner.WordHead.{WordFrom, WordWritten}
 use Rattle.letters.specs.Laws.WordsLaws.{not_branches}
 use Rattle.lts.specs.Weak.{WeakMove}
-use Rattle.lts.specs.WeakLaws.{weak_separated}
+use Rattle.lts.proofs.WeakLaws.{weak_separated}
 
 -- ---- what is lent to the word's functions
 

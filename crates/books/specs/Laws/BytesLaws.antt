@@ -3,10 +3,10 @@
 use Rattle.std.specs.Prelude.{Bool, List, ◌≡◌, ℕ, zero, suc, ◌+◌, ◌*◌, ◌/◌, ◌%◌, ◌≤◌, ◌<◌, length, get_or, take}
 use Rattle.std.proofs.Common.{⊎_elim, sym, ap, ◌∙◌, subst, arith, ext_get_or, get_or-take}
 use Rattle.lts.specs.Alike.{Moves}
-use Rattle.lts.specs.TestsLaws.{lt_or_le}
+use Rattle.lts.proofs.TestsLaws.{lt_or_le}
 use Rattle.lts.specs.Game.{Game}
 use Rattle.lts.specs.Book.{Entry, OwnEntry, OwnBook}
-use Rattle.lts.specs.OwnBookLaws.{entry_ext, own_unique}
+use Rattle.lts.proofs.OwnBookLaws.{entry_ext, own_unique}
 use Rattle.text.specs.Limits.{state_limit, table_length, pair_place, entry_size, book_length}
 use Rattle.text.specs.Lists.{Past}
 use Rattle.text.specs.Laws.ListsLaws.{past_get_or}

@@ -2,10 +2,10 @@
 -- Document 02, (v). Assumes nothing.
 use Rattle.std.specs.Prelude.{List, ◌≡◌, refl, ℕ, ◌+◌, ◌/◌, ◌%◌, ◌≤◌, ◌<◌}
 use Rattle.std.proofs.Common.{⊎_elim, sym, ap, ◌∙◌, subst, arith, below_more}
-use Rattle.lts.specs.TestsLaws.{lt_or_le, eq_of_not_lt}
+use Rattle.lts.proofs.TestsLaws.{lt_or_le, eq_of_not_lt}
 use Rattle.lts.specs.Alike.{Moves}
 use Rattle.lts.specs.Book.{SoundAt}
-use Rattle.lts.specs.BookLaws.{sound_at_same}
+use Rattle.lts.proofs.BookLaws.{sound_at_same}
 use Rattle.text.specs.Faults.{Outcome, refuses}
 use Rattle.text.specs.Limits.{state_limit, table_length, pair_place}
 use Rattle.books.specs.Books.{book_of}

@@ -3,7 +3,7 @@
 use Rattle.std.specs.Prelude.{Bool, true, false, List, ◌≡◌, ℕ, ◌<◌}
 use Rattle.std.proofs.Common.{sym, ap, ◌∙◌, subst, arith}
 use Rattle.lts.specs.Alike.{Moves}
-use Rattle.lts.specs.BookLaws.{opens_of_first, opens_of_second, no_other_side}
+use Rattle.lts.proofs.BookLaws.{opens_of_first, opens_of_second, no_other_side}
 use Rattle.lts.specs.Book.{Entry, Book, Present, Opens, Plays, first_opens, second_opens, LowerEntry, SoundAt}
 use Rattle.text.specs.Decides.{Decides}
 use Rattle.text.specs.Limits.{action_limit, pair_place}

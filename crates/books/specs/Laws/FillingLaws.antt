@@ -2,10 +2,10 @@
 use Rattle.std.specs.Prelude.{List, ◌⊎◌, ◌≡◌, refl, ℕ, ◌+◌, ◌*◌, ◌≤◌, ◌<◌, length, get_or, set}
 use Rattle.std.proofs.Common.{inl, inr, ⊎_elim, sym, ap, ◌∙◌, subst, arith, length-set, get_or-set_same, get_or-set_other}
 use Rattle.lts.specs.Alike.{Moves, Rank}
-use Rattle.lts.specs.AlikeLaws.{rank_unique}
+use Rattle.lts.proofs.AlikeLaws.{rank_unique}
 use Rattle.lts.specs.Book.{LowerRank, FirstPlay, OwnEntry, no_entry}
-use Rattle.lts.specs.OwnBookLaws.{entry_ext}
-use Rattle.lts.specs.TestsLaws.{lt_or_le}
+use Rattle.lts.proofs.OwnBookLaws.{entry_ext}
+use Rattle.lts.proofs.TestsLaws.{lt_or_le}
 use Rattle.text.specs.Limits.{table_length, pair_place, entry_size, book_length}
 use Rattle.text.specs.Lists.{Past}
 use Rattle.text.specs.Laws.ListsLaws.{past_refl, past_trans, past-set}

@@ -2,7 +2,7 @@
 -- end they are those of the listed moves. Assumes nothing.
 use Rattle.std.specs.Prelude.{List, ◌⊎◌, ◌≡◌, refl, ℕ, zero, suc, ◌+◌, ◌≤◌, ◌<◌, length, get_or, set}
 use Rattle.std.proofs.Common.{inl, inr, ⊎_elim, sym, ap, ◌∙◌, subst, add-one, arith, get_or-set_same, get_or-set_other}
-use Rattle.lts.specs.TestsLaws.{lt_or_le, eq_or_not, le_of_not_lt}
+use Rattle.lts.proofs.TestsLaws.{lt_or_le, eq_or_not, le_of_not_lt}
 use Rattle.text.specs.Limits.{state_limit, action_limit, group_place, groups_length}
 use Rattle.by_state.specs.MoveList.{Listed, MoveList, Ordered}
 use Rattle.by_state.specs.Laws.MoveListLaws.{rising_le, place_lt_last, listed_decided}

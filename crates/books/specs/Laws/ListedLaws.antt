@@ -3,9 +3,9 @@
 use Rattle.std.specs.Prelude.{List, ◌≡◌, ℕ}
 use Rattle.std.proofs.Common.{sym, subst}
 use Rattle.lts.specs.Alike.{Moves, Relation}
-use Rattle.lts.specs.OwnBookLaws.{own_book_same}
+use Rattle.lts.proofs.OwnBookLaws.{own_book_same}
 use Rattle.lts.specs.Weak.{Weak}
-use Rattle.lts.specs.WeakLaws.{weak-map}
+use Rattle.lts.proofs.WeakLaws.{weak-map}
 use Rattle.text.specs.Faults.{Outcome}
 use Rattle.text.specs.Limits.{state_limit}
 use Rattle.by_state.specs.MoveList.{Listed, Lists, Ordered}

@@ -2,10 +2,10 @@
 use Rattle.std.specs.Prelude.{List, ◌⊎◌, ◌≡◌, refl, ℕ, ◌+◌, ◌≤◌, ◌<◌, get_or}
 use Rattle.std.proofs.Common.{inl, inr, ⊎_elim, sym, ap, ◌∙◌, subst, arith}
 use Rattle.lts.specs.Alike.{Moves, Rank}
-use Rattle.lts.specs.TestsLaws.{lt_or_le}
+use Rattle.lts.proofs.TestsLaws.{lt_or_le}
 use Rattle.lts.specs.Book.{Opens, LowerRank, FirstPlay}
-use Rattle.lts.specs.BookLaws.{first_play_of_first, opens_by_second, first_play_of_second}
-use Rattle.lts.specs.OwnBookLaws.{lower_rank_sym, play_exists}
+use Rattle.lts.proofs.BookLaws.{first_play_of_first, opens_by_second, first_play_of_second}
+use Rattle.lts.proofs.OwnBookLaws.{lower_rank_sym, play_exists}
 use Rattle.by_state.specs.MoveList.{Listed, MoveList, Ordered}
 use Rattle.by_state.specs.Laws.MoveListLaws.{listed_game, listed_target_lt}
 use Rattle.ranking.specs.Table.{Ranks}

@@ -4,7 +4,7 @@ use Rattle.std.specs.Prelude.{List, ◌⊎◌, ◌≡◌, refl, ℕ, ◌+◌, �
 use Rattle.std.proofs.Common.{⊎_elim, sym, ◌∙◌, subst, arith, below_more}
 use Rattle.lts.specs.Alike.{Moves}
 use Rattle.lts.specs.Book.{no_entry, OwnBook}
-use Rattle.lts.specs.OwnBookLaws.{entry_ext}
+use Rattle.lts.proofs.OwnBookLaws.{entry_ext}
 use Rattle.text.specs.Limits.{state_limit, pair_place, entry_size, book_length}
 use Rattle.text.specs.Inner.Clearing.{Cleared}
 use Rattle.text.specs.Laws.ListsLaws.{past_refl, past_trans}

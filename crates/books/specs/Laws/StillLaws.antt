@@ -6,9 +6,9 @@ use Rattle.std.proofs.Common.{inl, inr, ⊎_elim, sym, subst, arith}
 use Rattle.lts.specs.Agree.{Agree}
 use Rattle.lts.specs.Alike.{Moves, Relation}
 use Rattle.lts.specs.Book.{Entry, Book, Opens, Plays, first_opens, second_opens, LowerEntry, SoundAt}
-use Rattle.lts.specs.BookLaws.{opens-map}
+use Rattle.lts.proofs.BookLaws.{opens-map}
 use Rattle.lts.specs.Weak.{silent_label, low, silent}
-use Rattle.lts.specs.WeakLaws.{silent_source_lt, weak_agree_all}
+use Rattle.lts.proofs.WeakLaws.{silent_source_lt, weak_agree_all}
 use Rattle.text.specs.Decides.{Decides}
 use Rattle.text.specs.Limits.{action_limit}
 use Rattle.text.specs.Laws.DecidesLaws.{decides_iff}

@@ -5,11 +5,11 @@ use Rattle.std.proofs.Common.{sym, ap, subst, add-one, arith, leb→le, le→leb
 use Rattle.std.proofs.Math.Decide.{le_ind}
 use Rattle.lts.specs.Alike.{Moves}
 use Rattle.lts.specs.Tests.{any}
-use Rattle.lts.specs.TestsLaws.{T-eqb, and_intro, and_left, and_right}
-use Rattle.lts.specs.TestsLaws.{any→Some, Some→any}
+use Rattle.lts.proofs.TestsLaws.{T-eqb, and_intro, and_left, and_right}
+use Rattle.lts.proofs.TestsLaws.{any→Some, Some→any}
 use Rattle.lts.specs.Game.{Game}
 use Rattle.lts.specs.Decided.{Decided, answers?}
-use Rattle.lts.specs.DecidedLaws.{decided_game}
+use Rattle.lts.proofs.DecidedLaws.{decided_game}
 use Rattle.text.specs.Limits.{action_limit}
 use Rattle.by_state.specs.MoveList.{Listed, MoveList, Lists}
 

@@ -2,7 +2,7 @@
 -- Document 02, (ii): "Columns 1 to 3 hold the state, 5 to 7 the distance or `-`, 9 to 11 the class". Assumes nothing.
 use Rattle.std.specs.Prelude.{List, ◌≡◌, refl, ℕ, ◌+◌, ◌≤◌, ◌<◌, length, get_or}
 use Rattle.std.proofs.Common.{⊎_elim, arith}
-use Rattle.lts.specs.TestsLaws.{eq_or_not}
+use Rattle.lts.proofs.TestsLaws.{eq_or_not}
 use Rattle.text.specs.Laws.DigitsLaws.{digits-length_le}
 use Rattle.text.specs.Limits.{distances_length, unreachable}
 use Rattle.text.specs.Model.{Model}

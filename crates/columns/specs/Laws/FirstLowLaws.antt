@@ -4,8 +4,8 @@ use Rattle.std.specs.Prelude.{not, List, [], ◌∷◌, ◌≡◌, ℕ, ◌+◌,
 use Rattle.std.proofs.Common.{⊎_elim, sym, ◌∙◌, arith, T_not, eqb→eq}
 use Rattle.std.proofs.Math.Dec.{not_T}
 use Rattle.lts.specs.Tests.{any}
-use Rattle.lts.specs.TestsLaws.{T→true, not-T→false, T-eqb, and_intro, and_left, and_right, any→Some, Some→any}
-use Rattle.lts.specs.TestsLaws.{lt_or_le}
+use Rattle.lts.proofs.TestsLaws.{T→true, not-T→false, T-eqb, and_intro, and_left, and_right, any→Some, Some→any}
+use Rattle.lts.proofs.TestsLaws.{lt_or_le}
 use Rattle.text.specs.Model.{Model}
 use Rattle.model.specs.System.{source, action, view, name_of}
 use Rattle.model.specs.Inner.Index.{Begins}

@@ -5,10 +5,10 @@ use Rattle.std.proofs.Math.Bool.{cond}
 use Rattle.std.proofs.Common.{inl, inr, arith}
 use Rattle.std.proofs.Math.Path.{ap}
 use Rattle.std.proofs.Math.Dec.{T, eqb, eqb→eq}
-use Rattle.lts.specs.DistanceLaws.{Reachable→within?, within?→Reachable}
+use Rattle.lts.proofs.DistanceLaws.{Reachable→within?, within?→Reachable}
 use Rattle.lts.specs.Tests.{any}
-use Rattle.lts.specs.TestsLaws.{T_cases, T→true, not-T→false, T-eqb, and_intro, and_left, and_right}
-use Rattle.lts.specs.TestsLaws.{any→Some, Some→any}
+use Rattle.lts.proofs.TestsLaws.{T_cases, T→true, not-T→false, T-eqb, and_intro, and_left, and_right}
+use Rattle.lts.proofs.TestsLaws.{any→Some, Some→any}
 use Rattle.text.specs.Model.{Model, silent}
 use Rattle.model.specs.Inner.StepTest.{tests}
 use Rattle.model.specs.Inner.Stored.{Stored}

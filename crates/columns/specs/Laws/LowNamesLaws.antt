@@ -5,8 +5,8 @@ use Rattle.std.proofs.lemmas.List.{map-append}
 use Rattle.std.proofs.Common.{append_assoc, append-nil, ⊎_elim, sym, ap, subst, ◌∙◌, add-one, arith, T_not}
 use Rattle.std.proofs.Math.Dec.{not_T}
 use Rattle.lts.specs.Tests.{any}
-use Rattle.lts.specs.TestsLaws.{T_cases, T→true, not-T→false, and_intro, and_left, and_right, any→Some, Some→any}
-use Rattle.lts.specs.TestsLaws.{test_eq, lt-suc_cases, lt_or_le, eq_or_not}
+use Rattle.lts.proofs.TestsLaws.{T_cases, T→true, not-T→false, and_intro, and_left, and_right, any→Some, Some→any}
+use Rattle.lts.proofs.TestsLaws.{test_eq, lt-suc_cases, lt_or_le, eq_or_not}
 use Rattle.text.specs.Model.{Model}
 use Rattle.model.specs.StoredModel.{model_at}
 use Rattle.model.specs.System.{source, action, view, name_of}

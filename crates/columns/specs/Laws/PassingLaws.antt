@@ -3,7 +3,7 @@
 use Rattle.std.specs.Prelude.{Bool, true, false, cond, [], ◌∷◌, ◌++◌, ◌⊎◌, ◌≡◌, refl, ℕ, zero, suc, ◌≤◌, ◌<◌, length}
 use Rattle.std.proofs.Common.{append-nil, inl, inr, ◌∙◌, arith, length-append}
 use Rattle.lts.specs.Tests.{bit, count}
-use Rattle.lts.specs.TestsLaws.{lt-suc_cases}
+use Rattle.lts.proofs.TestsLaws.{lt-suc_cases}
 use Rattle.text.specs.All.{All}
 use Rattle.text.specs.Laws.AllLaws.{all_append, all_of_all}
 use Rattle.columns.specs.LowNames.{passing}

@@ -10,14 +10,14 @@ use Prim.Native.Nat.{ℕ, zero, suc, ◌+◌, ◌*◌, ◌-◌, ◌≤◌, ◌<�
 use native.Mathlib.Omega.{arith}
 use Rattle.std.proofs.Math.Dec.{T, not_T}
 use Rattle.std.proofs.lemmas.List.{length-map}
-use Rattle.lts.specs.CountLaws.{count_not, count_lt, count_pairs_none, count_pairs_le, count_pairs_le_suc}
+use Rattle.lts.proofs.CountLaws.{count_not, count_lt, count_pairs_none, count_pairs_le, count_pairs_le_suc}
 use Rattle.lts.specs.Decided.{within?}
-use Rattle.lts.specs.MovingLaws.{weak_rank_le_moving}
+use Rattle.lts.proofs.MovingLaws.{weak_rank_le_moving}
 use Rattle.lts.specs.Weak.{LowStep}
 use Rattle.lts.specs.Run.{onward}
 use Rattle.lts.specs.Tests.{any, bit, count, count_pairs}
-use Rattle.lts.specs.TestsLaws.{and_intro, and_left, and_right, or_cases, Some→any}
-use Rattle.lts.specs.TestsLaws.{count_le, count_le-count, count_pos}
+use Rattle.lts.proofs.TestsLaws.{and_intro, and_left, and_right, or_cases, Some→any}
+use Rattle.lts.proofs.TestsLaws.{count_le, count_le-count, count_pos}
 use Rattle.text.specs.Model.{Model}
 use Rattle.model.specs.Inner.StepTest.{tests}
 use Rattle.model.specs.Inner.Stored.{Stored}

@@ -7,7 +7,7 @@ use Rattle.std.proofs.Math.Path.{ap}
 use Rattle.std.proofs.lemmas.Bool.{lt-leb}
 use Rattle.std.proofs.Math.ListN.{length, length-append}
 use Rattle.std.proofs.lemmas.List.{length-replicate}
-use Rattle.lts.specs.TestsLaws.{lt_or_le}
+use Rattle.lts.proofs.TestsLaws.{lt_or_le}
 use Rattle.text.specs.Bytes.{byte_blank}
 use Rattle.text.specs.Laws.AllLaws.{all_map, all_of_all}
 use Rattle.text.specs.Limits.{name_limit}

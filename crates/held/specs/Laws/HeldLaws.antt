@@ -2,10 +2,10 @@
 -- Assumes nothing.
 use Rattle.std.specs.Prelude.{Bool, ◌&&◌, List, ◌⊎◌, ◌≡◌, ℕ, ◌+◌, ◌*◌, ◌/◌, ◌%◌, ◌^◌, ◌<◌, T, ltb, eqb, get_or}
 use Rattle.std.proofs.Common.{⊎_elim, sym, subst, arith, ltb→lt, lt→ltb, eqb→eq}
-use Rattle.lts.specs.TestsLaws.{T-eqb, and_intro, and_left, and_right, any→Some, Some→any}
+use Rattle.lts.proofs.TestsLaws.{T-eqb, and_intro, and_left, and_right, any→Some, Some→any}
 use Rattle.lts.specs.Game.{Game}
 use Rattle.lts.specs.Decided.{Decided}
-use Rattle.lts.specs.DecidedLaws.{decided_game}
+use Rattle.lts.proofs.DecidedLaws.{decided_game}
 use Rattle.lts.specs.Weak.{silent_label}
 use Rattle.text.specs.Limits.{state_limit, action_limit}
 use Rattle.sets.specs.Inner.Sets.{word_bits, Member}

@@ -3,7 +3,7 @@
 use Rattle.std.specs.Prelude.{List, ◌⊎◌, ◌≡◌, ℕ, ◌+◌, ◌≤◌, ◌<◌, get_or}
 use Rattle.std.proofs.Common.{inl, inr, ⊎_elim, sym, ap, ◌∙◌, subst, arith}
 use Rattle.lts.specs.Alike.{Moves}
-use Rattle.lts.specs.TestsLaws.{eq_or_not, lt_or_le}
+use Rattle.lts.proofs.TestsLaws.{eq_or_not, lt_or_le}
 use Rattle.lts.specs.Weak.{silent_label}
 use Rattle.text.specs.Limits.{action_limit}
 use Rattle.silent.specs.Labelled.{LabelList, LabelMove}

@@ -1,7 +1,7 @@
 -- The rows of labels come in the order of the actions, and that of the silent label behind them. Assumes nothing.
 use Rattle.std.proofs.Common.{⊎_elim, ap, arith, lt-ltb, le-ltb}
 use Rattle.std.specs.Prelude.{◌≡◌, ℕ, ◌*◌, ◌≤◌, ◌<◌}
-use Rattle.lts.specs.TestsLaws.{lt_or_le}
+use Rattle.lts.proofs.TestsLaws.{lt_or_le}
 use Rattle.text.specs.Limits.{action_limit}
 use Rattle.held.specs.Held.{chosen, target_row}
 

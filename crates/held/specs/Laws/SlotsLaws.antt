@@ -1,7 +1,7 @@
 -- A slot gets a set of the pool, and the sets of all other slots stay; so a row is filled. Assumes nothing.
 use Rattle.std.specs.Prelude.{List, ◌⊎◌, ◌≡◌, ℕ, ◌+◌, ◌≤◌, ◌<◌, get_or}
 use Rattle.std.proofs.Common.{inl, inr, sym, ap, subst, arith}
-use Rattle.lts.specs.TestsLaws.{eq_or_not}
+use Rattle.lts.proofs.TestsLaws.{eq_or_not}
 use Rattle.text.specs.Limits.{state_limit}
 use Rattle.sets.specs.Inner.Sets.{Member, Joined}
 use Rattle.sets.specs.Inner.SetValues.{In, SetOf}

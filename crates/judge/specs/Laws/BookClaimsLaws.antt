@@ -4,11 +4,11 @@ use Rattle.std.specs.Prelude.{List, [], ◌⊎◌, ◌≡◌, ℕ, zero, suc, �
 use Rattle.std.proofs.Common.{inl, inr, ⊎_elim, ap, arith}
 use Rattle.std.proofs.Math.Option.{Option, none, some}
 use Rattle.lts.specs.Weak.{WeakMove}
-use Rattle.lts.specs.WeakLaws.{weak_target_lt}
+use Rattle.lts.proofs.WeakLaws.{weak_target_lt}
 use Rattle.lts.specs.Book.{Entry, Sound}
-use Rattle.lts.specs.TestsLaws.{lt_or_le}
-use Rattle.lts.specs.BookLaws.{sound_not_paired, sound_rank_zero}
-use Rattle.lts.specs.OwnBookLaws.{own_present, own_sound}
+use Rattle.lts.proofs.TestsLaws.{lt_or_le}
+use Rattle.lts.proofs.BookLaws.{sound_not_paired, sound_rank_zero}
+use Rattle.lts.proofs.OwnBookLaws.{own_present, own_sound}
 use Rattle.text.specs.Faults.{Outcome, answers}
 use Rattle.text.specs.Limits.{state_limit, store_length, table_length, book_length}
 use Rattle.text.specs.Model.{Model}

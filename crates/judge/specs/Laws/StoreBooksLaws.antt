@@ -4,9 +4,9 @@
 use Rattle.std.specs.Prelude.{List, ◌≡◌, ℕ}
 use Rattle.std.proofs.Common.{sym, subst}
 use Rattle.lts.specs.Alike.{Moves}
-use Rattle.lts.specs.AgreeLaws.{rank_same}
-use Rattle.lts.specs.AgreeBookLaws.{own_book_agree}
-use Rattle.lts.specs.OwnBookLaws.{own_book_same}
+use Rattle.lts.proofs.AgreeLaws.{rank_same}
+use Rattle.lts.proofs.AgreeBookLaws.{own_book_agree}
+use Rattle.lts.proofs.OwnBookLaws.{own_book_same}
 use Rattle.lts.specs.View.{View}
 use Rattle.lts.specs.Weak.{silent_label, LowStep, Tick, WeakMove}
 use Rattle.text.specs.Faults.{Outcome}

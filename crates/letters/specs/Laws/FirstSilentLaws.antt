@@ -2,7 +2,7 @@
 -- none. Document 02, (vii). Assumes nothing.
 use Rattle.std.specs.Prelude.{List, ◌⊎◌, ◌≡◌, ℕ, ◌≤◌, ◌<◌, T, length, get_or}
 use Rattle.std.proofs.Common.{inl, inr, ⊎_elim, sym, ap, subst, ◌∙◌, arith, eqb→eq, eq-eqb}
-use Rattle.lts.specs.TestsLaws.{T-eqb, lt_or_le, eq_or_not}
+use Rattle.lts.proofs.TestsLaws.{T-eqb, lt_or_le, eq_or_not}
 use Rattle.text.specs.Laws.FirstLaws.{first_cases}
 use Rattle.text.specs.Model.{Model, silent}
 use Rattle.model.specs.System.{source, action, level, ReachableIn, SilentStep, NoSilentStep, view}

@@ -3,7 +3,7 @@
 use Rattle.std.specs.Prelude.{List, [], ◌∷◌, ◌≡◌, refl, ℕ, ◌≤◌, ◌<◌, T}
 use Rattle.std.proofs.Common.{inl, inr, sym, ◌∙◌, arith}
 use Rattle.std.proofs.Math.Path.{subst}
-use Rattle.lts.specs.FirstWordLaws.{first_word_one, letter_of_separated_one}
+use Rattle.lts.proofs.FirstWordLaws.{first_word_one, letter_of_separated_one}
 use Rattle.lts.specs.Run.{Run}
 use Rattle.lts.specs.Word.{OnlyFrom, JustOne, FirstWord}
 use Rattle.text.specs.First.{First}

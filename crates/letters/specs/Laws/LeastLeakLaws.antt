@@ -3,17 +3,17 @@
 -- is refused. Document 01, "The meaning" and operation 4; document 02, (vii). Assumes nothing.
 use Rattle.std.specs.Prelude.{List, ◌↔◌, ◌≡◌, ℕ, ◌≤◌, ◌<◌, length}
 use Rattle.std.proofs.Common.{⊎_elim, arith}
-use Rattle.lts.specs.TestsLaws.{lt_or_le}
+use Rattle.lts.proofs.TestsLaws.{lt_or_le}
 use Rattle.lts.specs.Alike.{Rank}
-use Rattle.lts.specs.AlikeLaws.{bisimilar_of_rank, separated_of_rank}
+use Rattle.lts.proofs.AlikeLaws.{bisimilar_of_rank, separated_of_rank}
 use Rattle.lts.specs.Noninterference.{Low, BNID, INI}
-use Rattle.lts.specs.NoninterferenceLaws as theorem
-use Rattle.lts.specs.LowLaws.{weakly_bisimilar→SameLow}
+use Rattle.lts.proofs.NoninterferenceLaws as theorem
+use Rattle.lts.proofs.LowLaws.{weakly_bisimilar→SameLow}
 use Rattle.lts.specs.Run.{onward}
 use Rattle.lts.specs.Weak.{WeakMove, NoTick}
-use Rattle.lts.specs.WeakLaws.{weak_separated}
+use Rattle.lts.proofs.WeakLaws.{weak_separated}
 use Rattle.lts.specs.Word.{JustOne}
-use Rattle.lts.specs.WordLaws.{just_one_not_both, separated-length_le}
+use Rattle.lts.proofs.WordLaws.{just_one_not_both, separated-length_le}
 use Rattle.text.specs.Model.{Model}
 use Rattle.model.specs.System.{source, target, HighStep, ReachableIn, NoSilentStep, DeterministicModel, view}
 use Rattle.model.specs.Laws.Store.SystemLaws.{own_step, deterministic_model→Deterministic}

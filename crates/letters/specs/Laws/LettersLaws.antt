@@ -3,10 +3,10 @@
 use Rattle.std.specs.Prelude.{List, ◌≡◌, ℕ, zero, suc, ◌+◌, ◌≤◌, ◌<◌, T, length, get_or}
 use Rattle.std.proofs.Common.{⊎_elim, sym, subst, ◌∙◌, add-one, arith}
 use Rattle.lts.specs.Alike.{Separated, Rank}
-use Rattle.lts.specs.AlikeLaws.{rank_unique, rank_of_separated, separated_of_rank}
-use Rattle.lts.specs.FirstWordLaws.{letter_of_separated}
+use Rattle.lts.proofs.AlikeLaws.{rank_unique, rank_of_separated, separated_of_rank}
+use Rattle.lts.proofs.FirstWordLaws.{letter_of_separated}
 use Rattle.lts.specs.Run.{onward}
-use Rattle.lts.specs.TestsLaws.{lt_or_le}
+use Rattle.lts.proofs.TestsLaws.{lt_or_le}
 use Rattle.text.specs.declared.Step.{Step}
 use Rattle.text.specs.First.{First}
 use Rattle.text.specs.Limits.{pair_place}

@@ -2,10 +2,10 @@
 -- Document 01, operation 6; document 02, (vii). Assumes nothing.
 use Rattle.std.specs.Prelude.{cond, List, [], ◌∷◌, ◌++◌, ◌⊎◌, ◌≡◌, refl, ℕ, zero, suc, ◌-◌, ◌≤◌, ◌<◌, eqb, length, drop, get_or}
 use Rattle.std.proofs.Common.{inl, inr, ⊎_elim, sym, ap, ◌∙◌, subst, arith}
-use Rattle.lts.specs.FirstWordLaws.{first_word_unique}
-use Rattle.lts.specs.TestsLaws.{lt_or_le, eq_or_not}
+use Rattle.lts.proofs.FirstWordLaws.{first_word_unique}
+use Rattle.lts.proofs.TestsLaws.{lt_or_le, eq_or_not}
 use Rattle.lts.specs.Word.{OnlyFrom}
-use Rattle.lts.specs.WordLaws.{only_from_unique}
+use Rattle.lts.proofs.WordLaws.{only_from_unique}
 use Rattle.text.specs.Faults.{Outcome, answers, refuses}
 use Rattle.text.specs.Laws.FirstLaws.{first_cases}
 use Rattle.text.specs.Model.{Model}

@@ -5,12 +5,12 @@ use Rattle.std.proofs.Common.{sym, ap, subst, ◌∙◌, add-one, arith, length-
 use Rattle.std.proofs.lemmas.List.{set_at}
 use Rattle.std.proofs.Math.Seq.{append_snoc}
 use Rattle.lts.specs.Alike.{Separated}
-use Rattle.lts.specs.AlikeLaws.{rank_of_separated}
-use Rattle.lts.specs.FirstWordLaws.{first_word_cons}
-use Rattle.lts.specs.RankLaws.{rank_lt}
+use Rattle.lts.proofs.AlikeLaws.{rank_of_separated}
+use Rattle.lts.proofs.FirstWordLaws.{first_word_cons}
+use Rattle.lts.proofs.RankLaws.{rank_lt}
 use Rattle.lts.specs.Run.{onward}
 use Rattle.lts.specs.Word.{FirstWord}
-use Rattle.lts.specs.WordLaws.{only_from_cons}
+use Rattle.lts.proofs.WordLaws.{only_from_cons}
 use Rattle.text.specs.Model.{Model}
 use Rattle.model.specs.System.{action, target, ReachableIn, view}
 use Rattle.model.specs.Laws.Store.SystemLaws.{deterministic_model→Deterministic}

@@ -2,7 +2,7 @@
 -- Document 01, operation 6, and "Refused because of the state", 23. Assumes nothing.
 use Rattle.std.specs.Prelude.{List, ◌⊎◌, ◌↔◌, ◌≡◌, refl, ℕ, suc, ◌-◌, ◌≤◌, ◌<◌, length}
 use Rattle.std.proofs.Common.{inl, inr, sym, ap, subst, ◌∙◌, arith}
-use Rattle.lts.specs.TestsLaws.{lt_or_le}
+use Rattle.lts.proofs.TestsLaws.{lt_or_le}
 use Rattle.text.specs.Model.{Model}
 use Rattle.model.specs.System.{source, action, ReachableIn, DeterministicModel}
 use Rattle.model.specs.Inner.Stored.{Stored}

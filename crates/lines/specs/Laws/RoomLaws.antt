@@ -2,7 +2,7 @@
 -- Document 01, "The page"; document 02, (ii): "out with at least 35,840 bytes". Assumes nothing.
 use Rattle.std.specs.Prelude.{◌⊎◌, List, ◌≡◌, refl, ℕ, zero, suc, ◌+◌, ◌*◌, ◌≤◌, ◌<◌}
 use Rattle.std.proofs.Common.{inl, inr, arith}
-use Rattle.lts.specs.TestsLaws.{eq_or_not}
+use Rattle.lts.proofs.TestsLaws.{eq_or_not}
 use Rattle.text.specs.Model.{Model}
 use Rattle.model.specs.Inner.Stored.{Stored}
 use Rattle.verdicts.specs.declared.judging.Verdict.{Verdict}

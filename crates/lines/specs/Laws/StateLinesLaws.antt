@@ -7,8 +7,8 @@ use Rattle.std.proofs.Math.Path.{ap}
 use native.Mathlib.Omega.{arith}
 use Rattle.std.proofs.Math.ListN.{length}
 use Rattle.lts.specs.Alike.{Rank, bisimilar}
-use Rattle.lts.specs.AlikeLaws.{rank_unique, bisimilar_refl}
-use Rattle.lts.specs.TestsLaws.{eq_or_not, le_of_not_lt}
+use Rattle.lts.proofs.AlikeLaws.{rank_unique, bisimilar_refl}
+use Rattle.lts.proofs.TestsLaws.{eq_or_not, le_of_not_lt}
 use Rattle.text.specs.Limits.{pair_place, unreachable}
 use Rattle.text.specs.Model.{Model}
 use Rattle.text.specs.Laws.DigitsLaws.{digits-length_le}

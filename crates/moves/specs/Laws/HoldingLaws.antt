@@ -2,7 +2,7 @@
 -- Document 02, (vii). Assumes nothing.
 use Rattle.std.specs.Prelude.{List, ◌⊎◌, ◌≡◌, refl, ℕ, ◌+◌, ◌*◌, ◌<◌, T, length, get_or, set}
 use Rattle.std.proofs.Common.{inl, inr, ⊎_elim, sym, ap, ◌∙◌, subst, arith, get_or-set_same, get_or-set_other}
-use Rattle.lts.specs.TestsLaws.{eq_or_not}
+use Rattle.lts.proofs.TestsLaws.{eq_or_not}
 use Rattle.text.specs.Limits.{state_limit, action_limit}
 use Rattle.text.specs.Model.{Model}
 use Rattle.model.specs.System.{action, view}

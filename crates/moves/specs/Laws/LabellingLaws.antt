@@ -3,8 +3,8 @@
 use Rattle.std.specs.Prelude.{List, ◌⊎◌, ◌≡◌, ℕ, ◌+◌, ◌≤◌, ◌<◌, T, length, get_or}
 use Rattle.std.proofs.Common.{inl, inr, sym, ap, ◌∙◌, subst, eqb→eq, eq-eqb}
 use native.Mathlib.Omega.{arith}
-use Rattle.lts.specs.PigeonholeLaws.{injective_le}
-use Rattle.lts.specs.TestsLaws.{lt_or_le}
+use Rattle.lts.proofs.PigeonholeLaws.{injective_le}
+use Rattle.lts.proofs.TestsLaws.{lt_or_le}
 use Rattle.lts.specs.View.{Levels}
 use Rattle.lts.specs.Weak.{Tick}
 use Rattle.text.specs.Limits.{action_limit, step_limit}

@@ -4,10 +4,10 @@
 use Rattle.std.specs.Prelude.{List, ◌≡◌, refl, ℕ, ◌+◌, ◌<◌, T}
 use Rattle.std.proofs.Common.{sym, subst, arith}
 use Rattle.lts.specs.Agree.{Agree}
-use Rattle.lts.specs.AgreeLaws.{rank_same, separated_same, rank_agree, separated_agree}
+use Rattle.lts.proofs.AgreeLaws.{rank_same, separated_same, rank_agree, separated_agree}
 use Rattle.lts.specs.View.{View}
 use Rattle.lts.specs.Weak.{silent_label, LowStep, Tick, WeakMove}
-use Rattle.lts.specs.WeakLaws.{weak-map, weak_agree_all}
+use Rattle.lts.proofs.WeakLaws.{weak-map, weak_agree_all}
 use Rattle.text.specs.Limits.{action_limit}
 use Rattle.text.specs.Model.{Model}
 use Rattle.model.specs.System.{action, view}

@@ -2,7 +2,7 @@
 -- Document 01, "Alike": "Release and high steps are never played." Assumes nothing.
 use Rattle.std.specs.Prelude.{List, ◌⊎◌, ◌≡◌, refl, ℕ, ◌+◌, ◌≤◌, ◌<◌, length, get_or, set, T}
 use Rattle.std.proofs.Common.{inl, inr, ⊎_elim, sym, ◌∙◌, subst, arith, get_or-set_same, get_or-set_other}
-use Rattle.lts.specs.TestsLaws.{lt_or_le}
+use Rattle.lts.proofs.TestsLaws.{lt_or_le}
 use Rattle.text.specs.Model.{Model}
 use Rattle.model.specs.System.{action, target, view}
 use Rattle.model.specs.Inner.Index.{Begins}

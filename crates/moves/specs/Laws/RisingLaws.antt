@@ -1,7 +1,7 @@
 -- The low steps of a state are listed in rising order, as the model has them. Assumes nothing.
 use Rattle.std.specs.Prelude.{List, ◌≡◌, refl, ℕ, ◌+◌, ◌≤◌, ◌<◌, length, get_or}
 use Rattle.std.proofs.Common.{⊎_elim, sym, ◌∙◌, arith}
-use Rattle.lts.specs.TestsLaws.{lt_or_le}
+use Rattle.lts.proofs.TestsLaws.{lt_or_le}
 use Rattle.text.specs.Model.{Model}
 use Rattle.model.specs.System.{source, action}
 use Rattle.model.specs.Inner.Stored.{Stored}

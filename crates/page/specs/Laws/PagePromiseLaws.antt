@@ -3,9 +3,9 @@
 use Rattle.std.specs.Prelude.{cond, List, [], ◌∷◌, ◌++◌, map, ◌≡◌, refl, ℕ, zero, suc, eqb, length, get_or, drop}
 use Rattle.std.proofs.Math.Option.{Option, some}
 use Rattle.std.proofs.Common.{sym, ap, subst, ◌∙◌}
-use Rattle.lts.specs.RunLaws.{distance_unique}
-use Rattle.lts.specs.TestsLaws.{eq_of_not_lt}
-use Rattle.lts.specs.WithinLaws.{distance→Reachable}
+use Rattle.lts.proofs.RunLaws.{distance_unique}
+use Rattle.lts.proofs.TestsLaws.{eq_of_not_lt}
+use Rattle.lts.proofs.WithinLaws.{distance→Reachable}
 use Rattle.text.specs.Faults.{Outcome, answers, refuses}
 use Rattle.text.specs.Laws.OutcomeLaws.{injective_of_inverse}
 use Rattle.text.specs.Model.{Model}

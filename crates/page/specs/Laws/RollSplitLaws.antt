@@ -8,7 +8,7 @@ use Rattle.std.proofs.Math.Option.{Option}
 use Rattle.std.proofs.Math.Path.{refl, sym, ap, subst}
 use Rattle.std.proofs.Math.ListN.{length}
 use Rattle.std.proofs.lemmas.Bool.{eqb-false}
-use Rattle.lts.specs.TestsLaws.{lt_or_le}
+use Rattle.lts.proofs.TestsLaws.{lt_or_le}
 use Rattle.text.specs.All.{All}
 use Rattle.text.specs.Bytes.{byte_blank, byte_line_end, other, digit, capital, line_end, kind_of}
 use Rattle.text.specs.Laws.AllLaws.{all_map, all_of_all, all_replicate}

@@ -5,10 +5,10 @@ use Rattle.std.proofs.Common.{inl, inr, ⊎_elim, sym, subst, arith, T_not, eqb�
 use Rattle.std.proofs.Math.Option.{none, some}
 use Prim.Native.Nat.{ℕ, zero, suc, ◌-◌, ◌≤◌, ◌<◌}
 use Rattle.lts.specs.Alike.{Rank, bisimilar}
-use Rattle.lts.specs.AlikeLaws.{rank_unique, bisimilar_refl}
-use Rattle.lts.specs.DistanceLaws.{distance_of_least}
+use Rattle.lts.proofs.AlikeLaws.{rank_unique, bisimilar_refl}
+use Rattle.lts.proofs.DistanceLaws.{distance_of_least}
 use Rattle.lts.specs.Tests.{Each, Least}
-use Rattle.lts.specs.TestsLaws.{T_cases, T-eqb, T→true, not-T→false, lt-suc_cases}
+use Rattle.lts.proofs.TestsLaws.{T_cases, T-eqb, T→true, not-T→false, lt-suc_cases}
 use Rattle.text.specs.Model.{Model}
 use Rattle.model.specs.Inner.Stored.{Stored}
 use Rattle.model.specs.Inner.StepTest.{tests}

@@ -3,9 +3,9 @@
 use Rattle.std.specs.Prelude.{◌≡◌, List, ℕ, suc, ◌≤◌, ◌<◌, get_or}
 use Rattle.std.proofs.Common.{sym, ◌∙◌}
 use Rattle.lts.specs.Alike.{Moves, Answers, Alike}
-use Rattle.lts.specs.AlikeLaws.{alike_suc, answers_below}
+use Rattle.lts.proofs.AlikeLaws.{alike_suc, answers_below}
 use Rattle.lts.specs.Game.{Settled, Separates}
-use Rattle.lts.specs.PigeonholeLaws.{injective_le}
+use Rattle.lts.proofs.PigeonholeLaws.{injective_le}
 use Rattle.by_state.specs.Inner.Numbered.{Same}
 use Rattle.ranking.specs.Inner.ClassList.{Classes, Refined, Changed}
 use Rattle.ranking.specs.Inner.TableWrites.{SeparatedBy}

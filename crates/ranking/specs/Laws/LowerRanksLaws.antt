@@ -2,7 +2,7 @@
 use Rattle.std.specs.Prelude.{List, ℕ, ◌<◌, get_or}
 use Rattle.std.proofs.Common.{arith}
 use Rattle.lts.specs.Alike.{Moves}
-use Rattle.lts.specs.AlikeLaws.{rank_unique}
+use Rattle.lts.proofs.AlikeLaws.{rank_unique}
 use Rattle.lts.specs.Book.{LowerRank}
 use Rattle.text.specs.Limits.{pair_place}
 use Rattle.ranking.specs.Table.{Ranks}

@@ -3,8 +3,8 @@
 use Rattle.std.specs.Prelude.{List, ◌⊎◌, ◌↔◌, ◌≡◌, ℕ, ◌/◌, ◌%◌, ◌≤◌, ◌<◌, get_or}
 use Rattle.std.proofs.Common.{inl, inr, ⊎_elim, sym, ◌∙◌, subst, arith, ext_get_or}
 use Rattle.lts.specs.Alike.{Moves, Separated, Rank}
-use Rattle.lts.specs.AlikeLaws.{rank_unique}
-use Rattle.lts.specs.TestsLaws.{lt_or_le}
+use Rattle.lts.proofs.AlikeLaws.{rank_unique}
+use Rattle.lts.proofs.TestsLaws.{lt_or_le}
 use Rattle.text.specs.Limits.{state_limit, table_length, pair_place}
 use Rattle.text.specs.Lists.{Past}
 use Rattle.text.specs.Laws.ListsLaws.{past_get_or}

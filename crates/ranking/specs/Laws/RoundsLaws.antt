@@ -6,9 +6,9 @@ use Rattle.std.proofs.Common.{sym, ◌∙◌, add-one, arith, length-drop, get_o
 use Rattle.std.proofs.Math.Logic.{inl, inr}
 use Prim.Native.Nat.{ℕ, zero, suc, ◌+◌, ◌/◌, ◌%◌, ◌≤◌, ◌<◌}
 use Rattle.lts.specs.Alike.{Moves, Alike, Separated, Rank, bisimilar}
-use Rattle.lts.specs.AlikeLaws.{alike_suc, bisimilar_refl, rank_of_separated}
+use Rattle.lts.proofs.AlikeLaws.{alike_suc, bisimilar_refl, rank_of_separated}
 use Rattle.lts.specs.Game.{Game}
-use Rattle.lts.specs.GameLaws.{separated_of_separates, bisimilar_of_settled, rank_le_settled}
+use Rattle.lts.proofs.GameLaws.{separated_of_separates, bisimilar_of_settled, rank_le_settled}
 use Rattle.text.specs.Limits.{state_limit}
 use Rattle.text.specs.Limits.{table_length, pair_place}
 use Rattle.text.specs.Lists.{Past}

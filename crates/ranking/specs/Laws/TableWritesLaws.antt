@@ -3,8 +3,8 @@
 use Rattle.std.specs.Prelude.{◌≡◌, refl, ◌⊎◌, List, ℕ, suc, ◌+◌, ◌≤◌, ◌<◌, length, get_or, set}
 use Rattle.std.proofs.Common.{sym, ap, ◌∙◌, subst, inl, inr, ⊎_elim, arith, lt-length-set, get_or-set_same, get_or-set_other, below_more}
 use Rattle.lts.specs.Alike.{Moves, Alike, Separated}
-use Rattle.lts.specs.AlikeLaws.{alike_le}
-use Rattle.lts.specs.TestsLaws.{eq_or_not, both_or_not}
+use Rattle.lts.proofs.AlikeLaws.{alike_le}
+use Rattle.lts.proofs.TestsLaws.{eq_or_not, both_or_not}
 use Rattle.text.specs.Limits.{state_limit, table_length, pair_place}
 use Rattle.by_state.specs.Inner.Numbered.{Same}
 use Rattle.ranking.specs.Inner.ClassList.{Classes, Changed}

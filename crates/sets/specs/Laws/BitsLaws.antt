@@ -8,7 +8,7 @@ use Rattle.std.proofs.Math.Pow.{pow-lt}
 use Rattle.std.proofs.lemmas.Nat.{shl-shr, or_shr, or_comm}
 use Rattle.std.specs.Int.Bits.{bit_or, or_step, shifted_even}
 use Rattle.std.specs.Int.Count.{count_trailing_zeros, under}
-use Rattle.lts.specs.TestsLaws.{lt_or_le}
+use Rattle.lts.proofs.TestsLaws.{lt_or_le}
 use Rattle.sets.specs.Inner.Sets.{word_bits}
 
 rem_two_lt : (n : ℕ) → n % 2 < 2

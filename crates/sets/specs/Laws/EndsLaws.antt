@@ -7,7 +7,7 @@ use Rattle.std.specs.Int.Bits.{bit_and, bit_or}
 use Rattle.std.specs.Int.Count.{count_trailing_zeros, trailing_of_zero, count_leading_zeros}
 use Rattle.std.proofs.lemmas.Nat.{trailing_le, leading_top}
 use Rattle.text.specs.Limits.{state_limit}
-use Rattle.lts.specs.TestsLaws.{eq_of_not_lt, eq_or_not, lt_or_le}
+use Rattle.lts.proofs.TestsLaws.{eq_of_not_lt, eq_or_not, lt_or_le}
 use Rattle.sets.specs.declared.set.Set.{Set}
 use Rattle.sets.specs.Inner.Sets.{word_bits, FirstBit}
 use Rattle.sets.specs.Inner.SetValues.{word_of, In, SetOf, LeastOf, GreatestOf}

@@ -7,7 +7,7 @@ use Rattle.std.proofs.Math.Arith.{digits_mod}
 use Rattle.std.proofs.Math.Pow.{high}
 use Rattle.std.specs.Int.Bits.{bit_and, bit_or, and_step, or_add_and, or_zero_r}
 use Rattle.std.proofs.lemmas.Nat.{and_shr, and_le_l, and_le_r}
-use Rattle.lts.specs.TestsLaws.{lt_or_le}
+use Rattle.lts.proofs.TestsLaws.{lt_or_le}
 use Rattle.sets.specs.Inner.Sets.{word_bits, FirstBit}
 use Rattle.sets.specs.Laws.BitsLaws.{bit_half, bit_first, bit-zero, or_of_bits}
 

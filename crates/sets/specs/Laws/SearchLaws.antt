@@ -1,7 +1,7 @@
 -- A set that is not without members has one: a search among all numbers finds it. Assumes nothing.
 use Rattle.std.specs.Prelude.{◌⊎◌, ◌≡◌, ℕ, zero, suc, ◌<◌}
 use Rattle.std.proofs.Common.{inl, inr, subst, arith}
-use Rattle.lts.specs.TestsLaws.{lt-suc_cases}
+use Rattle.lts.proofs.TestsLaws.{lt-suc_cases}
 use Rattle.text.specs.Limits.{state_limit}
 use Rattle.sets.specs.declared.set.Set.{Set}
 use Rattle.sets.specs.Inner.SetValues.{In}

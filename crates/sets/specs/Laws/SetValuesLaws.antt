@@ -5,7 +5,7 @@ use Rattle.std.proofs.Common.{sym, ap, ap₂, ◌∙◌, inl, inr, arith, lt-len
 use Rattle.std.specs.Int.Bits.{bit_or}
 use Rattle.std.proofs.lemmas.Nat.{or_comm}
 use Rattle.text.specs.Limits.{state_limit}
-use Rattle.lts.specs.TestsLaws.{lt_or_le}
+use Rattle.lts.proofs.TestsLaws.{lt_or_le}
 use Rattle.sets.specs.declared.set.Set.{Set}
 use Rattle.sets.specs.Inner.Sets.{word_bits, Member, SameSet}
 use Rattle.sets.specs.Inner.SetValues.{word_of, In, SetOf, SetPut}

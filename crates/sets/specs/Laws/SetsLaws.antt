@@ -5,7 +5,7 @@ use Rattle.std.proofs.Common.{sym, ap, ◌∙◌, subst, inl, inr, arith, get_or
 use Rattle.std.specs.Int.Bits.{bit_or}
 use Rattle.text.specs.Limits.{state_limit}
 use Rattle.text.specs.Laws.ListLaws.{get_or-zeros}
-use Rattle.lts.specs.TestsLaws.{eq_or_not}
+use Rattle.lts.proofs.TestsLaws.{eq_or_not}
 use Rattle.sets.specs.Inner.Sets.{word_bits, Member, Empty, Joined, SameSet}
 use Rattle.sets.specs.Laws.BitsLaws.{bit_or_left, bit_or_right, bit_or_cases}
 use Rattle.sets.specs.Laws.BitsLaws.{bit_pow, bit_pow_unique, bit-zero}

@@ -4,7 +4,7 @@ use Rattle.std.specs.Prelude.{◌⊎◌, ◌≡◌, ℕ, ◌-◌, ◌≤◌, ◌
 use Rattle.std.proofs.Common.{inl, inr, sym, subst, arith}
 use Rattle.text.specs.Limits.{state_limit}
 use Rattle.lts.specs.Alike.{Relation}
-use Rattle.lts.specs.TestsLaws.{eq_or_not, lt_or_le}
+use Rattle.lts.proofs.TestsLaws.{eq_or_not, lt_or_le}
 use Rattle.sets.specs.Inner.SetValues.{In, SetOf, LeastOf, SomeMember}
 use Rattle.sets.specs.declared.set.Set.{Set}
 

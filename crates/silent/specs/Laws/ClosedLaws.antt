@@ -5,7 +5,7 @@ use Rattle.std.specs.Prelude.{◌≡◌, refl, ◌⊎◌, Bool, List, ℕ, suc, 
 use Rattle.std.proofs.Common.{sym, subst, inl, inr, arith}
 use Rattle.lts.specs.Alike.{Relation}
 use Rattle.lts.specs.Run.{Within}
-use Rattle.lts.specs.WithinLaws.{within_le, within_start, within_zero, within_suc_cases}
+use Rattle.lts.proofs.WithinLaws.{within_le, within_start, within_zero, within_suc_cases}
 use Rattle.lts.specs.Weak.{Silent, stay, tick}
 use Rattle.lts.specs.WeakTests.{DecidedTick}
 use Rattle.text.specs.Limits.{state_limit}

@@ -3,7 +3,7 @@
 use Rattle.std.specs.Prelude.{refl, List, ℕ, ◌<◌, get_or}
 use Rattle.std.proofs.Common.{arith}
 use Rattle.lts.specs.Weak.{silent_label, LowMove, low, silent, Silent}
-use Rattle.lts.specs.WeakLaws.{silent_lt}
+use Rattle.lts.proofs.WeakLaws.{silent_lt}
 use Rattle.text.specs.Limits.{action_limit}
 use Rattle.silent.specs.Labelled.{LabelStep, LabelList, LowLabel, TickLabel, LabelMove}
 use Rattle.silent.specs.Inner.Keys.{OfStates, OwnClasses, Closed, Gathered, Keys}

@@ -3,13 +3,13 @@
 use Rattle.std.specs.Prelude.{◌⊎◌, List, ◌≡◌, ◌&&◌, ℕ, suc, ◌+◌, ◌≤◌, ◌<◌, T, leb, ltb, eqb, get_or}
 use Rattle.std.proofs.Common.{inl, inr, ⊎_elim, ap, arith, leb→le, le→leb, ltb→lt, lt→ltb, eqb→eq}
 use Rattle.std.proofs.Math.Decide.{le_ind}
-use Rattle.lts.specs.TestsLaws.{T-eqb, and_intro, and_left, and_right, any→Some, Some→any}
+use Rattle.lts.proofs.TestsLaws.{T-eqb, and_intro, and_left, and_right, any→Some, Some→any}
 use Rattle.lts.specs.Game.{Game}
 use Rattle.lts.specs.Decided.{Decided}
 use Rattle.lts.specs.Weak.{silent_label, low, silent}
-use Rattle.lts.specs.WeakLaws.{silent_source_lt, weak_target_lt}
+use Rattle.lts.proofs.WeakLaws.{silent_source_lt, weak_target_lt}
 use Rattle.lts.specs.WeakTests.{DecidedTick}
-use Rattle.lts.specs.WeakTestsLaws.{weak_game}
+use Rattle.lts.proofs.WeakTestsLaws.{weak_game}
 use Rattle.text.specs.Limits.{action_limit}
 use Rattle.silent.specs.Labelled.{LabelStep, LabelList, LowLabel, TickLabel, LabelMove}
 use Rattle.silent.specs.LabelledTests.{step_at?, label_step?, low_label?, tick_label?, label_round}

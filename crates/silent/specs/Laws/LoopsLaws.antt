@@ -2,10 +2,10 @@
 -- PassLaws. Assumes nothing.
 use Rattle.std.specs.Prelude.{◌≡◌, refl, ◌⊎◌, List, ℕ, ◌+◌, ◌≤◌, ◌<◌, get_or}
 use Rattle.std.proofs.Common.{sym, subst, inl, inr, arith}
-use Rattle.lts.specs.TestsLaws.{eq_or_not}
+use Rattle.lts.proofs.TestsLaws.{eq_or_not}
 use Rattle.lts.specs.Alike.{Relation}
 use Rattle.lts.specs.Weak.{stay}
-use Rattle.lts.specs.WeakLaws.{silent_source_lt, silent_lt, silent_trans}
+use Rattle.lts.proofs.WeakLaws.{silent_source_lt, silent_lt, silent_trans}
 use Rattle.text.specs.Limits.{state_limit}
 use Rattle.sets.specs.Inner.Sets.{Member, Empty, Joined}
 use Rattle.silent.specs.Labelled.{LabelStep}

@@ -2,7 +2,7 @@
 -- read, the sets are closed under one step at its end. Assumes nothing.
 use Rattle.std.specs.Prelude.{◌≡◌, refl, ◌⊎◌, Bool, true, false, List, ℕ, ◌+◌, ◌-◌, ◌≤◌, ◌<◌, length, get_or, set}
 use Rattle.std.proofs.Common.{sym, ap, subst, ◌∙◌, inl, inr, arith, length-set, get_or-set_same, get_or-set_other}
-use Rattle.lts.specs.TestsLaws.{eq_or_not}
+use Rattle.lts.proofs.TestsLaws.{eq_or_not}
 use Rattle.lts.specs.Weak.{Silent, tick}
 use Rattle.text.specs.Limits.{state_limit, action_limit}
 use Rattle.sets.specs.Inner.Sets.{Member, Joined}

@@ -2,10 +2,10 @@
 -- row closes. Assumes nothing.
 use Rattle.std.specs.Prelude.{◌≡◌, refl, ◌⊎◌, List, ℕ, ◌+◌, ◌≤◌, ◌<◌}
 use Rattle.std.proofs.Common.{sym, subst, inl, inr, arith}
-use Rattle.lts.specs.TestsLaws.{eq_or_not, lt_or_le}
-use Rattle.lts.specs.WithinLaws.{within_le, within_start}
+use Rattle.lts.proofs.TestsLaws.{eq_or_not, lt_or_le}
+use Rattle.lts.proofs.WithinLaws.{within_le, within_start}
 use Rattle.lts.specs.Weak.{silent_label, silent}
-use Rattle.lts.specs.WeakLaws.{silent_lt, silent_source_lt, silent_trans}
+use Rattle.lts.proofs.WeakLaws.{silent_lt, silent_source_lt, silent_trans}
 use Rattle.text.specs.Limits.{state_limit}
 use Rattle.sets.specs.Inner.Sets.{Member}
 use Rattle.sets.specs.Inner.SetValues.{SetOf, InSome, SetPut}

@@ -3,11 +3,11 @@
 use Rattle.std.specs.Prelude.{refl, Bool, ◌&&◌, ℕ, ◌<◌, eqb, ltb}
 use Rattle.std.proofs.Common.{arith, lt→ltb}
 use Rattle.std.proofs.Math.Dec.{eqb→eq, ltb→lt}
-use Rattle.lts.specs.TestsLaws.{T-eqb, and_intro, and_left, and_right}
+use Rattle.lts.proofs.TestsLaws.{T-eqb, and_intro, and_left, and_right}
 use Rattle.lts.specs.Alike.{Relation}
 use Rattle.lts.specs.Run.{Reachable, begin, onward, Within}
 use Rattle.lts.specs.Decided.{ViewTest, DecidedView}
-use Rattle.lts.specs.DistanceLaws.{distance_exists}
+use Rattle.lts.proofs.DistanceLaws.{distance_exists}
 use Rattle.lts.specs.Weak.{Silent, stay, tick}
 use Rattle.lts.specs.WeakTests.{DecidedTick}
 use Rattle.silent.specs.Inner.Loops.{toward}

@@ -3,7 +3,7 @@
 use Rattle.std.specs.Prelude.{List, ℕ}
 use Rattle.std.proofs.Common.{arith}
 use Rattle.lts.specs.Weak.{Silent, stay, tick, low, silent}
-use Rattle.lts.specs.WeakLaws.{silent_trans, silent_one}
+use Rattle.lts.proofs.WeakLaws.{silent_trans, silent_one}
 use Rattle.silent.specs.Labelled.{LabelStep, LabelList, TickLabel, LabelMove}
 use Rattle.silent.specs.Laws.LabelledLaws.{label_step_source_lt}
 

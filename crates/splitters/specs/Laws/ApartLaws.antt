@@ -2,7 +2,7 @@
 -- were separated by this round, and others when their homes were. Assumes nothing.
 use Rattle.std.specs.Prelude.{List, ◌⊎◌, ◌≡◌, refl, ℕ, ◌+◌, ◌≤◌, ◌<◌, eqb, get_or}
 use Rattle.std.proofs.Common.{inl, inr, ⊎_elim, sym, ap, ◌∙◌, arith, eq-eqb, ne_eqb}
-use Rattle.lts.specs.TestsLaws.{eq_or_not, lt_or_le}
+use Rattle.lts.proofs.TestsLaws.{eq_or_not, lt_or_le}
 use Rattle.by_state.specs.Inner.Numbered.{Same}
 use Rattle.held.specs.Held.{chosen}
 use Rattle.ranking.specs.Inner.TableWrites.{SeparatedBy, RoundWritten}

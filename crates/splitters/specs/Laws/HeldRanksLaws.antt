@@ -1,7 +1,7 @@
 -- Moves that are held as sets have the ranks of the moves that they are held for. Document 02, (vii). Assumes nothing.
 use Rattle.std.specs.Prelude.{List, ℕ}
 use Rattle.lts.specs.Alike.{Moves}
-use Rattle.lts.specs.AgreeLaws.{rank_same, separated_same}
+use Rattle.lts.proofs.AgreeLaws.{rank_same, separated_same}
 use Rattle.held.specs.Held.{HeldMove, HeldAs}
 use Rattle.ranking.specs.Table.{Ranked}
 use Rattle.ranking.specs.Laws.RankedLaws.{ranked-map}

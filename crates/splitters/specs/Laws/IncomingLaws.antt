@@ -1,7 +1,7 @@
 -- Which labels lead into each state: noted state by state, and label by label. Assumes nothing.
 use Rattle.std.specs.Prelude.{List, ◌⊎◌, ◌≡◌, refl, ℕ, ◌+◌, ◌≤◌, ◌<◌, get_or}
 use Rattle.std.proofs.Common.{inl, inr, sym, subst, arith}
-use Rattle.lts.specs.TestsLaws.{eq_or_not}
+use Rattle.lts.proofs.TestsLaws.{eq_or_not}
 use Rattle.text.specs.Limits.{state_limit}
 use Rattle.sets.specs.Inner.Sets.{Member, Joined}
 use Rattle.sets.specs.Inner.SetValues.{In, SetOf, LeastOf}

@@ -3,8 +3,8 @@
 use Rattle.std.specs.Prelude.{List, ◌⊎◌, ◌≡◌, refl, get_or}
 use Rattle.std.proofs.Common.{inl, inr, sym, ◌∙◌, subst, arith}
 use Prim.Native.Nat.{ℕ, ◌+◌, ◌≤◌, ◌<◌}
-use Rattle.lts.specs.PigeonholeLaws.{injective_le}
-use Rattle.lts.specs.TestsLaws.{eq_or_not, lt_or_le}
+use Rattle.lts.proofs.PigeonholeLaws.{injective_le}
+use Rattle.lts.proofs.TestsLaws.{eq_or_not, lt_or_le}
 use Rattle.by_state.specs.Inner.Numbered.{Same}
 use Rattle.sets.specs.Inner.Sets.{Member}
 use Rattle.sets.specs.Inner.SetValues.{In, SetOf}

@@ -5,7 +5,7 @@ use Rattle.std.specs.Prelude.{◌≡◌, refl, List, ℕ, suc, ◌+◌, ◌-◌,
 use Rattle.std.proofs.Common.{sym, ◌∙◌, subst, inl, ⊎_elim, arith, below_more}
 use Rattle.lts.specs.Alike.{Moves}
 use Rattle.lts.specs.Game.{Separates}
-use Rattle.lts.specs.TestsLaws.{lt_or_le}
+use Rattle.lts.proofs.TestsLaws.{lt_or_le}
 use Rattle.sets.specs.Inner.Sets.{Member}
 use Rattle.sets.specs.Inner.SetValues.{SetOf, SetPut}
 use Rattle.sets.specs.declared.set.Set.{Set}

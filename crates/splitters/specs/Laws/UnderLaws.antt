@@ -2,7 +2,7 @@
 -- class is divided, its states stay under all that it was under. Assumes nothing.
 use Rattle.std.specs.Prelude.{List, ◌⊎◌, ◌≡◌, ℕ, ◌≤◌, ◌<◌, get_or}
 use Rattle.std.proofs.Common.{⊎_elim, sym, ◌∙◌, subst, arith}
-use Rattle.lts.specs.TestsLaws.{lt_or_le}
+use Rattle.lts.proofs.TestsLaws.{lt_or_le}
 use Rattle.sets.specs.Inner.Sets.{Member}
 use Rattle.sets.specs.declared.set.Set.{Set}
 use Rattle.tree.specs.Inner.Tree.{Under, same, off, UnderSets}

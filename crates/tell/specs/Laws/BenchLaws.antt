@@ -4,11 +4,11 @@ use Rattle.std.specs.Prelude.{Bool, ◌&&◌, ◌||◌, [], ◌∷◌, refl, ℕ
 use Rattle.std.proofs.Common.{arith}
 use Rattle.lts.specs.Tests.{all, any}
 use Rattle.lts.specs.Noninterference.{released?, thin, SameLow}
-use Rattle.lts.specs.LowLaws.{simulation_allows}
+use Rattle.lts.proofs.LowLaws.{simulation_allows}
 use Rattle.lts.specs.Decided.{Decided, answered?, simulation?, within?}
-use Rattle.lts.specs.DecidedLaws.{simulation?→Answered}
+use Rattle.lts.proofs.DecidedLaws.{simulation?→Answered}
 use Rattle.lts.specs.Checked.{low_step?}
-use Rattle.lts.specs.CheckedLaws.{decided_low}
+use Rattle.lts.proofs.CheckedLaws.{decided_low}
 use Rattle.model.specs.Laws.Store.SystemLaws.{head_start}
 use Rattle.lts.specs.Run.{begin}
 use Rattle.model.specs.System.{ReachableIn, DeterministicModel, view}

@@ -3,7 +3,7 @@
 use Rattle.std.specs.Prelude.{List, [], ◌++◌, ◌↔◌, ◌≡◌, refl, ℕ, ◌≤◌, ◌<◌, length, drop}
 use Rattle.std.proofs.Common.{⊎_elim, sym, ap, subst, ◌∙◌, arith}
 use Rattle.std.proofs.Math.Option.{Option, none, some}
-use Rattle.lts.specs.TestsLaws.{lt_or_le}
+use Rattle.lts.proofs.TestsLaws.{lt_or_le}
 use Rattle.text.specs.Limits.{store_length}
 use Rattle.text.specs.Faults.{Outcome, answers, refuses}
 use Rattle.text.specs.Laws.OutcomeLaws.{answers_not_refuses}

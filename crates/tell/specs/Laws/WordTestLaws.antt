@@ -7,12 +7,12 @@ use Rattle.std.proofs.Common.{inl, inr, arith, T_not, eqb→eq, ltb→lt}
 use Prim.Native.Nat.{ℕ, zero, suc, ◌≤◌, ◌<◌}
 use Rattle.std.proofs.Math.Dec.{not_T}
 use Rattle.lts.specs.Tests.{all}
-use Rattle.lts.specs.TestsLaws.{T-eqb, and_intro, and_left, and_right, or_left, or_right, or_cases, implies_elim}
-use Rattle.lts.specs.TestsLaws.{lt_or_le, all→Each, any→Some, Some→any}
+use Rattle.lts.proofs.TestsLaws.{T-eqb, and_intro, and_left, and_right, or_left, or_right, or_cases, implies_elim}
+use Rattle.lts.proofs.TestsLaws.{lt_or_le, all→Each, any→Some, Some→any}
 use Rattle.lts.specs.Decided.{Decided}
 use Rattle.lts.specs.Noninterference.{Low}
 use Rattle.lts.specs.Run.{Run, Allows}
-use Rattle.lts.specs.RunLaws.{allows_cons}
+use Rattle.lts.proofs.RunLaws.{allows_cons}
 use Rattle.lts.specs.Word.{OnlyFrom, JustOne, NotAfter}
 use Rattle.text.specs.Model.{silent, Model}
 use Rattle.model.specs.System.{source, action, target, level, SilentStep, NoSilentStep, DeterministicModel, view}

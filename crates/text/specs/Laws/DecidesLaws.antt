@@ -3,7 +3,7 @@
 use Rattle.std.specs.Prelude.{Bool, true, false, not, ◌≡◌, refl, ℕ, T, eqb}
 use Rattle.std.proofs.Common.{sym, subst, eqb→eq}
 use Rattle.std.proofs.lemmas.Bool.{not-true, not-false}
-use Rattle.lts.specs.TestsLaws.{T-eqb}
+use Rattle.lts.proofs.TestsLaws.{T-eqb}
 use Rattle.text.specs.Decides.{Decides}
 
 pub decides_true : (r : Bool) (P : Type 0) → Decides r P → r ≡ true → P

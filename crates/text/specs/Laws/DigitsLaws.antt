@@ -6,7 +6,7 @@ use Rattle.std.proofs.Math.Option.{none, some}
 use Rattle.std.proofs.Math.Nat.{pow-le-pow_right}
 use Rattle.std.proofs.Math.ListN.{get_or-append}
 use Rattle.std.proofs.lemmas.Bool.{eqb-false}
-use Rattle.lts.specs.TestsLaws.{lt_or_le}
+use Rattle.lts.proofs.TestsLaws.{lt_or_le}
 use Rattle.text.specs.Limits.{digit_limit}
 use Rattle.text.specs.Bytes.{byte_zero, digit, kind_of}
 use Rattle.text.specs.Laws.BytesLaws.{digit_within, digit_kind}

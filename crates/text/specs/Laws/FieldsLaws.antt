@@ -12,7 +12,7 @@ use Rattle.text.specs.Bytes.{comma, kind_of}
 use Rattle.text.specs.Split.{cons_first, split, index_of, same?}
 use Rattle.text.specs.Laws.SplitLaws.{split-end, split-cons, split_first, split_part, split_last, split_none}
 use Rattle.text.specs.Laws.SplitLaws.{split-found, found_le}
-use Rattle.lts.specs.TestsLaws.{and_left, and_right}
+use Rattle.lts.proofs.TestsLaws.{and_left, and_right}
 use Rattle.text.specs.Laws.SameLaws.{and-false, same?→eq, same?-length}
 use Rattle.text.specs.Lines.{good, bad, checked, fields_from, fields_of}
 use Rattle.text.specs.Inner.PartAnswers.{Fields}

@@ -2,7 +2,7 @@
 -- Assumes nothing.
 use Rattle.std.specs.Prelude.{◌⊎◌, ◌≡◌, ℕ, zero, suc, ◌<◌}
 use Rattle.std.proofs.Common.{inl, inr, ⊎_elim, subst, arith}
-use Rattle.lts.specs.TestsLaws.{lt_or_le, lt-suc_cases}
+use Rattle.lts.proofs.TestsLaws.{lt_or_le, lt-suc_cases}
 use Rattle.text.specs.First.{First}
 
 pub first_found : {P : ℕ → Type 0} {j : ℕ} → ((i : ℕ) → i < j → ¬ (P i)) → P j → First P j

@@ -2,7 +2,7 @@
 -- Document 01, "The text". Assumes nothing.
 use Rattle.std.specs.Prelude.{Bool, true, not, ◌&&◌, List, [], ◌∷◌, ◌++◌, ◌≡◌, refl, ℕ, ◌<◌, T, eqb, length}
 use Rattle.std.proofs.Common.{ap, ◌∙◌, arith, T_not}
-use Rattle.lts.specs.TestsLaws.{and_left, and_right, T-eqb}
+use Rattle.lts.proofs.TestsLaws.{and_left, and_right, T-eqb}
 use Rattle.text.specs.Bytes.{kind_of}
 use Rattle.text.specs.Split.{cons_first, split}
 use Rattle.text.specs.Laws.SplitLaws.{Is, same, other, is, split-nil, split-end, split-cons, split_first}

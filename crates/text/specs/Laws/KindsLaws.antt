@@ -3,7 +3,7 @@
 use Rattle.std.specs.Prelude.{List, [], ◌∷◌, ◌≡◌, ℕ, ◌<◌, eqb, get_or}
 use Rattle.std.proofs.Common.{◌∙◌, eqb→eq}
 use Rattle.lts.specs.Tests.{all}
-use Rattle.lts.specs.TestsLaws.{all→Each}
+use Rattle.lts.proofs.TestsLaws.{all→Each}
 use Rattle.text.specs.Bytes.{kind_of}
 
 -- the table, sixteen bytes to a row: 0 other, 1 digit, 2 small letter, 3 capital, 4 comma, 5 line end

@@ -5,7 +5,7 @@ use Rattle.std.proofs.Common.{sym, ◌∙◌, arith, le→leb}
 use Prim.Native.Nat.{ℕ, suc, ◌≤◌, ◌<◌}
 use Rattle.std.proofs.Math.Dec.{leb→le, ltb→lt, lt→ltb}
 use borrow.Author.Tests.{not-true, not-false}
-use Rattle.lts.specs.TestsLaws.{T→true, and_left, and_right, and_intro}
+use Rattle.lts.proofs.TestsLaws.{T→true, and_left, and_right, and_intro}
 use Rattle.text.specs.declared.Head.{Head}
 use Rattle.text.specs.declared.StepLine.{StepLine}
 use Rattle.text.specs.declared.number.Bounds.{Bounds}

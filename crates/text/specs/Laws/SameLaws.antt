@@ -3,7 +3,7 @@
 use Rattle.std.specs.Prelude.{Bool, true, false, ◌&&◌, List, [], ◌∷◌, ◌≡◌, refl, ℕ, suc, T, eqb, length}
 use Rattle.std.proofs.Common.{ap, subst, eqb→eq}
 use Rattle.std.proofs.Math.Dec.{eqb_refl}
-use Rattle.lts.specs.TestsLaws.{and_left, and_right, and_intro}
+use Rattle.lts.proofs.TestsLaws.{and_left, and_right, and_intro}
 use Rattle.text.specs.Split.{same?}
 
 pub same?→eq : (xs ys : List ℕ) → T (same? xs ys) → xs ≡ ys

@@ -2,7 +2,7 @@
 use Rattle.std.specs.Prelude.{List, ◌⊎◌, ◌≡◌, refl, ℕ, zero, suc, ◌+◌, ◌-◌, ◌*◌, ◌≤◌, ◌<◌, length, get_or, set}
 use Rattle.std.proofs.Common.{inl, inr, sym, ap, ◌∙◌, subst, arith, get_or-set_same, get_or-set_other, below_more}
 use Rattle.text.specs.Limits.{state_limit, pair_place}
-use Rattle.lts.specs.TestsLaws.{eq_or_not, lt_or_le}
+use Rattle.lts.proofs.TestsLaws.{eq_or_not, lt_or_le}
 use Rattle.sets.specs.Inner.SetValues.{In, SetOf}
 use Rattle.sets.specs.declared.set.Set.{Set}
 use Rattle.ranking.specs.Inner.TableWrites.{entry_of}

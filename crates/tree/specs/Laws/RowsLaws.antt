@@ -2,7 +2,7 @@
 use Rattle.std.specs.Prelude.{List, ◌⊎◌, ◌≡◌, refl, ℕ, ◌+◌, ◌-◌, ◌≤◌, ◌<◌, get_or}
 use Rattle.std.proofs.Common.{inl, inr, sym, ap, ap₂, ◌∙◌, subst, arith}
 use Rattle.text.specs.Limits.{state_limit}
-use Rattle.lts.specs.TestsLaws.{eq_or_not, lt_or_le}
+use Rattle.lts.proofs.TestsLaws.{eq_or_not, lt_or_le}
 use Rattle.sets.specs.Inner.Sets.{Member}
 use Rattle.sets.specs.Inner.SetValues.{In, SetOf}
 use Rattle.sets.specs.Laws.SetValuesLaws.{in_or_not}

@@ -3,7 +3,7 @@
 use Rattle.std.specs.Prelude.{List, ◌⊎◌, ◌≡◌, ℕ, ◌≤◌, ◌<◌, get_or}
 use Rattle.std.proofs.Common.{inl, inr, sym, ap, ◌∙◌, subst, eq-zero-or-pos, arith}
 use Rattle.text.specs.Limits.{state_limit}
-use Rattle.lts.specs.TestsLaws.{eq_or_not}
+use Rattle.lts.proofs.TestsLaws.{eq_or_not}
 use Rattle.sets.specs.Inner.Sets.{Member}
 use Rattle.ranking.specs.Inner.TableWrites.{entry_of}
 use Rattle.tree.specs.Inner.Tree.{Under, Tree, Apart, meet, MemberSets, UnderSets}

@@ -5,14 +5,14 @@ use Rattle.std.proofs.Common.{inl, inr, ⊎_elim, sym, ap, ◌∙◌, add-one, a
 use Rattle.std.proofs.Math.Path.{subst}
 use Prim.Native.Nat.{ℕ, zero, suc, ◌+◌, ◌-◌, ◌≤◌, ◌<◌}
 use Rattle.lts.specs.Alike.{Rank}
-use Rattle.lts.specs.AlikeLaws.{rank_unique}
-use Rattle.lts.specs.TestsLaws.{T_cases, T→true, and_intro, and_left, and_right, not-T→false, lt-suc_cases, lt_or_le}
-use Rattle.lts.specs.CheckedLaws.{weak_rank→Rank}
-use Rattle.lts.specs.DistanceLaws.{Reachable→within?, within?→Reachable}
+use Rattle.lts.proofs.AlikeLaws.{rank_unique}
+use Rattle.lts.proofs.TestsLaws.{T_cases, T→true, and_intro, and_left, and_right, not-T→false, lt-suc_cases, lt_or_le}
+use Rattle.lts.proofs.CheckedLaws.{weak_rank→Rank}
+use Rattle.lts.proofs.DistanceLaws.{Reachable→within?, within?→Reachable}
 use Rattle.text.specs.Model.{high, Model}
 use Rattle.model.specs.System.{source, action, target, level, ReachableIn, IsState, view}
 use Rattle.model.specs.Inner.Stored.{Stored}
-use Rattle.lts.specs.TestsLaws.{T-eqb}
+use Rattle.lts.proofs.TestsLaws.{T-eqb}
 use Rattle.model.specs.Inner.StepTest.{tests}
 use Rattle.model.specs.Laws.System.RankBoundLaws.{actions_le_silent_label}
 use Rattle.model.specs.Laws.System.StepTestLaws.{decided_view}

@@ -3,18 +3,18 @@
 use Rattle.std.specs.Prelude.{List, ◌↔◌, ◌≡◌, ℕ, ◌<◌}
 use Rattle.std.proofs.Common.{⊎_elim, sym, ap, subst, ◌∙◌, arith, eqb→eq}
 use Rattle.lts.specs.Alike.{Rank, bisimilar, Bisimilar}
-use Rattle.lts.specs.AlikeLaws.{rank_unique, bisimilar_of_rank}
-use Rattle.lts.specs.TestsLaws.{lt_or_le}
+use Rattle.lts.proofs.AlikeLaws.{rank_unique, bisimilar_of_rank}
+use Rattle.lts.proofs.TestsLaws.{lt_or_le}
 use Rattle.lts.specs.Noninterference.{BNID}
 use Rattle.lts.specs.Checked.{weak_rank}
-use Rattle.lts.specs.CheckedLaws.{weak_rank→Rank}
+use Rattle.lts.proofs.CheckedLaws.{weak_rank→Rank}
 use Rattle.text.specs.Model.{high, Model}
 use Rattle.model.specs.System.{source, action, target, level, HighStep, ReachableIn, IsState, view}
 use Rattle.model.specs.Laws.Store.SystemLaws.{own_step}
 use Rattle.verdicts.specs.declared.judging.Verdict.{Verdict}
 use Rattle.verdicts.specs.declared.judging.Verdict.TheVariants.{Passed, Refused}
 use Rattle.model.specs.Inner.Stored.{Stored}
-use Rattle.lts.specs.TestsLaws.{T-eqb}
+use Rattle.lts.proofs.TestsLaws.{T-eqb}
 use Rattle.model.specs.Laws.System.RankBoundLaws.{actions_le_silent_label, stored_rank_lt}
 use Rattle.model.specs.Laws.System.StepTestLaws.{decided_view}
 use Rattle.ranking.specs.Table.{Greatest}

@@ -3,12 +3,12 @@
 use Rattle.std.specs.Prelude.{Bool, List, ◌⊎◌, ◌≡◌, refl, ℕ, ◌+◌, ◌≤◌, ◌<◌, get_or}
 use Rattle.std.proofs.Common.{inl, inr, ⊎_elim, sym, ap, ◌∙◌, subst, arith}
 use Rattle.lts.specs.Alike.{Moves, Relation, Separated}
-use Rattle.lts.specs.AlikeLaws.{alike_le, bisimilar→Alike, bisimilar_of_rank, separated_pos}
-use Rattle.lts.specs.AlikeLaws.{separated_of_rank, rank_of_separated}
+use Rattle.lts.proofs.AlikeLaws.{alike_le, bisimilar→Alike, bisimilar_of_rank, separated_pos}
+use Rattle.lts.proofs.AlikeLaws.{separated_of_rank, rank_of_separated}
 use Rattle.lts.specs.Game.{Game, Settled}
-use Rattle.lts.specs.GameLaws.{rank_le_settled}
+use Rattle.lts.proofs.GameLaws.{rank_le_settled}
 use Rattle.lts.specs.Book.{Entry, Plays, first_opens, second_opens, LowerRank, FirstPlay, OwnEntry}
-use Rattle.lts.specs.TestsLaws.{lt_or_le}
+use Rattle.lts.proofs.TestsLaws.{lt_or_le}
 use Rattle.text.specs.Limits.{state_limit, pair_place, book_length}
 use Rattle.text.specs.Lists.{Past}
 use Rattle.by_state.specs.Inner.Numbered.{Same}

@@ -3,8 +3,8 @@ use Rattle.std.specs.Prelude.{List, ◌⊎◌, ◌≡◌, ℕ, ◌+◌, ◌≤�
 use Rattle.std.proofs.Common.{inl, inr, ⊎_elim, sym, ◌∙◌, subst, arith}
 use Rattle.lts.specs.Alike.{Moves}
 use Rattle.lts.specs.Book.{Opens, LowerRank}
-use Rattle.lts.specs.BookLaws.{opens-map}
-use Rattle.lts.specs.TestsLaws.{lt_or_le}
+use Rattle.lts.proofs.BookLaws.{opens-map}
+use Rattle.lts.proofs.TestsLaws.{lt_or_le}
 use Rattle.text.specs.Limits.{state_limit, pair_place}
 use Rattle.ranking.specs.Table.{Ranks}
 use Rattle.ranking.specs.Laws.LowerRanksLaws.{lower_rank_of_rank_in, rank_in_of_lower_rank}

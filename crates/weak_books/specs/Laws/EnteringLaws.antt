@@ -3,7 +3,7 @@
 use Rattle.std.specs.Prelude.{List, ◌⊎◌, ◌≡◌, refl, ℕ, ◌≤◌, ◌<◌, get_or}
 use Rattle.std.proofs.Common.{inl, inr, ⊎_elim, sym, ◌∙◌, subst, arith}
 use Rattle.lts.specs.Alike.{Moves}
-use Rattle.lts.specs.TestsLaws.{lt_or_le, eq_or_not, both_or_not}
+use Rattle.lts.proofs.TestsLaws.{lt_or_le, eq_or_not, both_or_not}
 use Rattle.text.specs.Limits.{state_limit, pair_place}
 use Rattle.text.specs.Laws.ListsLaws.{past_refl, past_trans}
 use Rattle.sets.specs.Inner.Sets.{Member}

@@ -3,11 +3,11 @@
 use Rattle.std.specs.Prelude.{Bool, not, List, ◌⊎◌, ◌≡◌, refl, ℕ, ◌≤◌, ◌<◌, T, eqb, get_or}
 use Rattle.std.proofs.Common.{inl, inr, sym, ap, ◌∙◌, subst, arith, lt-ltb, le-ltb, T_not, eqb→eq}
 use Rattle.lts.specs.Alike.{Moves, Answers}
-use Rattle.lts.specs.AlikeLaws.{answers_map}
+use Rattle.lts.proofs.AlikeLaws.{answers_map}
 use Rattle.lts.specs.Game.{Opening as Unanswered, by_first, by_second, Game}
 use Rattle.lts.specs.Book.{Entry, Opens}
-use Rattle.lts.specs.BookLaws.{first_play_of_first, first_play_of_second}
-use Rattle.lts.specs.TestsLaws.{T_cases, T-eqb, lt_or_le}
+use Rattle.lts.proofs.BookLaws.{first_play_of_first, first_play_of_second}
+use Rattle.lts.proofs.TestsLaws.{T_cases, T-eqb, lt_or_le}
 use Rattle.text.specs.Limits.{state_limit, pair_place}
 use Rattle.text.specs.Laws.ListsLaws.{past_trans}
 use Rattle.by_state.specs.Inner.Numbered.{Same}

@@ -3,11 +3,11 @@
 use Rattle.std.specs.Prelude.{Bool, List, ◌⊎◌, refl, ℕ, ◌+◌, ◌≤◌, ◌<◌, get_or}
 use Rattle.std.proofs.Common.{inl, ⊎_elim, sym, ap, ◌∙◌, subst, arith}
 use Rattle.lts.specs.Alike.{Moves, Rank}
-use Rattle.lts.specs.AlikeLaws.{rank_unique, rank_sym}
+use Rattle.lts.proofs.AlikeLaws.{rank_unique, rank_sym}
 use Rattle.lts.specs.Game.{Game}
 use Rattle.lts.specs.Book.{Entry, LowerRank, OwnEntry}
-use Rattle.lts.specs.BookLaws.{first_play_of_first, opens_by_second, first_play_of_second}
-use Rattle.lts.specs.OwnBookLaws.{lower_rank_sym, play_exists}
+use Rattle.lts.proofs.BookLaws.{first_play_of_first, opens_by_second, first_play_of_second}
+use Rattle.lts.proofs.OwnBookLaws.{lower_rank_sym, play_exists}
 use Rattle.text.specs.Limits.{state_limit, pair_place, book_length}
 use Rattle.text.specs.Lists.{Past}
 use Rattle.text.specs.Laws.ListsLaws.{past_trans}

@@ -2,7 +2,7 @@
 -- Document 02, (v) and (vii). Assumes nothing.
 use Rattle.std.specs.Prelude.{List, ℕ}
 use Rattle.lts.specs.Alike.{Moves}
-use Rattle.lts.specs.OwnBookLaws.{own_book_same}
+use Rattle.lts.proofs.OwnBookLaws.{own_book_same}
 use Rattle.text.specs.Faults.{Outcome}
 use Rattle.text.specs.Limits.{state_limit}
 use Rattle.held.specs.Held.{HeldMove, HeldAs}

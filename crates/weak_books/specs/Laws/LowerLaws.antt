@@ -2,7 +2,7 @@
 -- Document 02, (v). Assumes nothing.
 use Rattle.std.specs.Prelude.{List, ◌⊎◌, ◌≡◌, ℕ, ◌+◌, ◌/◌, ◌%◌, ◌<◌, get_or}
 use Rattle.std.proofs.Common.{inl, inr, sym, subst, arith}
-use Rattle.lts.specs.TestsLaws.{eq_or_not}
+use Rattle.lts.proofs.TestsLaws.{eq_or_not}
 use Rattle.lts.specs.Alike.{Relation}
 use Rattle.lts.specs.Book.{LowerEntry}
 use Rattle.text.specs.Limits.{state_limit, table_length, pair_place}

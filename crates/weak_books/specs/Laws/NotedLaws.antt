@@ -2,7 +2,7 @@
 -- others are tested under the labels of moves. Document 02, (v) and (vii). Assumes nothing.
 use Rattle.std.specs.Prelude.{List, ◌⊎◌, ◌≡◌, ℕ, ◌+◌, ◌≤◌, ◌<◌, get_or, set, length}
 use Rattle.std.proofs.Common.{inl, inr, sym, ◌∙◌, subst, arith, get_or-set_same, get_or-set_other}
-use Rattle.lts.specs.TestsLaws.{eq_or_not}
+use Rattle.lts.proofs.TestsLaws.{eq_or_not}
 use Rattle.lts.specs.Alike.{Moves}
 use Rattle.lts.specs.Book.{Present, Plays, first_opens, second_opens, LowerEntry, SoundAt}
 use Rattle.lts.specs.Weak.{silent_label}

@@ -2,7 +2,7 @@
 -- Assumes nothing.
 use Rattle.std.specs.Prelude.{◌⊎◌, ◌≡◌, ℕ, ◌<◌}
 use Rattle.std.proofs.Common.{inl, inr, subst, arith}
-use Rattle.lts.specs.TestsLaws.{eq_or_not}
+use Rattle.lts.proofs.TestsLaws.{eq_or_not}
 use Rattle.lts.specs.Alike.{Relation}
 use Rattle.text.specs.Limits.{state_limit}
 use Rattle.sets.specs.declared.set.Set.{Set}

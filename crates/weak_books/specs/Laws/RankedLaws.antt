@@ -2,8 +2,8 @@
 use Rattle.std.specs.Prelude.{List, ◌⊎◌, ◌≡◌, ℕ, ◌+◌, ◌<◌, get_or}
 use Rattle.std.proofs.Common.{inl, inr, ⊎_elim, sym, subst, arith}
 use Rattle.lts.specs.Alike.{Moves}
-use Rattle.lts.specs.AlikeLaws.{rank_unique, rank_refl}
-use Rattle.lts.specs.TestsLaws.{lt_or_le}
+use Rattle.lts.proofs.AlikeLaws.{rank_unique, rank_refl}
+use Rattle.lts.proofs.TestsLaws.{lt_or_le}
 use Rattle.text.specs.Limits.{pair_place}
 use Rattle.ranking.specs.Table.{Ranks}
 use Rattle.sets.specs.Inner.Sets.{Member, Empty, Joined}

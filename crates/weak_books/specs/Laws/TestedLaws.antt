@@ -2,10 +2,10 @@
 -- the first bad entry of all. Document 02, (v) and (vii). Assumes nothing.
 use Rattle.std.specs.Prelude.{List, ◌⊎◌, ◌≡◌, ℕ, ◌+◌, ◌/◌, ◌%◌, ◌<◌}
 use Rattle.std.proofs.Common.{inl, inr, sym, ap, subst, arith}
-use Rattle.lts.specs.TestsLaws.{eq_or_not}
+use Rattle.lts.proofs.TestsLaws.{eq_or_not}
 use Rattle.lts.specs.Alike.{Moves, Relation}
 use Rattle.lts.specs.Book.{Entry, Present, Opens, Plays, first_opens, second_opens, SoundAt}
-use Rattle.lts.specs.BookLaws.{opens-map}
+use Rattle.lts.proofs.BookLaws.{opens-map}
 use Rattle.text.specs.Limits.{state_limit, table_length, pair_place}
 use Rattle.books.specs.Books.{entry_number, book_of}
 use Rattle.books.specs.Laws.ChecksLaws.{at_number}

@@ -2,8 +2,8 @@
 use Rattle.std.specs.Prelude.{List, ◌≡◌, refl, ℕ, ◌+◌, ◌*◌, ◌≤◌, ◌<◌, get_or}
 use Rattle.std.proofs.Common.{⊎_elim, sym, ap, ◌∙◌, subst, arith}
 use Rattle.lts.specs.Book.{Entry, Present}
-use Rattle.lts.specs.OwnBookLaws.{entry_ext}
-use Rattle.lts.specs.TestsLaws.{lt_or_le, eq_or_not}
+use Rattle.lts.proofs.OwnBookLaws.{entry_ext}
+use Rattle.lts.proofs.TestsLaws.{lt_or_le, eq_or_not}
 use Rattle.text.specs.Limits.{state_limit, pair_place, entry_size}
 use Rattle.text.specs.Laws.ListsLaws.{past_refl, past_trans}
 use Rattle.books.specs.Books.{entry_number}

@@ -1,7 +1,7 @@
 -- One state more is divided: it follows a lead with its key, or becomes the last lead of its class. Assumes nothing.
 use Rattle.std.specs.Prelude.{◌≡◌, refl, ◌⊎◌, List, ℕ, ◌+◌, ◌≤◌, ◌<◌, get_or}
 use Rattle.std.proofs.Common.{sym, ◌∙◌, subst, inl, inr, arith}
-use Rattle.lts.specs.TestsLaws.{eq_or_not}
+use Rattle.lts.proofs.TestsLaws.{eq_or_not}
 use Rattle.sets.specs.Inner.Sets.{SameSet}
 use Rattle.sets.specs.Laws.SetsLaws.{same_set_refl, same_set_sym, same_set_trans}
 use Rattle.weak_ranks.specs.Inner.Dividing.{LeadClasses, DividedBy, Lead, NextLead, DividedUpTo}

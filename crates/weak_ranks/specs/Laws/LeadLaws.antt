@@ -2,7 +2,7 @@
 -- state becomes the last lead. Assumes nothing.
 use Rattle.std.specs.Prelude.{◌≡◌, refl, ◌⊎◌, List, ℕ, ◌+◌, ◌≤◌, ◌<◌, length, get_or, set}
 use Rattle.std.proofs.Common.{sym, ◌∙◌, subst, inl, inr, arith, get_or-set_same, get_or-set_other}
-use Rattle.lts.specs.TestsLaws.{eq_or_not, lt_or_le}
+use Rattle.lts.proofs.TestsLaws.{eq_or_not, lt_or_le}
 use Rattle.sets.specs.Inner.Sets.{SameSet}
 use Rattle.weak_ranks.specs.Inner.Dividing.{LeadClasses, Lead, NextLead, DividedUpTo, AtState, LeadSought}
 use Rattle.weak_ranks.specs.Inner.Dividing.{Dividing, Sought, LeadFound}

@@ -4,7 +4,7 @@ use Prim.Native.Nat.{◌+◌, ◌<◌}
 use native.Mathlib.Omega.{arith}
 use lib.ListN.{length, length-set}
 use borrow.Author.Rules.{rules}
-use Rattle.lts.specs.AlikeLaws.{separated_pos}
+use Rattle.lts.proofs.AlikeLaws.{separated_pos}
 use Rattle.text.specs.declared.State.{State}
 use Rattle.text.specs.declared.Action.{Action}
 use Rattle.model.specs.StoredModel.{model_at}

@@ -4,7 +4,7 @@ use mathlib.Core.Path.{◌≡◌}
 use Prim.Native.Nat.{ℕ}
 use lib.Dec.{T, eqb}
 use borrow.Author.Tests.{eq-eqb, ne_eqb}
-use Rattle.lts.specs.TestsLaws.{or_right}
+use Rattle.lts.proofs.TestsLaws.{or_right}
 use Rattle.text.specs.Bytes.{kind_of, digit, small_letter}
 use Rattle.text.specs.Laws.BytesLaws.{digit_within, small_letter_within}
 use Rattle.text.specs.Lines.{name_byte?}

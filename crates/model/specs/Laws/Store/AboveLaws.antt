@@ -5,7 +5,7 @@ use Rattle.std.proofs.Common.{append-nil, inl, inr, sym, ◌∙◌, arith, lt→
 use Rattle.std.proofs.Math.Path.{subst}
 use Rattle.std.proofs.Math.Dec.{T, ltb→lt, eqb→eq, eqb_refl}
 use Rattle.std.proofs.Math.Seq.{split_at}
-use Rattle.lts.specs.TestsLaws.{and_left, and_right, and_intro, or_left, or_right, or_cases, lt_or_le}
+use Rattle.lts.proofs.TestsLaws.{and_left, and_right, and_intro, or_left, or_right, or_cases, lt_or_le}
 use Rattle.text.specs.declared.Head.{Head}
 use Rattle.text.specs.declared.StepLine.{StepLine}
 use Rattle.text.specs.Model.{Model, above?, above_last?}

@@ -9,7 +9,7 @@ use native.Mathlib.Omega.{arith}
 use Rattle.std.proofs.Math.Dec.{not_T}
 use Rattle.std.proofs.Math.ListN.{length, take, length-drop}
 use Rattle.std.proofs.Math.Seq.{take-add}
-use Rattle.lts.specs.TestsLaws.{and_intro}
+use Rattle.lts.proofs.TestsLaws.{and_intro}
 use Rattle.text.specs.Limits.{name_limit, state_count_place, action_count_place, step_count_place, start_place, head_end}
 use Rattle.text.specs.Limits.{actions_begin, action_size, actions_length, actions_end, action_column, target_column}
 use Rattle.text.specs.Limits.{steps_begin, step_size, steps_length, steps_end, extra_count_place, extra_begin, extra_limit}

@@ -4,7 +4,7 @@ use Rattle.std.specs.Prelude.{Bool, not, ◌&&◌, ◌⊎◌, ◌≡◌, ℕ, T,
 use mathlib.Core.List.{List, [], ◌∷◌, ◌++◌}
 use Rattle.std.proofs.Common.{inl, inr, subst, arith, T_not, leb→le, le→leb}
 use Rattle.std.proofs.Math.Dec.{eqb→eq, eqb_refl}
-use Rattle.lts.specs.TestsLaws.{T_cases, and_left, and_right, and_intro}
+use Rattle.lts.proofs.TestsLaws.{T_cases, and_left, and_right, and_intro}
 use Rattle.text.specs.declared.Head.{Head}
 use Rattle.text.specs.declared.StepLine.{StepLine}
 use Rattle.text.specs.Limits.{extra_limit, store_length}

@@ -8,7 +8,7 @@ use Prim.Native.Nat.{ℕ, zero, suc, ◌+◌, ◌-◌, ◌≤◌, ◌<◌}
 use native.Mathlib.Omega.{arith}
 use Rattle.std.proofs.Math.Dec.{T, T_not}
 use Rattle.std.proofs.Math.ListN.{length, get_or}
-use Rattle.lts.specs.TestsLaws.{lt_or_le, and_right}
+use Rattle.lts.proofs.TestsLaws.{lt_or_le, and_right}
 use Rattle.text.specs.Limits.{action_limit, name_limit, actions_begin, actions_length, actions_end, name_column}
 use Rattle.text.specs.Limits.{steps_begin, steps_length, steps_end, extra_count_place, extra_begin, extra_end, extra_limit}
 use Rattle.text.specs.Limits.{store_length, action_place, name_place, step_place, extra_place}

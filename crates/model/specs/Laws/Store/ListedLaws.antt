@@ -12,7 +12,7 @@ use native.Mathlib.Omega.{arith}
 use Rattle.std.proofs.Math.Dec.{T, eqb, eqb→eq}
 use Rattle.std.proofs.Math.ListN.{take}
 use Rattle.std.proofs.Math.Seq.{take-add, drop-drop}
-use Rattle.lts.specs.TestsLaws.{T-eqb, lt-suc_cases, or_left, or_right, or_cases}
+use Rattle.lts.proofs.TestsLaws.{T-eqb, lt-suc_cases, or_left, or_right, or_cases}
 use Rattle.text.specs.Split.{same?}
 use Rattle.text.specs.Laws.SameLaws.{same?→eq, eq→same?}
 use Rattle.text.specs.Model.{high, ActionLine, some_high?}

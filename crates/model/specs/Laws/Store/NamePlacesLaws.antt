@@ -2,7 +2,7 @@
 -- Document 01, "The model store". Assumes nothing.
 use Rattle.std.specs.Prelude.{List, ◌≡◌, ℕ, zero, suc, ◌+◌, ◌≤◌, ◌<◌, length, get_or, drop}
 use Rattle.std.proofs.Common.{⊎_elim, sym, ap, ◌∙◌, arith, get_or-take, get_or-drop}
-use Rattle.lts.specs.TestsLaws.{lt_or_le}
+use Rattle.lts.proofs.TestsLaws.{lt_or_le}
 use Rattle.text.specs.Limits.{action_limit, name_limit, store_length, name_length_place, name_place}
 use Rattle.model.specs.StoredModel.{action_at}
 use Rattle.model.specs.Inner.GoodPlaces.{SameAt, SameName, name_length_at, GoodAction}

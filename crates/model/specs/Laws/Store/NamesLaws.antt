@@ -9,7 +9,7 @@ use native.Mathlib.Omega.{arith}
 use Rattle.std.proofs.Math.Numerals.{add-one}
 use Rattle.std.proofs.Math.ListN.{length, replicate, get_or-append}
 use Rattle.std.proofs.Math.Seq.{drop-length}
-use Rattle.lts.specs.TestsLaws.{T→true}
+use Rattle.lts.proofs.TestsLaws.{T→true}
 use Rattle.text.specs.Limits.{name_limit, actions_begin, name_length_column, name_column, action_size, actions_length}
 use Rattle.text.specs.Limits.{steps_length, action_place}
 use Rattle.text.specs.Split.{same?}

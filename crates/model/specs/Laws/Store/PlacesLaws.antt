@@ -4,7 +4,7 @@ use Rattle.std.specs.Prelude.{Bool, List, [], ◌∷◌, ◌++◌, ◌≡◌, �
 use Rattle.std.proofs.Common.{sym, ap, ◌∙◌, arith, add-one, length-drop, length-take-le, drop-cons, drop-drop, take-add, get_or-take, get_or-drop, get_or-append-add, ext_get_or}
 use Rattle.std.proofs.lemmas.List.{length-replicate, get_or-replicate}
 use Rattle.std.proofs.Math.ListN.{get_or-append}
-use Rattle.lts.specs.TestsLaws.{and_left, and_right, and_intro}
+use Rattle.lts.proofs.TestsLaws.{and_left, and_right, and_intro}
 use Rattle.text.specs.Lines.{all_of}
 use Rattle.model.specs.Store.{padded}
 use Rattle.model.specs.Inner.EachFrom.{EachFrom}

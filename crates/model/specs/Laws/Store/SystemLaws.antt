@@ -6,7 +6,7 @@ use Rattle.std.specs.Prelude.{◌⊎◌, ◌↔◌, ◌≡◌, refl, ℕ, zero, 
 use Rattle.std.proofs.Common.{inl, inr, ⊎_elim, sym, ap, subst, ◌∙◌, arith, eqb→eq}
 use Rattle.std.proofs.Math.ListN.{get_or-eq_default}
 use Rattle.lts.specs.Run.{Deterministic}
-use Rattle.lts.specs.TestsLaws.{lt_or_le}
+use Rattle.lts.proofs.TestsLaws.{lt_or_le}
 use Rattle.text.specs.Model.{low, ActionLine, Model, no_action}
 use Rattle.model.specs.System.{source, action, target, level, Steps, ReachableIn, view}
 use Rattle.model.specs.System.{starts, IsStart, DeterministicModel}

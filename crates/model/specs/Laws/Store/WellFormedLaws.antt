@@ -7,7 +7,7 @@ use native.Mathlib.Omega.{arith}
 use Rattle.std.proofs.Math.Dec.{T}
 use Rattle.std.proofs.Math.ListN.{length, take}
 use Rattle.std.proofs.Math.Seq.{take-suc}
-use Rattle.lts.specs.TestsLaws.{lt-suc_cases}
+use Rattle.lts.proofs.TestsLaws.{lt-suc_cases}
 use Rattle.text.specs.Model.{last_level, ActionLine, Model, above_last?}
 use Rattle.model.specs.WellFormed.{ActionFits, StepFits, WellFormed}
 use Rattle.model.specs.Laws.Store.EachLaws.{each_get_or}

@@ -2,7 +2,7 @@
 -- Document 01, "The text": steps rise by source. Assumes nothing.
 use Rattle.std.specs.Prelude.{List, ◌≡◌, ℕ, ◌+◌, ◌≤◌, ◌<◌, length, get_or, set}
 use Rattle.std.proofs.Common.{⊎_elim, sym, subst, arith, get_or-set_same, get_or-set_other}
-use Rattle.lts.specs.TestsLaws.{lt_or_le, lt-suc_cases}
+use Rattle.lts.proofs.TestsLaws.{lt_or_le, lt-suc_cases}
 use Rattle.text.specs.Model.{Model}
 use Rattle.model.specs.System.{source}
 use Rattle.model.specs.Inner.Stored.{Stored}

@@ -4,10 +4,10 @@ use Rattle.std.specs.Prelude.{List, ℕ, ◌-◌, ◌≤◌, ◌<◌}
 use Rattle.std.proofs.Common.{arith}
 use Rattle.lts.specs.Alike.{Rank}
 use Rattle.lts.specs.Checked.{low_round, weak_round}
-use Rattle.lts.specs.CheckedLaws.{low_game, weak_view_game, no_silent_label_of_decided}
+use Rattle.lts.proofs.CheckedLaws.{low_game, weak_view_game, no_silent_label_of_decided}
 use Rattle.lts.specs.Game.{Game}
 use Rattle.lts.specs.Weak.{silent_label, LowStep, WeakMove, NoSilentLabel}
-use Rattle.lts.specs.RankLaws.{rank_le, rank_lt}
+use Rattle.lts.proofs.RankLaws.{rank_le, rank_lt}
 use Rattle.text.specs.Model.{Model}
 use Rattle.model.specs.WellFormed.{WellFormed}
 use Rattle.model.specs.System.{view}

@@ -2,7 +2,7 @@
 -- Document 01, "The model store": "level (0 L, 1 D, 2 H)"; document 02, (vii). Assumes nothing.
 use Rattle.std.specs.Prelude.{List, ◌≡◌, ℕ, ◌+◌, ◌<◌, T, eqb, length, get_or, set}
 use Rattle.std.proofs.Common.{⊎_elim, sym, ap, ◌∙◌, subst, arith, eqb→eq, get_or-set_same, get_or-set_other, eq-eqb}
-use Rattle.lts.specs.TestsLaws.{lt-suc_cases}
+use Rattle.lts.proofs.TestsLaws.{lt-suc_cases}
 use Rattle.text.specs.Model.{low, release, high, silent, Model}
 use Rattle.model.specs.System.{level, view}
 use Rattle.model.specs.Inner.Roles.{Roles}

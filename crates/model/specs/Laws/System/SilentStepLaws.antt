@@ -3,14 +3,14 @@
 -- 002 pairs them. Document 02, (vii); definition 1 of source 002. Assumes nothing.
 use Rattle.std.specs.Prelude.{List, ◌↔◌, ◌≡◌, refl, ℕ, zero, suc, ◌≤◌, ◌<◌}
 use Rattle.std.proofs.Common.{sym, ap, ◌∙◌, subst, arith, eqb→eq}
-use Rattle.lts.specs.TestsLaws.{T-eqb}
+use Rattle.lts.proofs.TestsLaws.{T-eqb}
 use Rattle.lts.specs.Alike.{Rank}
 use Rattle.lts.specs.Checked.{low_round, weak_round}
 use Rattle.lts.specs.Weak.{LowStep, Tick, WeakMove, NoTick}
-use Rattle.lts.specs.WeakLaws.{weak_rank}
+use Rattle.lts.proofs.WeakLaws.{weak_rank}
 use Rattle.lts.specs.Noninterference.{Levelled, low, release, high, LevelledSteps}
 use Rattle.lts.specs.SingleOpenings.{WeakBisimilar}
-use Rattle.lts.specs.SingleOpeningsLaws.{rank_zero↔Weak_bisimilar}
+use Rattle.lts.proofs.SingleOpeningsLaws.{rank_zero↔Weak_bisimilar}
 use Rattle.text.specs.Model.{silent, last_level, Model}
 use Rattle.model.specs.System.{source, action, target, level, SilentStep, ReachableIn, view}
 use Rattle.model.specs.Inner.Stored.{Stored}

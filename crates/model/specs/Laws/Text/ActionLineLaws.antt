@@ -7,7 +7,7 @@ use Rattle.std.proofs.Math.Path.{◌≡◌, refl, ap}
 use native.Mathlib.Omega.{arith}
 use Rattle.std.proofs.Math.Dec.{T}
 use borrow.Author.Tests.{eqb-false}
-use Rattle.lts.specs.TestsLaws.{and_left, and_right, or_cases, not-T→false}
+use Rattle.lts.proofs.TestsLaws.{and_left, and_right, or_cases, not-T→false}
 use Rattle.text.specs.declared.Fault.TheVariants.{Shape, Repeated}
 use Rattle.text.specs.Bytes.{kind_of, between?, digit, small_letter, capital, comma, byte_a, byte_d, byte_h, byte_l, byte_t}
 use Rattle.text.specs.Limits.{name_limit}

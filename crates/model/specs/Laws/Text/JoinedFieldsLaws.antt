@@ -8,7 +8,7 @@ use Rattle.std.proofs.Common.{sym, ap, ◌∙◌, subst, arith}
 use Rattle.std.proofs.Math.Dec.{eqb_refl}
 use Rattle.std.proofs.lemmas.List.{length-map}
 use Rattle.std.proofs.lemmas.Bool.{eqb-false}
-use Rattle.lts.specs.TestsLaws.{T→true, and_left, and_right, and_intro}
+use Rattle.lts.proofs.TestsLaws.{T→true, and_left, and_right, and_intro}
 use Rattle.text.specs.declared.Fault.{Fault}
 use Rattle.text.specs.declared.Fault.TheVariants.{Shape}
 use Rattle.text.specs.declared.number.Bounds.{Bounds}

@@ -5,7 +5,7 @@ use mathlib.Core.List.{List, [], ◌∷◌, ◌++◌, map}
 use Rattle.std.proofs.Common.{sym, ◌∙◌, subst, arith}
 use Rattle.std.proofs.Math.Path.{ap}
 use Rattle.std.proofs.Math.ListN.{length, length-append}
-use Rattle.lts.specs.TestsLaws.{T→true, not-T→false}
+use Rattle.lts.proofs.TestsLaws.{T→true, not-T→false}
 use Rattle.text.specs.Bytes.{byte_e}
 use Rattle.text.specs.declared.Fault.TheVariants.{NoHigh}
 use Rattle.text.specs.declared.Head.{Head}

@@ -3,7 +3,7 @@ use mathlib.Core.Path.{refl}
 use Prim.Native.Nat.{ℕ, ◌-◌, ◌<◌}
 use native.Mathlib.Omega.{arith}
 use borrow.Author.Rules.{rules}
-use Rattle.lts.specs.TestsLaws.{eq_or_not, both_or_not}
+use Rattle.lts.proofs.TestsLaws.{eq_or_not, both_or_not}
 use Rattle.text.specs.Limits.{state_limit}
 use Rattle.sets.specs.Inner.SetValues.{In, LeastOf}
 use Rattle.held.specs.Held.{HeldMove}

@@ -8,7 +8,7 @@ use lib.ListN.{length}
 use borrow.Author.Count.{below_more}
 use Rattle.lts.specs.Alike.{Moves}
 use Rattle.lts.specs.Game.{Separates}
-use Rattle.lts.specs.ClassesLaws.{rounds_lt}
+use Rattle.lts.proofs.ClassesLaws.{rounds_lt}
 use Rattle.text.specs.Limits.{state_limit}
 use Rattle.text.specs.Laws.ListLaws.{get_or-zeros}
 use Rattle.silent.specs.Labelled.{LabelMove}

@@ -4,12 +4,12 @@
 use Rattle.std.specs.Prelude.{◌⊎◌, ◌≡◌, Bool, ℕ, ◌<◌}
 use Rattle.std.proofs.Common.{inl, inr, sym, subst, arith}
 use Rattle.lts.specs.Alike.{Moves, Rank}
-use Rattle.lts.specs.AlikeLaws.{rank_sym, rank_unique}
+use Rattle.lts.proofs.AlikeLaws.{rank_sym, rank_unique}
 use Rattle.lts.specs.Game.{Game}
 use Rattle.lts.specs.Agree.{Agree}
-use Rattle.lts.specs.AgreeLaws.{rank_agree}
+use Rattle.lts.proofs.AgreeLaws.{rank_agree}
 use Rattle.lts.specs.Book.{Entry, Book, Opens, Plays, first_opens, second_opens, LowerRank, OwnEntry, OwnBook}
-use Rattle.lts.specs.OwnBookLaws.{opens_turned, opens_turned_back}
+use Rattle.lts.proofs.OwnBookLaws.{opens_turned, opens_turned_back}
 
 module _ (Idle : ℕ → Type 0) (M N : Moves) (n : ℕ) (A : Agree (λ p. p < n) Idle M N)
     (roundM roundN : (ℕ → ℕ → Bool) → ℕ → ℕ → Bool) (GM : Game M n roundM) (GN : Game N n roundN) where

@@ -2,7 +2,7 @@
 use Rattle.std.specs.Prelude.{◌≡◌, ◌⊎◌, ℕ, zero, suc, ◌≤◌, ◌<◌}
 use Rattle.std.proofs.Math.Path.{sym}
 use Rattle.std.proofs.Common.{◌∙◌, inl, inr, not-suc-le-zero, arith}
-use Rattle.lts.specs.TestsLaws.{eq_or_not, le_of_not_lt}
+use Rattle.lts.proofs.TestsLaws.{eq_or_not, le_of_not_lt}
 
 -- a in the one case, b in the other
 pick : {A : Type 0} → A ⊎ ¬ A → ℕ → ℕ → ℕ

@@ -6,18 +6,18 @@ use Rattle.std.proofs.Math.Bool.{Bool}
 use Prim.Native.Nat.{ℕ, ◌-◌, ◌≤◌, ◌<◌}
 use Rattle.std.proofs.Math.Dec.{T, eqb_refl}
 use Rattle.lts.specs.Tests.{any}
-use Rattle.lts.specs.TestsLaws.{T-eqb, and_intro, and_left, and_right, not-and_cases, or_left, or_right, or_cases}
-use Rattle.lts.specs.TestsLaws.{any→Some, Some→any}
+use Rattle.lts.proofs.TestsLaws.{T-eqb, and_intro, and_left, and_right, not-and_cases, or_left, or_right, or_cases}
+use Rattle.lts.proofs.TestsLaws.{any→Some, Some→any}
 use Rattle.lts.specs.Alike.{Moves, Relation, Answered}
 use Rattle.lts.specs.Game.{Game, Opening, by_first, by_second}
 use Rattle.lts.specs.Run.{Reachable, begin, onward}
 use Rattle.lts.specs.Decided.{Decided, answers?, DecidedView}
-use Rattle.lts.specs.DecidedLaws.{decided_game}
-use Rattle.lts.specs.DistanceLaws.{Reachable→within?, within?→Reachable}
+use Rattle.lts.proofs.DecidedLaws.{decided_game}
+use Rattle.lts.proofs.DistanceLaws.{Reachable→within?, within?→Reachable}
 use Rattle.lts.specs.Weak.{Silent, stay, tick, LowMove, silent_label, Weak, low, silent}
 use Rattle.lts.specs.WeakTests.{DecidedTick, silent_test, silent_view, silent_move?, around?, low_move?, weak?}
 use Rattle.lts.specs.WeakTests.{weak_answers?}
-use Rattle.lts.specs.WeakLaws.{silent_lt, silent_source_lt, silent_trans, silent_one, weak_target_lt}
+use Rattle.lts.proofs.WeakLaws.{silent_lt, silent_source_lt, silent_trans, silent_one, weak_target_lt}
 
 -- ---- silent moves
 

@@ -8,20 +8,20 @@ use Rattle.std.proofs.Math.Path.{refl}
 use Rattle.std.proofs.Common.{sym, subst, inl, inr, true≢false, T_not}
 use mathlib.Core.List.{List, [], ◌∷◌, ◌++◌}
 use Rattle.std.proofs.Math.Bool.{false, not}
-use Rattle.lts.specs.TestsLaws.{T→true, not-T→false}
+use Rattle.lts.proofs.TestsLaws.{T→true, not-T→false}
 use Rattle.lts.specs.Alike.{Bisimilar}
-use Rattle.lts.specs.AlikeLaws.{bisimilar_answer, bisimilar_refl, bisimilar_sym, bisimilar_trans}
+use Rattle.lts.proofs.AlikeLaws.{bisimilar_answer, bisimilar_refl, bisimilar_sym, bisimilar_trans}
 use Rattle.lts.specs.Game.{Game}
 use Rattle.lts.specs.View.{View}
 use Rattle.lts.specs.Run.{Run, Reachable, begin, onward, Deterministic, Bounded}
-use Rattle.lts.specs.RunLaws.{run_snoc, reachable_run, reachable→Run, reachable_lt, run_unique}
+use Rattle.lts.proofs.RunLaws.{run_snoc, reachable_run, reachable→Run, reachable_lt, run_unique}
 use Rattle.lts.specs.Noninterference.{Levelled, low, release, high, LevelledSteps, released?, thin}
 use Rattle.lts.specs.Noninterference.{SameLow, BNID, NID, ThinnedRun, INI, ThinnedBisimilar}
 use Rattle.lts.specs.Weak.{silent_label, LowStep, WeakMove, NoTick, NoSilentLabel}
-use Rattle.lts.specs.WeakLaws.{weak_target_lt, weak_agree}
-use Rattle.lts.specs.ThinLaws.{thin_cons_drop, thin_cons_keep, thin_snoc_high}
-use Rattle.lts.specs.LowLaws.{same_low_sym, same_low_trans, weakly_bisimilar→SameLow}
-use Rattle.lts.specs.LowLaws.{same_low→WeaklyBisimilar}
+use Rattle.lts.proofs.WeakLaws.{weak_target_lt, weak_agree}
+use Rattle.lts.proofs.ThinLaws.{thin_cons_drop, thin_cons_keep, thin_snoc_high}
+use Rattle.lts.proofs.LowLaws.{same_low_sym, same_low_trans, weakly_bisimilar→SameLow}
+use Rattle.lts.proofs.LowLaws.{same_low→WeaklyBisimilar}
 
 -- ---- deterministic models: sequences alone
 

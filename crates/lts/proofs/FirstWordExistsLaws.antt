@@ -5,21 +5,21 @@ use Rattle.std.specs.Prelude.{refl, ◌⊎◌, List, [], ◌∷◌, Bool, not, �
 use Rattle.std.proofs.Common.{inl, inr, arith, T_not}
 use Rattle.std.proofs.Math.Dec.{not_T}
 use Rattle.lts.specs.Tests.{any, Least}
-use Rattle.lts.specs.TestsLaws.{and_intro, and_left, and_right, or_left, or_right, or_cases, any→Some, Some→any}
-use Rattle.lts.specs.TestsLaws.{least_of_passes}
+use Rattle.lts.proofs.TestsLaws.{and_intro, and_left, and_right, or_left, or_right, or_cases, any→Some, Some→any}
+use Rattle.lts.proofs.TestsLaws.{least_of_passes}
 use Rattle.lts.specs.Alike.{Alike, Separated}
-use Rattle.lts.specs.AlikeLaws.{separated_pos}
+use Rattle.lts.proofs.AlikeLaws.{separated_pos}
 use Rattle.lts.specs.Game.{Game, alike?}
-use Rattle.lts.specs.GameLaws.{¬Alike→not_alike?, not_alike?→¬Alike}
+use Rattle.lts.proofs.GameLaws.{¬Alike→not_alike?, not_alike?→¬Alike}
 use Rattle.lts.specs.View.{View}
 use Rattle.lts.specs.Run.{Run, Allows, Reachable, onward, Deterministic}
 use Rattle.lts.specs.Weak.{LowStep}
 use Rattle.lts.specs.Decided.{ViewTest, DecidedView}
 use Rattle.lts.specs.Checked.{low_step?, low_round}
-use Rattle.lts.specs.CheckedLaws.{decided_low, low_game}
+use Rattle.lts.proofs.CheckedLaws.{decided_low, low_game}
 use Rattle.lts.specs.Word.{OnlyFrom, JustOne, FirstWord}
-use Rattle.lts.specs.FirstWordLaws.{first_word_one, first_word_cons, targets_separated}
-use Rattle.lts.specs.FirstWordLaws.{letter_of_separated_one, letter_of_separated}
+use Rattle.lts.proofs.FirstWordLaws.{first_word_one, first_word_cons, targets_separated}
+use Rattle.lts.proofs.FirstWordLaws.{letter_of_separated_one, letter_of_separated}
 
 module _ (v : View) (tests : ViewTest) (D : DecidedView v tests) (det : Deterministic v) where
   abbrev n : ℕ

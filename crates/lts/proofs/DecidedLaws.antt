@@ -6,8 +6,8 @@ use Rattle.std.proofs.Math.Bool.{not}
 use Prim.Native.Nat.{ℕ, ◌<◌}
 use Rattle.std.proofs.Math.Dec.{T, T_not, not_T}
 use Rattle.lts.specs.Tests.{all}
-use Rattle.lts.specs.TestsLaws.{and_intro, and_left, and_right, not-and_cases, implies_elim, not_implies}
-use Rattle.lts.specs.TestsLaws.{all→Each, not_all→Some, any→Some, not_any→Each}
+use Rattle.lts.proofs.TestsLaws.{and_intro, and_left, and_right, not-and_cases, implies_elim, not_implies}
+use Rattle.lts.proofs.TestsLaws.{all→Each, not_all→Some, any→Some, not_any→Each}
 use Rattle.lts.specs.Alike.{Moves, Answered}
 use Rattle.lts.specs.Game.{Game, Opening, by_first, by_second}
 use Rattle.lts.specs.View.{View}

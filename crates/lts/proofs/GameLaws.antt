@@ -4,9 +4,9 @@ use Rattle.std.specs.Prelude.{◌⊎◌, Bool, not, ◌&&◌, ltb}
 use Rattle.std.proofs.Common.{inl, inr, arith, T_not, ltb→lt, lt→ltb}
 use Prim.Native.Nat.{ℕ, zero, suc, ◌≤◌, ◌<◌}
 use Rattle.std.proofs.Math.Dec.{T, not_T}
-use Rattle.lts.specs.TestsLaws.{T_cases, and_intro, and_left, and_right, le_of_not_lt}
+use Rattle.lts.proofs.TestsLaws.{T_cases, and_intro, and_left, and_right, le_of_not_lt}
 use Rattle.lts.specs.Alike.{Moves, Answers, Alike, Bisimulation, Bisimilar, Separated, Rank, bisimilar, separated}
-use Rattle.lts.specs.AlikeLaws.{answers_map, alike_le, answers_below}
+use Rattle.lts.proofs.AlikeLaws.{answers_map, alike_le, answers_below}
 use Rattle.lts.specs.Game.{Opening, by_first, by_second, Game, alike?, Settled, Separates}
 
 -- An opening is not answered.

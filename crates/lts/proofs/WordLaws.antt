@@ -5,18 +5,18 @@ use Rattle.std.proofs.Math.Logic.{inl, inr}
 use Prim.Native.Nat.{ℕ, zero, suc, ◌≤◌, ◌<◌}
 use Rattle.std.proofs.Common.{arith}
 use Rattle.std.proofs.Math.Dec.{T}
-use Rattle.lts.specs.TestsLaws.{T_cases, eq_of_not_lt, le_of_not_lt}
+use Rattle.lts.proofs.TestsLaws.{T_cases, eq_of_not_lt, le_of_not_lt}
 use Rattle.lts.specs.Alike.{Moves, Answers, Separated, Rank, bisimilar, separated}
-use Rattle.lts.specs.AlikeLaws.{separated_of_rank}
+use Rattle.lts.proofs.AlikeLaws.{separated_of_rank}
 use Rattle.lts.specs.Game.{Game, Opening, by_first, by_second, alike?}
-use Rattle.lts.specs.GameLaws.{¬Alike→not_alike?}
-use Rattle.lts.specs.RankLaws.{rank_exists}
+use Rattle.lts.proofs.GameLaws.{¬Alike→not_alike?}
+use Rattle.lts.proofs.RankLaws.{rank_exists}
 use Rattle.lts.specs.View.{View}
 use Rattle.lts.specs.Run.{Run, Allows, Reachable, onward, Deterministic, Bounded}
-use Rattle.lts.specs.RunLaws.{allows_cons, allows_uncons, reachable_lt}
+use Rattle.lts.proofs.RunLaws.{allows_cons, allows_uncons, reachable_lt}
 use Rattle.lts.specs.Noninterference.{Low}
 use Rattle.lts.specs.Weak.{LowStep}
-use Rattle.lts.specs.LowLaws.{alike_allows, bisimilar→SameLow}
+use Rattle.lts.proofs.LowLaws.{alike_allows, bisimilar→SameLow}
 use Rattle.lts.specs.Word.{OnlyFrom, JustOne, Shortest}
 
 -- A low sequence of length at most k that just one of p and q allows.

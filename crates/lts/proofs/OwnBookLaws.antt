@@ -4,14 +4,14 @@ use Rattle.std.specs.Prelude.{◌⊎◌, ◌≡◌, refl, Bool, not}
 use Rattle.std.proofs.Common.{inl, inr, sym, ap, ◌∙◌, subst, arith}
 use Prim.Native.Nat.{ℕ, zero, suc, ◌≤◌, ◌<◌}
 use Rattle.std.proofs.Math.Dec.{T}
-use Rattle.lts.specs.TestsLaws.{lt_or_le, le_of_not_lt}
+use Rattle.lts.proofs.TestsLaws.{lt_or_le, le_of_not_lt}
 use Rattle.lts.specs.Alike.{Moves, Relation, Alike, Rank}
-use Rattle.lts.specs.AlikeLaws.{bisimilar→Alike, separated_of_rank, bisimilar_of_rank, rank_sym}
-use Rattle.lts.specs.AgreeLaws.{rank_same}
+use Rattle.lts.proofs.AlikeLaws.{bisimilar→Alike, separated_of_rank, bisimilar_of_rank, rank_sym}
+use Rattle.lts.proofs.AgreeLaws.{rank_same}
 use Rattle.lts.specs.Game.{Opening, by_first, by_second, Game, alike?}
-use Rattle.lts.specs.GameLaws.{not_alike?→¬Alike, ¬Alike→not_alike?}
-use Rattle.lts.specs.RankLaws.{rank_exists}
-use Rattle.lts.specs.BookLaws.{opens-map, plays-map, plays_side_pos}
+use Rattle.lts.proofs.GameLaws.{not_alike?→¬Alike, ¬Alike→not_alike?}
+use Rattle.lts.proofs.RankLaws.{rank_exists}
+use Rattle.lts.proofs.BookLaws.{opens-map, plays-map, plays_side_pos}
 use Rattle.lts.specs.Book.{Entry, Book, Present, Opens, Plays, first_opens, second_opens, LowerEntry}
 use Rattle.lts.specs.Book.{Sound, LowerRank, FirstPlay, OwnEntry, no_entry, OwnBook}
 

@@ -6,15 +6,15 @@ use mathlib.Core.List.{List, [], ◌∷◌}
 use Prim.Native.Nat.{ℕ, zero, suc, ◌≤◌}
 use Rattle.std.proofs.Common.{not-suc-le-zero, arith}
 use Rattle.lts.specs.Alike.{Relation, Answered, Alike, Bisimulation, Bisimilar}
-use Rattle.lts.specs.AlikeLaws.{alike_sym, bisimilar→Alike, bisimilar→BisimilarBy}
+use Rattle.lts.proofs.AlikeLaws.{alike_sym, bisimilar→Alike, bisimilar→BisimilarBy}
 use Rattle.lts.specs.Game.{Game}
-use Rattle.lts.specs.RankLaws.{bisimilar↔Bisimilar_by}
+use Rattle.lts.proofs.RankLaws.{bisimilar↔Bisimilar_by}
 use Rattle.lts.specs.View.{View}
 use Rattle.lts.specs.Run.{Run, Allows, Reachable, onward, Deterministic, Bounded}
-use Rattle.lts.specs.RunLaws.{allows_cons, allows_uncons, reachable_lt}
+use Rattle.lts.proofs.RunLaws.{allows_cons, allows_uncons, reachable_lt}
 use Rattle.lts.specs.Noninterference.{Low, SameLow}
 use Rattle.lts.specs.Weak.{LowStep, WeakMove, NoTick, NoSilentLabel}
-use Rattle.lts.specs.WeakLaws.{weak_bisimilar_by}
+use Rattle.lts.proofs.WeakLaws.{weak_bisimilar_by}
 
 -- p and q are reachable and allow the same low sequences.
 pub record SameLowReachable (v : View) (p q : ℕ) : Type 0 where

@@ -6,9 +6,9 @@ use Rattle.lts.specs.Alike.{Moves, Relation, Bisimilar, BisimilarBy, Separated, 
 use Rattle.lts.specs.Game.{Game}
 use Rattle.lts.specs.View.{View}
 use Rattle.lts.specs.Run.{Reachable, onward, Bounded}
-use Rattle.lts.specs.RunLaws.{reachable_lt}
+use Rattle.lts.proofs.RunLaws.{reachable_lt}
 use Rattle.lts.specs.Agree.{Agree}
-use Rattle.lts.specs.AgreeLaws.{bisimilar_by_agree, bisimilar_agree, rank_agree, separated_agree}
+use Rattle.lts.proofs.AgreeLaws.{bisimilar_by_agree, bisimilar_agree, rank_agree, separated_agree}
 use Rattle.lts.specs.Weak.{Silent, stay, tick, LowMove, silent_label, Weak, low, silent}
 use Rattle.lts.specs.Weak.{LowStep, Tick, WeakMove, NoTick, NoSilentLabel}
 

@@ -4,7 +4,7 @@ use Rattle.std.specs.Prelude.{◌≡◌, Bool, ◌&&◌, ◌||◌, cond, ℕ, T}
 use Rattle.std.proofs.Math.Path.{refl, ap}
 use mathlib.Core.List.{List, [], ◌∷◌, ◌++◌}
 use Rattle.std.proofs.Math.Bool.{true, false, not, and-false}
-use Rattle.lts.specs.TestsLaws.{T→true, not-T→false}
+use Rattle.lts.proofs.TestsLaws.{T→true, not-T→false}
 use Rattle.lts.specs.View.{Levels}
 use Rattle.lts.specs.Noninterference.{released?, thin}
 

@@ -3,9 +3,9 @@
 -- Document 02, (v). Assumes nothing.
 use Rattle.std.specs.Prelude.{◌⊎◌, ◌≡◌, refl, ℕ, zero, suc, ◌≤◌, ◌<◌, T}
 use Rattle.std.proofs.Common.{inl, inr, ⊎_elim, arith}
-use Rattle.lts.specs.TestsLaws.{eq_or_not}
+use Rattle.lts.proofs.TestsLaws.{eq_or_not}
 use Rattle.lts.specs.Alike.{Moves, Relation, Bisimulation, Bisimilar, Rank}
-use Rattle.lts.specs.AlikeLaws.{bisimilar_of_rank}
+use Rattle.lts.proofs.AlikeLaws.{bisimilar_of_rank}
 use Rattle.lts.specs.Book.{Book, Present, Opens, Plays, first_opens, second_opens, LowerEntry, SoundAt}
 use Rattle.lts.specs.Book.{Sound, FirstPlay}
 

@@ -5,9 +5,9 @@ use Rattle.std.proofs.Common.{subst, inl, inr}
 use Prim.Native.Nat.{ℕ, zero, suc, ◌<◌}
 use Rattle.lts.specs.Alike.{Moves, Relation, Answered, Answers, Alike, Bisimilar, BisimilarBy, Separated, Rank}
 use Rattle.lts.specs.Alike.{bisimilar, separated}
-use Rattle.lts.specs.AlikeLaws.{alike_suc}
+use Rattle.lts.proofs.AlikeLaws.{alike_suc}
 use Rattle.lts.specs.Game.{Game}
-use Rattle.lts.specs.RankLaws.{bisimilar↔Bisimilar_by}
+use Rattle.lts.proofs.RankLaws.{bisimilar↔Bisimilar_by}
 use Rattle.lts.specs.Agree.{Agree}
 
 module _ (C Idle : ℕ → Type 0) (M N : Moves) (A : Agree C Idle M N) where

@@ -3,7 +3,7 @@
 -- Document 01, "Alike" and "Bench models". Assumes nothing.
 use Rattle.std.specs.Prelude.{◌≡◌, refl, ◌⊎◌, [], ◌∷◌, false, ◌&&◌, ◌||◌, ℕ, zero, suc, ◌<◌, T, eqb, ltb}
 use Rattle.std.proofs.Common.{sym, subst, inl, inr, arith, eqb→eq}
-use Rattle.lts.specs.TestsLaws.{and_left, or_cases}
+use Rattle.lts.proofs.TestsLaws.{and_left, or_cases}
 use Rattle.lts.specs.Alike.{Alike, Rank, separated}
 use Rattle.lts.specs.Noninterference.{released?, thin}
 use Rattle.lts.specs.Weak.{LowStep}

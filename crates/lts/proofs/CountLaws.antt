@@ -5,7 +5,7 @@ use Prim.Native.Nat.{ℕ, zero, suc, ◌+◌, ◌≤◌, ◌<◌}
 use native.Mathlib.Omega.{arith}
 use Rattle.std.proofs.Math.Dec.{T}
 use Rattle.lts.specs.Tests.{Each, bit, count, count_pairs}
-use Rattle.lts.specs.TestsLaws.{T_cases, eq_or_not, count_le-count, count_pos}
+use Rattle.lts.proofs.TestsLaws.{T_cases, eq_or_not, count_le-count, count_pos}
 
 bit_none : (b : Bool) → T (not b) → bit b ≡ 0
 bit_none true t = absurd t

@@ -8,20 +8,20 @@ use Rattle.std.proofs.Math.Logic.{inl, inr}
 use Prim.Native.Nat.{ℕ, suc, ◌≤◌, ◌<◌}
 use Rattle.std.proofs.Math.Dec.{T}
 use Rattle.std.proofs.Math.ListN.{length}
-use Rattle.lts.specs.TestsLaws.{lt_or_le, le_of_not_lt}
+use Rattle.lts.proofs.TestsLaws.{lt_or_le, le_of_not_lt}
 use Rattle.lts.specs.Alike.{Alike, Separated}
-use Rattle.lts.specs.AlikeLaws.{alike_le, alike_sym}
+use Rattle.lts.proofs.AlikeLaws.{alike_le, alike_sym}
 use Rattle.lts.specs.Game.{Game, Opening, by_first, by_second, alike?}
-use Rattle.lts.specs.GameLaws.{alike_cases, ¬Alike→not_alike?, not_alike?→¬Alike}
+use Rattle.lts.proofs.GameLaws.{alike_cases, ¬Alike→not_alike?, not_alike?→¬Alike}
 use Rattle.lts.specs.View.{View}
 use Rattle.lts.specs.Run.{Run, Reachable, onward, Deterministic}
-use Rattle.lts.specs.RunLaws.{allows_cons}
+use Rattle.lts.proofs.RunLaws.{allows_cons}
 use Rattle.lts.specs.Noninterference.{Low}
 use Rattle.lts.specs.Weak.{LowStep}
-use Rattle.lts.specs.LowLaws.{alike_allows}
+use Rattle.lts.proofs.LowLaws.{alike_allows}
 use Rattle.lts.specs.Word.{OnlyFrom, JustOne, NotAfter, FirstWord}
-use Rattle.lts.specs.WordLaws.{just_one_cons, just_one_uncons, just_one_not_both, separated-length_le}
-use Rattle.lts.specs.WordLaws.{separated→Shortest}
+use Rattle.lts.proofs.WordLaws.{just_one_cons, just_one_uncons, just_one_not_both, separated-length_le}
+use Rattle.lts.proofs.WordLaws.{separated→Shortest}
 
 -- ---- the order by action numbers
 

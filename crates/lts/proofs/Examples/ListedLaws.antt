@@ -1,7 +1,7 @@
 -- Listed systems are decided, so what the tests compute are facts on the definitions. Assumes nothing.
 use Rattle.std.specs.Prelude.{◌≡◌, true, false, ◌&&◌, ℕ, ◌<◌, T, ltb}
 use Rattle.std.proofs.Common.{arith, ltb→lt}
-use Rattle.lts.specs.TestsLaws.{and_left, and_right}
+use Rattle.lts.proofs.TestsLaws.{and_left, and_right}
 use Rattle.lts.specs.Alike.{Rank}
 use Rattle.lts.specs.Game.{Game}
 use Rattle.lts.specs.View.{Levels}
@@ -10,9 +10,9 @@ use Rattle.lts.specs.Noninterference.{BNID}
 use Rattle.lts.specs.Weak.{LowStep, WeakMove, NoSilentLabel}
 use Rattle.lts.specs.Decided.{DecidedView}
 use Rattle.lts.specs.Checked.{low_round, low_rank, weak_round, weak_rank, bnid?, deterministic?}
-use Rattle.lts.specs.CheckedLaws.{low_game, low_rank→Rank, bnid?→BNID, BNID→bnid?}
-use Rattle.lts.specs.CheckedLaws.{weak_view_game, weak_rank→Rank, no_silent_label_of_decided}
-use Rattle.lts.specs.CheckedLaws.{deterministic?→Deterministic}
+use Rattle.lts.proofs.CheckedLaws.{low_game, low_rank→Rank, bnid?→BNID, BNID→bnid?}
+use Rattle.lts.proofs.CheckedLaws.{weak_view_game, weak_rank→Rank, no_silent_label_of_decided}
+use Rattle.lts.proofs.CheckedLaws.{deterministic?→Deterministic}
 use Rattle.lts.specs.Examples.Listed.{System, has, leads, step?, view, tests}
 
 module _ (M : System) where

@@ -7,7 +7,7 @@ use native.Mathlib.Omega.{arith}
 use Rattle.std.proofs.Math.Decide.{le_ind}
 use Rattle.std.proofs.Math.Dec.{eqb_refl}
 use Rattle.lts.specs.Tests.{any}
-use Rattle.lts.specs.TestsLaws.{and_intro, and_left, and_right, any→Some, Some→any, eq_of_not_lt}
+use Rattle.lts.proofs.TestsLaws.{and_intro, and_left, and_right, any→Some, Some→any, eq_of_not_lt}
 use Rattle.lts.specs.Alike.{Moves, Relation, Answers, Alike, Bisimulation, Bisimilar, BisimilarBy, Separated}
 use Rattle.lts.specs.Alike.{Rank, bisimilar, separated}
 

@@ -3,13 +3,13 @@
 -- Definition 1 of source 002; document 02, (vii). Assumes nothing.
 use Rattle.std.specs.Prelude.{refl, ◌↔◌, Bool, ◌&&◌, ℕ, ◌<◌, T, ltb}
 use Rattle.std.proofs.Common.{arith, ltb→lt, lt→ltb}
-use Rattle.lts.specs.TestsLaws.{and_intro, and_left, and_right}
+use Rattle.lts.proofs.TestsLaws.{and_intro, and_left, and_right}
 use Rattle.lts.specs.Alike.{Moves, Relation, Answered, Answers, Bisimilar, BisimilarBy, Rank, bisimilar}
-use Rattle.lts.specs.AlikeLaws.{bisimilar_of_rank}
+use Rattle.lts.proofs.AlikeLaws.{bisimilar_of_rank}
 use Rattle.lts.specs.Game.{Game}
-use Rattle.lts.specs.RankLaws.{bisimilar↔Bisimilar_by}
+use Rattle.lts.proofs.RankLaws.{bisimilar↔Bisimilar_by}
 use Rattle.lts.specs.Weak.{Silent, stay, tick, LowMove, silent_label, Weak, low, silent}
-use Rattle.lts.specs.WeakLaws.{silent_lt, silent_trans, silent_one, low_move_one, weak_target_lt}
+use Rattle.lts.proofs.WeakLaws.{silent_lt, silent_trans, silent_one, low_move_one, weak_target_lt}
 use Rattle.lts.specs.SingleOpenings.{StepsAnswered, AnswersSteps, WeakBisimilarBy, WeakBisimilar}
 
 module _ (Low : Moves) (Tick : Relation) (n : ℕ) where

@@ -5,26 +5,26 @@ use Rattle.std.specs.Prelude.{◌⊎◌, Bool, not, ◌&&◌, T}
 use Rattle.std.proofs.Common.{inl, inr, arith, T_not}
 use Prim.Native.Nat.{ℕ, zero, suc, ◌-◌, ◌≤◌, ◌<◌}
 use Rattle.lts.specs.Tests.{count}
-use Rattle.lts.specs.TestsLaws.{and_intro, and_left, and_right, eq_of_not_lt}
-use Rattle.lts.specs.CountLaws.{count_le-suc}
+use Rattle.lts.proofs.TestsLaws.{and_intro, and_left, and_right, eq_of_not_lt}
+use Rattle.lts.proofs.CountLaws.{count_le-suc}
 use Rattle.lts.specs.Alike.{Moves, Alike, Rank, bisimilar, separated}
-use Rattle.lts.specs.AlikeLaws.{rank_of_separated}
+use Rattle.lts.proofs.AlikeLaws.{rank_of_separated}
 use Rattle.lts.specs.Game.{Game, Separates, Settled}
-use Rattle.lts.specs.GameLaws.{rank_le_settled}
+use Rattle.lts.proofs.GameLaws.{rank_le_settled}
 use Rattle.lts.specs.Classes.{lowest?, classes}
-use Rattle.lts.specs.ClassesLaws.{lowest?→¬Alike, classes_gt, separates_or_settled}
+use Rattle.lts.proofs.ClassesLaws.{lowest?→¬Alike, classes_gt, separates_or_settled}
 use Rattle.lts.specs.Agree.{Agree}
-use Rattle.lts.specs.AgreeLaws.{separated_agree}
+use Rattle.lts.proofs.AgreeLaws.{separated_agree}
 use Rattle.lts.specs.View.{View}
 use Rattle.lts.specs.Run.{Reachable, onward}
-use Rattle.lts.specs.RunLaws.{reachable_lt}
+use Rattle.lts.proofs.RunLaws.{reachable_lt}
 use Rattle.lts.specs.Weak.{silent_label, LowStep, WeakMove, NoTick}
-use Rattle.lts.specs.WeakLaws.{weak_rank}
+use Rattle.lts.proofs.WeakLaws.{weak_rank}
 use Rattle.lts.specs.Decided.{Decided, answers?, ViewTest, DecidedView, within?}
-use Rattle.lts.specs.DecidedLaws.{decided_game, decided→Bounded}
-use Rattle.lts.specs.DistanceLaws.{Reachable→within?, within?→Reachable}
+use Rattle.lts.proofs.DecidedLaws.{decided_game, decided→Bounded}
+use Rattle.lts.proofs.DistanceLaws.{Reachable→within?, within?→Reachable}
 use Rattle.lts.specs.Checked.{low_step?, low_round, weak_round}
-use Rattle.lts.specs.CheckedLaws.{decided_low, low_game, weak_view_game, no_silent_label_of_decided}
+use Rattle.lts.proofs.CheckedLaws.{decided_low, low_game, weak_view_game, no_silent_label_of_decided}
 
 -- ---- among n states
 

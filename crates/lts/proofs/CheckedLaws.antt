@@ -6,21 +6,21 @@ use Prim.Native.Nat.{ℕ, ◌-◌, ◌≤◌, ◌<◌}
 use Rattle.std.proofs.Common.{arith}
 use Rattle.std.proofs.Math.Dec.{eqb→eq, eqb_refl}
 use Rattle.lts.specs.Tests.{all}
-use Rattle.lts.specs.TestsLaws.{and_intro, and_left, and_right, implies_elim, implies_intro, all→Each, Each→all}
-use Rattle.lts.specs.TestsLaws.{any→Some, Some→any}
+use Rattle.lts.proofs.TestsLaws.{and_intro, and_left, and_right, implies_elim, implies_intro, all→Each, Each→all}
+use Rattle.lts.proofs.TestsLaws.{any→Some, Some→any}
 use Rattle.lts.specs.Alike.{Rank, bisimilar}
-use Rattle.lts.specs.AlikeLaws.{bisimilar_of_rank}
+use Rattle.lts.proofs.AlikeLaws.{bisimilar_of_rank}
 use Rattle.lts.specs.Game.{Game}
-use Rattle.lts.specs.RankLaws.{rank→Rank, Rank→rank}
+use Rattle.lts.proofs.RankLaws.{rank→Rank, Rank→rank}
 use Rattle.lts.specs.View.{View}
 use Rattle.lts.specs.Run.{Reachable, Deterministic}
 use Rattle.lts.specs.Noninterference.{BNID}
 use Rattle.lts.specs.Weak.{silent_label, LowStep, Tick, WeakMove, NoSilentLabel}
 use Rattle.lts.specs.WeakTests.{DecidedTick}
-use Rattle.lts.specs.WeakTestsLaws.{weak_decided, weak_answers_game}
+use Rattle.lts.proofs.WeakTestsLaws.{weak_decided, weak_answers_game}
 use Rattle.lts.specs.Decided.{Decided, ViewTest, DecidedView, within?}
-use Rattle.lts.specs.DecidedLaws.{decided_game, decided_labels}
-use Rattle.lts.specs.DistanceLaws.{Reachable→within?, within?→Reachable}
+use Rattle.lts.proofs.DecidedLaws.{decided_game, decided_labels}
+use Rattle.lts.proofs.DistanceLaws.{Reachable→within?, within?→Reachable}
 use Rattle.lts.specs.Checked.{low_step?, low_round, low_rank, tick?, weak_move?, weak_round, weak_rank}
 use Rattle.lts.specs.Checked.{reachable_step?, harmless?, bnid?, one_target?, deterministic?}
 

@@ -4,13 +4,13 @@ use Rattle.std.specs.Prelude.{◌≡◌, ◌⊎◌, Bool, not, ◌&&◌, ℕ, ze
 use Rattle.std.proofs.Common.{inl, inr, not-suc-le-zero, arith, T_not}
 use Rattle.std.proofs.Math.Dec.{not_T}
 use Rattle.lts.specs.Tests.{any}
-use Rattle.lts.specs.TestsLaws.{T_cases, and_intro, and_left, and_right, lt_or_le, eq_of_not_lt, le_of_not_lt}
-use Rattle.lts.specs.TestsLaws.{all→Each, Each→all, any→Some, not_any→Each, count_le, count_lt-count, count_pos}
-use Rattle.lts.specs.TestsLaws.{least_of_passes}
+use Rattle.lts.proofs.TestsLaws.{T_cases, and_intro, and_left, and_right, lt_or_le, eq_of_not_lt, le_of_not_lt}
+use Rattle.lts.proofs.TestsLaws.{all→Each, Each→all, any→Some, not_any→Each, count_le, count_lt-count, count_pos}
+use Rattle.lts.proofs.TestsLaws.{least_of_passes}
 use Rattle.lts.specs.Alike.{Moves, Alike}
-use Rattle.lts.specs.AlikeLaws.{alike_suc, alike_refl, alike_sym, alike_trans}
+use Rattle.lts.proofs.AlikeLaws.{alike_suc, alike_refl, alike_sym, alike_trans}
 use Rattle.lts.specs.Game.{Game, alike?, Settled, Separates}
-use Rattle.lts.specs.GameLaws.{alike?→Alike, Alike→alike?, ¬Alike→not_alike?, not_alike?→¬Alike}
+use Rattle.lts.proofs.GameLaws.{alike?→Alike, Alike→alike?, ¬Alike→not_alike?, not_alike?→¬Alike}
 use Rattle.lts.specs.Classes.{Class, lowest?, classes}
 
 -- ---- the class of a state

@@ -9,13 +9,13 @@ use Rattle.std.proofs.Math.Bool.{true, false}
 use Prim.Native.Nat.{ℕ, zero, suc, ◌-◌, ◌≤◌, ◌<◌}
 use native.Mathlib.Omega.{arith}
 use Rattle.std.proofs.Math.Dec.{T}
-use Rattle.lts.specs.TestsLaws.{lt-suc_cases}
+use Rattle.lts.proofs.TestsLaws.{lt-suc_cases}
 use Rattle.lts.specs.Alike.{Moves, Alike, Bisimilar, BisimilarBy, Separated, Rank, bisimilar}
-use Rattle.lts.specs.AlikeLaws.{alike_le, bisimulation→Alike, bisimilar→BisimilarBy, rank_of_separated}
-use Rattle.lts.specs.AlikeLaws.{rank_unique}
+use Rattle.lts.proofs.AlikeLaws.{alike_le, bisimulation→Alike, bisimilar→BisimilarBy, rank_of_separated}
+use Rattle.lts.proofs.AlikeLaws.{rank_unique}
 use Rattle.lts.specs.Game.{Game, alike?, next_rank, rank_below, rank}
-use Rattle.lts.specs.GameLaws.{alike?→Alike, Alike→alike?, bisimilar_of_settled, rank_le_settled}
-use Rattle.lts.specs.ClassesLaws.{settled_exists}
+use Rattle.lts.proofs.GameLaws.{alike?→Alike, Alike→alike?, bisimilar_of_settled, rank_le_settled}
+use Rattle.lts.proofs.ClassesLaws.{settled_exists}
 
 module _ (Move : Moves) (n : ℕ) (round : (ℕ → ℕ → Bool) → ℕ → ℕ → Bool) (G : Game Move n round) where
   -- States that are (n-1)-alike are bisimilar.
