@@ -1,4 +1,7 @@
 // Books of plays, over moves given as lists: the book of the moves' ranks, and the test of any book.
+
+#![tactic(auto)]
+
 pub mod book;
 pub mod check;
 pub mod groups;

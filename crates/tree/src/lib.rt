@@ -1,5 +1,8 @@
 // The table of ranks from the splitting tree of a partition: each class but class 0 was divided off another one, its
 // origin, in a round.
+
+#![tactic(auto)]
+
 pub mod filling;
 pub mod rows;
 

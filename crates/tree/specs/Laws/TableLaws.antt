@@ -73,7 +73,7 @@ module _ {n classes : ℕ} {class members origin under when t u w : List ℕ} {a
           F.own c x p l (subst (λ (z : ℕ). Member members z x) d (M.all x k))
           ∙ sym (ap (apart c) d ∙ A.same c l)
       go (inr d) =
-          F.Filled-is c x p l (omega arith) (λ m. d (M.only c x l m).1) ∙ other d (part_entry c x k)
+          F.filled_is c x p l (omega arith) (λ m. d (M.only c x l m).1) ∙ other d (part_entry c x k)
 
   pub row_is_apart : (c : ℕ) → c < classes → (x : ℕ) → x < n → entry_of w c x ≡ apart c (get_or class x 0)
   row_is_apart =
