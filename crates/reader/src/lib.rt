@@ -1,4 +1,7 @@
 // The lines of a text, read into a store.
+
+#![tactic(auto)]
+
 mod actions;
 pub mod answers;
 mod body;
