@@ -1,3 +1,6 @@
 // Reading and writing: Read and Write.
+
+#![tactic(auto)]
+
 pub mod read;
 pub mod write;
