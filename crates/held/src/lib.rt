@@ -1,4 +1,7 @@
 // Moves as sets: for each label and state, the targets of its moves and the sources of the moves to it.
+
+#![tactic(auto)]
+
 pub mod labels;
 pub mod slots;
 
