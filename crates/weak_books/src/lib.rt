@@ -1,5 +1,8 @@
 // Books of plays where steps are silent: the book of the moves' ranks, and the test of any book, by sets or label by
 // label.
+
+#![tactic(auto)]
+
 pub mod book;
 pub mod check;
 pub mod depths;
