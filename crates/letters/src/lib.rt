@@ -1,4 +1,7 @@
 // The letters of the word that shows a leak.
+
+#![tactic(auto)]
+
 mod branch;
 mod letters;
 mod silent_steps;
