@@ -1,4 +1,7 @@
 // Judging: Reach, Rank, Judge, Run, Word, Book and Check.
+
+#![tactic(auto)]
+
 pub mod book;
 pub mod check;
 pub mod judge;
