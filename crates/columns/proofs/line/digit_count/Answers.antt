@@ -1,4 +1,5 @@
 -- The digits are those of n / 10 and one more, down to a number below ten. Assumes nothing.
+-- ---- the number of digits, one by one
 use mathlib.Core.List.{[], ◌∷◌}
 use mathlib.Core.Path.{◌≡◌, ap, ◌∙◌}
 use Prim.Native.Nat.{ℕ, suc, ◌+◌, ◌/◌, ◌%◌, ◌≤◌, ◌<◌}
@@ -8,10 +9,7 @@ use borrow.Author.Rules.{rules}
 use Rattle.text.specs.Bytes.{byte_zero}
 use Rattle.text.specs.Numbers.{digits, digits_up_to}
 use Rattle.text.specs.Laws.DigitsLaws.{digits_up_to_lt, digits_up_to_le}
-use Rattle.columns.proofs.line.digit_count.Statement.{statement}
-use Rattle.columns.proofs.line.digit_count.Tie as tie
-
--- ---- the number of digits, one by one
+use Rattle.columns.proofs.line.digit_count.Goals as goal
 
 length_lt : (k n : ℕ) → n < 10 → length (digits_up_to (suc k) n) ≡ 1
 length_lt k n l = ap length (digits_up_to_lt k n l)
@@ -22,28 +20,23 @@ length_le k n d l e =
     ∙ length-append (digits_up_to k (n / 10)) ((byte_zero + n % 10) ∷ [])
     ∙ ap (λ (x : ℕ). x + 1) e
 
--- ---- the function
-
-returns : tie.Need-returns
+pub returns-then-n-lt10 : goal.returns-then-n-lt10
 unfolding digits
-returns c =
-    let e = length_lt 4 c.before.args.n (search rules) in
+returns-then-n-lt10 c =
+    let e = length_lt 4 c.args.n (search rules) in
     omega (arith, e)
 
-returns_2 : tie.Need-returns-2
+pub returns-then-n-lt100 : goal.returns-then-n-lt100
 unfolding digits
-returns_2 c =
-    let n = c.before.before.args.n in
+returns-then-n-lt100 c =
+    let n = c.args.n in
     let e = length_le 4 n 1 (search rules) (length_lt 3 (n / 10) (omega arith)) in
     omega (arith, e)
 
-returns-3 : tie.Need-returns-3
+pub returns : goal.returns
 unfolding digits
-returns-3 c =
-    let n = c.before.before.args.n in
+returns c =
+    let n = c.args.n in
     let two = length_le 3 (n / 10) 1 (omega arith) (length_lt 2 (n / 10 / 10) (omega arith)) in
     let e = length_le 4 n 2 (omega arith) two in
     omega (arith, e)
-
-pub digit-count_spec : {M : Type 1} → statement M
-digit-count_spec = tie.close (tie.spec returns returns_2 returns-3)
