@@ -1,2 +1,5 @@
 // From a text to what is told of it.
+
+#![tactic(auto)]
+
 pub mod tell;
