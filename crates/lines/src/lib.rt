@@ -1,4 +1,7 @@
 // The lines of a page.
+
+#![tactic(auto)]
+
 mod class;
 mod leak;
 pub mod lines;
