@@ -35,7 +35,7 @@ FNR == 1 {
     if (kind == "spec") {
         here = FILENAME
         sub(/^crates\//, "", here)
-        sub(/\/specs\//, "/", here)
+        sub(/\/(specs|proofs)\//, "/", here)
         sub(/\.antt$/, "", here)
         spec[here] = 1
     }
@@ -170,8 +170,8 @@ function cited_at(line, name, place) {
         if (!((place, "test " name) in stands))
             miss(line, "`" name "` is no test of " place ": " now("test " name, place))
     } else if (!(place in spec))
-        miss(line, "there is no crates/" substr(place, 1, index(place, "/")) "specs" substr(place, index(place, "/")) \
-            ".antt, for `" name "`: " now(name))
+        miss(line, "there is no " substr(place, index(place, "/") + 1) ".antt in the specs or proofs of " \
+            substr(place, 1, index(place, "/") - 1) ", for `" name "`: " now(name))
     else if (!((place, name) in stands)) miss(line, "`" name "` is not in " place ": " now(name, place))
 }
 # Names that tell their place themselves, and names that tell none.
@@ -179,7 +179,7 @@ function cited_alone(line, name, first) {
     if (name ~ /[ ,*&<>()"]/) return
     first = name
     sub(/(\/|::).*$/, "", first)
-    if (name ~ /(\/|::)[A-Z]+(\/|\.|::)/) return
+    if (name ~ /(\/|::)[A-Z]+(\/|\.|::)/ || name ~ /\/out\//) return
     if (name ~ /::/) {
         cited++
         if (!(first in crate)) miss(line, "`" name "`: there is no crate " first ": " code_now(name))
@@ -196,12 +196,12 @@ function cited_alone(line, name, first) {
         cited++
         sub(/\/$/, "", name)
         if ((first in path) && !(name in path)) miss(line, "there is no file or folder `" name "`")
-    } else if (name ~ /^[A-Za-z]+_[A-Za-z_0-9]+$/) {
+    } else if (name ~ /^[A-Za-z]+_[A-Za-z_0-9?]+$/) {
         cited++
-        if (!(name in code) && !(name in crate) && !(name in edits) && !(("test " name) in places))
-            miss(line, "`" name "` is the name of no function, constant, crate, edit or test")
-    } else if (name ~ /^[A-Za-z?]+[.→↔¬-]/ || name ~ /^[A-Za-z]+[a-z][A-Z]/) {
-        if (name ~ /\.(txt|md|rs|rt|antt|edit|sh|c|h|page|log)$/) return
+        if (!(name in code) && !(name in crate) && !(name in edits) && !(("test " name) in places) && !(name in places))
+            miss(line, "`" name "` is the name of no definition, function, constant, crate, edit or test")
+    } else if (name ~ /^[A-Za-z_?]+[.→↔¬-]/ || name ~ /^[A-Za-z]+[a-z][A-Z]/) {
+        if (name ~ /\.(txt|md|rs|rt|antt|edit|sh|a|c|h|page|log)$/) return
         cited++
         if (!(name in places) && !(name in code)) miss(line, "`" name "`: " now(name))
     }

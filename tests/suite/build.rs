@@ -4,12 +4,12 @@ use std::env;
 use std::path::{Path, PathBuf};
 
 fn main() {
-    let made = || Path::new(env!("CARGO_MANIFEST_DIR")).join("../../target/staticlib");
+    let made = || Path::new(env!("CARGO_MANIFEST_DIR")).join("../../crates/till_c/out");
     let folder = env::var_os("TILL_ARCHIVE").map_or_else(made, PathBuf::from);
     let archive = folder.join("libtill_c.a");
     assert!(
         archive.is_file(),
-        "no {}: `rt staticlib till_c` makes it",
+        "no {}: `rt lib` in crates/till_c makes it",
         archive.display()
     );
     println!("cargo:rustc-link-search=native={}", folder.display());

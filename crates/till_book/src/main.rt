@@ -5,10 +5,15 @@ ghost use Rattle.text.specs.Limits.{text_limit, book_length};
 ghost use Rattle.till_book.specs.PrintsBook.{PrintsBook};
 
 use judge::book::book_good;
-use libc::{STDIN_FILENO, STDOUT_FILENO};
 use page::print::fault_line;
 use read_write::read::ReadAnswer;
 use text::limits::{BOOK_LENGTH, INPUT_LENGTH, STORE_LENGTH, TABLE_LENGTH};
+
+// The file number of standard input.
+const STDIN: i32 = 0;
+
+// The file number of standard output.
+const STDOUT: i32 = 1;
 
 // Puts what is printed of the first n bytes of the input at the front of `out`, and answers how many bytes that is. The
 // caller owes an input list that holds a byte more than the longest text, and room for a book.
@@ -37,7 +42,7 @@ fn book_of_input(input: &[u8], n: usize, out: &mut [u8]) -> usize
 fn main() {
     let mut input = [0u8; INPUT_LENGTH];
     let mut out = [0u8; BOOK_LENGTH];
-    let n = io::read_full(STDIN_FILENO, &mut input);
+    let n = io::read_full(STDIN, &mut input);
     let length = book_of_input(&input, n, &mut out);
-    io::write_all(STDOUT_FILENO, &out[..length]);
+    io::write_all(STDOUT, &out[..length]);
 }

@@ -9,10 +9,15 @@ ghost use Rattle.till_check.specs.Inner.Found.{PlaceFits, FoundTold};
 
 use books::check::Checked;
 use judge::check::check_good;
-use libc::{STDIN_FILENO, STDOUT_FILENO};
 use page::print::{fault_line, refusal_line};
 use read_write::read::ReadAnswer;
 use text::limits::{BOOK_LENGTH, INPUT_LENGTH, PAGE_LENGTH, STORE_LENGTH};
+
+// The file number of standard input.
+const STDIN: i32 = 0;
+
+// The file number of standard output.
+const STDOUT: i32 = 1;
 
 // Puts the line of a bad entry at the front of `out`, or nothing, and answers how many bytes that is.
 fn found_line(found: Checked, out: &mut [u8]) -> usize
@@ -58,8 +63,8 @@ fn main() {
     let mut book = [0u8; BOOK_LENGTH];
     let mut input = [0u8; INPUT_LENGTH];
     let mut out = [0u8; PAGE_LENGTH];
-    io::read_full(STDIN_FILENO, &mut book);
-    let n = io::read_full(STDIN_FILENO, &mut input);
+    io::read_full(STDIN, &mut book);
+    let n = io::read_full(STDIN, &mut input);
     let length = check_of_input(&book, &input, n, &mut out);
-    io::write_all(STDOUT_FILENO, &out[..length]);
+    io::write_all(STDOUT, &out[..length]);
 }

@@ -5,9 +5,14 @@ ghost use Rattle.text.specs.Limits.{text_limit, roll_length};
 ghost use Rattle.lines.specs.declared.lines.Form.TheVariants.{Roll};
 ghost use Rattle.page.specs.Prints.{Prints};
 
-use libc::{STDIN_FILENO, STDOUT_FILENO};
 use lines::lines::Form;
 use text::limits::{INPUT_LENGTH, ROLL_LENGTH};
+
+// The file number of standard input.
+const STDIN: i32 = 0;
+
+// The file number of standard output.
+const STDOUT: i32 = 1;
 
 // Puts what is printed of the first n bytes of the input at the front of `out`, and answers how many bytes that is. The
 // caller owes an input list that holds a byte more than the longest text, and room for any roll.
@@ -23,7 +28,7 @@ fn roll_of_input(input: &[u8], n: usize, out: &mut [u8]) -> usize
 fn main() {
     let mut input = [0u8; INPUT_LENGTH];
     let mut out = [0u8; ROLL_LENGTH];
-    let n = io::read_full(STDIN_FILENO, &mut input);
+    let n = io::read_full(STDIN, &mut input);
     let length = roll_of_input(&input, n, &mut out);
-    io::write_all(STDOUT_FILENO, &out[..length]);
+    io::write_all(STDOUT, &out[..length]);
 }

@@ -58,26 +58,30 @@ pub fn own_book(name: &str) -> Vec<u8> {
 
 /// Stands in for the kit: each program that it makes passes each text, and tells the source's number as the rank; each
 /// byte of its book is this number, and it accepts every book. It notes the name of each program, and as the kit does it
-/// links none whose stamp is that of the source.
+/// links none that is there with the source's stamp.
 pub const KIT: &str = r#"#!/bin/sh
 kit=$(dirname "$0")
 case $1 in
 version) cat "$kit/version" ;;
-check)
-    echo "$2" >>"$kit/makings"
+run)
+    name=$(basename "$PWD")
+    cd ../..
+    program=crates/$name/out/$name
+    echo "$name" >>"$kit/makings"
     rank=$(cat crates/a/src/lib.rt)
     while [ -f "$kit/hold" ]; do sleep 0.01; done
     [ ! -f "$kit/broken" ] || { echo "rt: FAILED: a" && exit 1; }
-    [ "$rank" != "$(cat "target/stamp/$2" 2>/dev/null)" ] || exit 0
-    case $2 in
+    [ ! -f "$program" ] || [ "$rank" != "$(cat "$program.stamp")" ] || exit 0
+    case $name in
     till) prints="printf '%s\n' V,pass,$rank E" ;;
     till_roll) prints="printf '%-42s\n' V,pass,$rank E" ;;
     till_book) prints="head -c 65536 /dev/zero | tr '\0' $rank" ;;
     till_check) prints=: ;;
     esac
-    printf '#!/bin/sh\ncat >/dev/null\n%s\n' "$prints" >"target/bin/$2"
-    chmod +x "target/bin/$2"
-    mkdir -p target/stamp && echo "$rank" >"target/stamp/$2"
+    mkdir -p "crates/$name/out"
+    printf '#!/bin/sh\ncat >/dev/null\n%s\n' "$prints" >"$program"
+    chmod +x "$program"
+    echo "$rank" >"$program.stamp"
     [ ! -f "$kit/edit" ] || mv "$kit/edit" crates/a/src/lib.rt
     ;;
 esac
@@ -89,9 +93,11 @@ pub struct Checkout(Folder);
 impl Checkout {
     pub fn new(name: &str) -> Checkout {
         let checkout = Checkout(Folder::new(name));
-        for folder in ["crates/a/src", "kit"] {
-            fs::create_dir_all(checkout.file(folder)).expect("a folder");
+        for name in ["a/src", "till", "till_roll", "till_book", "till_check"] {
+            let folder = checkout.file("crates").join(name);
+            fs::create_dir_all(folder).expect("a folder");
         }
+        fs::create_dir(checkout.file("kit")).expect("a folder");
         fs::copy(root().join("till"), checkout.file("till")).expect("a copy");
         let files = [
             ("crates.txt", "a:\n"),

@@ -164,7 +164,7 @@ fn a_program_that_fails() {
             "program",
             &format!("#!/bin/sh\ncat >/dev/null\n{program}\n"),
         );
-        let kit = KIT.replace("    chmod", "    cp program \"target/bin/$2\"\n    chmod");
+        let kit = KIT.replace("    chmod", "    cp program \"$program\"\n    chmod");
         checkout.write("kit/rt", &kit);
         checkout.write("crates/a/src/lib.rt", program);
         let output = checkout.run_with(options);

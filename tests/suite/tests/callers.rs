@@ -15,7 +15,7 @@ use suite::operations::ALL;
 fn folder(name: &str) -> Folder {
     let folder = Folder::new(name);
     fs::create_dir_all(folder.0.join("target")).expect("a folder");
-    for part in ["crates", "examples", "target/staticlib"] {
+    for part in ["crates", "examples"] {
         let part_of_root = root().join(part).canonicalize().expect("a folder");
         symlink(part_of_root, folder.0.join(part)).expect("a link");
     }
@@ -132,7 +132,7 @@ fn the_caller_in_cpp() {
     let line = "c++ -x c++ examples/judge.c -I crates/till_c -std=c++11 -Wall -Wextra -Werror -c -o target/judge.o";
     make(line, &folder.0);
     make(
-        "c++ target/judge.o target/staticlib/libtill_c.a -o target/judge",
+        "c++ target/judge.o crates/till_c/out/libtill_c.a -o target/judge",
         &folder.0,
     );
     let worked = root().join("examples/worked.txt");
@@ -166,7 +166,7 @@ fn program(name: &str, calls: &str) -> Folder {
     let file = root().join("tests/suite/tests").join(&program);
     fs::copy(file, folder.0.join(&program)).expect("a copy");
     let options = "-I crates/till_c -std=c11 -Wall -Wextra -Werror";
-    let archive = "target/staticlib/libtill_c.a";
+    let archive = "crates/till_c/out/libtill_c.a";
     make(&format!("cc {program} {archive} {options}"), &folder.0);
     folder
 }
@@ -224,7 +224,7 @@ fn read_only_kilobytes() -> usize {
 /// constants, and the stack.
 #[test]
 fn the_needs() {
-    let symbols = output("nm target/staticlib/libtill_c.a", &root());
+    let symbols = output("nm crates/till_c/out/libtill_c.a", &root());
     let symbols = String::from_utf8(symbols.stdout).expect("symbols");
     let of_kind = |kinds: &str| -> Vec<&str> {
         let lines = symbols.lines().map(|line| line.split_whitespace().rev());
@@ -234,7 +234,7 @@ fn the_needs() {
     };
     assert_eq!(of_kind("U"), ["memcpy", "memset"]);
     assert_eq!(of_kind("BbCDdGgSsVvWw"), [""; 0]);
-    let sizes = output("size target/staticlib/libtill_c.a", &root());
+    let sizes = output("size crates/till_c/out/libtill_c.a", &root());
     let sizes = String::from_utf8(sizes.stdout).expect("sizes");
     let sizes = sizes.lines().skip(1).flat_map(str::split_whitespace);
     let sizes: Vec<usize> = sizes.map_while(|size| size.parse().ok()).collect();

@@ -363,7 +363,9 @@ fn without_the_kit() {
 #[test]
 fn tests_without_the_archive() {
     let checkout = Checkout::new("tests_without_the_archive");
-    fs::create_dir(checkout.file("tests")).expect("a folder");
+    for folder in ["tests", "crates/till_c"] {
+        fs::create_dir(checkout.file(folder)).expect("a folder");
+    }
     fs::copy(root().join("tests/run"), checkout.file("tests/run")).expect("a copy");
     checkout.write_executable(
         "kit/rt",
@@ -406,7 +408,7 @@ fn a_program_that_fails() {
     for (options, program, why) in programs {
         let made = format!("#!/bin/sh\ncat >/dev/null\n{program}\n");
         checkout.write("program", &made);
-        let kit = KIT.replace("    chmod", "    cp program \"target/bin/$2\"\n    chmod");
+        let kit = KIT.replace("    chmod", "    cp program \"$program\"\n    chmod");
         checkout.write("kit/rt", &kit);
         checkout.write("crates/a/src/lib.rt", program);
         let output = checkout.run_with(options);
