@@ -49,6 +49,7 @@ record StateRow (row : List ℕ) : Type 0 where
   begins : BeginsWithoutCapital row
 
 begins-append : (a b : List ℕ) → BeginsWithoutCapital a → BeginsWithoutCapital (a ++ b)
+begins-append [] b p = elim p [ ]
 begins-append (x ∷ a) b p = p
 
 row-append : {row : List ℕ} (more : List ℕ) → StateRow row → OneLine more → StateRow (row ++ more)
