@@ -1,4 +1,7 @@
 // Standard input to standard output: the page of a text, or the line that says why it is not read.
+
+#![tactic(auto)]
+
 ghost use Rattle.std.specs.Prelude.{◌≤◌, ◌<◌, length, take};
 ghost use Rattle.io.specs.Counts.{IsPrefixLen};
 ghost use Rattle.text.specs.Limits.{text_limit, page_length};

@@ -1,4 +1,7 @@
 // Standard input to standard output: the book of a text's model, or the line that says why the text is not read.
+
+#![tactic(auto)]
+
 ghost use Rattle.std.specs.Prelude.{◌≤◌, ◌<◌, length, take};
 ghost use Rattle.io.specs.Counts.{IsPrefixLen};
 ghost use Rattle.text.specs.Limits.{text_limit, book_length};

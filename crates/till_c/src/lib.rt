@@ -1,5 +1,8 @@
 // The operations for callers in C and Rust. Each has the promise of the operation that it calls, of what its answer
 // tells; the rest of the answer is 0.
+
+#![tactic(auto)]
+
 pub mod answer;
 
 ghost use Rattle.read_write.specs.ReadPromise.{ReadPromise};

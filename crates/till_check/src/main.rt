@@ -1,5 +1,8 @@
 // Standard input to standard output: a book and then a text. Nothing is printed of a sound book, else the line of its
 // first bad entry, or the line that says why the text is not read.
+
+#![tactic(auto)]
+
 ghost use Rattle.std.specs.Prelude.{◌≤◌, ◌<◌, length, take};
 ghost use Rattle.io.specs.Counts.{IsPrefixLen};
 ghost use Rattle.text.specs.Limits.{text_limit, page_length, book_length};
