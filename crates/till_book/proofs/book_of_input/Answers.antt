@@ -20,11 +20,10 @@ book_good-requires c =
     }
 
 pub fault_line-line-requires : goal.fault_line-line-requires
-fault_line-line-requires c =
-    (
-      refuses_of c.read-read.ensures.read_promise (omega arith) c.in_default.not-Done,
-      omega (arith, c.requires.book_length_in_bounds),
-    )
+fault_line-line-requires c = (
+  refuses_of c.read-read.ensures.read_promise (omega arith) c.in_default.not-Done,
+  omega (arith, c.requires.book_length_in_bounds),
+)
 
 pub returns-in-Done : goal.returns-in-Done
 returns-in-Done c =

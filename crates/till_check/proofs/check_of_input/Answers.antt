@@ -22,11 +22,10 @@ found_line-requires c =
     (place_fits-checked c.check_good-found.ensures, c.requires.page_length_in_bounds)
 
 pub fault_line-line-requires : goal.fault_line-line-requires
-fault_line-line-requires c =
-    (
-      refuses_of c.read-read.ensures.read_promise (omega arith) c.in_default.not-Done,
-      c.requires.page_length_in_bounds,
-    )
+fault_line-line-requires c = (
+  refuses_of c.read-read.ensures.read_promise (omega arith) c.in_default.not-Done,
+  c.requires.page_length_in_bounds,
+)
 
 pub returns-in-Done : goal.returns-in-Done
 returns-in-Done c =

@@ -8,10 +8,10 @@ use Rattle.by_state.specs.Laws.MoveListLaws.{place_lt_last}
 use Rattle.books.proofs.openings.first_opening.Goals as goal
 
 pub moves_to-to-requires : goal.moves_to-to-requires
-moves_to-to-requires c =     omega (arith, c.requires.p_lt_n.0, c.requires.move_list.states_le)
+moves_to-to-requires c = omega (arith, c.requires.p_lt_n.0, c.requires.move_list.states_le)
 
 pub moves_from-i-requires : goal.moves_from-i-requires
-moves_from-i-requires c =     omega (arith, c.requires.p_lt_n.0, c.requires.move_list.states_le)
+moves_from-i-requires c = omega (arith, c.requires.p_lt_n.0, c.requires.move_list.states_le)
 
 pub loop-i-init : goal.loop-i-init
 loop-i-init c =
@@ -48,10 +48,10 @@ answers_lower_ranks-requires c =
     let l = place_lt_last L lp k in record {
       groups = c.requires.index_of.groups_are;
       q_lt_state_limit = (
-          omega (arith, c.requires.p_lt_n.1, L.states_le),
-          L.action_lt i l,
-          omega (arith, L.target_lt i l, L.states_le),
-        );
+        omega (arith, c.requires.p_lt_n.1, L.states_le),
+        L.action_lt i l,
+        omega (arith, L.target_lt i l, L.states_le),
+      );
       table_length_in_bounds = c.requires.p_lt_n.2;
     }
 

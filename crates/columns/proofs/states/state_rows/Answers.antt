@@ -71,8 +71,8 @@ step_name-row-requires c =
       roles_of = L.roles_of;
       step_from = record { from_le = inv.0; number_lt = own.0; begins = begins_at (sym own.1) b };
       name_room = λ x.
-              let split = low_names_split c.requires.writable L l c.loop-j.j inv.0 k x in
-              filling_room (filling_at (goal.at.step_name-row-requires c).At-loop-j) _ split.0 split.1 c.requires.class_in_bounds;
+          let split = low_names_split c.requires.writable L l c.loop-j.j inv.0 k x in
+          filling_room (filling_at (goal.at.step_name-row-requires c).At-loop-j) _ split.0 split.1 c.requires.class_in_bounds;
     }
 
 pub overflow_add-j : goal.overflow_add-j

@@ -29,9 +29,9 @@ fill_table-top-requires c =
     record {
       stored = c.requires.stored;
       roles_of = record {
-          roles_length = omega (arith, c.roles.auto, c.requires.roles_length);
-          roles_are = c.roles.ensures;
-        };
+        roles_length = omega (arith, c.roles.auto, c.requires.roles_length);
+        roles_are = c.roles.ensures;
+      };
       table_length_in_bounds = c.requires.table_length_is;
     }
 

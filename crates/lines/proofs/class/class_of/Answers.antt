@@ -21,11 +21,10 @@ returns-then-rank_at-eq0 c =
     record { le = inv.0; zero = sym c.rank_at.ensures ∙ c.if-rank_at-eq0.true; lowest = inv.1 }
 
 pub loop-q-preserved : goal.loop-q-preserved
-loop-q-preserved c =
-    (
-      omega (arith, c.loop-q-test.true),
-      below_more _ _ c.loop-q.invariant.1 (λ e. c.if-rank_at-eq0.false (c.rank_at.ensures ∙ e)),
-    )
+loop-q-preserved c = (
+  omega (arith, c.loop-q-test.true),
+  below_more _ _ c.loop-q.invariant.1 (λ e. c.if-rank_at-eq0.false (c.rank_at.ensures ∙ e)),
+)
 
 pub returns : goal.returns
 returns c =

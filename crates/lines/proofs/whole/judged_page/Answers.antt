@@ -90,11 +90,11 @@ state_lines-states-requires c =
     let lists = showable.lists in record {
       writable = writable (goal.at.state_lines-states-requires c).Start;
       step_lists = record {
-          stored = lists.stored;
-          index_length_is = showable.index_length_is;
-          index = showable.index;
-          roles_of = lists.roles_of;
-        };
+        stored = lists.stored;
+        index_length_is = showable.index_length_is;
+        index = showable.index;
+        roles_of = lists.roles_of;
+      };
       model_lists = lists;
       store_in_bounds = omega (arith, states_room_left (goal.at.state_lines-states-requires c).After-line_end-verdict (start_room (goal.at.state_lines-states-requires c).Start));
     }
@@ -103,21 +103,24 @@ pub leak_lines-leak-requires : goal.leak_lines-leak-requires
 leak_lines-leak-requires c =
     record {
       judged_lists = c.requires.judged_lists;
-      v_in_bounds = omega (arith, leak_room_left (goal.at.leak_lines-leak-requires c).After-state_lines-states
-        (states_room_left (goal.at.leak_lines-leak-requires c).After-line_end-verdict (start_room (goal.at.leak_lines-leak-requires c).Start)));
+      v_in_bounds = omega (
+        arith,
+        leak_room_left (goal.at.leak_lines-leak-requires c).After-state_lines-states
+            (states_room_left (goal.at.leak_lines-leak-requires c).After-line_end-verdict (start_room (goal.at.leak_lines-leak-requires c).Start)),
+      );
     }
 
 pub last_text-requires : goal.last_text-requires
 last_text-requires c =
     text_room last_fits c.args.form c.leak_lines-leak.result.at.at (last_room_left (goal.at.last_text-requires c).After-leak_lines-leak
     (leak_room_left (goal.at.last_text-requires c).After-state_lines-states
-        (states_room_left (goal.at.last_text-requires c).After-line_end-verdict (start_room (goal.at.last_text-requires c).Start))))
+    (states_room_left (goal.at.last_text-requires c).After-line_end-verdict (start_room (goal.at.last_text-requires c).Start))))
 
 pub line_end-requires : goal.line_end-requires
 line_end-requires c =
     end_room last_fits c.args.form (last_room_left (goal.at.line_end-requires c).After-leak_lines-leak
     (leak_room_left (goal.at.line_end-requires c).After-state_lines-states
-        (states_room_left (goal.at.line_end-requires c).After-line_end-verdict (start_room (goal.at.line_end-requires c).Start)))) c.last_text.ensures
+    (states_room_left (goal.at.line_end-requires c).After-line_end-verdict (start_room (goal.at.line_end-requires c).Start)))) c.last_text.ensures
 
 pub shape_of-out : goal.shape_of-out
 shape_of-out c =

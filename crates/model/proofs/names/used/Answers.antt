@@ -19,14 +19,13 @@ returns-then-named c before s n =
     ∙ used?_drop _ before s c.loop-i.i h _ true (λ a t. rw (← c.if-named.true) (c.named.ensures a t)))
 
 pub loop-i-preserved : goal.loop-i-preserved
-loop-i-preserved c =
-    (
-      search rules,
-      λ before s n.
-          let h : c.loop-i.i < length before = omega (arith, n) in
-          c.loop-i.invariant.1 before s n
-          ∙ used?_drop _ before s c.loop-i.i h _ false (λ a t. rw (← c.if-named.false) (c.named.ensures a t)),
-    )
+loop-i-preserved c = (
+  search rules,
+  λ before s n.
+      let h : c.loop-i.i < length before = omega (arith, n) in
+      c.loop-i.invariant.1 before s n
+      ∙ used?_drop _ before s c.loop-i.i h _ false (λ a t. rw (← c.if-named.false) (c.named.ensures a t)),
+)
 
 pub returns : goal.returns
 returns c before s n =

@@ -26,9 +26,9 @@ link_step-requires c =
       roles_of = c.requires.roles_of;
       labels_length_in_bounds = (omega (arith, inv.1, c.requires.labels_length_in_bounds.0), omega (arith, inv.2, c.requires.labels_length_in_bounds.1));
       j_in_bounds = (
-            omega (arith, t, inv.0),
-            subst (λ (k : ℕ). Linked (model_at c.args.store.now) k c.loop-j.heads c.loop-j.nexts) e inv.3,
-          );
+        omega (arith, t, inv.0),
+        subst (λ (k : ℕ). Linked (model_at c.args.store.now) k c.loop-j.heads c.loop-j.nexts) e inv.3,
+      );
     }
 
 pub loop-j-preserved : goal.loop-j-preserved

@@ -64,8 +64,7 @@ loop-j-preserved c =
     let l : c.loop-j.j < length (model_at c.args.store.now).steps = omega (arith, inv.0, t) in
     let h = inv.4 t in
     let f = c.requires.labels_length_in_bounds.2.next _ _ (omega arith) l h in
-    let room = placed_to_lt h l inv.6 c.requires.stored in
-    (
+    let room = placed_to_lt h l inv.6 c.requires.stored in (
       inv.0,
       omega (arith, inv.0, f.number_le),
       c.put_ends.auto.sources ∙ inv.2,

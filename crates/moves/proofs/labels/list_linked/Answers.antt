@@ -9,15 +9,14 @@ use Rattle.moves.specs.Laws.LabelsLaws.{labels_of_of_listed_to}
 use Rattle.moves.proofs.labels.list_linked.Goals as goal
 
 pub loop-label-init : goal.loop-label-init
-loop-label-init c =
-    (
-      omega arith,
-      refl,
-      refl,
-      refl,
-      listed_to-zero c.args.from.now (omega (arith, c.requires.labels_length_in_bounds_2.0)),
-      placed_to-zero,
-    )
+loop-label-init c = (
+  omega arith,
+  refl,
+  refl,
+  refl,
+  listed_to-zero c.args.from.now (omega (arith, c.requires.labels_length_in_bounds_2.0)),
+  placed_to-zero,
+)
 
 pub list_label-at-requires : goal.list_label-at-requires
 list_label-at-requires c =

@@ -74,5 +74,5 @@ returns c =
     let inv = c.loop-p.invariant in
     let end = (c.requires.index_length_in_bounds.1.at c.loop-p.p (omega (arith, inv.0, inv.1))).from_le in
     let both = lists_of_listed_to c.requires.stored (omega (arith, inv.0, inv.1, c.loop-p-test.false))
-        (omega (arith, inv.2, end, c.requires.stored.steps_le)) inv.6 inv.7 in
+    (omega (arith, inv.2, end, c.requires.stored.steps_le)) inv.6 inv.7 in
     record { lists = both.0; ordered = both.1 }

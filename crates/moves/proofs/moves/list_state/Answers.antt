@@ -31,8 +31,7 @@ loop-j-preserved c =
     let inv = c.loop-j.invariant in
     let index = c.requires.index_length_in_bounds.1 in
     let p = c.args.p.0 in
-    let l = c.requires.p_bound.0 in
-    (
+    let l = c.requires.p_bound.0 in (
       inv.0,
       omega (arith, inv.1),
       omega (arith, c.loop-j-test.true),

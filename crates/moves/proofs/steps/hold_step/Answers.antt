@@ -30,7 +30,7 @@ low_at : (c : After-target-q)
 low_at c =
     let l = c.requires.j_in_bounds.0 in
     let e : c.action-a.result.0 ≡ action (model_at c.args.store.now) c.args.j.0 =
-        ap (λ (x : Action). x.0) c.action-a.ensures ∙ stored_action c.requires.stored _ l in
+    ap (λ (x : Action). x.0) c.action-a.ensures ∙ stored_action c.requires.stored _ l in
     let role = decides_passed c.is_low.result _ c.is_low.ensures c.if-not-is_low.false-raw in
     let k : c.action-a.result.0 < (model_at c.args.store.now).head.actions =
     omega (arith, e, c.requires.stored.action_lt _ l) in

@@ -22,11 +22,10 @@ page_good-requires c =
     }
 
 pub fault_line-requires : goal.fault_line-requires
-fault_line-requires c =
-    (
-      refuses_of c.read-read.ensures.read_promise c.requires.store_length_is c.in_default.not-Done,
-      omega (arith, page_length_le c.args.form, c.requires.out_length),
-    )
+fault_line-requires c = (
+  refuses_of c.read-read.ensures.read_promise c.requires.store_length_is c.in_default.not-Done,
+  omega (arith, page_length_le c.args.form, c.requires.out_length),
+)
 
 pub returns-in-Done : goal.returns-in-Done
 returns-in-Done c =

@@ -9,8 +9,7 @@ use Rattle.silent.proofs.keys.pass.Goals as goal
 
 pub loop-i-init : goal.loop-i-init
 loop-i-init c =
-    let L = c.requires.label_list in
-    (
+    let L = c.requires.label_list in (
       c.wide-begin.ensures,
       c.wide-end.ensures,
       omega (arith, c.wide-end.ensures, L.last_le),
@@ -36,8 +35,7 @@ bounds-marks-q c =
 pub loop-i-preserved : goal.loop-i-preserved
 loop-i-preserved c =
     let inv = c.loop-i.invariant in
-    let L = c.requires.label_list in
-    (
+    let L = c.requires.label_list in (
       inv.0,
       inv.1,
       inv.2,

@@ -39,8 +39,7 @@ loop-p-smaller c =
 pub loop-p-preserved : goal.loop-p-preserved
 loop-p-preserved c =
     let inv = c.loop-p.invariant in
-    let in_left = inv.0.member (omega arith) in
-    (
+    let in_left = inv.0.member (omega arith) in (
       c.least-p-in-loop-p.ensures,
       c.split_class-parts.ensures.partition_2.0,
       omega (arith, c.split_class-parts.ensures.partition_2.1, inv.2),

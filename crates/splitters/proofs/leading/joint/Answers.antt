@@ -19,8 +19,7 @@ loop-t-smaller c =
 
 pub loop-t-preserved : goal.loop-t-preserved
 loop-t-preserved c =
-    let inv = c.loop-t.invariant in
-    (
+    let inv = c.loop-t.invariant in (
       c.least-t-in-loop-t.ensures,
       union_to_next inv.1 (inv.0.member (omega arith)) c.held.ensures c.either-found.ensures
           (c.drop_least-left.ensures _ inv.0),

@@ -7,14 +7,13 @@ use Rattle.sets.specs.Laws.WalkLaws.{walk_nearer}
 use Rattle.splitters.proofs.refining.refine_class.Goals as goal
 
 pub loop-i-init : goal.loop-i-init
-loop-i-init c =
-    (
-      c.least-i.ensures,
-      omega arith,
-      c.requires.partition,
-      used_but_start c.args.labels.now c.requires.held_list.0 c.requires.held_list.1 c.set_at-new.ensures
-          c.union-left.ensures,
-    )
+loop-i-init c = (
+  c.least-i.ensures,
+  omega arith,
+  c.requires.partition,
+  used_but_start c.args.labels.now c.requires.held_list.0 c.requires.held_list.1 c.set_at-new.ensures
+      c.union-left.ensures,
+)
 
 pub bounds-labels-i : goal.bounds-labels-i
 bounds-labels-i c = omega (arith, c.loop-i-test, c.requires.held_list.0.count_le)
@@ -43,8 +42,7 @@ loop-i-smaller c =
 
 pub loop-i-preserved : goal.loop-i-preserved
 loop-i-preserved c =
-    let inv = c.loop-i.invariant in
-    (
+    let inv = c.loop-i.invariant in (
       c.least-i-in-loop-i.ensures,
       omega (arith, inv.1, c.split_moves-parts.ensures.partition_2.1),
       c.split_moves-parts.ensures.partition_2.0,

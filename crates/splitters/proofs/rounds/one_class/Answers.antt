@@ -4,9 +4,8 @@ use Rattle.splitters.specs.Laws.RoundLaws.{partition_one}
 use Rattle.splitters.proofs.rounds.one_class.Goals as goal
 
 pub returns : goal.returns
-returns c =
-    (
-      refl,
-      λ class z. partition_one c.requires.0 c.below-all.ensures c.put_set.ensures z,
-      record { there = c.put_set.ensures.kept; back = c.put_set.ensures.only },
-    )
+returns c = (
+  refl,
+  λ class z. partition_one c.requires.0 c.below-all.ensures c.put_set.ensures z,
+  record { there = c.put_set.ensures.kept; back = c.put_set.ensures.only },
+)

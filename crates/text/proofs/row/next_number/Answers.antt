@@ -13,14 +13,14 @@ filled : (c : Else-column-count_of) → first_column c.args.row ≤ c.args.colum
 filled c = omega (arith, c.count_of.ensures)
 
 pub overflow_sub-count_of : goal.overflow_sub-count_of
-overflow_sub-count_of c =     omega (arith, c.count_of.ensures, row_count_le c.args.row)
+overflow_sub-count_of c = omega (arith, c.count_of.ensures, row_count_le c.args.row)
 
 pub returns-then-column-count_of : goal.returns-then-column-count_of
 returns-then-column-count_of c =
     column_free _ _ _ _ _ _ _ c.requires.0 (omega (arith, c.count_of.ensures))
 
 pub bounds-out-0 : goal.bounds-out-0
-bounds-out-0 c =     omega (arith, c.requires.0.width)
+bounds-out-0 c = omega (arith, c.requires.0.width)
 
 pub bounds_of-bounds-requires : goal.bounds_of-bounds-requires
 bounds_of-bounds-requires c = (filled (goal.at.bounds_of-bounds-requires c).Else-column-count_of, c.requires.1)

@@ -11,7 +11,7 @@ pub loop-column-init : goal.loop-column-init
 loop-column-init c = (omega arith, refl, c.requires)
 
 pub next_number-scan-requires : goal.next_number-scan-requires
-next_number-scan-requires c =     (c.loop-column.invariant.2, omega arith)
+next_number-scan-requires c = (c.loop-column.invariant.2, omega arith)
 
 pub shape_of-out-in_default : goal.shape_of-out-in_default
 shape_of-out-in_default c =

@@ -31,12 +31,11 @@ overflow_add-result c = omega (arith, (row (goal.at.overflow_add-result c).In-Go
 
 pub returns-then-last-start : goal.returns-then-last-start
 unfolding StartAtRead checked
-returns-then-last-start c before last =
-    (
-      _,
-      refl,
-      line_at_map (start_of_order _ before last (start_number_column _ _) (lt-ltb _ _ c.if-last-start.true)) (row (goal.at.returns-then-last-start c).In-Good),
-    )
+returns-then-last-start c before last = (
+  _,
+  refl,
+  line_at_map (start_of_order _ before last (start_number_column _ _) (lt-ltb _ _ c.if-last-start.true)) (row (goal.at.returns-then-last-start c).In-Good),
+)
 
 pub returns-in-Bad : goal.returns-in-Bad
 unfolding StartAtRead
@@ -45,8 +44,7 @@ returns-in-Bad c before last =
 
 pub returns-else-last-start : goal.returns-else-last-start
 unfolding StartAtRead checked
-returns-else-last-start c before last =
-    (
-      _,
-      inr (line_at_map (start_of_order _ before last (start_number_column _ _) (le-ltb _ _ c.if-last-start.false)) (row (goal.at.returns-else-last-start c).In-Good)),
-    )
+returns-else-last-start c before last = (
+  _,
+  inr (line_at_map (start_of_order _ before last (start_number_column _ _) (le-ltb _ _ c.if-last-start.false)) (row (goal.at.returns-else-last-start c).In-Good)),
+)

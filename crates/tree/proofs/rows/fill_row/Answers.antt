@@ -10,8 +10,7 @@ loop-x-init c = (omega arith, λ d _. entries_written_none _ (λ y p. omega (ari
 
 pub loop-x-preserved : goal.loop-x-preserved
 loop-x-preserved c =
-    let inv = c.loop-x.invariant in
-    (
+    let inv = c.loop-x.invariant in (
       omega arith,
       λ d e.
           entries_written-fill c.args.above.now c.args.w e (omega arith) (omega arith) (inv.1 d e)

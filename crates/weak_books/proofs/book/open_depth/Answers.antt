@@ -32,6 +32,6 @@ returns c =
     let kept = only_at_trans c.open_actions.ensures.only_at (only_at_of_label c.open_rows.ensures) in record {
       lower_sets_2 = lower_sets_suc c.requires.depth_nonzero.0 lower c.sets_at_rank.ensures c.join_each.ensures;
       opened_before_2 = opened_before_suc L.states_le (λ p a q m. label_move_target_lt L m) c.requires.ranks.0 c.requires.depth_nonzero.0 lower c.sets_at_rank.ensures
-            c.requires.opened_before done kept;
+          c.requires.opened_before done kept;
       past = kept.past;
     }

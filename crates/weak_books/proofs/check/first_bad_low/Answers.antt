@@ -20,11 +20,10 @@ first_bad_with-k-requires c =
     }
 
 pub loop-a-preserved : goal.loop-a-preserved
-loop-a-preserved c =
-    (
-      omega (arith, c.loop-a-test.true),
-      first_below_add_one c.loop-a.invariant.1 c.first_bad_with-k.ensures,
-    )
+loop-a-preserved c = (
+  omega (arith, c.loop-a-test.true),
+  first_below_add_one c.loop-a.invariant.1 c.first_bad_with-k.ensures,
+)
 
 pub returns : goal.returns
 returns c =

@@ -13,8 +13,7 @@ use Rattle.weak_books.proofs.depths.first_bad_on.Goals as goal
 
 pub loop-next-init : goal.loop-next-init
 loop-next-init c =
-    let a = c.args in
-    (
+    let a = c.args in (
       omega (arith, c.wide-next.ensures, c.requires.from_le_table_length),
       λ k h. c.requires.by_index_2 k (subst (OnChain a.link.now k) c.wide-next.ensures h),
       λ r f. first_of_at c.wide-next.ensures f,

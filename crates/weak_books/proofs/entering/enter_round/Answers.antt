@@ -53,8 +53,7 @@ pub loop-p-preserved : goal.loop-p-preserved
 loop-p-preserved c =
     let inv = c.loop-p.invariant in
     let lp = visited_lt (goal.at.loop-p-preserved c).In-loop-p in
-    let rest = c.drop_least-left.ensures _ inv.0 in
-    (
+    let rest = c.drop_least-left.ensures _ inv.0 in (
       c.least-p-in-loop-p.ensures,
       λ x i. inv.1 x (rest.only x i).0,
       done_next (beside_or_not _ _) (separated_below_of_beside lp c.separated_from-others.ensures) (beside_of_separated_below lp c.separated_from-others.ensures) rest

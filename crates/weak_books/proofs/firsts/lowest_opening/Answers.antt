@@ -27,8 +27,7 @@ loop-t-smaller c =
 pub loop-t-preserved : goal.loop-t-preserved
 loop-t-preserved c =
     let inv = c.loop-t.invariant in
-    let some = decides_false c.is_empty.result _ c.is_empty.ensures c.if-is_empty.false in
-    (
+    let some = decides_false c.is_empty.result _ c.is_empty.ensures c.if-is_empty.false in (
       c.least-t-in-loop-t.ensures,
       tried_without inv.1
           (λ h.

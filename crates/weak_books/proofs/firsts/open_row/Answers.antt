@@ -31,8 +31,7 @@ pub loop-q-preserved : goal.loop-q-preserved
 loop-q-preserved c =
     let inv = c.loop-q.invariant in
     let l = c.loop-q-test.true in
-    let L = c.drop_least-left.ensures _ inv.0 in
-    (
+    let L = c.drop_least-left.ensures _ inv.0 in (
       c.least-q-in-loop-q.ensures,
       members_left_next inv.1 inv.0 l L c.least-q-in-loop-q.ensures,
       label_opened_next (inv.1.left_in _ (inv.0.member l)) inv.2 c.open_pair.ensures

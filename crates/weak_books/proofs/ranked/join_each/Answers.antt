@@ -19,8 +19,7 @@ join-requires c =
 
 pub loop-p-preserved : goal.loop-p-preserved
 loop-p-preserved c =
-    let inv = c.loop-p.invariant in
-    (
+    let inv = c.loop-p.invariant in (
       omega (arith, c.loop-p-test.true),
       c.join.auto.sets ∙ inv.1,
       joined_below-suc inv.2 c.join.ensures,

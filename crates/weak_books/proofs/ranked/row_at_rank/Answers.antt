@@ -18,12 +18,11 @@ add_at_rank-requires c =
     )
 
 pub loop-q-preserved : goal.loop-q-preserved
-loop-q-preserved c =
-    (
-      omega (arith, c.loop-q-test.true),
-      c.add_at_rank.auto.sets ∙ c.loop-q.invariant.1,
-      row_at_rank_suc c.args.table.now c.loop-q.invariant.2 c.add_at_rank.ensures,
-    )
+loop-q-preserved c = (
+  omega (arith, c.loop-q-test.true),
+  c.add_at_rank.auto.sets ∙ c.loop-q.invariant.1,
+  row_at_rank_suc c.args.table.now c.loop-q.invariant.2 c.add_at_rank.ensures,
+)
 
 pub shape_of-sets : goal.shape_of-sets
 shape_of-sets c = c.loop-q.invariant.1

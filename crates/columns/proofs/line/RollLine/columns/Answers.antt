@@ -59,15 +59,14 @@ number-requires-2 c =
 
 pub returns : goal.returns
 unfolding state_columns
-returns c =
-    (
-      wrote-append
-          (wrote-append
-          (wrote-append (wrote-append c.number.ensures.0 c.blanks-row.ensures.0)
-          c.distance.ensures.0)
-          c.blanks-row-2.ensures.0)
-          c.number-2.ensures.0,
-      c.number-2.ensures.1 ∙ c.blanks-row-2.ensures.1 ∙ c.distance.ensures.1
-          ∙ c.blanks-row.ensures.1
-          ∙ c.number.ensures.1,
-    )
+returns c = (
+  wrote-append
+      (wrote-append
+      (wrote-append (wrote-append c.number.ensures.0 c.blanks-row.ensures.0)
+      c.distance.ensures.0)
+      c.blanks-row-2.ensures.0)
+      c.number-2.ensures.0,
+  c.number-2.ensures.1 ∙ c.blanks-row-2.ensures.1 ∙ c.distance.ensures.1
+      ∙ c.blanks-row.ensures.1
+      ∙ c.number.ensures.1,
+)

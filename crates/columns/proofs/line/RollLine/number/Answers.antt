@@ -31,9 +31,8 @@ number-at-requires c =
 
 pub returns : goal.returns
 unfolding flush_right
-returns c =
-    (
-      rw c.digit_count.ensures at
-          (wrote-append c.blanks-row.ensures.0 c.number-at.ensures),
-      c.blanks-row.ensures.1,
-    )
+returns c = (
+  rw c.digit_count.ensures at
+      (wrote-append c.blanks-row.ensures.0 c.number-at.ensures),
+  c.blanks-row.ensures.1,
+)

@@ -73,7 +73,7 @@ shown_lines-requires c =
       writable = record { long = st.length_le; good = J.good };
       spelled = spelled_of st (refused (goal.at.shown_lines-requires c).In-Refused) c.show-shown.result c.show-shown.ensures;
       shown_in_bounds = written_rest (shown_room form c.show-shown.result) (omega (arith, short, few, room (goal.at.shown_lines-requires c).In-Refused))
-            (c.run_lines-page.ensures (model_at c.args.store.now));
+          (c.run_lines-page.ensures (model_at c.args.store.now));
     }
 
 pub returns : goal.returns

@@ -23,7 +23,7 @@ name_text-requires c =
       writable = c.requires.writable;
       a_in_bounds = letter;
       a_in_bounds_2 = text_room (name_line_fits c.requires.writable (get_or c.args.word.now c.loop-i.i 0) letter) form c.loop-i.page.at.at
-            (written_room (line_room form name_width) l c.requires.n_in_bounds c.loop-i.invariant.2);
+          (written_room (line_room form name_width) l c.requires.n_in_bounds c.loop-i.invariant.2);
     }
 
 pub line_end-page-requires : goal.line_end-page-requires

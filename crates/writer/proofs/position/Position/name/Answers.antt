@@ -16,14 +16,13 @@ overflow_cast-name c =
     omega (arith, get_or_all (λ (b : ℕ). b < 256) c.args.name.now i 0 c.requires.all (search rules))
 
 pub loop-i-preserved : goal.loop-i-preserved
-loop-i-preserved c =
-    (
-      search rules,
-      search rules,
-      omega arith,
-      rw (← take_next c.args.name.now c.loop-i.i (search rules))
-          (wrote-append c.loop-i.invariant.3 c.byte-at.ensures),
-    )
+loop-i-preserved c = (
+  search rules,
+  search rules,
+  omega arith,
+  rw (← take_next c.args.name.now c.loop-i.i (search rules))
+      (wrote-append c.loop-i.invariant.3 c.byte-at.ensures),
+)
 
 pub returns : goal.returns
 returns c =

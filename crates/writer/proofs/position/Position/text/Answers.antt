@@ -10,14 +10,13 @@ pub loop-i-init : goal.loop-i-init
 loop-i-init c = (search rules, search rules, omega arith, wrote-nil)
 
 pub loop-i-preserved : goal.loop-i-preserved
-loop-i-preserved c =
-    (
-      search rules,
-      search rules,
-      omega arith,
-      rw (← take_next c.args.text.now c.loop-i.i (search rules))
-          (wrote-append c.loop-i.invariant.3 c.byte-at.ensures),
-    )
+loop-i-preserved c = (
+  search rules,
+  search rules,
+  omega arith,
+  rw (← take_next c.args.text.now c.loop-i.i (search rules))
+      (wrote-append c.loop-i.invariant.3 c.byte-at.ensures),
+)
 
 pub returns : goal.returns
 returns c =
