@@ -9,7 +9,7 @@ use Rattle.text.specs.Limits.{distances_length, table_length, word_length}
 use Rattle.model.specs.Store.{Good}
 use Rattle.model.specs.StoredModel.{model_at}
 use Rattle.text.specs.Laws.FirstShortLaws.{first_short_is, second_short, third_short, fourth_short, none_short_four}
-use Rattle.model.specs.Laws.OnStoreLaws.{on_store_short, on_store_not_good, on_store-model}
+use Rattle.model.proofs.Laws.OnStoreLaws.{on_store_short, on_store_not_good, on_store-model}
 use Rattle.verdicts.specs.JudgeFilled.{JudgeFilled}
 use Rattle.letters.specs.declared.word.Shown.{Shown}
 use Rattle.letters.specs.WordDone.{shown_outcome, WordDone}

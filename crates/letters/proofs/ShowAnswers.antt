@@ -14,14 +14,14 @@ use Rattle.text.specs.Limits.{pair_place}
 use Rattle.text.specs.Model.{Model}
 use Rattle.model.specs.System.{source, target, ReachableIn, SilentStep, NoSilentStep, DeterministicModel, view}
 use Rattle.model.specs.Inner.Stored.{Stored}
-use Rattle.model.specs.Laws.System.RankBoundLaws.{no_silent_label_view}
-use Rattle.model.specs.Laws.System.SilentStepLaws.{no_tick_of_no_silent_step, rank↔low_rank}
+use Rattle.model.proofs.Laws.System.RankBoundLaws.{no_silent_label_view}
+use Rattle.model.proofs.Laws.System.SilentStepLaws.{no_tick_of_no_silent_step, rank↔low_rank}
 use Rattle.model.specs.Laws.System.StepTestLaws.{bounded_view, reachable_state}
 use Rattle.model.specs.Laws.Store.SystemLaws.{own_step}
 use Rattle.verdicts.specs.declared.judging.Verdict.{Verdict}
 use Rattle.verdicts.specs.declared.judging.Verdict.TheVariants.{Passed, Refused}
 use Rattle.verdicts.specs.Verdicts.{Leak, PassedWith, RefusedAt, Judged}
-use Rattle.verdicts.specs.Laws.VerdictsLaws.{no_leak_of_bnid, passed_not_refused, refused_at_unique}
+use Rattle.verdicts.proofs.Laws.VerdictsLaws.{no_leak_of_bnid, passed_not_refused, refused_at_unique}
 use Rattle.letters.specs.declared.word.End.{End}
 use Rattle.letters.specs.declared.word.End.TheVariants.{Source, Target}
 use Rattle.letters.specs.declared.word.Shown.TheVariants.{Word, NotDeterministic, Silent, NoLeak}

@@ -1,4 +1,3 @@
 pub mod Store
 pub mod Text
-pub mod OnStoreLaws
 pub mod System

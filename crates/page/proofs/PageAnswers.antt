@@ -8,7 +8,7 @@ use Rattle.text.specs.Faults.{answers}
 use Rattle.model.specs.Store.{Good}
 use Rattle.model.specs.StoredModel.{model_at}
 use Rattle.text.specs.Laws.FirstShortLaws.{none_short_six}
-use Rattle.model.specs.Laws.OnStoreLaws.{on_store_short, on_store_not_good, on_store-model}
+use Rattle.model.proofs.Laws.OnStoreLaws.{on_store_short, on_store_not_good, on_store-model}
 use Rattle.verdicts.specs.JudgeFilled.{JudgeFilled}
 use Rattle.lines.specs.declared.lines.Form.{Form}
 use Rattle.page.specs.declared.page.PageAnswer.TheVariants.{Printed, ShortList, NotGood}

@@ -20,8 +20,8 @@ use Rattle.model.specs.Reading.{Reading, read_text}
 use Rattle.model.specs.Store.{store_of}
 use Rattle.model.specs.StoredModel.{model_at}
 use Rattle.read_write.specs.Laws.ReadPromiseLaws.{read_lists_none}
-use Rattle.model.specs.Laws.Store.StoredModelLaws.{model_at_store_of}
-use Rattle.model.specs.Laws.Text.ReadingLaws.{read_text_well_formed}
+use Rattle.model.proofs.Laws.Store.StoredModelLaws.{model_at_store_of}
+use Rattle.model.proofs.Laws.Text.ReadingLaws.{read_text_well_formed}
 use Rattle.lines.specs.declared.lines.Form.{Form}
 use Rattle.page.specs.declared.print.PrintAnswer.{PrintAnswer}
 use Rattle.page.specs.declared.print.PrintAnswer.TheVariants.{Printed, ShortList}

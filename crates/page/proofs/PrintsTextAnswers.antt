@@ -18,8 +18,8 @@ use Rattle.reader.specs.Answers.{reading_store}
 use Rattle.model.specs.Reading.{Reading, read_text}
 use Rattle.model.specs.Store.{store_of}
 use Rattle.model.specs.StoredModel.{model_at}
-use Rattle.model.specs.Laws.Store.StoredModelLaws.{model_at_store_of}
-use Rattle.model.specs.Laws.Text.ReadingLaws.{read_text_well_formed}
+use Rattle.model.proofs.Laws.Store.StoredModelLaws.{model_at_store_of}
+use Rattle.model.proofs.Laws.Text.ReadingLaws.{read_text_well_formed}
 use Rattle.writer.specs.Wrote.{Wrote}
 use Rattle.writer.specs.Laws.WroteLaws.{wrote-start, wrote-length}
 use Rattle.lines.specs.PageLines.{fault_bytes}

@@ -8,7 +8,7 @@ use Rattle.read_write.specs.declared.write.WriteAnswer.TheVariants.{Written, Sho
 use Rattle.text.specs.Faults.{answers}
 use Rattle.text.specs.Limits.{store_length, out_length}
 use Rattle.text.specs.Laws.FirstShortLaws.{first_short_is, second_short}
-use Rattle.model.specs.Laws.OnStoreLaws.{on_store_short, on_store_not_good, on_store-model}
+use Rattle.model.proofs.Laws.OnStoreLaws.{on_store_short, on_store_not_good, on_store-model}
 use Rattle.read_write.specs.WritePromise.{write_outcome, PutsText, WritePromise}
 use Rattle.read_write.specs.Laws.WritePromiseLaws.{write_lists_none}
 use Rattle.model.specs.Store.{Good}

@@ -8,7 +8,7 @@ use Rattle.text.specs.Limits.{store_length}
 use Rattle.text.specs.Faults.{answers}
 use Rattle.text.specs.Laws.OutcomeLaws.{answers_not_refuses}
 use Rattle.model.specs.Store.{Good}
-use Rattle.model.specs.Laws.Store.StoredModelLaws.{good_of_holds}
+use Rattle.model.proofs.Laws.Store.StoredModelLaws.{good_of_holds}
 use Rattle.read_write.specs.declared.read.ReadAnswer.{ReadAnswer}
 use Rattle.read_write.specs.declared.read.ReadAnswer.TheVariants as read
 use Rattle.read_write.specs.ReadPromise.{read_outcome, ReadPromise, ReadCause}

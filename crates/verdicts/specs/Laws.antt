@@ -1,5 +1,2 @@
 pub mod LeakSearchLaws
-pub mod ModelListsLaws
-pub mod VerdictsLaws
-pub mod VerdictTestLaws
 pub mod JudgeFilledLaws

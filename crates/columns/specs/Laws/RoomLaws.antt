@@ -22,12 +22,12 @@ use Rattle.text.specs.Model.{Model}
 use Rattle.model.specs.Inner.StepTest.{tests}
 use Rattle.model.specs.Inner.Stored.{Stored}
 use Rattle.model.specs.Laws.Store.SystemLaws.{own_step, low_lt}
-use Rattle.model.specs.Laws.System.RankBoundLaws.{actions_le_silent_label}
-use Rattle.model.specs.Laws.System.SilentStepLaws.{no_tick_of_no_silent_step}
+use Rattle.model.proofs.Laws.System.RankBoundLaws.{actions_le_silent_label}
+use Rattle.model.proofs.Laws.System.SilentStepLaws.{no_tick_of_no_silent_step}
 use Rattle.model.specs.Laws.System.StepTestLaws.{decided_view}
 use Rattle.model.specs.System.{source, action, target, view, ReachableIn, NoSilentStep, name_of}
 use Rattle.verdicts.specs.Verdicts.{RefusedAt}
-use Rattle.verdicts.specs.Laws.VerdictsLaws.{depth_lt}
+use Rattle.verdicts.proofs.Laws.VerdictsLaws.{depth_lt}
 use Rattle.letters.specs.Laws.FirstSilentLaws.{silent_cases}
 use Rattle.columns.specs.Inner.LineCount.{line_count, lines_below, letter_count, NamesFit, passed_rows, refused_rows}
 use Rattle.columns.specs.LowNames.{leaves?, low_from?, low_actions, low_names}

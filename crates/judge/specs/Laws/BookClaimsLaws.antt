@@ -17,9 +17,9 @@ use Rattle.text.specs.Laws.OutcomeLaws.{answers_not_refuses}
 use Rattle.model.specs.OnStore.{OnStore}
 use Rattle.model.specs.Store.{Good}
 use Rattle.model.specs.System.{view, IsState}
-use Rattle.model.specs.Laws.OnStoreLaws.{on_store_answered}
-use Rattle.model.specs.Laws.System.GoodStoredLaws.{good_stored}
-use Rattle.model.specs.Laws.System.RankBoundLaws.{weak_move_game}
+use Rattle.model.proofs.Laws.OnStoreLaws.{on_store_answered}
+use Rattle.model.proofs.Laws.System.GoodStoredLaws.{good_stored}
+use Rattle.model.proofs.Laws.System.RankBoundLaws.{weak_move_game}
 use Rattle.books.specs.Books.{book_of}
 use Rattle.books.specs.Checks.{CheckDone, accepted, refused}
 use Rattle.judge.specs.BookPromise.{book_lists}

@@ -4,9 +4,9 @@ use Rattle.std.specs.Prelude.{List, ◌≡◌, ℕ}
 use Rattle.std.proofs.Common.{sym, ◌∙◌}
 use Rattle.text.specs.Faults.{Outcome}
 use Rattle.model.specs.System.{view}
-use Rattle.model.specs.Laws.OnStoreLaws.{on_store_unique}
-use Rattle.model.specs.Laws.System.GoodStoredLaws.{good_stored}
-use Rattle.model.specs.Laws.System.RankBoundLaws.{weak_move_game}
+use Rattle.model.proofs.Laws.OnStoreLaws.{on_store_unique}
+use Rattle.model.proofs.Laws.System.GoodStoredLaws.{good_stored}
+use Rattle.model.proofs.Laws.System.RankBoundLaws.{weak_move_game}
 use Rattle.lts.specs.Weak.{WeakMove}
 use Rattle.ranking.specs.Laws.RankedLaws.{ranks_unique}
 use Rattle.books.specs.Laws.BytesLaws.{book_filled_unique}

@@ -2,7 +2,7 @@
 -- Document 02, (v). Assumes nothing.
 use Rattle.std.specs.Prelude.{List, ◌≡◌, ℕ}
 use Rattle.text.specs.Faults.{Outcome}
-use Rattle.model.specs.Laws.OnStoreLaws.{on_store_unique}
+use Rattle.model.proofs.Laws.OnStoreLaws.{on_store_unique}
 use Rattle.books.specs.Laws.ChecksLaws.{check_done_unique}
 use Rattle.judge.specs.CheckPromise.{CheckPromise}
 

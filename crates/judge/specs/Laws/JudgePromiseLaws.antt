@@ -8,14 +8,14 @@ use Rattle.text.specs.Limits.{store_length}
 use Rattle.text.specs.Faults.{Outcome}
 use Rattle.model.specs.Store.{Good}
 use Rattle.model.specs.StoredModel.{model_at}
-use Rattle.model.specs.Laws.OnStoreLaws.{on_store_short, on_store_not_good, on_store-model, on_store_unique}
+use Rattle.model.proofs.Laws.OnStoreLaws.{on_store_short, on_store_not_good, on_store-model, on_store_unique}
 use Rattle.verdicts.specs.declared.judging.Verdict.{Verdict}
 use Rattle.judge.specs.declared.judge.JudgeAnswer.TheVariants as judge
 use Rattle.text.specs.Limits.{distances_length, table_length}
 use Rattle.text.specs.Laws.FirstShortLaws.{first_short_is, second_short, third_short, none_short_three}
-use Rattle.model.specs.Laws.System.GoodStoredLaws.{good_stored}
+use Rattle.model.proofs.Laws.System.GoodStoredLaws.{good_stored}
 use Rattle.verdicts.specs.Verdicts.{Judged}
-use Rattle.verdicts.specs.Laws.VerdictsLaws.{judged_unique}
+use Rattle.verdicts.proofs.Laws.VerdictsLaws.{judged_unique}
 use Rattle.verdicts.specs.Inner.Judging.{Judging}
 use Rattle.judge.specs.JudgePromise.{verdict_outcome, judge_outcome, judge_lists, JudgePromise}
 use Rattle.verdicts.specs.JudgeFilled.{JudgeFilled}

@@ -3,7 +3,7 @@
 use Rattle.std.specs.Prelude.{List, [], ◌∷◌, ◌≡◌, ℕ}
 use Rattle.std.proofs.Common.{sym, ap, ◌∙◌}
 use Rattle.text.specs.Faults.{Outcome, answers}
-use Rattle.model.specs.Laws.OnStoreLaws.{on_store_unique}
+use Rattle.model.proofs.Laws.OnStoreLaws.{on_store_unique}
 use Rattle.judge.specs.RankPromise.{RankPromise}
 use Rattle.ranking.specs.Laws.RankedLaws.{ranked_unique}
 use Rattle.model.specs.System.{view}

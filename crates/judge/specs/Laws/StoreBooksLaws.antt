@@ -14,7 +14,7 @@ use Rattle.text.specs.Limits.{state_limit}
 use Rattle.text.specs.Model.{Model}
 use Rattle.model.specs.System.{view}
 use Rattle.model.specs.Inner.Stored.{Stored}
-use Rattle.model.specs.Laws.System.RankBoundLaws.{low_step_game, weak_move_game}
+use Rattle.model.proofs.Laws.System.RankBoundLaws.{low_step_game, weak_move_game}
 use Rattle.silent.specs.Labelled.{LabelMove}
 use Rattle.by_state.specs.MoveList.{Listed, Lists}
 use Rattle.ranking.specs.Table.{Ranks}

@@ -4,9 +4,9 @@ use Rattle.std.specs.Prelude.{cond, List, ◌≡◌, refl, ℕ, eqb}
 use Rattle.std.proofs.Common.{sym, ap, ◌∙◌}
 use Rattle.text.specs.Faults.{Outcome, answers, refuses}
 use Rattle.text.specs.Laws.OutcomeLaws.{injective_of_inverse}
-use Rattle.model.specs.Laws.OnStoreLaws.{on_store_unique}
+use Rattle.model.proofs.Laws.OnStoreLaws.{on_store_unique}
 use Rattle.verdicts.specs.Laws.JudgeFilledLaws.{filled_unique}
-use Rattle.model.specs.Laws.System.GoodStoredLaws.{good_stored}
+use Rattle.model.proofs.Laws.System.GoodStoredLaws.{good_stored}
 use Rattle.letters.specs.declared.word.Shown.{Shown}
 use Rattle.letters.specs.declared.word.Shown.TheVariants.{Word, NotDeterministic, Silent, NoLeak}
 use Rattle.letters.specs.WordDone.{shown_outcome}

@@ -14,7 +14,7 @@ use Rattle.model.specs.Inner.Stored.{Stored}
 use Rattle.letters.specs.declared.word.End.TheVariants.{Source, Target}
 use Rattle.letters.specs.Inner.Letters.{Alone, SeparatedPair}
 use Rattle.letters.specs.Inner.WordHead.{WordFrom}
-use Rattle.model.specs.Laws.System.RankBoundLaws.{low_step_game}
+use Rattle.model.proofs.Laws.System.RankBoundLaws.{low_step_game}
 
 module _ {m : Model} {p q : ℕ} where
   pub alone→OnlyFrom : {j : ℕ} → Alone m p q j → OnlyFrom (view m).Step p q (action m j ∷ [])

@@ -20,9 +20,9 @@ use Rattle.model.specs.Laws.Store.SystemLaws.{own_step, deterministic_model→De
 use Rattle.verdicts.specs.Verdicts.{RefusedAt}
 use Rattle.model.specs.Inner.Stored.{Stored}
 use Rattle.model.specs.Laws.System.StepTestLaws.{bounded_view}
-use Rattle.model.specs.Laws.System.SilentStepLaws.{no_tick_of_no_silent_step, levelled_of_no_tick}
-use Rattle.model.specs.Laws.System.RankBoundLaws.{no_silent_label_view, weak_move_game}
-use Rattle.verdicts.specs.Laws.VerdictsLaws.{rank_of_states}
+use Rattle.model.proofs.Laws.System.SilentStepLaws.{no_tick_of_no_silent_step, levelled_of_no_tick}
+use Rattle.model.proofs.Laws.System.RankBoundLaws.{no_silent_label_view, weak_move_game}
+use Rattle.verdicts.proofs.Laws.VerdictsLaws.{rank_of_states}
 
 module _ {s : List ℕ} {m : Model} (st : Stored s m) (none : NoSilentStep m) where
   still : NoTick (view m)

@@ -17,7 +17,7 @@ use Rattle.model.specs.Inner.Index.{Index}
 use Rattle.model.specs.Inner.Stored.{Stored}
 use Rattle.model.specs.Laws.System.RolesLaws.{low_of_role, role_of_low}
 use Rattle.model.specs.Laws.System.IndexLaws.{begins-source}
-use Rattle.model.specs.Laws.System.RankBoundLaws.{low_step_game}
+use Rattle.model.proofs.Laws.System.RankBoundLaws.{low_step_game}
 use Rattle.letters.specs.declared.branch.Found.{Found}
 use Rattle.letters.specs.declared.branch.Found.TheVariants.{At, Nothing}
 use Rattle.letters.specs.Inner.Letters.{FoundFirst, StepOf, Unanswered, Answer, HasAnswer}

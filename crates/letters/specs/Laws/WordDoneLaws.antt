@@ -16,7 +16,7 @@ use Rattle.model.specs.Inner.Stored.{Stored}
 use Rattle.verdicts.specs.Inner.VerdictTest.{verdict_of}
 use Rattle.verdicts.specs.Verdicts.{Judged}
 use Rattle.model.specs.Laws.System.StepTestLaws.{reachable_cases}
-use Rattle.verdicts.specs.Laws.VerdictTestLaws.{verdict_of_judged}
+use Rattle.verdicts.proofs.Laws.VerdictTestLaws.{verdict_of_judged}
 use Rattle.letters.specs.declared.word.End.{End}
 use Rattle.letters.specs.declared.word.End.TheVariants.{Source, Target}
 use Rattle.letters.specs.declared.word.Shown.{Shown}

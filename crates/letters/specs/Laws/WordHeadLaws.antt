@@ -20,7 +20,7 @@ use Rattle.letters.specs.declared.word.End.{End}
 use Rattle.letters.specs.declared.word.End.TheVariants.{Source, Target}
 use Rattle.letters.specs.Inner.Letters.{FirstLetter, SeparatedPair}
 use Rattle.letters.specs.Inner.WordHead.{OnlyFromEnd, WordFrom, WordWritten, WordHead}
-use Rattle.model.specs.Laws.System.RankBoundLaws.{low_step_game}
+use Rattle.model.proofs.Laws.System.RankBoundLaws.{low_step_game}
 use Rattle.lts.specs.Weak.{LowStep}
 
 -- ---- a letter

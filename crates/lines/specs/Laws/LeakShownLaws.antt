@@ -19,7 +19,7 @@ use Rattle.distances.specs.Laws.RunsLaws.{run_to-length}
 use Rattle.verdicts.specs.declared.judging.Verdict.{Verdict}
 use Rattle.verdicts.specs.declared.judging.Verdict.TheVariants.{Refused}
 use Rattle.text.specs.declared.Step.{Step}
-use Rattle.verdicts.specs.Laws.VerdictsLaws.{depth_lt}
+use Rattle.verdicts.proofs.Laws.VerdictsLaws.{depth_lt}
 use Rattle.verdicts.specs.Verdicts.{RefusedAt, Judged}
 use Rattle.letters.specs.declared.word.End.{End}
 use Rattle.letters.specs.declared.word.Shown.{Shown}

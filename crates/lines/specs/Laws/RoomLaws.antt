@@ -17,7 +17,7 @@ use Rattle.lines.specs.declared.lines.Form.TheVariants.{Page, Roll}
 use Rattle.lines.specs.Roll.{form_length}
 use Rattle.lines.specs.Inner.Room.{verdict_width, state_width, letter_width, line_room, state_room, states_room}
 use Rattle.lines.specs.Inner.Room.{leak_room}
-use Rattle.verdicts.specs.Laws.VerdictsLaws.{depth_lt}
+use Rattle.verdicts.proofs.Laws.VerdictsLaws.{depth_lt}
 
 -- ---- the states
 

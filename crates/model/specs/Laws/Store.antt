@@ -3,17 +3,10 @@ pub mod EachLaws
 pub mod StartsLaws
 pub mod BlocksLaws
 pub mod StoreLaws
-pub mod StoredModelLaws
 pub mod PutLaws
-pub mod NamesLaws
-pub mod LevelsLaws
-pub mod GoodTestLaws
 pub mod AboveLaws
 pub mod WellFormedLaws
 pub mod PlacesLaws
 pub mod ListedLaws
 pub mod NamePlacesLaws
-pub mod GoodPlacesLaws
-pub mod HoldsLaws
-pub mod GoodLaws
 pub mod SystemLaws

@@ -5,6 +5,3 @@ pub mod TextLaws
 pub mod TextLengthLaws
 pub mod LinesReadLaws
 pub mod EndLaws
-pub mod PartsLaws
-pub mod ReadingLaws
-pub mod NoHighLaws

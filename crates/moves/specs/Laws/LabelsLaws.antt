@@ -12,7 +12,7 @@ use Rattle.text.specs.Limits.{action_limit}
 use Rattle.text.specs.Model.{Model}
 use Rattle.model.specs.System.{action, view}
 use Rattle.model.specs.Inner.Stored.{Stored}
-use Rattle.model.specs.Laws.System.RankBoundLaws.{low_step_game, weak_move_game}
+use Rattle.model.proofs.Laws.System.RankBoundLaws.{low_step_game, weak_move_game}
 use Rattle.by_state.specs.MoveList.{Listed}
 use Rattle.silent.specs.Labelled.{LabelStep, LabelList, LabelMove}
 use Rattle.ranking.specs.Table.{Ranked}

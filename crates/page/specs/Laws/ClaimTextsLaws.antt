@@ -10,16 +10,16 @@ use Rattle.text.specs.Laws.AllLaws.{all_of_all}
 use Rattle.verdicts.specs.declared.judging.Verdict.{Verdict}
 use Rattle.verdicts.specs.declared.judging.Verdict.TheVariants.{Passed, Refused}
 use Rattle.model.specs.Inner.Stored.{Stored}
-use Rattle.model.specs.Laws.System.RankBoundLaws.{stored_rank_lt}
+use Rattle.model.proofs.Laws.System.RankBoundLaws.{stored_rank_lt}
 use Rattle.distances.specs.Runs.{RunTo}
 use Rattle.verdicts.specs.Verdicts.{PassedWith, RefusedAt, Judged}
 use Rattle.distances.specs.Laws.RunsLaws.{run_to_all}
-use Rattle.verdicts.specs.Laws.VerdictsLaws.{no_leak_of_bnid}
+use Rattle.verdicts.proofs.Laws.VerdictsLaws.{no_leak_of_bnid}
 use Rattle.tell.specs.Laws.ClaimLaws.{shows_of_word_of}
 use Rattle.letters.specs.Laws.LeastLeakLaws.{bnid↔INI}
 use Rattle.lines.specs.Page.{name_line, LeakShown, by_word, by_branch, by_silent, LeakLines}
 use Rattle.lines.specs.PageLines.{PageLine, verdict_line, run_line, allows_line, last_line, line_text}
-use Rattle.verdicts.specs.Laws.VerdictsLaws.{depth_lt}
+use Rattle.verdicts.proofs.Laws.VerdictsLaws.{depth_lt}
 use Rattle.page.specs.PageClaim.{SaysPass, SaysRefuse, PassTexts, LeakTexts, BytesTell}
 use Rattle.page.specs.Laws.PageFieldsLaws.{pass_fields, refuse_fields, run_fields}
 

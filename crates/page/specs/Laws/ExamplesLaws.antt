@@ -10,11 +10,11 @@ use Rattle.lts.specs.Decided.{answered?, answers?, within?}
 use Rattle.lts.specs.WeakTests.{silent_move?, low_move?, weak_answers?}
 use Rattle.text.specs.Faults.{answers}
 use Rattle.text.specs.Model.{Model}
-use Rattle.model.specs.Laws.Text.ReadingLaws.{read_text_well_formed}
+use Rattle.model.proofs.Laws.Text.ReadingLaws.{read_text_well_formed}
 use Rattle.model.specs.System.{SilentStep, NoSilentStep, DeterministicModel, source, view}
 use Rattle.model.specs.Inner.StepTest.{step?, start?}
 use Rattle.model.specs.Laws.Store.SystemLaws.{head_start, extra_start}
-use Rattle.model.specs.Laws.System.GoodStoredLaws.{well_formed_stored}
+use Rattle.model.proofs.Laws.System.GoodStoredLaws.{well_formed_stored}
 use Rattle.distances.specs.Runs.{at_start}
 use Rattle.verdicts.specs.declared.judging.Verdict.{Verdict}
 use Rattle.verdicts.specs.declared.judging.Verdict.TheVariants.{Passed}

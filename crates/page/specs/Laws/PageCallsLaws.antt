@@ -9,12 +9,12 @@ use Rattle.text.specs.Laws.OutcomeLaws.{answers_not_refuses}
 use Rattle.text.specs.Model.{Model}
 use Rattle.read_write.specs.ReadPromise.{ReadPromise}
 use Rattle.model.specs.Store.{Good}
-use Rattle.model.specs.Laws.System.GoodStoredLaws.{good_stored}
-use Rattle.model.specs.Laws.Text.ReadingLaws.{read_text_well_formed}
+use Rattle.model.proofs.Laws.System.GoodStoredLaws.{good_stored}
+use Rattle.model.proofs.Laws.Text.ReadingLaws.{read_text_well_formed}
 use Rattle.model.specs.System.{DeterministicModel, NoSilentStep}
 use Rattle.verdicts.specs.declared.judging.Verdict.{Verdict}
 use Rattle.verdicts.specs.declared.judging.Verdict.TheVariants.{Passed, Refused}
-use Rattle.verdicts.specs.Laws.VerdictsLaws.{judged_unique}
+use Rattle.verdicts.proofs.Laws.VerdictsLaws.{judged_unique}
 use Rattle.judge.specs.JudgePromise.{verdict_outcome, judge_lists, JudgePromise}
 use Rattle.verdicts.specs.Verdicts.{Judged}
 use Rattle.letters.specs.Laws.FirstSilentLaws.{silent_cases}

@@ -9,13 +9,13 @@ use Rattle.lts.proofs.WithinLaws.{distance→Reachable}
 use Rattle.text.specs.Faults.{Outcome, answers, refuses}
 use Rattle.text.specs.Laws.OutcomeLaws.{injective_of_inverse}
 use Rattle.text.specs.Model.{Model}
-use Rattle.model.specs.Laws.OnStoreLaws.{on_store_unique}
+use Rattle.model.proofs.Laws.OnStoreLaws.{on_store_unique}
 use Rattle.verdicts.specs.declared.judging.Verdict.{Verdict}
 use Rattle.verdicts.specs.declared.judging.Verdict.TheVariants.{Passed, Refused}
 use Rattle.verdicts.specs.Laws.JudgeFilledLaws.{filled_unique}
-use Rattle.model.specs.Laws.System.GoodStoredLaws.{good_stored}
+use Rattle.model.proofs.Laws.System.GoodStoredLaws.{good_stored}
 use Rattle.distances.specs.Laws.RunsLaws.{run_to_unique}
-use Rattle.verdicts.specs.Laws.VerdictsLaws.{judged_unique}
+use Rattle.verdicts.proofs.Laws.VerdictsLaws.{judged_unique}
 use Rattle.letters.specs.declared.word.End.{End}
 use Rattle.letters.specs.Laws.WordDoneLaws.{word_of_unique}
 use Rattle.lines.specs.PageLines.{PageLine, verdict_line, run_line, allows_line, last_line}

@@ -8,9 +8,9 @@ use Rattle.text.specs.Faults.{Outcome, answers, refuses, fault_number}
 use Rattle.text.specs.Laws.OutcomeLaws.{injective_of_inverse}
 use Rattle.read_write.specs.ReadPromise.{reading_outcome}
 use Rattle.model.specs.Reading.{Reading, done, too_long, faulty, read_text}
-use Rattle.model.specs.Laws.OnStoreLaws.{option_cases}
-use Rattle.model.specs.Laws.Text.ReadingLaws.{read_text_well_formed}
-use Rattle.model.specs.Laws.System.GoodStoredLaws.{well_formed_stored}
+use Rattle.model.proofs.Laws.OnStoreLaws.{option_cases}
+use Rattle.model.proofs.Laws.Text.ReadingLaws.{read_text_well_formed}
+use Rattle.model.proofs.Laws.System.GoodStoredLaws.{well_formed_stored}
 use Rattle.verdicts.specs.Laws.JudgeFilledLaws.{filled_unique}
 use Rattle.lines.specs.declared.lines.Form.{Form}
 use Rattle.page.specs.declared.print.PrintAnswer.{PrintAnswer}

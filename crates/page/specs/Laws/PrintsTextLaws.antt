@@ -6,7 +6,7 @@ use Rattle.text.specs.Model.{Model}
 use Rattle.read_write.specs.ReadPromise.{reading_outcome}
 use Rattle.model.specs.Reading.{Reading, done, too_long, faulty, read_text}
 use Rattle.model.specs.WellFormed.{WellFormed}
-use Rattle.model.specs.Laws.Text.ReadingLaws.{read_text_well_formed}
+use Rattle.model.proofs.Laws.Text.ReadingLaws.{read_text_well_formed}
 use Rattle.page.specs.PrintsText.{PrintsText}
 
 pub prints_text_unique : (Of : Model → List ℕ → Type 0) {text a b : List ℕ}

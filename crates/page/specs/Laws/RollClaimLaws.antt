@@ -5,7 +5,7 @@ use Rattle.std.proofs.Common.{append-nil, sym, ap, subst, ◌∙◌}
 use Rattle.text.specs.Model.{Model}
 use Rattle.model.specs.System.{DeterministicModel, NoSilentStep}
 use Rattle.model.specs.WellFormed.{WellFormed}
-use Rattle.model.specs.Laws.System.GoodStoredLaws.{well_formed_stored}
+use Rattle.model.proofs.Laws.System.GoodStoredLaws.{well_formed_stored}
 use Rattle.verdicts.specs.declared.judging.Verdict.{Verdict}
 use Rattle.verdicts.specs.declared.judging.Verdict.TheVariants.{Passed, Refused}
 use Rattle.verdicts.specs.Verdicts.{Judged}

@@ -8,7 +8,7 @@ use Rattle.text.specs.Laws.AllLaws.{all_append, all_map, all_of_all}
 use Rattle.text.specs.Model.{Model}
 use Rattle.model.specs.Inner.Stored.{Stored}
 use Rattle.model.specs.WellFormed.{WellFormed}
-use Rattle.model.specs.Laws.System.GoodStoredLaws.{well_formed_stored}
+use Rattle.model.proofs.Laws.System.GoodStoredLaws.{well_formed_stored}
 use Rattle.columns.specs.Inner.LineCount.{ShortRows, NamesFit}
 use Rattle.columns.specs.LowNames.{low_names}
 use Rattle.columns.specs.Rows.{roll_width, flush_left}

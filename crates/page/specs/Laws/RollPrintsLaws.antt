@@ -8,7 +8,7 @@ use Rattle.std.proofs.Math.Path.{ap, subst}
 use Rattle.text.specs.Model.{Model}
 use Rattle.model.specs.Reading.{done, read_text}
 use Rattle.model.specs.WellFormed.{WellFormed}
-use Rattle.model.specs.Laws.Text.ReadingLaws.{read_text_well_formed}
+use Rattle.model.proofs.Laws.Text.ReadingLaws.{read_text_well_formed}
 use Rattle.columns.specs.Rows.{roll_width, flush_left}
 use Rattle.lines.specs.declared.lines.Form.TheVariants.{Page, Roll}
 use Rattle.lines.specs.Roll.{roll_bytes, form_bytes}

@@ -14,7 +14,7 @@ use Rattle.model.specs.Inner.Stored.{Stored}
 use Rattle.model.specs.Inner.StepTest.{tests}
 use Rattle.model.specs.Laws.System.StepTestLaws.{decided_view}
 use Rattle.verdicts.specs.Inner.VerdictTest.{rank_in}
-use Rattle.verdicts.specs.Laws.VerdictTestLaws.{rank_in→Rank, Reachable→reachable?}
+use Rattle.verdicts.proofs.Laws.VerdictTestLaws.{rank_in→Rank, Reachable→reachable?}
 use Rattle.lines.specs.Page.{DistanceField, unreached, reached, ClassOf, StateLines, no_state, next_state}
 use Rattle.page.specs.Inner.StateLinesTest.{least_passing, near?, rank_zero?, state_lines_of}
 use Rattle.model.specs.System.{view}

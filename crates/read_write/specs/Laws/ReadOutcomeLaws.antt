@@ -10,7 +10,7 @@ use Rattle.text.specs.Faults.{refuses, fault_number}
 use Rattle.read_write.specs.declared.read.ReadAnswer.{ReadAnswer}
 use Rattle.read_write.specs.declared.read.ReadAnswer.TheVariants as read
 use Rattle.read_write.specs.ReadPromise.{read_outcome, read_lists, ReadPromise, ReadCause}
-use Rattle.model.specs.Laws.OnStoreLaws.{option_cases}
+use Rattle.model.proofs.Laws.OnStoreLaws.{option_cases}
 
 -- A refusal 21 of Read is told in one way.
 short-read : (r : ReadAnswer) (k : ℕ) → read_outcome r ≡ refuses 21 k → r ≡ read.ShortList k

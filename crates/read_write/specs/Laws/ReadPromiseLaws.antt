@@ -9,11 +9,11 @@ use Rattle.text.specs.Faults.{Outcome, answers}
 use Rattle.text.specs.Model.{Model}
 use Rattle.text.specs.Laws.FirstShortLaws.{none_short_two}
 use Rattle.model.specs.Reading.{Reading, done, too_long, faulty, read_text}
-use Rattle.model.specs.Laws.Text.ReadingLaws.{read_text_well_formed}
+use Rattle.model.proofs.Laws.Text.ReadingLaws.{read_text_well_formed}
 use Rattle.model.specs.Store.{store_of, Good}
 use Rattle.model.specs.Laws.Store.StoreLaws.{store_of_length}
-use Rattle.model.specs.Laws.Store.StoredModelLaws.{holds_store_of}
-use Rattle.model.specs.Laws.OnStoreLaws.{option_cases}
+use Rattle.model.proofs.Laws.Store.StoredModelLaws.{holds_store_of}
+use Rattle.model.proofs.Laws.OnStoreLaws.{option_cases}
 use Rattle.read_write.specs.ReadPromise.{reading_outcome, read_lists, ReadPromise}
 use Rattle.reader.specs.Answers.{reading_store}
 

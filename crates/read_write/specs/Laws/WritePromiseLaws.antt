@@ -13,11 +13,11 @@ use Rattle.model.specs.OnStore.{OnStore}
 use Rattle.model.specs.Text.{model_text}
 use Rattle.model.specs.WellFormed.{WellFormed}
 use Rattle.model.specs.StatedText.{MText}
-use Rattle.model.specs.Laws.Text.ReadingLaws.{read_text-model_text, read_text_well_formed, states_of-read_text}
-use Rattle.model.specs.Laws.Text.ReadingLaws.{states_m_text}
-use Rattle.model.specs.Laws.Store.StoredModelLaws.{holds_store_of, good_m_text}
-use Rattle.model.specs.Laws.Store.GoodTestLaws.{good_cases}
-use Rattle.model.specs.Laws.OnStoreLaws.{on_store_unique}
+use Rattle.model.proofs.Laws.Text.ReadingLaws.{read_text-model_text, read_text_well_formed, states_of-read_text}
+use Rattle.model.proofs.Laws.Text.ReadingLaws.{states_m_text}
+use Rattle.model.proofs.Laws.Store.StoredModelLaws.{holds_store_of, good_m_text}
+use Rattle.model.proofs.Laws.Store.GoodTestLaws.{good_cases}
+use Rattle.model.proofs.Laws.OnStoreLaws.{on_store_unique}
 use Rattle.read_write.specs.ReadPromise.{reading_outcome, read_lists, ReadPromise}
 use Rattle.reader.specs.Answers.{reading_store}
 use Rattle.read_write.specs.Laws.ReadPromiseLaws.{read_lists_none, read_done, read_length}

@@ -8,7 +8,7 @@ use Rattle.text.specs.Limits.{name_limit, actions_begin}
 use Rattle.text.specs.Bytes.{byte_a}
 use Rattle.text.specs.Lines.{good, fields_of, action_fields}
 use Rattle.model.specs.Inner.StoredActions.{ActionsStored}
-use Rattle.model.specs.Laws.Store.NamesLaws.{actions_stored_store_of}
+use Rattle.model.proofs.Laws.Store.NamesLaws.{actions_stored_store_of}
 use Rattle.reader.specs.declared.answers.LineStart.{LineStart}
 use Rattle.reader.specs.Inner.ReadSoFar.{AfterActions}
 use Rattle.reader.specs.Laws.ReadLaws.{action_fields-length}

@@ -10,8 +10,8 @@ use Rattle.text.specs.declared.Head.{Head}
 use Rattle.text.specs.Model.{some_high?}
 use Rattle.model.specs.Reading.{faulty, behind_actions, read_actions}
 use Rattle.model.specs.StoredModel.{action_at, listed}
-use Rattle.model.specs.Laws.Text.PartsLaws.{behind_actions_high, behind_actions_no_high}
-use Rattle.model.specs.Laws.Store.NamesLaws.{listed_stored}
+use Rattle.model.proofs.Laws.Text.PartsLaws.{behind_actions_high, behind_actions_no_high}
+use Rattle.model.proofs.Laws.Store.NamesLaws.{listed_stored}
 use Rattle.model.specs.Laws.Store.StartsLaws.{last_start-nil}
 use Rattle.model.specs.Laws.Store.PutLaws.{actions_numbers-length_of_short}
 use Rattle.reader.specs.declared.answers.LineStart.{LineStart}

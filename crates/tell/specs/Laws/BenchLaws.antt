@@ -15,7 +15,7 @@ use Rattle.model.specs.System.{ReachableIn, DeterministicModel, view}
 use Rattle.verdicts.specs.declared.judging.Verdict.TheVariants.{Passed}
 use Rattle.model.specs.Inner.StepTest.{tests, step?, start?}
 use Rattle.model.specs.Laws.System.StepTestLaws.{decided_view}
-use Rattle.verdicts.specs.Laws.VerdictTestLaws.{Reachable→reachable?}
+use Rattle.verdicts.proofs.Laws.VerdictTestLaws.{Reachable→reachable?}
 use Rattle.tell.specs.BenchModels.{worked, worked_text, scanned_once, scanned_once_text, released, released_text}
 use Rattle.tell.specs.BenchModels.{scan, close}
 use Rattle.tell.specs.BenchModels.{close_low, close_low_text, branching, branching_text, no_steps, no_steps_text}

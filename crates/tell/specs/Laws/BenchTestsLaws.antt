@@ -17,18 +17,18 @@ use Rattle.text.specs.Lines.{level_of, all_of, name_byte?, name?, name_from, act
 use Rattle.text.specs.Lines.{above_starts?, start_from, start_of, step_from, step_of}
 use Rattle.model.specs.Reading.{done, on_line, or_fault, read_nothing, read_end, read_steps, start_line?, start_lines}
 use Rattle.model.specs.Reading.{read_starts, behind_actions, read_actions, read_model, read_text}
-use Rattle.model.specs.Laws.Text.ReadingLaws.{read_text_well_formed}
+use Rattle.model.proofs.Laws.Text.ReadingLaws.{read_text_well_formed}
 use Rattle.model.specs.Store.{store_of}
 use Rattle.model.specs.Laws.Store.StoreLaws.{store_of_length}
-use Rattle.model.specs.Laws.Store.StoredModelLaws.{holds_store_of}
+use Rattle.model.proofs.Laws.Store.StoredModelLaws.{holds_store_of}
 use Rattle.verdicts.specs.declared.judging.Verdict.{Verdict}
 use Rattle.verdicts.specs.declared.judging.Verdict.TheVariants.{Passed}
 use Rattle.model.specs.Inner.Stored.{Stored}
-use Rattle.model.specs.Laws.System.GoodStoredLaws.{holds→Stored}
+use Rattle.model.proofs.Laws.System.GoodStoredLaws.{holds→Stored}
 use Rattle.model.specs.Inner.StepTest.{step?, start?}
 use Rattle.verdicts.specs.Verdicts.{Judged}
 use Rattle.verdicts.specs.Inner.VerdictTest.{greatest_below, least_below, verdict_of}
-use Rattle.verdicts.specs.Laws.VerdictTestLaws.{verdict_of_judged}
+use Rattle.verdicts.proofs.Laws.VerdictTestLaws.{verdict_of_judged}
 use Rattle.tell.specs.BenchModels.{worked, worked_text, scanned_once, scanned_once_text, released, released_text}
 use Rattle.tell.specs.BenchModels.{scan, close}
 use Rattle.tell.specs.BenchModels.{close_low, close_low_text, branching, branching_text, no_steps, no_steps_text}

@@ -15,10 +15,10 @@ use Rattle.verdicts.specs.declared.judging.Verdict.{Verdict}
 use Rattle.verdicts.specs.declared.judging.Verdict.TheVariants.{Passed, Refused}
 use Rattle.verdicts.specs.Verdicts.{RefusedAt, Judged}
 use Rattle.model.specs.Inner.Stored.{Stored}
-use Rattle.model.specs.Laws.System.GoodStoredLaws.{holds→Stored}
-use Rattle.verdicts.specs.Laws.VerdictsLaws.{no_leak_of_bnid}
+use Rattle.model.proofs.Laws.System.GoodStoredLaws.{holds→Stored}
+use Rattle.verdicts.proofs.Laws.VerdictsLaws.{no_leak_of_bnid}
 use Rattle.verdicts.specs.Inner.VerdictTest.{verdict_of}
-use Rattle.verdicts.specs.Laws.VerdictTestLaws.{verdict_of_judged}
+use Rattle.verdicts.proofs.Laws.VerdictTestLaws.{verdict_of_judged}
 use Rattle.judge.specs.JudgePromise.{verdict_outcome, judge_lists, JudgePromise}
 use Rattle.judge.specs.Laws.JudgeOutcomeLaws.{passed_or-refused, refused_same}
 use Rattle.letters.specs.declared.word.End.{End}

@@ -14,8 +14,8 @@ use Rattle.model.specs.StoredModel.{Holds}
 use Rattle.read_write.specs.ReadPromise.{reading_outcome, read_lists, ReadPromise}
 use Rattle.text.specs.Laws.FirstShortLaws.{first_short_lt, first_short_le}
 use Rattle.read_write.specs.Laws.ReadPromiseLaws.{read_done, read_length}
-use Rattle.model.specs.Laws.Text.ReadingLaws.{read_text_iff}
-use Rattle.model.specs.Laws.Store.StoredModelLaws.{holds_store_of}
+use Rattle.model.proofs.Laws.Text.ReadingLaws.{read_text_iff}
+use Rattle.model.proofs.Laws.Store.StoredModelLaws.{holds_store_of}
 use Rattle.tell.specs.Claim.{States, NotShort}
 
 -- ---- a call that did not give 21 had all its lists

@@ -23,7 +23,7 @@ use Rattle.letters.specs.declared.word.End.{End}
 use Rattle.letters.specs.declared.word.End.TheVariants.{Source, Target}
 use Rattle.letters.specs.Words.{end_state, other_state, FirstSilent, WordOf}
 use Rattle.verdicts.specs.Inner.VerdictTest.{reachable?}
-use Rattle.verdicts.specs.Laws.VerdictTestLaws.{reachable?→Reachable}
+use Rattle.verdicts.proofs.Laws.VerdictTestLaws.{reachable?→Reachable}
 use Rattle.tell.specs.Inner.WordTest.{only_step?, unbranched?, still?, first_silent?, low?, allows?, only_from?}
 use Rattle.tell.specs.Inner.WordTest.{just_one?, not_after?, each_word?, later?, word_of?}
 

@@ -3,7 +3,7 @@ use Prim.Native.Nat.{◌≤◌}
 use native.Mathlib.Omega.{arith}
 use lib.ListN.{length}
 use Rattle.text.specs.Limits.{page_length}
-use Rattle.model.specs.Laws.System.GoodStoredLaws.{good→Stored}
+use Rattle.model.proofs.Laws.System.GoodStoredLaws.{good→Stored}
 use Rattle.tell.proofs.TextAnswers.{read_long_good}
 use Rattle.page.proofs.ReadRefusals.{refuses_of}
 use Rattle.page.proofs.PrintsTextAnswers.{line_counts, prints_text_unread, prints_text_read}

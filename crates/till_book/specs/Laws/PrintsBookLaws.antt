@@ -8,8 +8,8 @@ use Rattle.text.specs.Model.{Model}
 use Rattle.model.specs.System.{view}
 use Rattle.model.specs.Inner.Stored.{Stored}
 use Rattle.model.specs.WellFormed.{WellFormed}
-use Rattle.model.specs.Laws.System.GoodStoredLaws.{well_formed_stored}
-use Rattle.model.specs.Laws.System.RankBoundLaws.{weak_move_game}
+use Rattle.model.proofs.Laws.System.GoodStoredLaws.{well_formed_stored}
+use Rattle.model.proofs.Laws.System.RankBoundLaws.{weak_move_game}
 use Rattle.books.specs.Books.{BookFilled}
 use Rattle.books.specs.Laws.BytesLaws.{own_book_unique, own_book-take}
 use Rattle.page.specs.Laws.PrintsTextLaws.{prints_text_unique}

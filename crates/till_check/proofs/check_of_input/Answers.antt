@@ -1,6 +1,6 @@
 -- What is found of the book on what Read left, or the line that tells why it refused. Assumes nothing.
 use native.Mathlib.Omega.{arith}
-use Rattle.model.specs.Laws.System.GoodStoredLaws.{good→Stored}
+use Rattle.model.proofs.Laws.System.GoodStoredLaws.{good→Stored}
 use Rattle.books.specs.Checks.{checked_outcome}
 use Rattle.tell.proofs.TextAnswers.{read_long_good}
 use Rattle.page.proofs.ReadRefusals.{refuses_of}

@@ -10,8 +10,8 @@ use Rattle.text.specs.Laws.AllLaws.{all_of_all}
 use Rattle.model.specs.StoredModel.{head_at, action_at, model_at}
 use Rattle.model.specs.System.{name_of}
 use Rattle.model.specs.Inner.LineText.{NameByte}
-use Rattle.model.specs.Laws.Store.GoodLaws.{Good→GoodPlaces}
-use Rattle.model.specs.Laws.Store.StoredModelLaws.{action_at_holds, Good→Holds, good_well_formed}
+use Rattle.model.proofs.Laws.Store.GoodLaws.{Good→GoodPlaces}
+use Rattle.model.proofs.Laws.Store.StoredModelLaws.{action_at_holds, Good→Holds, good_well_formed}
 use Rattle.model.specs.Laws.Store.WellFormedLaws.{action_fits}
 use Rattle.model.specs.Laws.Text.ActionLineLaws.{name_bytes, name-length, name_byte_lt}
 use Rattle.writer.specs.Inner.Writable.{Writable}

@@ -5,8 +5,8 @@ use Rattle.std.proofs.Common.{arith}
 use Rattle.text.specs.Limits.{action_limit, step_limit, extra_limit, out_length}
 use Rattle.text.specs.Laws.RangesLaws.{head_fits?→HeadRanges}
 use Rattle.model.specs.StoredModel.{head_at, extra_count_at, model_at}
-use Rattle.model.specs.Laws.Store.StoredModelLaws.{good_well_formed}
-use Rattle.model.specs.Laws.System.GoodStoredLaws.{good→Stored}
+use Rattle.model.proofs.Laws.Store.StoredModelLaws.{good_well_formed}
+use Rattle.model.proofs.Laws.System.GoodStoredLaws.{good→Stored}
 use Rattle.model.specs.Text.{model_text}
 use Rattle.model.specs.Laws.Text.TextLengthLaws.{model_text-length_le}
 use Rattle.writer.specs.Inner.Writable.{Writable}

@@ -4,8 +4,8 @@ use mathlib.Core.Path.{◌≡◌, refl}
 use Rattle.text.specs.Faults.{Outcome, answers}
 use Rattle.text.specs.Laws.FirstShortLaws.{first_short_is, second_short, third_short, none_short_three}
 use Rattle.text.specs.Laws.DecidesLaws.{decides_passed, decides-refused}
-use Rattle.model.specs.Laws.OnStoreLaws.{on_store_short, on_store_not_good, on_store-model}
-use Rattle.model.specs.Laws.System.GoodStoredLaws.{passed→Stored}
+use Rattle.model.proofs.Laws.OnStoreLaws.{on_store_short, on_store_not_good, on_store-model}
+use Rattle.model.proofs.Laws.System.GoodStoredLaws.{passed→Stored}
 use Rattle.judge.specs.BookPromise.{book_outcome, BookDone}
 use Rattle.judge.proofs.book.book.Goals as goal
 

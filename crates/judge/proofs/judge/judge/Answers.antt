@@ -2,7 +2,7 @@
 use native.Mathlib.Omega.{arith}
 use Rattle.model.specs.Store.{Good}
 use Rattle.text.specs.Laws.DecidesLaws.{decides_passed, decides-refused}
-use Rattle.model.specs.Laws.System.GoodStoredLaws.{good→Stored}
+use Rattle.model.proofs.Laws.System.GoodStoredLaws.{good→Stored}
 use Rattle.judge.specs.Laws.JudgePromiseLaws.{judge_first_short, judge_second_short, judge_third_short}
 use Rattle.judge.specs.Laws.JudgePromiseLaws.{judge_not_good, judge_done}
 use Rattle.judge.proofs.judge.judge.Goals as goal

@@ -1,6 +1,6 @@
 -- Each list that is short is a way of both promises; the rest is what `judge_good` leaves and what `show` finds.
 use native.Mathlib.Omega.{arith}
-use Rattle.model.specs.Laws.System.GoodStoredLaws.{good→Stored}
+use Rattle.model.proofs.Laws.System.GoodStoredLaws.{good→Stored}
 use Rattle.letters.specs.Laws.ShowableLaws.{judging→Showable}
 use Rattle.judge.proofs.JudgeWordAnswers.{short_distances_answered, short_table_answered, short_word_answered}
 use Rattle.judge.proofs.JudgeWordAnswers.{done_answered}

@@ -5,10 +5,10 @@ use Prim.Native.Nat.{ℕ}
 use native.Mathlib.Omega.{arith}
 use Rattle.text.specs.Faults.{Outcome, answers}
 use Rattle.text.specs.Laws.FirstShortLaws.{first_short_is, second_short, none_short_two}
-use Rattle.model.specs.Laws.OnStoreLaws.{on_store_short, on_store_not_good, on_store-model}
+use Rattle.model.proofs.Laws.OnStoreLaws.{on_store_short, on_store_not_good, on_store-model}
 use Rattle.text.specs.Laws.DecidesLaws.{decides_passed, decides-refused}
 use Rattle.ranking.specs.Table.{Ranked}
-use Rattle.model.specs.Laws.System.GoodStoredLaws.{passed→Stored}
+use Rattle.model.proofs.Laws.System.GoodStoredLaws.{passed→Stored}
 use Rattle.judge.specs.RankPromise.{rank_outcome}
 use Rattle.model.specs.System.{view}
 use Rattle.lts.specs.Weak.{WeakMove}

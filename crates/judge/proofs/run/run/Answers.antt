@@ -1,9 +1,9 @@
 -- Tested in the order of the refusals; the rest is Run on a good store.
 use mathlib.Core.Path.{refl}
 use Rattle.text.specs.Laws.FirstShortLaws.{first_short_is, second_short, third_short, none_short_three}
-use Rattle.model.specs.Laws.OnStoreLaws.{on_store_short, on_store_not_good, on_store-model}
+use Rattle.model.proofs.Laws.OnStoreLaws.{on_store_short, on_store_not_good, on_store-model}
 use Rattle.text.specs.Laws.DecidesLaws.{decides_passed, decides-refused}
-use Rattle.model.specs.Laws.System.GoodStoredLaws.{passed→Stored}
+use Rattle.model.proofs.Laws.System.GoodStoredLaws.{passed→Stored}
 use Rattle.judge.specs.RunPromise.{run_outcome, RunDone}
 use Rattle.judge.proofs.run.run.Goals as goal
 

@@ -1,7 +1,7 @@
 -- Each refusal is a way of the promise; on a good store it is what `judge_good` fills and `show` shows.
 use native.Mathlib.Omega.{arith}
 use Rattle.text.specs.Laws.DecidesLaws.{decides_passed, decides-refused}
-use Rattle.model.specs.Laws.System.GoodStoredLaws.{good→Stored}
+use Rattle.model.proofs.Laws.System.GoodStoredLaws.{good→Stored}
 use Rattle.judge.proofs.WordAnswers.{short_store_promised, short_distances_promised, short_table_promised}
 use Rattle.judge.proofs.WordAnswers.{short_word_promised, not_good_promised, done_promised}
 use Rattle.letters.specs.Laws.ShowableLaws.{judging→Showable}

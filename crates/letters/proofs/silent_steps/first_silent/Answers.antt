@@ -4,7 +4,7 @@ use Prim.Native.Nat.{◌-◌}
 use native.Mathlib.Omega.{arith}
 use borrow.Author.Count.{below_more}
 use Rattle.text.specs.Laws.DecidesLaws.{decides_true, decides_false, decides-refused}
-use Rattle.model.specs.Laws.System.SilentStepLaws.{no_tick_of_no_silent_step}
+use Rattle.model.proofs.Laws.System.SilentStepLaws.{no_tick_of_no_silent_step}
 use Rattle.model.specs.Laws.System.StoredLaws.{stored_steps}
 use Rattle.text.specs.Laws.FirstLaws.{first_found}
 use Rattle.moves.specs.Laws.LabellingLaws.{no-tick}

@@ -1,6 +1,6 @@
 -- A store is good exactly if its places are.
 use Rattle.text.specs.Laws.DecidesLaws.{decides_iff}
-use Rattle.model.specs.Laws.Store.GoodLaws.{GoodPlaces→Good, Good→GoodPlaces}
+use Rattle.model.proofs.Laws.Store.GoodLaws.{GoodPlaces→Good, Good→GoodPlaces}
 use Rattle.model.proofs.good.good.Goals as goal
 
 pub returns : goal.returns

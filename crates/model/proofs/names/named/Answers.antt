@@ -5,7 +5,7 @@ use borrow.Author.Count.{below_more}
 use native.Mathlib.Omega.{arith}
 use Prim.Native.Nat.{◌-◌}
 use mathlib.Core.Path.{sym, ◌∙◌}
-use Rattle.model.specs.Laws.Store.NamesLaws.{named_length, named_differ, named_same}
+use Rattle.model.proofs.Laws.Store.NamesLaws.{named_length, named_differ, named_same}
 use Rattle.model.proofs.names.named.Goals as goal
 
 pub returns-then-name_length-name : goal.returns-then-name_length-name

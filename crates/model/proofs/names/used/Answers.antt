@@ -5,7 +5,7 @@ use Prim.Native.Nat.{◌-◌, ◌<◌}
 use mathlib.Core.Bool.{true, false}
 use mathlib.Core.Path.{◌≡◌, refl, sym, ◌∙◌}
 use lib.ListN.{length}
-use Rattle.model.specs.Laws.Store.NamesLaws.{used?_drop, used?_none}
+use Rattle.model.proofs.Laws.Store.NamesLaws.{used?_drop, used?_none}
 use Rattle.model.proofs.names.used.Goals as goal
 
 pub loop-i-init : goal.loop-i-init

@@ -17,7 +17,7 @@ use Rattle.model.specs.StatedText.{MText, TextKind, m_text, States}
 use Rattle.model.specs.Inner.LineText.{parts_of}
 use Rattle.model.specs.Laws.Text.TextLaws.{model_text-parts, parts_of_all}
 use Rattle.model.specs.Laws.Text.TextLengthLaws.{model_text-length_le}
-use Rattle.model.specs.Laws.Text.PartsLaws.{read_model-parts, parts_of_of-read_model}
+use Rattle.model.proofs.Laws.Text.PartsLaws.{read_model-parts, parts_of_of-read_model}
 
 -- ---- a text and its model
 

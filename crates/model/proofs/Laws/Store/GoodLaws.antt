@@ -3,10 +3,10 @@
 use Rattle.std.specs.Prelude.{List, ℕ, ◌≤◌, length}
 use Rattle.text.specs.Limits.{store_length}
 use Rattle.model.specs.Store.{Good}
-use Rattle.model.specs.Laws.Store.StoredModelLaws.{Good→Holds, Holds→Good}
+use Rattle.model.proofs.Laws.Store.StoredModelLaws.{Good→Holds, Holds→Good}
 use Rattle.model.specs.Inner.GoodPlaces.{GoodPlaces}
-use Rattle.model.specs.Laws.Store.GoodPlacesLaws.{GoodPlaces→Holds}
-use Rattle.model.specs.Laws.Store.HoldsLaws.{Holds→GoodPlaces}
+use Rattle.model.proofs.Laws.Store.GoodPlacesLaws.{GoodPlaces→Holds}
+use Rattle.model.proofs.Laws.Store.HoldsLaws.{Holds→GoodPlaces}
 
 module _ (s : List ℕ) (fits : store_length ≤ length s) where
   pub GoodPlaces→Good : GoodPlaces s → Good s

@@ -20,7 +20,7 @@ use Rattle.model.specs.Store.{padded, action_numbers, actions_numbers, steps_num
 use Rattle.model.specs.Store.{extra_numbers, store_of}
 use Rattle.model.specs.Inner.StoredActions.{ActionStored, ActionsStored, Short}
 use Rattle.model.specs.Laws.Store.StoreLaws.{action_numbers-length}
-use Rattle.model.specs.Laws.Store.StoredModelLaws.{listed_all, action_at_lem}
+use Rattle.model.proofs.Laws.Store.StoredModelLaws.{listed_all, action_at_lem}
 use Rattle.model.specs.StoredModel.{action_at, listed}
 
 -- ---- one name

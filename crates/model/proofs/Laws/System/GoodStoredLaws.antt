@@ -12,9 +12,9 @@ use Rattle.model.specs.StoredModel.{model_at, Holds}
 use Rattle.model.specs.System.{source, action}
 use Rattle.model.specs.WellFormed.{WellFormed}
 use Rattle.model.specs.Laws.Store.StoreLaws.{steps_le, store_of_length}
-use Rattle.model.specs.Laws.Store.StoredModelLaws.{head_at_holds, step_at_holds, level_holds, holds_store_of}
-use Rattle.model.specs.Laws.Store.StoredModelLaws.{extra_count_at_holds, extra_start_at_holds, Good→Holds}
-use Rattle.model.specs.Laws.Store.StoredModelLaws.{holds_of_good, good-model}
+use Rattle.model.proofs.Laws.Store.StoredModelLaws.{head_at_holds, step_at_holds, level_holds, holds_store_of}
+use Rattle.model.proofs.Laws.Store.StoredModelLaws.{extra_count_at_holds, extra_start_at_holds, Good→Holds}
+use Rattle.model.proofs.Laws.Store.StoredModelLaws.{holds_of_good, good-model}
 use Rattle.model.specs.Laws.Store.StartsLaws.{extra_count_le}
 use Rattle.model.specs.Laws.Store.SystemLaws.{start_lt}
 use Rattle.model.specs.Laws.Store.WellFormedLaws.{head_ranges, step_ranges, step_above, level_le}

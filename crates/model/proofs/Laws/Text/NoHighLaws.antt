@@ -20,7 +20,7 @@ use Rattle.model.specs.WellFormed.{EachAfter, ActionFits}
 use Rattle.model.specs.Inner.LineText.{LineByte, line_of_head, line_of_action}
 use Rattle.model.specs.Laws.Text.TextLaws.{head_text_line, action_text_line, line_of_head-line_bytes}
 use Rattle.model.specs.Laws.Text.TextLaws.{line_of_action-line_bytes}
-use Rattle.model.specs.Laws.Text.PartsLaws.{read_model_no_high}
+use Rattle.model.proofs.Laws.Text.PartsLaws.{read_model_no_high}
 
 -- a line and its end, before what follows
 split_line : (line rest : List ℕ) → All LineByte line

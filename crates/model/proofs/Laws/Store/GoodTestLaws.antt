@@ -16,7 +16,7 @@ use Rattle.model.specs.Store.{store_of, Good}
 use Rattle.model.specs.WellFormed.{EachAfter, ActionFits, StartFits, StepFits, WellFormed}
 use Rattle.model.specs.StoredModel.{head_at, extra_count_at, extra_start_at, model_at, Holds}
 use Rattle.model.specs.Laws.Store.StartsLaws.{extra_count_le}
-use Rattle.model.specs.Laws.Store.StoredModelLaws.{listed-length, Good→Holds, Holds→Good}
+use Rattle.model.proofs.Laws.Store.StoredModelLaws.{listed-length, Good→Holds, Holds→Good}
 use Rattle.model.specs.GoodTest.{each_after?, action_fits?, start_rises?, step_rises?, well_formed?, holds?, good?}
 
 -- ---- each

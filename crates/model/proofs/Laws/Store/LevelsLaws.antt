@@ -6,8 +6,8 @@ use Rattle.text.specs.Model.{ActionLine, Model, some_high?}
 use Rattle.model.specs.Inner.StoredActions.{Short}
 use Rattle.model.specs.Store.{head_row, store_of, Good}
 use Rattle.model.specs.StoredModel.{model_at}
-use Rattle.model.specs.Laws.Store.StoredModelLaws.{good_well_formed}
-use Rattle.model.specs.Laws.Store.NamesLaws.{actions_stored_store_of, listed_stored}
+use Rattle.model.proofs.Laws.Store.StoredModelLaws.{good_well_formed}
+use Rattle.model.proofs.Laws.Store.NamesLaws.{actions_stored_store_of, listed_stored}
 
 -- "stores made from such texts are no longer good", whatever follows
 pub store_of_no-high : (m : Model) (rest : List ℕ) → length m.actions ≡ m.head.actions → Short m.actions

@@ -16,7 +16,7 @@ use Rattle.model.specs.System.{source, action, target, level, SilentStep, Reacha
 use Rattle.model.specs.Inner.Stored.{Stored}
 use Rattle.model.specs.Inner.StepTest.{tests}
 use Rattle.model.specs.Laws.System.StepTestLaws.{decided_view, bounded_view}
-use Rattle.model.specs.Laws.System.RankBoundLaws.{low_step_game, weak_move_game, no_silent_label_view}
+use Rattle.model.proofs.Laws.System.RankBoundLaws.{low_step_game, weak_move_game, no_silent_label_view}
 
 module _ (m : Model) where
   -- A silent step of the view from a reachable state is one of the model that can be reached, and the other way round.

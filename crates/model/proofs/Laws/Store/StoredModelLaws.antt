@@ -14,8 +14,8 @@ use Rattle.text.specs.Limits.{name_limit, name_length_column, name_column, actio
 use Rattle.text.specs.Limits.{action_place, name_length_place, name_place, step_place, action_of_step_place, target_place}
 use Rattle.text.specs.Limits.{extra_count_place, extra_place}
 use Rattle.text.specs.Model.{ActionLine, Model, no_action, no_step}
-use Rattle.model.specs.Laws.Text.ReadingLaws.{read_text-model_text, read_text_well_formed, states_of-read_text}
-use Rattle.model.specs.Laws.Text.ReadingLaws.{states_m_text, m_text_unique}
+use Rattle.model.proofs.Laws.Text.ReadingLaws.{read_text-model_text, read_text_well_formed, states_of-read_text}
+use Rattle.model.proofs.Laws.Text.ReadingLaws.{states_m_text, m_text_unique}
 use Rattle.model.specs.Text.{model_text}
 use Rattle.model.specs.Store.{action_numbers, step_row, head_row, extra_numbers, store_of, Good}
 use Rattle.model.specs.Laws.Store.StoreLaws.{store_of_length, store_of_action, store_of_step, store_of_extra}

@@ -10,8 +10,8 @@ use Rattle.model.specs.OnStore.{OnStore}
 use Rattle.text.specs.Model.{Model}
 use Rattle.model.specs.Store.{Good}
 use Rattle.model.specs.StoredModel.{model_at}
-use Rattle.model.specs.Laws.Store.StoredModelLaws.{good-model}
-use Rattle.model.specs.Laws.Store.GoodTestLaws.{good_cases}
+use Rattle.model.proofs.Laws.Store.StoredModelLaws.{good-model}
+use Rattle.model.proofs.Laws.Store.GoodTestLaws.{good_cases}
 
 module _ {lists : Option ℕ} {store : List ℕ} {outcome : Outcome} {Unchanged : Type 0} {Done : Good store → Type 0} where
   pub on_store_short : {place : ℕ} → lists ≡ some place → outcome ≡ refuses 21 place → Unchanged

@@ -25,8 +25,8 @@ use Rattle.model.specs.Laws.Text.ActionLineLaws.{name-length}
 use Rattle.model.specs.Laws.Store.StoreLaws.{actions_numbers-length, steps_numbers-length}
 use Rattle.model.specs.Laws.Store.StoreLaws.{before_steps_length, actions_places, store_of_action}
 use Rattle.model.specs.Laws.Store.StartsLaws.{last_start-listed, extra_count_le}
-use Rattle.model.specs.Laws.Store.StoredModelLaws.{listed-length, get_or_of-drop, holds_store, action_at_holds}
-use Rattle.model.specs.Laws.Store.StoredModelLaws.{extra_drop}
+use Rattle.model.proofs.Laws.Store.StoredModelLaws.{listed-length, get_or_of-drop, holds_store, action_at_holds}
+use Rattle.model.proofs.Laws.Store.StoredModelLaws.{extra_drop}
 use Rattle.model.specs.Inner.GoodPlaces.{name_length_at, GoodAction, GoodStep, GoodStart, GoodStarts, GoodPlaces}
 use Rattle.model.specs.Laws.Store.PlacesLaws.{padded-zero, all_of→get_or}
 use Rattle.model.specs.Laws.Store.ListedLaws.{each_listed, listed_used?}

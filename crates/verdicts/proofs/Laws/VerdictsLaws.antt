@@ -15,7 +15,7 @@ use Rattle.verdicts.specs.declared.judging.Verdict.{Verdict}
 use Rattle.verdicts.specs.declared.judging.Verdict.TheVariants.{Passed, Refused}
 use Rattle.model.specs.Inner.Stored.{Stored}
 use Rattle.lts.proofs.TestsLaws.{T-eqb}
-use Rattle.model.specs.Laws.System.RankBoundLaws.{actions_le_silent_label, stored_rank_lt}
+use Rattle.model.proofs.Laws.System.RankBoundLaws.{actions_le_silent_label, stored_rank_lt}
 use Rattle.model.specs.Laws.System.StepTestLaws.{decided_view}
 use Rattle.ranking.specs.Table.{Greatest}
 use Rattle.ranking.specs.Laws.RankedLaws.{greatest_unique}

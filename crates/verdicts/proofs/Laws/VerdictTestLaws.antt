@@ -14,11 +14,11 @@ use Rattle.model.specs.System.{source, action, target, level, ReachableIn, IsSta
 use Rattle.model.specs.Inner.Stored.{Stored}
 use Rattle.lts.proofs.TestsLaws.{T-eqb}
 use Rattle.model.specs.Inner.StepTest.{tests}
-use Rattle.model.specs.Laws.System.RankBoundLaws.{actions_le_silent_label}
+use Rattle.model.proofs.Laws.System.RankBoundLaws.{actions_le_silent_label}
 use Rattle.model.specs.Laws.System.StepTestLaws.{decided_view}
 use Rattle.ranking.specs.Table.{Greatest}
 use Rattle.verdicts.specs.Verdicts.{Leak, Judged}
-use Rattle.verdicts.specs.Laws.VerdictsLaws.{passed_of_no_leak}
+use Rattle.verdicts.proofs.Laws.VerdictsLaws.{passed_of_no_leak}
 use Rattle.verdicts.specs.Inner.LeakSearch.{DepthAt, FoundBelow}
 use Rattle.verdicts.specs.Laws.LeakSearchLaws.{found_zero, found_skip, found_keep, found_new}
 use Rattle.verdicts.specs.Laws.LeakSearchLaws.{refused_of_found, no_leak_of_found}

@@ -26,7 +26,7 @@ use Rattle.text.specs.Inner.Ranges.{HeadRanges}
 use Rattle.text.specs.Laws.BytesLaws.{le→between?}
 use Rattle.text.specs.Laws.RangesLaws.{head_fits?→HeadRanges, lt→above_starts?}
 use Rattle.model.specs.Laws.Store.StartsLaws.{last_start-listed}
-use Rattle.model.specs.Laws.Store.StoredModelLaws.{listed-length, listed-take}
+use Rattle.model.proofs.Laws.Store.StoredModelLaws.{listed-length, listed-take}
 use Rattle.model.specs.Inner.GoodPlaces.{name_length_at, GoodAction, GoodPlaces}
 use Rattle.model.specs.Laws.Store.PlacesLaws.{part_length, part-cons, padded_part, get_or→all_of}
 use Rattle.model.specs.Laws.Store.ListedLaws.{listed_each, used?_listed, blocks_listed}

@@ -13,7 +13,7 @@ use Rattle.model.specs.WellFormed.{WellFormed}
 use Rattle.model.specs.System.{view}
 use Rattle.model.specs.Inner.Stored.{Stored}
 use Rattle.model.specs.Inner.StepTest.{tests}
-use Rattle.model.specs.Laws.System.GoodStoredLaws.{well_formed_stored}
+use Rattle.model.proofs.Laws.System.GoodStoredLaws.{well_formed_stored}
 use Rattle.model.specs.Laws.System.StepTestLaws.{decided_view}
 
 module _ {s : List ℕ} {m : Model} (st : Stored s m) where

@@ -1,0 +1,4 @@
+pub mod OnStoreLaws
+pub mod Store
+pub mod System
+pub mod Text

@@ -1,0 +1,3 @@
+pub mod GoodStoredLaws
+pub mod RankBoundLaws
+pub mod SilentStepLaws

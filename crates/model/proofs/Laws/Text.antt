@@ -1,0 +1,3 @@
+pub mod NoHighLaws
+pub mod PartsLaws
+pub mod ReadingLaws

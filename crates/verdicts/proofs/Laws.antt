@@ -1,0 +1,3 @@
+pub mod ModelListsLaws
+pub mod VerdictTestLaws
+pub mod VerdictsLaws
