@@ -1,6 +1,6 @@
 -- Damaged texts, each refused by evaluation with its fault at its line.
 -- Document 01, "Refused because of the input" and "Bench models"; document 02, (i).
-use Rattle.std.specs.Prelude.{List, [], ◌∷◌, ◌++◌, ◌≡◌, refl, ℕ, ◌+◌, replicate}
+use Rattle.std.specs.Prelude.{List, [], ◌∷◌, ◌++◌, ◌≡◌, refl, ℕ, replicate}
 use Rattle.text.specs.declared.Fault.TheVariants.{Absent, Shape, Digits, Range, Repeated, Order}
 use Rattle.text.specs.Bytes.{kind_of}
 use Rattle.text.specs.Numbers.{digits_value, number_shape?, number_of, in_bounds?, bounded, number_in}

@@ -1,6 +1,6 @@
 -- A book that was cleared is filled entry by entry and row by row, until it is our own. Document 02, (v). Assumes
 -- nothing.
-use Rattle.std.specs.Prelude.{List, ◌⊎◌, ◌≡◌, refl, ℕ, ◌+◌, ◌*◌, ◌≤◌, ◌<◌}
+use Rattle.std.specs.Prelude.{List, ◌≡◌, refl, ℕ, ◌+◌, ◌*◌, ◌≤◌, ◌<◌}
 use Rattle.std.proofs.Common.{⊎_elim, sym, ◌∙◌, subst, arith, below_more}
 use Rattle.lts.specs.Alike.{Moves}
 use Rattle.lts.specs.Book.{no_entry, OwnBook}

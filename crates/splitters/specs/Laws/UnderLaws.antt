@@ -1,6 +1,6 @@
 -- The states under each class: those of a new class are its own, since nothing was divided off it yet; and where a
 -- class is divided, its states stay under all that it was under. Assumes nothing.
-use Rattle.std.specs.Prelude.{List, ◌⊎◌, ◌≡◌, ℕ, ◌≤◌, ◌<◌, get_or}
+use Rattle.std.specs.Prelude.{List, ◌≡◌, ℕ, ◌≤◌, ◌<◌, get_or}
 use Rattle.std.proofs.Common.{⊎_elim, sym, ◌∙◌, subst, arith}
 use Rattle.lts.proofs.TestsLaws.{lt_or_le}
 use Rattle.sets.specs.Inner.Sets.{Member}

@@ -19,7 +19,6 @@ use Rattle.text.specs.Lines.{row_letter, row_count, row_from, row_of}
 use Rattle.text.specs.Inner.PartAnswers.{Fields}
 use Rattle.text.specs.Inner.Row.{LineAt}
 use Rattle.text.specs.Inner.Row.{RowTo, BadNumbers, RowScanned, RowRefused, RowAt}
-use Rattle.text.specs.Laws.SplitLaws.{is}
 
 -- ---- what reading some numbers came to
 

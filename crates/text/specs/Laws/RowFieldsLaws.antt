@@ -9,14 +9,14 @@ use Rattle.std.proofs.Math.ListN.{drop, get_or, length-drop}
 use Rattle.text.specs.declared.number.Bounds.{Bounds}
 use Rattle.text.specs.declared.row.Row.{Row}
 use Rattle.text.specs.Bytes.{comma, line_end, kind_of}
-use Rattle.text.specs.Split.{split, index_of, same?}
+use Rattle.text.specs.Split.{split, index_of}
 use Rattle.text.specs.Lines.{good, fields_of, numbers_of}
 use Rattle.text.specs.Lines.{row_letter, row_count, row_from, row_of}
 use Rattle.text.specs.Inner.NumberAt.{field_of}
 use Rattle.text.specs.Inner.Row.{line_fields, fields_after, line_at, RowBegins}
 use Rattle.text.specs.Inner.Row.{row_fields, bounds_at, BadNumbers}
 use Rattle.text.specs.Laws.ListLaws.{drop_next}
-use Rattle.text.specs.Laws.SplitLaws.{same, index_of-cons}
+use Rattle.text.specs.Laws.SplitLaws.{index_of-cons}
 use Rattle.text.specs.Laws.FieldsLaws.{same?_byte, fields_good, fields_of_good}
 use Rattle.text.specs.Laws.LineFieldsLaws.{line_fields-field}
 use Rattle.text.specs.Laws.LineFieldsLaws.{letter-field}

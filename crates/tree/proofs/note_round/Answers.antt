@@ -1,5 +1,4 @@
 -- The classes from `from` up to c have the round.
-use Prim.Native.Nat.{◌-◌}
 use native.Mathlib.Omega.{arith}
 use Rattle.tree.specs.Laws.EntriesLaws.{round_noted_none, round_noted-suc, round_noted-end}
 use Rattle.tree.proofs.note_round.Goals as goal

@@ -1,5 +1,4 @@
 -- The entries of p and the states below q are written.
-use Prim.Native.Nat.{◌-◌}
 use native.Mathlib.Omega.{arith}
 use Rattle.books.specs.Laws.RowsLaws.{row_filled_zero, row_filled_suc, row_filled_at, row_empty}
 use Rattle.books.proofs.book.fill_row.Goals as goal

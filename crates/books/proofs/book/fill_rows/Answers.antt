@@ -1,5 +1,4 @@
 -- The entries of the states below p are written.
-use Prim.Native.Nat.{◌-◌}
 use native.Mathlib.Omega.{arith}
 use Rattle.books.specs.Laws.RowsLaws.{entries_filled_zero, entries_filled_suc, entries_filled_at, rows_empty}
 use Rattle.books.proofs.book.fill_rows.Goals as goal

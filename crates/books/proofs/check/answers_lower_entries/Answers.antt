@@ -1,6 +1,6 @@
 -- Each place of the group up to place j leads to an entry of lower depth.
 use mathlib.Core.Path.{refl}
-use Prim.Native.Nat.{ℕ, ◌-◌}
+use Prim.Native.Nat.{ℕ}
 use native.Mathlib.Omega.{arith}
 use borrow.Author.Count.{below_more}
 use Rattle.lts.specs.Book.{LowerEntry}

@@ -1,5 +1,4 @@
 -- The entries of the numbers below p are sound.
-use Prim.Native.Nat.{◌-◌}
 use Rattle.books.specs.Inner.Groups.{Indexed}
 use Rattle.books.specs.Inner.Still.{Still}
 use Rattle.books.specs.Laws.ChecksLaws.{rows_sound_zero, rows_sound_add_one, sound_to_bad, sound_to_all}

@@ -1,5 +1,4 @@
 -- The entries of p before that of p and q are sound.
-use Prim.Native.Nat.{◌-◌}
 use native.Mathlib.Omega.{arith}
 use borrow.Author.Count.{below_more}
 use Rattle.lts.specs.Book.{SoundAt}

@@ -1,6 +1,6 @@
 -- No place of the group up to place i has the target t.
 use mathlib.Core.Path.{◌≡◌, refl}
-use Prim.Native.Nat.{ℕ, ◌-◌}
+use Prim.Native.Nat.{ℕ}
 use native.Mathlib.Omega.{arith}
 use borrow.Author.Count.{below_more}
 use Rattle.books.specs.Laws.InGroupLaws.{in_group_to_le, indexed_at, indexed_each}

@@ -1,6 +1,5 @@
 -- The places from `from` up to place k have the value, and all of them are below `to`.
 use mathlib.Core.Path.{refl}
-use Prim.Native.Nat.{◌-◌}
 use native.Mathlib.Omega.{arith}
 use lib.ListN.{length-set}
 use Rattle.books.specs.Laws.GroupsLaws.{given-nil, given_add_one, given_to}

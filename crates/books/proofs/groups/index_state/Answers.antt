@@ -1,6 +1,6 @@
 -- The groups up to those of the moves before place i are there; those places are the moves of p.
 use mathlib.Core.Path.{◌≡◌, refl, sym, ◌∙◌, subst}
-use Prim.Native.Nat.{◌+◌, ◌-◌}
+use Prim.Native.Nat.{◌+◌}
 use native.Mathlib.Omega.{arith}
 use Rattle.books.specs.Inner.Groups.{IndexedTo}
 use Rattle.books.specs.Laws.GroupsLaws.{place_of_between, place_of_action_lt, indexed_to_add_one}

@@ -1,6 +1,5 @@
 -- The answers before place i lead to ranks above 0 and below the depth.
 use mathlib.Core.Path.{refl}
-use Prim.Native.Nat.{◌-◌}
 use native.Mathlib.Omega.{arith}
 use borrow.Author.Count.{below_more}
 use Rattle.text.specs.Laws.DecidesLaws.{decides_passed, decides-refused}

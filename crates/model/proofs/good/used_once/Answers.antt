@@ -1,5 +1,4 @@
 -- The loop has passed only actions of other names; one of the same name refutes the range.
-use Prim.Native.Nat.{◌-◌}
 use native.Mathlib.Omega.{arith}
 use Rattle.model.specs.Laws.Store.EachFromLaws.{each_from_nil, each_from_snoc, each_from_le}
 use Rattle.text.specs.Laws.DecidesLaws.{decides_true, decides_false}

@@ -1,5 +1,4 @@
 -- The loop has passed only places that hold 0; one that does not refutes the range.
-use Prim.Native.Nat.{◌-◌}
 use native.Mathlib.Omega.{arith}
 use Rattle.model.specs.Laws.Store.EachFromLaws.{each_from_nil, each_from_snoc, each_from_le}
 use borrow.Author.Rules.{rules}

@@ -1,6 +1,5 @@
 -- All steps from `from` up to `to` leave q; the steps rise by source.
 use mathlib.Core.Path.{ap, ◌∙◌}
-use Prim.Native.Nat.{◌-◌}
 use native.Mathlib.Omega.{arith}
 use borrow.Author.Count.{below_more}
 use Rattle.text.specs.declared.State.{State}

@@ -1,6 +1,6 @@
 -- The index is right up to q, and `from` is where the steps of q begin.
 use mathlib.Core.Path.{refl, ◌∙◌}
-use Prim.Native.Nat.{◌+◌, ◌<◌, ◌-◌}
+use Prim.Native.Nat.{◌+◌, ◌<◌}
 use native.Mathlib.Omega.{arith}
 use lib.ListN.{length, length-set}
 use Rattle.model.specs.Laws.System.StoredLaws.{stored_states}

@@ -1,10 +1,8 @@
 -- The list has the levels of the actions up to a.
 use mathlib.Core.Path.{refl, ◌∙◌}
-use Prim.Native.Nat.{◌-◌}
 use native.Mathlib.Omega.{arith}
 use lib.ListN.{length-set}
 use Rattle.model.specs.StoredModel.{model_at}
-use Rattle.model.specs.System.{level}
 use Rattle.model.specs.Laws.System.StoredLaws.{stored_actions}
 use Rattle.model.specs.Laws.System.RolesLaws.{roles_of_levels, levels-suc}
 use Rattle.model.proofs.index.roles.Goals as goal

@@ -1,5 +1,4 @@
 -- No action that the loop has passed is high; where it stops early, one is.
-use Prim.Native.Nat.{◌-◌}
 use native.Mathlib.Omega.{arith}
 use Rattle.model.specs.Laws.Store.EachFromLaws.{each_from_nil, each_from_snoc}
 use Rattle.model.specs.Laws.Store.ListedLaws.{some_high?_listed, listed_some_high?}

@@ -3,7 +3,6 @@
 use borrow.Author.Rules.{rules}
 use borrow.Author.Count.{below_more}
 use native.Mathlib.Omega.{arith}
-use Prim.Native.Nat.{◌-◌}
 use mathlib.Core.Path.{sym, ◌∙◌}
 use Rattle.model.proofs.Laws.Store.NamesLaws.{named_length, named_differ, named_same}
 use Rattle.model.proofs.names.named.Goals as goal

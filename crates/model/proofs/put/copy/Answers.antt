@@ -1,6 +1,6 @@
 -- After i numbers the list has the other's first i in front of what it had from place i on.
 use native.Mathlib.Omega.{arith}
-use Prim.Native.Nat.{◌-◌, ◌<◌}
+use Prim.Native.Nat.{◌<◌}
 use mathlib.Core.Path.{◌≡◌, ◌∙◌}
 use lib.ListN.{length, length-set}
 use lib.Seq.{take-length}

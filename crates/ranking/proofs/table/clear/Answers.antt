@@ -1,5 +1,4 @@
 -- The first i numbers are 0.
-use Prim.Native.Nat.{◌-◌}
 use native.Mathlib.Omega.{arith}
 use Rattle.text.specs.Laws.ClearingLaws.{cleared-zero, cleared-suc, cleared_at}
 use Rattle.ranking.proofs.table.clear.Goals as goal

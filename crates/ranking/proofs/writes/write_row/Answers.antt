@@ -1,6 +1,5 @@
 -- The row is written up to q; a later store leaves the round where it stands.
 use mathlib.Core.Path.{refl, ◌∙◌}
-use Prim.Native.Nat.{◌-◌}
 use native.Mathlib.Omega.{arith}
 use Rattle.ranking.specs.Laws.TableWritesLaws.{written_refl, written_trans}
 use Rattle.ranking.specs.Laws.TableWritesLaws.{row_zero, row_add_one, row_le, row_stays}

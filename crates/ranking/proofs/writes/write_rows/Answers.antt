@@ -1,6 +1,5 @@
 -- The rows of the first i states of the list are written.
 use mathlib.Core.Path.{refl, ◌∙◌}
-use Prim.Native.Nat.{◌-◌}
 use native.Mathlib.Omega.{arith}
 use Rattle.ranking.specs.Laws.TableWritesLaws.{written_refl, written_trans}
 use Rattle.ranking.specs.Laws.TableWritesLaws.{rows_zero, rows_add_one, rows_le, rows_stay}

@@ -1,5 +1,4 @@
 -- The numbers below x are in the set.
-use Prim.Native.Nat.{◌-◌}
 use native.Mathlib.Omega.{arith}
 use Rattle.sets.specs.Laws.OperationsLaws.{set_of_next}
 use Rattle.sets.specs.Laws.SetValuesLaws.{set_of-map}

@@ -1,5 +1,4 @@
 -- After k passes each set has the members of all states within k silent steps; the rows lead to the others.
-use Prim.Native.Nat.{◌-◌}
 use native.Mathlib.Omega.{arith}
 use borrow.Author.Tests.{not-true}
 use Rattle.silent.specs.Laws.LabelledLaws.{label_step_source_lt}

@@ -1,5 +1,4 @@
 -- Sets below k have been gathered from their rows.
-use Prim.Native.Nat.{◌-◌}
 use native.Mathlib.Omega.{arith}
 use Rattle.silent.specs.Laws.RowsLaws.{rows_to-zero, rows_to-suc, rows_to→Gathered}
 use Rattle.silent.proofs.keys.close_by_rows.Goals as goal

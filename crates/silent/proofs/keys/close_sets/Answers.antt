@@ -1,5 +1,4 @@
 -- After k passes each set has the members of all states within k silent steps; no more than n - 1 are ever needed.
-use Prim.Native.Nat.{◌-◌}
 use native.Mathlib.Omega.{arith}
 use borrow.Author.Tests.{not-true}
 use Rattle.silent.specs.Laws.LabelledLaws.{label_step_source_lt, decided_tick_label}

@@ -1,6 +1,6 @@
 -- The sets below p have their own class alone.
 use mathlib.Core.Path.{◌≡◌, subst}
-use Prim.Native.Nat.{ℕ, ◌-◌}
+use Prim.Native.Nat.{ℕ}
 use native.Mathlib.Omega.{arith}
 use Rattle.silent.specs.Inner.Keys.{OwnClasses}
 use Rattle.silent.specs.Laws.LoopsLaws.{own_classes_none, own_classes-suc}

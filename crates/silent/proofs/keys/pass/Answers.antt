@@ -1,6 +1,5 @@
 -- The turns before i are made; the sets are closed under their steps, unless one has grown after it was read.
 use mathlib.Core.Path.{refl}
-use Prim.Native.Nat.{◌-◌}
 use native.Mathlib.Omega.{arith}
 use Rattle.text.specs.Limits.{action_limit}
 use Rattle.silent.specs.Laws.PassLaws.{turn_states_lt, spread_to_none, spread_to_suc, passed_to→SpreadOnce}

@@ -1,5 +1,5 @@
 -- The states below p have their own numbers, and nothing has changed behind all of them.
-use Prim.Native.Nat.{◌<◌, ◌-◌}
+use Prim.Native.Nat.{◌<◌}
 use native.Mathlib.Omega.{arith}
 use lib.ListN.{length}
 use Rattle.text.specs.Laws.ListsLaws.{past_refl, past_trans, past-set}

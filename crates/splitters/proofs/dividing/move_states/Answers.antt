@@ -1,5 +1,4 @@
 -- Whatever moves the states that are left makes up the move of all.
-use Prim.Native.Nat.{◌-◌}
 use native.Mathlib.Omega.{arith}
 use Rattle.sets.specs.Laws.WalkLaws.{walk_nearer, none_of_least}
 use Rattle.splitters.specs.Laws.DividingLaws.{moved_none, moved_other}

@@ -1,5 +1,4 @@
 -- Whatever splits the classes by what is left of the set makes up the split by all of it.
-use Prim.Native.Nat.{◌-◌}
 use native.Mathlib.Omega.{arith}
 use Rattle.splitters.specs.Laws.SplitLaws.{split_empty}
 use Rattle.splitters.specs.Laws.SplittingLaws.{left_of_together, split_together, class_of_left_lt}

@@ -1,5 +1,4 @@
 -- Each state below q has got all labels of the list.
-use Prim.Native.Nat.{◌-◌}
 use native.Mathlib.Omega.{arith}
 use Rattle.splitters.specs.Laws.FreshLaws.{sets_of_none, sets_of_suc}
 use Rattle.splitters.proofs.incoming.note_all.Goals as goal

@@ -1,6 +1,6 @@
 -- The first i labels are noted.
 use mathlib.Core.Path.{ap}
-use Prim.Native.Nat.{ℕ, ◌+◌, ◌-◌}
+use Prim.Native.Nat.{ℕ, ◌+◌}
 use native.Mathlib.Omega.{arith}
 use Rattle.splitters.specs.Laws.IncomingLaws.{into_zero, into_next, into_end}
 use Rattle.splitters.proofs.incoming.note_each.Goals as goal

@@ -1,5 +1,4 @@
 -- Each state of the row's set that is gone through has got the label, and the others are left.
-use Prim.Native.Nat.{◌-◌}
 use native.Mathlib.Omega.{arith}
 use Rattle.splitters.specs.Laws.IncomingLaws.{noted_but_start, noted_but_next, row_noted_end}
 use Rattle.sets.specs.Laws.WalkLaws.{least_after}

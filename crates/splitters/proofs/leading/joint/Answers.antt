@@ -1,5 +1,4 @@
 -- What the states that are gone through hold is found, and the others are left.
-use Prim.Native.Nat.{◌-◌}
 use native.Mathlib.Omega.{arith}
 use Rattle.sets.specs.Laws.WalkLaws.{least_after, union_to_start, union_to_next, union_to_end}
 use Rattle.splitters.proofs.leading.joint.Goals as goal

@@ -1,6 +1,6 @@
 -- Each turn tells of the least state that is left: those that lead into the goal are found, or left.
 use mathlib.Core.Logic.{⊎_elim}
-use Prim.Native.Nat.{◌-◌, ◌<◌}
+use Prim.Native.Nat.{◌<◌}
 use native.Mathlib.Omega.{arith}
 use Rattle.text.specs.Limits.{state_limit}
 use Rattle.splitters.specs.Laws.LeadingLaws.{leading_to_start, leading_to_next, leading_to_end}

@@ -1,6 +1,5 @@
 -- The sets of the new classes below j are noted, and those of the classes that they were divided off; none before them
 -- has changed.
-use Prim.Native.Nat.{◌-◌}
 use native.Mathlib.Omega.{arith}
 use Rattle.splitters.specs.Laws.FreshLaws.{sets_of_none, sets_of_suc, sets_of_le}
 use Rattle.splitters.specs.Laws.FreshLaws.{sets_kept_refl, sets_kept_put}

@@ -1,5 +1,4 @@
 -- The new classes below j are used; where no class has two states, the others divide nothing.
-use Prim.Native.Nat.{◌-◌}
 use native.Mathlib.Omega.{arith}
 use Rattle.text.specs.Laws.DecidesLaws.{decides_true}
 use Rattle.splitters.specs.Laws.RefiningLaws.{used_labels_none, used_labels_next, used_labels_end, used_labels_alone}

@@ -1,5 +1,5 @@
 -- The labels that are not left are used: at first those that do not lead into the class, which divide nothing by it.
-use Prim.Native.Nat.{◌-◌, ◌<◌}
+use Prim.Native.Nat.{◌<◌}
 use native.Mathlib.Omega.{arith}
 use Rattle.held.specs.Laws.HeldLaws.{held_list_pooled}
 use Rattle.splitters.specs.Laws.RefiningLaws.{used_but_start, used_but_next, used_but_end, turned-row}

@@ -1,6 +1,6 @@
 -- After k rounds a further one finds what it needs, and each of them separated a pair. There are more than k classes,
 -- and no more than states.
-use Prim.Native.Nat.{◌-◌, ◌<◌}
+use Prim.Native.Nat.{◌<◌}
 use native.Mathlib.Omega.{arith}
 use Rattle.splitters.specs.Laws.RoundLaws.{rounds-suc, last_rounded_of_rounds}
 use Rattle.splitters.proofs.rounds.rounds.Goals as goal

@@ -1,6 +1,5 @@
 -- The first x entries are copied.
 use mathlib.Core.Path.{refl}
-use Prim.Native.Nat.{◌-◌}
 use native.Mathlib.Omega.{arith}
 use lib.ListN.{length-set}
 use Rattle.tree.specs.Laws.EntriesLaws.{entries_written_none, entries_written-map, entries_written_copy}

@@ -1,6 +1,5 @@
 -- The rows of the first p states are copied.
 use mathlib.Core.Path.{refl, ◌∙◌}
-use Prim.Native.Nat.{◌-◌}
 use native.Mathlib.Omega.{arith}
 use Rattle.tree.specs.Laws.RowsLaws.{rows_copied-zero, rows_copied-suc}
 use Rattle.tree.proofs.filling.copy_rows.Goals as goal

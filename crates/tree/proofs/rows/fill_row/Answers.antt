@@ -1,6 +1,5 @@
 -- The first x entries are filled, and none after them has changed.
 use mathlib.Core.Path.{refl}
-use Prim.Native.Nat.{◌-◌}
 use native.Mathlib.Omega.{arith}
 use Rattle.tree.specs.Laws.EntriesLaws.{entries_written_none, entries_written-map, entries_written-fill}
 use Rattle.tree.proofs.rows.fill_row.Goals as goal

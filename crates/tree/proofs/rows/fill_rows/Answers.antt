@@ -1,5 +1,4 @@
 -- The rows below c are filled. The row of an origin comes before, and stands.
-use Prim.Native.Nat.{◌-◌}
 use native.Mathlib.Omega.{arith}
 use Rattle.tree.specs.Laws.RowsLaws.{rows_filled_one, rows_filled_suc, rows_filled-end}
 use Rattle.tree.proofs.rows.fill_rows.Goals as goal

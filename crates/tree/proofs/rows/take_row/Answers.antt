@@ -1,6 +1,5 @@
 -- The first x entries are copied.
 use mathlib.Core.Path.{refl}
-use Prim.Native.Nat.{◌-◌}
 use native.Mathlib.Omega.{arith}
 use Rattle.tree.specs.Laws.EntriesLaws.{row_taken-zero, row_taken-suc}
 use Rattle.tree.proofs.rows.take_row.Goals as goal

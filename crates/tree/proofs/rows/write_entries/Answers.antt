@@ -1,6 +1,5 @@
 -- The entries of the states that are not left are written.
 use mathlib.Core.Path.{refl}
-use Prim.Native.Nat.{◌-◌}
 use native.Mathlib.Omega.{arith}
 use Rattle.sets.specs.Laws.WalkLaws.{least_after, none_of_least}
 use Rattle.tree.specs.Laws.EntriesLaws.{entries_written_none, entries_written-map, entries_written_other}

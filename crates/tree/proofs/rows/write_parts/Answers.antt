@@ -1,5 +1,4 @@
 -- The parts below e are written.
-use Prim.Native.Nat.{◌-◌}
 use native.Mathlib.Omega.{arith}
 use Rattle.tree.specs.Laws.RowsLaws.{parts_written_one, parts_written-suc, parts_written-end}
 use Rattle.tree.proofs.rows.write_parts.Goals as goal

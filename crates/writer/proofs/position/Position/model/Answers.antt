@@ -1,5 +1,4 @@
 -- Line 1, the actions, the extra starts, the steps and the end, each from where the last one ended. Assumes nothing.
-use borrow.Author.Rules.{rules}
 use native.Mathlib.Omega.{arith}
 use mathlib.Core.Path.{ap}
 use lib.ListN.{length, length-append}

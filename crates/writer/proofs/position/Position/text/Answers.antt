@@ -1,5 +1,4 @@
 -- Behind the loop stand the first i bytes of the text, and each round writes one more. Assumes nothing.
-use Prim.Native.Nat.{◌-◌}
 use native.Mathlib.Omega.{arith}
 use borrow.Author.Rules.{rules}
 use lib.Seq.{take_all}
