@@ -1,20 +1,18 @@
 -- The claims on books hold of whatever keeps the promises of Book and Check.
 -- Document 02, (v). Assumes nothing.
-use Rattle.std.specs.Prelude.{List, [], ◌⊎◌, ◌≡◌, ℕ, zero, suc, ◌<◌, length}
-use Rattle.std.proofs.Common.{inl, inr, ⊎_elim, ap, arith}
-use Rattle.std.proofs.Math.Option.{Option, none, some}
+use Rattle.std.specs.Prelude.{List, [], ◌≡◌, ℕ, zero, suc, ◌<◌, length}
+use Rattle.std.proofs.Common.{ap, arith}
+use Rattle.std.proofs.Math.Option.{none}
 use Rattle.lts.specs.Weak.{WeakMove}
 use Rattle.lts.proofs.WeakLaws.{weak_target_lt}
 use Rattle.lts.specs.Book.{Entry, Sound}
-use Rattle.lts.proofs.TestsLaws.{lt_or_le}
 use Rattle.lts.proofs.BookLaws.{sound_not_paired, sound_rank_zero}
 use Rattle.lts.proofs.OwnBookLaws.{own_present, own_sound}
 use Rattle.text.specs.Faults.{Outcome, answers}
-use Rattle.text.specs.Limits.{state_limit, store_length, table_length, book_length}
+use Rattle.text.specs.Limits.{state_limit}
 use Rattle.text.specs.Model.{Model}
 use Rattle.text.specs.Laws.FirstShortLaws.{long_of_none, none_short_two}
 use Rattle.text.specs.Laws.OutcomeLaws.{answers_not_refuses}
-use Rattle.model.specs.OnStore.{OnStore}
 use Rattle.model.specs.Store.{Good}
 use Rattle.model.specs.System.{view, IsState}
 use Rattle.model.proofs.Laws.OnStoreLaws.{on_store_answered}

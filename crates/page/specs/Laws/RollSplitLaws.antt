@@ -10,7 +10,7 @@ use Rattle.std.proofs.Math.ListN.{length}
 use Rattle.std.proofs.lemmas.Bool.{eqb-false}
 use Rattle.lts.proofs.TestsLaws.{lt_or_le}
 use Rattle.text.specs.All.{All}
-use Rattle.text.specs.Bytes.{byte_blank, byte_line_end, other, digit, capital, line_end, kind_of}
+use Rattle.text.specs.Bytes.{byte_blank, byte_line_end, digit, capital, line_end, kind_of}
 use Rattle.text.specs.Laws.AllLaws.{all_map, all_of_all, all_replicate}
 use Rattle.text.specs.Laws.DigitsLaws.{digits-digit}
 use Rattle.text.specs.Laws.JoinLaws.{split-append}

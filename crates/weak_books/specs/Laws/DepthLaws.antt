@@ -1,5 +1,5 @@
 -- Depth by depth the first sides open, and by ranks in the table the answers are lower. Assumes nothing.
-use Rattle.std.specs.Prelude.{List, ◌⊎◌, ◌≡◌, ℕ, ◌+◌, ◌≤◌, ◌<◌, get_or}
+use Rattle.std.specs.Prelude.{List, ◌≡◌, ℕ, ◌+◌, ◌≤◌, ◌<◌, get_or}
 use Rattle.std.proofs.Common.{inl, inr, ⊎_elim, sym, ◌∙◌, subst, arith}
 use Rattle.lts.specs.Alike.{Moves}
 use Rattle.lts.specs.Book.{Opens, LowerRank}

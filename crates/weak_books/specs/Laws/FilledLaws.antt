@@ -1,6 +1,6 @@
 -- The book whose first sides have opened where they can, and then the second ones, is our own.
 -- Document 02, (v) and (vii). Assumes nothing.
-use Rattle.std.specs.Prelude.{Bool, List, ◌⊎◌, refl, ℕ, ◌+◌, ◌≤◌, ◌<◌, get_or}
+use Rattle.std.specs.Prelude.{Bool, List, refl, ℕ, ◌+◌, ◌≤◌, ◌<◌, get_or}
 use Rattle.std.proofs.Common.{inl, ⊎_elim, sym, ap, ◌∙◌, subst, arith}
 use Rattle.lts.specs.Alike.{Moves, Rank}
 use Rattle.lts.proofs.AlikeLaws.{rank_unique, rank_sym}

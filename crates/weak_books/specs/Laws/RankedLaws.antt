@@ -1,5 +1,5 @@
 -- The states of one rank beside each state are gathered row by row, and join the lower ones. Assumes nothing.
-use Rattle.std.specs.Prelude.{List, ◌⊎◌, ◌≡◌, ℕ, ◌+◌, ◌<◌, get_or}
+use Rattle.std.specs.Prelude.{List, ◌≡◌, ℕ, ◌+◌, ◌<◌, get_or}
 use Rattle.std.proofs.Common.{inl, inr, ⊎_elim, sym, subst, arith}
 use Rattle.lts.specs.Alike.{Moves}
 use Rattle.lts.proofs.AlikeLaws.{rank_unique, rank_refl}

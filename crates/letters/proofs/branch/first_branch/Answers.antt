@@ -1,6 +1,5 @@
 -- No step below j branches.
 use mathlib.Core.Path.{◌∙◌}
-use Prim.Native.Nat.{◌-◌}
 use native.Mathlib.Omega.{arith}
 use borrow.Author.Count.{below_more}
 use Rattle.text.specs.Laws.DecidesLaws.{decides_true, decides_false}

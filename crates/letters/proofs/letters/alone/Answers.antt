@@ -1,6 +1,5 @@
 -- No step below j is a low step of p whose action q has no step of.
 use mathlib.Core.Path.{refl}
-use Prim.Native.Nat.{◌-◌}
 use native.Mathlib.Omega.{arith}
 use borrow.Author.Count.{below_more}
 use Rattle.text.specs.Laws.DecidesLaws.{decides_true, decides_false}

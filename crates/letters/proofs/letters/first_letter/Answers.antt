@@ -1,6 +1,5 @@
 -- No step of p below j has an answer, and some step has: steps rise by action, so the first has the lowest action.
 use mathlib.Core.Path.{refl, sym}
-use Prim.Native.Nat.{◌-◌}
 use native.Mathlib.Omega.{arith}
 use borrow.Author.Count.{below_more}
 use Rattle.model.specs.Laws.System.StepTestLaws.{reachable_state}

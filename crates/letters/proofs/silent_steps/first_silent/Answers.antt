@@ -1,6 +1,5 @@
 -- Where no action is silent, no step is; else no step below j is a silent one that can be reached.
 use mathlib.Core.Path.{◌∙◌}
-use Prim.Native.Nat.{◌-◌}
 use native.Mathlib.Omega.{arith}
 use borrow.Author.Count.{below_more}
 use Rattle.text.specs.Laws.DecidesLaws.{decides_true, decides_false, decides-refused}

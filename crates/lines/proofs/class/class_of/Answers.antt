@@ -1,6 +1,5 @@
 -- No place below q of the row is 0, and place p is. Assumes nothing.
 use mathlib.Core.Path.{sym, ◌∙◌}
-use Prim.Native.Nat.{◌-◌}
 use native.Mathlib.Omega.{arith}
 use borrow.Author.Count.{below_more}
 use Rattle.lines.proofs.class.class_of.Goals as goal

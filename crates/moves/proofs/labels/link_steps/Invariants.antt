@@ -1,6 +1,6 @@
 -- The steps from step j on are linked.
 use mathlib.Core.Path.{◌≡◌}
-use Prim.Native.Nat.{◌-◌, ◌≤◌}
+use Prim.Native.Nat.{◌≤◌}
 use lib.ListN.{length}
 use Rattle.model.specs.StoredModel.{model_at}
 use Rattle.moves.specs.Inner.Labelling.{Linked}

@@ -1,6 +1,6 @@
 -- The steps with this label before j stand in the lists, each placed only once; step j is the next with it.
 use mathlib.Core.Path.{refl, ◌∙◌}
-use Prim.Native.Nat.{◌-◌, ◌<◌}
+use Prim.Native.Nat.{◌<◌}
 use native.Mathlib.Omega.{arith}
 use lib.ListN.{length}
 use Rattle.model.specs.StoredModel.{model_at}

@@ -1,6 +1,6 @@
 -- The lists have the steps of the labels below `label`, each placed only once.
 use mathlib.Core.Path.{refl, ◌∙◌}
-use Prim.Native.Nat.{◌+◌, ◌-◌, ◌<◌}
+use Prim.Native.Nat.{◌+◌, ◌<◌}
 use native.Mathlib.Omega.{arith}
 use lib.ListN.{length, length-set}
 use Rattle.moves.specs.Laws.ListedToLaws.{listed_to-zero, listed_to_suc}

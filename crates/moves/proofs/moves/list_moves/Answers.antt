@@ -1,6 +1,6 @@
 -- The lists have the moves of the states below p, and place `at` does not overtake the steps of p.
 use mathlib.Core.Path.{refl, ◌∙◌}
-use Prim.Native.Nat.{◌+◌, ◌<◌, ◌-◌}
+use Prim.Native.Nat.{◌+◌, ◌<◌}
 use native.Mathlib.Omega.{arith}
 use lib.ListN.{length, length-set}
 use Rattle.model.specs.Laws.System.StoredLaws.{stored_states}

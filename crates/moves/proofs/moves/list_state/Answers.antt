@@ -1,6 +1,6 @@
 -- The low steps of p up to j stand in the lists; place `at` does not overtake j.
 use mathlib.Core.Path.{refl, ◌∙◌}
-use Prim.Native.Nat.{◌+◌, ◌-◌}
+use Prim.Native.Nat.{◌+◌}
 use native.Mathlib.Omega.{arith}
 use Rattle.model.specs.Laws.System.IndexLaws.{begins_le}
 use Rattle.moves.specs.Laws.ListingLaws.{appended_no_step, appended_steps, appended_state}

@@ -1,6 +1,5 @@
 -- The low ones of the first j steps are held, and each took at most two sets.
 use mathlib.Core.Path.{◌∙◌}
-use Prim.Native.Nat.{◌-◌}
 use native.Mathlib.Omega.{arith}
 use Rattle.model.specs.Laws.System.StoredLaws.{stored_steps}
 use Rattle.moves.specs.Laws.HeldStepsLaws.{held_list_of_low, held_as_of_low}

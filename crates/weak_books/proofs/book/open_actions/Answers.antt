@@ -1,5 +1,4 @@
 -- The openings with actions below a are written.
-use Prim.Native.Nat.{◌-◌}
 use native.Mathlib.Omega.{arith}
 use Rattle.weak_books.specs.Laws.OpenedLaws.{only_at_refl, only_at_trans, opened_to_at}
 use Rattle.weak_books.proofs.book.open_actions.Goals as goal

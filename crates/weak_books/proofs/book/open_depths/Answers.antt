@@ -1,5 +1,4 @@
 -- The entries of the depths up to this one are written, and the states of these ranks are lower.
-use Prim.Native.Nat.{◌-◌}
 use native.Mathlib.Omega.{arith}
 use Rattle.text.specs.Laws.ListsLaws.{past_refl, past_trans}
 use Rattle.weak_books.specs.Laws.DepthLaws.{opened_before_at}

@@ -1,5 +1,4 @@
 -- Entry k is the first bad one with an action below a.
-use Prim.Native.Nat.{◌-◌}
 use native.Mathlib.Omega.{arith}
 use Rattle.weak_books.specs.Laws.TestedLaws.{first_below-zero, first_below_add_one, first_below_at}
 use Rattle.weak_books.specs.Laws.NotedLaws.{used_to_le}

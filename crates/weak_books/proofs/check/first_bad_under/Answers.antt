@@ -1,6 +1,6 @@
 -- The entries before entry k with this action are sound.
 use mathlib.Core.Path.{◌≡◌}
-use Prim.Native.Nat.{ℕ, ◌-◌}
+use Prim.Native.Nat.{ℕ}
 use native.Mathlib.Omega.{arith}
 use Rattle.text.specs.Laws.DecidesLaws.{decides_passed, decides-refused}
 use Rattle.weak_books.specs.Inner.Tested.{SetMove}

@@ -1,5 +1,4 @@
 -- The entries before entry k have labels, which are noted.
-use Prim.Native.Nat.{◌-◌}
 use native.Mathlib.Omega.{arith}
 use Rattle.text.specs.Laws.DecidesLaws.{decides_true, decides_false}
 use Rattle.weak_books.specs.Laws.NotedLaws.{used_to_zero, used_to_kept, used_to_add_one}

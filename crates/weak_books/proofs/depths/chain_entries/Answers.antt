@@ -1,5 +1,4 @@
 -- The entries below entry k are chained.
-use Prim.Native.Nat.{◌-◌}
 use native.Mathlib.Omega.{arith}
 use Rattle.weak_books.specs.Laws.ChainsLaws.{chained_at}
 use Rattle.weak_books.proofs.depths.chain_entries.Goals as goal

@@ -1,5 +1,4 @@
 -- The sets have the entries below depth d, and these are tested.
-use Prim.Native.Nat.{◌-◌}
 use native.Mathlib.Omega.{arith}
 use Rattle.sets.specs.Inner.Sets.{sets_length}
 use Rattle.sets.specs.Laws.SetsLaws.{empty-zeros}

@@ -1,5 +1,5 @@
 -- Whatever is found on the rest of the chain before the bad entry found so far is found on the whole chain.
-use Prim.Native.Nat.{ℕ, ◌-◌, ◌≤◌}
+use Prim.Native.Nat.{ℕ, ◌≤◌}
 use Rattle.text.specs.Limits.{table_length}
 use Rattle.books.specs.Inner.Sides.{FirstOf}
 use Rattle.held.specs.Held.{HeldMove}

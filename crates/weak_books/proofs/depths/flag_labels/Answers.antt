@@ -1,5 +1,4 @@
 -- The first i labels are flagged.
-use Prim.Native.Nat.{◌-◌}
 use native.Mathlib.Omega.{arith}
 use Rattle.weak_books.specs.Laws.HeldEntryLaws.{flagged-zero, flagged_next, flagged_at}
 use Rattle.weak_books.proofs.depths.flag_labels.Goals as goal

@@ -1,5 +1,4 @@
 -- No label before the i-th is one with which a state has many moves.
-use Prim.Native.Nat.{◌-◌}
 use native.Mathlib.Omega.{arith}
 use lib.ListN.{get_or}
 use borrow.Author.Count.{below_more}

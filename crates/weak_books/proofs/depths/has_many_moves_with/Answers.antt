@@ -1,6 +1,6 @@
 -- No state before p has many moves.
 use mathlib.Core.Path.{subst}
-use Prim.Native.Nat.{ℕ, ◌-◌}
+use Prim.Native.Nat.{ℕ}
 use native.Mathlib.Omega.{arith}
 use borrow.Author.Count.{below_more}
 use Rattle.sets.specs.Inner.SetValues.{SetOf}

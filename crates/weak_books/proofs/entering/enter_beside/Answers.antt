@@ -1,6 +1,6 @@
 -- The entries of p and the members that are not left are written.
 use mathlib.Core.Path.{refl}
-use Prim.Native.Nat.{◌-◌, ◌<◌}
+use Prim.Native.Nat.{◌<◌}
 use native.Mathlib.Omega.{arith}
 use Rattle.lts.proofs.TestsLaws.{eq_or_not, both_or_not}
 use Rattle.text.specs.Limits.{state_limit}

@@ -1,5 +1,5 @@
 -- The entries of the states that are not left, and lower ones, are written.
-use Prim.Native.Nat.{◌-◌, ◌<◌}
+use Prim.Native.Nat.{◌<◌}
 use native.Mathlib.Omega.{arith}
 use Rattle.sets.specs.Laws.WalkLaws.{least_after}
 use Rattle.weak_books.specs.Laws.EnteringLaws.{done_start, done_next, done_end, beside_or_not}

@@ -1,7 +1,7 @@
 -- What is lower beside t of the answers that are left makes all of them so.
 use mathlib.Core.Logic.{◌⊎◌, inl, inr}
 use mathlib.Core.Path.{◌≡◌, sym, subst}
-use Prim.Native.Nat.{ℕ, ◌-◌}
+use Prim.Native.Nat.{ℕ}
 use native.Mathlib.Omega.{arith}
 use Rattle.lts.specs.Book.{LowerEntry}
 use Rattle.lts.proofs.TestsLaws.{eq_or_not}

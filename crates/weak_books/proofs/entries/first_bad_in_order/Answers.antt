@@ -1,5 +1,4 @@
 -- The entries before entry k are sound.
-use Prim.Native.Nat.{◌-◌}
 use native.Mathlib.Omega.{arith}
 use Rattle.text.specs.Laws.DecidesLaws.{decides_passed, decides-refused}
 use Rattle.held.specs.Held.{HeldMove}

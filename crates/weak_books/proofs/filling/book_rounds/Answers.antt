@@ -1,6 +1,6 @@
 -- After k rounds the book has the entries of the pairs that these separated, and a further round finds what it needs.
 use mathlib.Core.Path.{◌∙◌}
-use Prim.Native.Nat.{◌-◌, ◌<◌}
+use Prim.Native.Nat.{◌<◌}
 use native.Mathlib.Omega.{arith}
 use Rattle.held.specs.Laws.HeldLaws.{held_move_target_lt}
 use Rattle.weak_books.specs.Laws.BookedLaws.{booked-zero, booked_suc, book_ended_of_last}

@@ -1,5 +1,4 @@
 -- The targets of p that are no targets of q are tried from the lowest up.
-use Prim.Native.Nat.{◌-◌}
 use native.Mathlib.Omega.{arith}
 use Rattle.text.specs.Laws.DecidesLaws.{decides_true, decides_false}
 use Rattle.sets.specs.Laws.WalkLaws.{walk_nearer}

@@ -1,5 +1,4 @@
 -- The entries before that of p and q are written.
-use Prim.Native.Nat.{◌-◌}
 use native.Mathlib.Omega.{arith}
 use Rattle.sets.specs.Laws.WalkLaws.{walk_nearer}
 use Rattle.weak_books.specs.Laws.FirstsLaws.{members_left_start, none_at_start, member_after, members_left_next}

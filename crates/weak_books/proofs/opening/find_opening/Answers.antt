@@ -1,6 +1,5 @@
 -- No label before the i-th opens.
 use mathlib.Core.Path.{◌≡◌, refl}
-use Prim.Native.Nat.{◌-◌}
 use native.Mathlib.Omega.{arith}
 use Rattle.held.specs.Held.{HeldAt}
 use Rattle.weak_books.specs.Laws.BoundsLaws.{label_lt}

@@ -1,5 +1,5 @@
 -- The targets of p that are no targets of q are tried from the lowest up, each class once.
-use Prim.Native.Nat.{◌-◌, ◌<◌}
+use Prim.Native.Nat.{◌<◌}
 use native.Mathlib.Omega.{arith}
 use Rattle.text.specs.Laws.DecidesLaws.{decides_true, decides_false}
 use Rattle.held.specs.Laws.PoolLaws.{set_of_number}

@@ -1,5 +1,4 @@
 -- The entries of the states below p are written.
-use Prim.Native.Nat.{◌-◌}
 use native.Mathlib.Omega.{arith}
 use Rattle.weak_books.specs.Laws.TurnedLaws.{all_turned_none, all_turned_row, all_turned_to}
 use Rattle.weak_books.proofs.seconds.turn_rows.Goals as goal

@@ -1,6 +1,5 @@
 -- Behind the loop stand i blanks, and each round writes one more. Assumes nothing.
 use mathlib.Core.Path.{◌≡◌, refl}
-use Prim.Native.Nat.{◌-◌}
 use native.Mathlib.Omega.{arith}
 use lib.ListN.{replicate-append-replicate}
 use borrow.Author.Rules.{rules}

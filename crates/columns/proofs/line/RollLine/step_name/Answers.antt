@@ -4,7 +4,6 @@ use native.Mathlib.Omega.{arith}
 use Rattle.text.specs.declared.Action.{Action}
 use Rattle.text.specs.Laws.DecidesLaws.{decides_passed, decides-refused}
 use Rattle.model.specs.StoredModel.{model_at}
-use Rattle.model.specs.System.{action}
 use Rattle.model.specs.Laws.System.StoredLaws.{stored_action}
 use Rattle.columns.specs.Laws.FillingLaws.{filled-nil}
 use Rattle.columns.specs.Laws.FirstLowLaws.{name_added_first, name_added_none}

@@ -1,14 +1,10 @@
 -- A word's letters and the end that allows it, or `N` where none is shown. Assumes nothing.
 use mathlib.Core.List.{List, [], ◌∷◌}
-use mathlib.Core.Logic.{inl, inr}
 use mathlib.Core.Path.{◌≡◌, refl, subst}
 use Prim.Native.Nat.{ℕ, ◌+◌, ◌≤◌}
 use native.Mathlib.Omega.{arith}
-use types.Run.{OneOf}
-use denote.Enum.Declared.{tag_of}
 use Rattle.text.specs.Model.{Model}
 use Rattle.model.specs.StoredModel.{model_at}
-use Rattle.letters.specs.contracts.word.Shown.{the_type}
 use Rattle.letters.specs.declared.word.End.{End}
 use Rattle.letters.specs.declared.word.Shown.{Shown}
 use Rattle.letters.specs.declared.word.Shown.TheVariants.{Word, NotDeterministic, Silent, NoLeak}
