@@ -59,7 +59,8 @@ leak_pair {m = m} st {j} {d} {p} {q} det still x e f =
       deterministic = det;
       first_reachable = from;
       second_reachable = to;
-      separated = (weak_separated (view m) ((no_tick_of_no_silent_step m).0 still) (bounded_view st) (no_silent_label_view st)
+      separated = (weak_separated (view m) ((no_tick_of_no_silent_step m).0 still) (bounded_view st)
+          (no_silent_label_view st)
           (source m j) (target m j) d from to).1
           (separated_of_rank (WeakMove (view m)) (source m j) (target m j) d x.above_zero x.rank);
     }))

@@ -7,8 +7,10 @@ use Rattle.text.specs.Numbers.{digits_value, number_shape?, number_of, in_bounds
 use Rattle.text.specs.Split.{cons_first, split, same?}
 use Rattle.text.specs.Model.{some_high?, above?, above_last?}
 use Rattle.text.specs.Lines.{checked, fields_from, fields_of, cons_number, numbers_of, head_bounds, step_bounds}
-use Rattle.text.specs.Lines.{row_letter, row_count, row_bounds, value_or0, states_of, row_from, row_of, head_from, head_of}
-use Rattle.text.specs.Lines.{level_of, all_of, name_byte?, name?, name_from, action_fields, used?, action_from, action_of}
+use Rattle.text.specs.Lines.{row_letter, row_count, row_bounds, value_or0, states_of, row_from, row_of, head_from}
+use Rattle.text.specs.Lines.{head_of}
+use Rattle.text.specs.Lines.{level_of, all_of, name_byte?, name?, name_from, action_fields, used?, action_from}
+use Rattle.text.specs.Lines.{action_of}
 use Rattle.text.specs.Lines.{step_from, step_of}
 use Rattle.model.specs.Reading.{too_long, faulty, on_line, or_fault, read_nothing, read_end, read_steps}
 use Rattle.model.specs.Reading.{start_line?, start_lines, read_starts, behind_actions, read_actions, read_model}
@@ -58,7 +60,8 @@ record Refused : Type 0 where
   -- M,99999,2,2,0 / M,100000,2,2,0 / M,02,2,2,0 / M,200,2,2,x: "then 31, then 3"
   five_digits : read_text ((77 ∷ 44 ∷ 57 ∷ 57 ∷ 57 ∷ 57 ∷ 57 ∷ 44 ∷ 50 ∷ 44 ∷ 50 ∷ 44 ∷ 48 ∷ 10 ∷ []) ++ low ++ high)
       ≡ faulty Range 1
-  six_digits : read_text ((77 ∷ 44 ∷ 49 ∷ 48 ∷ 48 ∷ 48 ∷ 48 ∷ 48 ∷ 44 ∷ 50 ∷ 44 ∷ 50 ∷ 44 ∷ 48 ∷ 10 ∷ []) ++ low ++ high)
+  six_digits : read_text ((77 ∷ 44 ∷ 49 ∷ 48 ∷ 48 ∷ 48 ∷ 48 ∷ 48 ∷ 44 ∷ 50 ∷ 44 ∷ 50 ∷ 44 ∷ 48 ∷ 10 ∷ []) ++ low ++
+      high)
       ≡ faulty Digits 1
   leading_zero : read_text ((77 ∷ 44 ∷ 48 ∷ 50 ∷ 44 ∷ 50 ∷ 44 ∷ 50 ∷ 44 ∷ 48 ∷ 10 ∷ []) ++ low ++ high)
       ≡ faulty Digits 1
@@ -104,10 +107,14 @@ record Refused : Type 0 where
   too_many_bytes : read_text (replicate 16385 10) ≡ too_long
 
 refused : Refused
-unfolding read_text read_model read_actions behind_actions some_high? start_lines start_line? read_starts read_steps read_end
-    read_nothing or_fault on_line step_of step_from action_of action_from used? action_fields name_from name? name_byte? all_of
-    level_of head_of head_from row_of row_from states_of value_or0 row_bounds row_count row_letter step_bounds head_bounds numbers_of
-    cons_number fields_of fields_from checked above? above_last? same? split cons_first number_in bounded in_bounds? number_of
+unfolding read_text read_model read_actions behind_actions some_high? start_lines start_line? read_starts read_steps
+    read_end
+    read_nothing or_fault on_line step_of step_from action_of action_from used? action_fields name_from name?
+    name_byte? all_of
+    level_of head_of head_from row_of row_from states_of value_or0 row_bounds row_count row_letter step_bounds
+    head_bounds numbers_of
+    cons_number fields_of fields_from checked above? above_last? same? split cons_first number_in bounded in_bounds?
+    number_of
     number_shape? digits_value kind_of
 refused = record {
   empty = refl;

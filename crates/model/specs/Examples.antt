@@ -5,12 +5,16 @@ use Rattle.text.specs.declared.Fault.TheVariants.{Absent}
 use Rattle.text.specs.declared.StepLine.{StepLine}
 use Rattle.text.specs.Bytes.{kind_of}
 use Rattle.text.specs.Limits.{action_place}
-use Rattle.text.specs.Numbers.{digits_value, number_shape?, number_of, in_bounds?, bounded, number_in, digits_up_to, digits}
+use Rattle.text.specs.Numbers.{digits_value, number_shape?, number_of, in_bounds?, bounded, number_in, digits_up_to}
+use Rattle.text.specs.Numbers.{digits}
 use Rattle.text.specs.Split.{cons_first, split, same?}
 use Rattle.text.specs.Model.{low, release, high, silent, Model, some_high?, last_start, above?, above_last?}
-use Rattle.text.specs.Lines.{checked, fields_from, fields_of, cons_number, numbers_of, head_bounds, start_bounds, step_bounds}
-use Rattle.text.specs.Lines.{row_letter, row_count, row_bounds, value_or0, states_of, row_from, row_of, head_from, head_of}
-use Rattle.text.specs.Lines.{level_of, all_of, name_byte?, name?, name_from, action_fields, used?, action_from, action_of}
+use Rattle.text.specs.Lines.{checked, fields_from, fields_of, cons_number, numbers_of, head_bounds, start_bounds}
+use Rattle.text.specs.Lines.{step_bounds}
+use Rattle.text.specs.Lines.{row_letter, row_count, row_bounds, value_or0, states_of, row_from, row_of, head_from}
+use Rattle.text.specs.Lines.{head_of}
+use Rattle.text.specs.Lines.{level_of, all_of, name_byte?, name?, name_from, action_fields, used?, action_from}
+use Rattle.text.specs.Lines.{action_of}
 use Rattle.text.specs.Lines.{above_starts?, start_from, start_of, step_from, step_of}
 use Rattle.model.specs.Reading.{done, faulty, on_line, or_fault, read_nothing, read_end, read_steps, read_starts}
 use Rattle.model.specs.Reading.{start_line?, start_lines, behind_actions, read_actions}
@@ -89,11 +93,16 @@ ticking_text =
     ∷ 69 ∷ 10
     ∷ []
 
-reads : (read_text worked_text ≡ done worked) × (read_text woken_text ≡ done woken) × (read_text ticking_text ≡ done ticking)
-unfolding read_text read_model read_actions behind_actions some_high? start_lines start_line? read_starts read_steps read_end
-    read_nothing or_fault on_line step_of step_from start_of start_from above_starts? last_start action_of action_from used?
-    action_fields name_from name? name_byte? all_of level_of head_of head_from row_of row_from states_of value_or0 row_bounds
-    row_count row_letter step_bounds start_bounds head_bounds numbers_of cons_number fields_of fields_from checked above?
+reads : (read_text worked_text ≡ done worked) × (read_text woken_text ≡ done woken) ×
+    (read_text ticking_text ≡ done ticking)
+unfolding read_text read_model read_actions behind_actions some_high? start_lines start_line? read_starts read_steps
+    read_end
+    read_nothing or_fault on_line step_of step_from start_of start_from above_starts? last_start action_of action_from
+    used?
+    action_fields name_from name? name_byte? all_of level_of head_of head_from row_of row_from states_of value_or0
+    row_bounds
+    row_count row_letter step_bounds start_bounds head_bounds numbers_of cons_number fields_of fields_from checked
+    above?
     above_last? same? split cons_first number_in bounded in_bounds? number_of number_shape? digits_value kind_of
 reads = (refl, refl, refl)
 
@@ -103,7 +112,8 @@ unfolding store_of padded action_numbers actions_numbers steps_numbers head_row 
 stores-silent = refl
 
 writes : (model_text worked ≡ worked_text) × (model_text woken ≡ woken_text) × (model_text ticking ≡ ticking_text)
-unfolding model_text head_text actions_text action_text level_byte starts_text start_text steps_text step_text digits digits_up_to
+unfolding model_text head_text actions_text action_text level_byte starts_text start_text steps_text step_text digits
+    digits_up_to
 writes = (refl, refl, refl)
 
 empty_absent : read_text [] ≡ faulty Absent 1

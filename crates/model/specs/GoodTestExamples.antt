@@ -6,7 +6,8 @@ use Rattle.text.specs.Bytes.{kind_of}
 use Rattle.text.specs.Numbers.{in_bounds?}
 use Rattle.text.specs.Split.{same?}
 use Rattle.text.specs.Model.{low, release, high, silent, Model, some_high?, last_start, above?, above_last?}
-use Rattle.text.specs.Lines.{fits?, head_bounds, start_bounds, step_bounds, head_fits?, all_of, name_byte?, name?, used?}
+use Rattle.text.specs.Lines.{fits?, head_bounds, start_bounds, step_bounds, head_fits?, all_of, name_byte?, name?}
+use Rattle.text.specs.Lines.{used?}
 use Rattle.text.specs.Lines.{start_fits?, above_starts?, step_fits?}
 use Rattle.model.specs.Store.{padded, action_numbers, actions_numbers, steps_numbers, head_row, extra_numbers, store_of}
 use Rattle.model.specs.StoredModel.{listed, model_at}
@@ -63,9 +64,12 @@ record Tested : Type 0 where
   extra_count_too_large : good? (set (store_of two-starts) extra_count_place 65535) ≡ false
 
 tested : Tested
-unfolding good? holds? well_formed? some_high? each_after? action_fits? start_rises? step_rises? model_at listed store_of
-    padded action_numbers actions_numbers steps_numbers head_row extra_numbers start_fits? above_starts? last_start step_fits?
-    used? name? name_byte? all_of head_fits? fits? head_bounds start_bounds step_bounds in_bounds? above? above_last? same?
+unfolding good? holds? well_formed? some_high? each_after? action_fits? start_rises? step_rises? model_at listed
+    store_of
+    padded action_numbers actions_numbers steps_numbers head_row extra_numbers start_fits? above_starts? last_start
+    step_fits?
+    used? name? name_byte? all_of head_fits? fits? head_bounds start_bounds step_bounds in_bounds? above? above_last?
+    same?
     kind_of
 tested = record {
   one_state_good = refl;

@@ -4,7 +4,8 @@ use Rattle.std.specs.Prelude.{List, [], ◌∷◌, ◌++◌, ◌≡◌, ℕ, zer
 use Rattle.text.specs.declared.Head.{Head}
 use Rattle.text.specs.declared.StepLine.{StepLine}
 use Rattle.text.specs.Limits.{state_count_place, action_count_place, step_count_place, start_place, store_length}
-use Rattle.text.specs.Limits.{action_place, name_length_place, name_place, step_place, action_of_step_place, target_place}
+use Rattle.text.specs.Limits.{action_place, name_length_place, name_place, step_place, action_of_step_place}
+use Rattle.text.specs.Limits.{target_place}
 use Rattle.text.specs.Limits.{extra_count_place, extra_place}
 use Rattle.text.specs.Model.{ActionLine, Model}
 use Rattle.model.specs.Store.{store_of}

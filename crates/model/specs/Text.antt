@@ -1,7 +1,8 @@
 -- The `M` text of a model.
 -- Document 01, "The text"; document 02, (iii) and (vii).
 use Rattle.std.specs.Prelude.{cond, List, [], ◌∷◌, ◌++◌, ℕ, eqb}
-use Rattle.text.specs.Bytes.{byte_a, byte_comma, byte_d, byte_e, byte_h, byte_i, byte_l, byte_line_end, byte_m, byte_s, byte_t}
+use Rattle.text.specs.Bytes.{byte_a, byte_comma, byte_d, byte_e, byte_h, byte_i, byte_l, byte_line_end, byte_m, byte_s}
+use Rattle.text.specs.Bytes.{byte_t}
 use Rattle.text.specs.declared.Head.{Head}
 use Rattle.text.specs.declared.StepLine.{StepLine}
 use Rattle.text.specs.Numbers.{digits}

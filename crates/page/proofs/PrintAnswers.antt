@@ -43,7 +43,8 @@ module _ (form : Form) (text store distances table run word out : List ℕ) wher
       × PrintClaim form text (print_outcome r) word out
 
   place_promised : (place : ℕ) → print_lists form text store distances table run word out ≡ some place
-      → PrintPromise form text store distances table run word out (print_outcome (ShortList place)) store distances table
+      → PrintPromise form text store distances table run word out (print_outcome (ShortList place)) store distances
+      table
       run word out
   unfolding print_outcome
   place_promised place e = record {

@@ -8,7 +8,8 @@ use Rattle.text.specs.Faults.{Outcome, answers}
 use Rattle.verdicts.specs.declared.judging.Verdict.TheVariants.{Passed}
 use Rattle.letters.specs.declared.word.End.TheVariants.{Target}
 use Rattle.tell.specs.Bench.{refused_at}
-use Rattle.tell.specs.BenchModels.{worked_text, scanned_once_text, released_text, close_low_text, branching_text, no_steps_text}
+use Rattle.tell.specs.BenchModels.{worked_text, scanned_once_text, released_text, close_low_text, branching_text}
+use Rattle.tell.specs.BenchModels.{no_steps_text}
 use Rattle.tell.specs.BenchModels.{print_loop_text, unreached_print_text, woken_print_text}
 use Rattle.columns.specs.Rows.{rows_bytes}
 use Rattle.lines.specs.Examples.{worked_page, worked_roll}

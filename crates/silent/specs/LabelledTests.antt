@@ -8,7 +8,8 @@ use Rattle.text.specs.Limits.{action_limit}
 
 -- The step at place i is one with the label a from p to q.
 abbrev pub step_at? : List ℕ → List ℕ → List ℕ → ℕ → ℕ → ℕ → ℕ → Bool
-step_at? from sources targets a p q i = leb (get_or from a 0) i && (eqb (get_or sources i 0) p && eqb (get_or targets i 0) q)
+step_at? from sources targets a p q i = leb (get_or from a 0) i &&
+    (eqb (get_or sources i 0) p && eqb (get_or targets i 0) q)
 
 -- The test of `LabelStep`.
 abbrev pub label_step? : List ℕ → List ℕ → List ℕ → ℕ → ℕ → ℕ → Bool

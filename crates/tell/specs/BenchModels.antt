@@ -94,7 +94,8 @@ abbrev pub close_low : Model
 close_low = model_with low 3 3 (arrow 0 print 1 ∷ arrow 1 close 2 ∷ arrow 2 scan 2 ∷ [])
 
 abbrev pub close_low_text : List ℕ
-close_low_text = head_line 3 3 ++ action_lines_close_low ++ step_line 0 1 1 ++ step_line 1 2 2 ++ step_line 2 0 2 ++ end_line
+close_low_text = head_line 3 3 ++ action_lines_close_low ++ step_line 0 1 1 ++ step_line 1 2 2 ++ step_line 2 0 2 ++
+    end_line
 
 -- "0 scan 2, 0 scan 3, 0 print 1, 1 scan 2, 2 scan 3"
 abbrev pub branching : Model

@@ -43,4 +43,5 @@ abbrev pub tick_depth_one : Model
 tick_depth_one = model_with_tick 3 3 (arrow 0 print 1 ∷ arrow 1 tick 2 ∷ arrow 2 scan 2 ∷ [])
 
 abbrev pub tick_depth_one_text : List ℕ
-tick_depth_one_text = head_line_of 4 3 3 ++ tick_action_lines ++ step_line 0 1 1 ++ step_line 1 3 2 ++ step_line 2 0 2 ++ end_line
+tick_depth_one_text = head_line_of 4 3 3 ++ tick_action_lines ++ step_line 0 1 1 ++ step_line 1 3 2 ++ step_line 2 0 2
+    ++ end_line

@@ -32,7 +32,8 @@ pub record RowFilled (Move : Moves) (p to : ℕ) (entry exit : List ℕ) : Type 
 -- The entries of each p below `to` and each q below n are written, and nothing else.
 pub record EntriesFilled (Move : Moves) (n to : ℕ) (entry exit : List ℕ) : Type 0 where
   pub own : (p q : ℕ) → p < to → q < n → PairOwn Move p q (entry_number exit (pair_place p q))
-  pub kept : (k : ℕ) → ((p q : ℕ) → p < to → q < n → ¬ (k ≡ pair_place p q)) → entry_number exit k ≡ entry_number entry k
+  pub kept : (k : ℕ) → ((p q : ℕ) → p < to → q < n → ¬ (k ≡ pair_place p q)) → entry_number exit k ≡ entry_number
+      entry k
   pub past : Past book_length entry exit
 
 -- Nothing is written for p and the numbers below n.

@@ -30,7 +30,8 @@ byte_of_exists i = go (i % entry_size) (omega arith) (omega arith)
     go (suc (suc (suc (suc r)))) l e = absurd (omega arith)
 
 -- Equal entries have equal bytes.
-byte_of_entry : (b b' : List ℕ) (i k : ℕ) → ByteOf i k → entry_number b k ≡ entry_number b' k → get_or b i 0 ≡ get_or b' i 0
+byte_of_entry : (b b' : List ℕ) (i k : ℕ) → ByteOf i k → entry_number b k ≡ entry_number b' k → get_or b i 0 ≡ get_or
+    b' i 0
 byte_of_entry b b' i k x e = go x
   where
     at : {j : ℕ} → i ≡ j → get_or b j 0 ≡ get_or b' j 0 → get_or b i 0 ≡ get_or b' i 0

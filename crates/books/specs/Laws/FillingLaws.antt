@@ -1,6 +1,7 @@
 -- A book is filled entry by entry, until it is our own. Document 02, (v). Assumes nothing.
 use Rattle.std.specs.Prelude.{List, ◌⊎◌, ◌≡◌, refl, ℕ, ◌+◌, ◌*◌, ◌≤◌, ◌<◌, length, get_or, set}
-use Rattle.std.proofs.Common.{inl, inr, ⊎_elim, sym, ap, ◌∙◌, subst, arith, length-set, get_or-set_same, get_or-set_other}
+use Rattle.std.proofs.Common.{inl, inr, ⊎_elim, sym, ap, ◌∙◌, subst, arith, length-set, get_or-set_same}
+use Rattle.std.proofs.Common.{get_or-set_other}
 use Rattle.lts.specs.Alike.{Moves, Rank}
 use Rattle.lts.proofs.AlikeLaws.{rank_unique}
 use Rattle.lts.specs.Book.{LowerRank, FirstPlay, OwnEntry, no_entry}
@@ -41,7 +42,8 @@ module _ (book : List ℕ) {k : ℕ} (at s a t d : ℕ) (long : book_length ≤ 
 
   side_at : get_or four at 0 ≡ s
   side_at =
-      get_or-set_other three (at + 3) at d 0 (λ e. omega arith) ∙ get_or-set_other two (at + 2) at t 0 (λ e. omega arith)
+      get_or-set_other three (at + 3) at d 0 (λ e. omega arith) ∙ get_or-set_other two (at + 2) at t 0
+      (λ e. omega arith)
       ∙ get_or-set_other one (at + 1) at a 0 (λ e. omega arith) ∙ get_or-set_same book at s 0 (omega (arith, in_book))
 
   action_at_lem : get_or four (at + 1) 0 ≡ a

@@ -89,7 +89,8 @@ module _ {Move : Moves} where
     }
 
     -- The book that is filled after it was cleared.
-    pub book_filled : {book book' book'' : List ℕ} → Cleared 0 book_length book book' → EntriesFilled Move n n book' book''
+    pub book_filled : {book book' book'' : List ℕ} → Cleared 0 book_length book book' → EntriesFilled Move n n book'
+        book''
         → BookFilled Move n book book''
     book_filled c x = record { own = own_of_rows (empty_of_cleared c) x; past = past_trans c.past x.past }
 

@@ -120,7 +120,8 @@ module _ (Move : Moves) (n : ℕ) (action_lt : (x a y : ℕ) → Move x a y → 
 -- Moves by group, and those that stay, are the moves that are played.
 module _ {n : ℕ} {first actions targets groups : List ℕ} (L : MoveList n first actions targets)
     (I : IndexOf n first actions targets groups) where
-  agree : Agree (λ p. p < n) (λ a. a ≡ silent_label) (Listed n first actions targets) (StillMove n first actions targets)
+  agree : Agree (λ p. p < n) (λ a. a ≡ silent_label) (Listed n first actions targets)
+      (StillMove n first actions targets)
   agree = weak_agree_all (Listed n first actions targets) (λ p q. ⊥) n (λ p q x. x) (listed_target_lt L)
       (λ p a q m. omega (arith, listed_action_lt L p a q m))
 
@@ -137,6 +138,7 @@ module _ {n : ℕ} {first actions targets groups : List ℕ} (L : MoveList n fir
       source_lt (low m) = silent_source_lt (λ x y t. absurd t) m.before
       source_lt (silent e s) = silent_source_lt (λ x y t. absurd t) s
 
-      go : Listed n first actions targets p a q ⊎ ((a ≡ silent_label) × (p ≡ q)) → Still (Indexed groups targets) n p a q
+      go : Listed n first actions targets p a q ⊎ ((a ≡ silent_label) × (p ≡ q)) → Still (Indexed groups targets) n p
+          a q
       go (inl m) = moves (I.forth p a q m)
       go (inr e) = stays e.0 (source_lt w) e.1

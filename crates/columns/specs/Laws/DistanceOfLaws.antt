@@ -16,6 +16,7 @@ module _ (distances : List ℕ) (p : ℕ) where
   unfolding distance_of shown
   distance_of_unreachable e = ap shown (eq-eqb (get_or distances p 0) unreachable e)
 
-  pub distance_of_reachable : ¬ (get_or distances p 0 ≡ unreachable) → distance_of distances p ≡ some (get_or distances p 0)
+  pub distance_of_reachable : ¬ (get_or distances p 0 ≡ unreachable) → distance_of distances p ≡ some
+      (get_or distances p 0)
   unfolding distance_of shown
   distance_of_reachable n = ap shown (ne_eqb (get_or distances p 0) unreachable n)

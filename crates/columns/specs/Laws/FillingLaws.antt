@@ -18,7 +18,8 @@ use Rattle.columns.specs.Laws.RowsLaws.{fill_fits, fill_next, fill_pos, rows_byt
 
 -- ---- the bytes of lines
 
-rows_bytes_last : (rows : List (List ℕ)) (row : List ℕ) → rows_bytes (rows ++ (row ∷ [])) ≡ rows_bytes rows ++ row_bytes row
+rows_bytes_last : (rows : List (List ℕ)) (row : List ℕ) → rows_bytes (rows ++ (row ∷ [])) ≡ rows_bytes rows ++
+    row_bytes row
 rows_bytes_last rows row =
     rows_bytes-append rows (row ∷ []) ∙ ap (λ (t : List ℕ). rows_bytes rows ++ t) (rows_bytes-row row)
 

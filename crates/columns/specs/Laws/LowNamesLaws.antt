@@ -1,6 +1,7 @@
 -- The names of the low actions from a state, one step more at a time: the steps of a state rise by action.
 -- Document 02, (ii): "the names of the low actions with a step there, in action order". Assumes nothing.
-use Rattle.std.specs.Prelude.{false, not, List, [], ◌∷◌, ◌++◌, map, ◌≡◌, refl, ℕ, zero, suc, ◌+◌, ◌-◌, ◌≤◌, ◌<◌, T, length, get_or}
+use Rattle.std.specs.Prelude.{false, not, List, [], ◌∷◌, ◌++◌, map, ◌≡◌, refl, ℕ, zero, suc, ◌+◌, ◌-◌, ◌≤◌, ◌<◌, T}
+use Rattle.std.specs.Prelude.{length, get_or}
 use Rattle.std.proofs.lemmas.List.{map-append}
 use Rattle.std.proofs.Common.{append_assoc, append-nil, ⊎_elim, sym, ap, subst, ◌∙◌, add-one, arith, T_not}
 use Rattle.std.proofs.Math.Dec.{not_T}
@@ -145,7 +146,8 @@ module _ {s : List ℕ} {m : Model} (st : Stored s m) (counted : length m.action
       later : T (not (first_low? m j)) → low_names_to m p (suc j) ≡ names ++ name_added m j
       later t =
           rw (not-T→false (first_low? m j) t)
-          (ap (map (name_of m)) (kept (λ x. T_not (first_low? m j) t (FirstLow→first_low? m x))) ∙ sym (append-nil names))
+          (ap (map (name_of m)) (kept (λ x. T_not (first_low? m j) t (FirstLow→first_low? m x))) ∙ sym
+          (append-nil names))
 
 -- ---- the steps of a state
 
@@ -191,7 +193,8 @@ module _ {s begins roles : List ℕ} (w : Writable s) (L : StepLists (model_at s
           (lt_or_le x.number to)))
 
   -- those of the steps before j stand first
-  low_names_rest : (k j : ℕ) → j + k ≡ to → from ≤ j → (more : List (List ℕ)) × (low_names m p ≡ low_names_to m p j ++ more)
+  low_names_rest : (k j : ℕ) → j + k ≡ to → from ≤ j → (more : List (List ℕ)) ×
+      (low_names m p ≡ low_names_to m p j ++ more)
   low_names_rest zero j n f =
       let same : j ≡ to = omega (arith, n) in
       ([], sym low_names_end ∙ ap (low_names_to m p) (sym same) ∙ sym (append-nil (low_names_to m p j)))
@@ -216,7 +219,8 @@ module _ {s begins roles : List ℕ} (w : Writable s) (L : StepLists (model_at s
         → (more : List (List ℕ)) × (low_names m p ≡ low_names_to m p j ++ (name_of m (action m j) ∷ more))
     low_names_split x =
         let rest = low_names_rest (to - (j + 1)) (j + 1) (omega (arith, k)) (omega (arith, f)) in
-        let next = low_names_next ∙ ap (λ (names : List (List ℕ)). low_names_to m p j ++ names) (name_added_first m x) in (
+        let next = low_names_next ∙ ap (λ (names : List (List ℕ)). low_names_to m p j ++ names)
+        (name_added_first m x) in (
           rest.0,
           rest.1
               ∙ ap (λ (names : List (List ℕ)). names ++ rest.0) next

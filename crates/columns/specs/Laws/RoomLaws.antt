@@ -89,7 +89,8 @@ module _ (m : Model) where
       go : (b : Bool) → (T (low_step? n) → T b) → count_pairs states l (λ p. low_from? m p n) ≤ count n low_step?
           → count_pairs states l (λ p. low_from? m p (suc n)) ≤ count n low_step? + bit b
       go true u ih =
-          let h = count_pairs_le_suc l (λ p. low_from? m p (suc n)) (λ p. low_from? m p n) states (source m n) (action m n)
+          let h = count_pairs_le_suc l (λ p. low_from? m p (suc n)) (λ p. low_from? m p n) states (source m n)
+          (action m n)
           (λ p a _ _ t. one p a (low_from_cases p n a t)) in
           omega arith
         where

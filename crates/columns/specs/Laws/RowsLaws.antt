@@ -138,7 +138,8 @@ pub row_bytes-length : (row : List ℕ) → length row ≤ roll_width → length
 unfolding flush_left
 row_bytes-length row l = simp (length-append, length-replicate) (omega arith)
 
-pub rows_bytes-length : (rows : List (List ℕ)) → ShortRows rows → length (rows_bytes rows) ≡ (roll_width + 1) * length rows
+pub rows_bytes-length : (rows : List (List ℕ)) → ShortRows rows → length (rows_bytes rows) ≡ (roll_width + 1) * length
+    rows
 unfolding rows_bytes
 rows_bytes-length [] s = refl
 rows_bytes-length (row ∷ rows) s =

@@ -64,8 +64,10 @@ pub record RowHeld (sets : List ℕ) (row to : ℕ) (slots pool : List ℕ) : Ty
 pub record SetHeld (row p : ℕ) (s : Set) (slots pool slots' pool' : List ℕ) : Type 0 where
   pub all : (x : ℕ) → In s x → HeldAt slots' pool' row p x
   pub only : (x : ℕ) → HeldAt slots' pool' row p x → In s x
-  pub there : (i x : ℕ) → ¬ (i ≡ slot_place row p) → Member pool (get_or slots i 0) x → Member pool' (get_or slots' i 0) x
-  pub back : (i x : ℕ) → ¬ (i ≡ slot_place row p) → Member pool' (get_or slots' i 0) x → Member pool (get_or slots i 0) x
+  pub there : (i x : ℕ) → ¬ (i ≡ slot_place row p) → Member pool (get_or slots i 0) x → Member pool'
+      (get_or slots' i 0) x
+  pub back : (i x : ℕ) → ¬ (i ≡ slot_place row p) → Member pool' (get_or slots' i 0) x → Member pool
+      (get_or slots i 0) x
 
 -- The set of p in this row has got the member x, and nothing else has changed.
 pub record MemberAdded (row p x : ℕ) (slots pool slots' pool' : List ℕ) : Type 0 where

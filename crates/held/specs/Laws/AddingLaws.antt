@@ -57,7 +57,8 @@ module _ {used p x : ℕ} {slots slots' pool pool' pool'' : List ℕ} (row : ℕ
       new i e = ap (λ (j : ℕ). get_or slots' j 0) e ∙ S.put
 
       own : (i j : ℕ) → 0 < get_or slots' i 0 → get_or slots' i 0 ≡ get_or slots' j 0
-          → (i ≡ slot_place row p) ⊎ ¬ (i ≡ slot_place row p) → (j ≡ slot_place row p) ⊎ ¬ (j ≡ slot_place row p) → i ≡ j
+          → (i ≡ slot_place row p) ⊎ ¬ (i ≡ slot_place row p) → (j ≡ slot_place row p) ⊎ ¬ (j ≡ slot_place row p) → i
+          ≡ j
       own i j k e (inl f) (inl g) = f ∙ sym g
       own i j k e (inl f) (inr g) = absurd (omega (arith, e, new i f, S.kept j g, D.pooled.slot_lt j))
       own i j k e (inr f) (inl g) = absurd (omega (arith, e, new j g, S.kept i f, D.pooled.slot_lt i))

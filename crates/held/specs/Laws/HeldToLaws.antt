@@ -7,7 +7,8 @@ use Rattle.lts.proofs.TestsLaws.{eq_or_not, lt_or_le}
 use Rattle.lts.specs.Weak.{silent_label}
 use Rattle.text.specs.Limits.{action_limit}
 use Rattle.silent.specs.Labelled.{LabelList, LabelMove}
-use Rattle.silent.specs.Laws.LabelledLaws.{label_move_source_lt, label_move_target_lt, label_move_label, label_move_between}
+use Rattle.silent.specs.Laws.LabelledLaws.{label_move_source_lt, label_move_target_lt, label_move_label}
+use Rattle.silent.specs.Laws.LabelledLaws.{label_move_between}
 use Rattle.held.specs.Held.{LabelIn, target_row, source_row, HeldLabel, Turned, HeldList, HeldAs}
 use Rattle.held.specs.Inner.Slots.{Pooled, LabelsKept, HeldTo}
 use Rattle.held.specs.Laws.RowsLaws.{target_row-action, target_row_after}
@@ -66,7 +67,8 @@ module _ {Move : Moves} {to count : ℕ} {labels slots pool : List ℕ} (h : Hel
         label_lt i l (inl e) = omega (arith, ap (λ (j : ℕ). get_or labels' j 0) e, P.put)
         label_lt i l (inr d) = omega (arith, before i (omega arith), h.label_lt i (omega arith))
 
-        rising : (i j : ℕ) → i < j → j < count + 1 → (j ≡ count) ⊎ ¬ (j ≡ count) → get_or labels' i 0 < get_or labels' j 0
+        rising : (i j : ℕ) → i < j → j < count + 1 → (j ≡ count) ⊎ ¬ (j ≡ count) → get_or labels' i 0 < get_or labels'
+            j 0
         rising i j l k (inl e) = omega
             (arith, ap (λ (x : ℕ). get_or labels' x 0) e, P.put, before i (omega arith), h.label_lt i (omega arith))
         rising i j l k (inr d) =

@@ -29,7 +29,8 @@ module _ {s : List ℕ} {m : Model} (st : Stored s m) (none : NoSilentStep m) wh
   still = (no_tick_of_no_silent_step m).0 none
 
   pub bnid↔INI : DeterministicModel m → BNID (view m) ↔ INI (view m)
-  bnid↔INI d = theorem.bnid↔INI (view m) (bounded_view st) (levelled_of_no_tick st still) still (no_silent_label_view st)
+  bnid↔INI d = theorem.bnid↔INI (view m) (bounded_view st) (levelled_of_no_tick st still) still
+      (no_silent_label_view st)
       (deterministic_model→Deterministic m d) _ (weak_move_game st)
 
   -- Ends of rank 0 allow the same low sequences; ends of a rank above 0 are a leak, and allow the same shorter than

@@ -35,7 +35,8 @@ pub roll_bytes-row : (m : Model) (l : PageLine) → roll_rows m l ≡ line_text 
     → roll_bytes m (l ∷ []) ≡ row_bytes (line_text l)
 roll_bytes-row m l e = roll_bytes_line m l ∙ ap rows_bytes e ∙ rows_bytes-row (line_text l)
 
-pub roll_bytes-append : (m : Model) (xs ys : List PageLine) → roll_bytes m (xs ++ ys) ≡ roll_bytes m xs ++ roll_bytes m ys
+pub roll_bytes-append : (m : Model) (xs ys : List PageLine) → roll_bytes m (xs ++ ys) ≡ roll_bytes m xs ++ roll_bytes
+    m ys
 unfolding roll_bytes
 roll_bytes-append m [] ys = refl
 roll_bytes-append m (x ∷ xs) ys =

@@ -22,7 +22,8 @@ use Rattle.letters.specs.declared.word.End.{End}
 use Rattle.letters.specs.declared.word.End.TheVariants.{Source, Target}
 use Rattle.letters.specs.Words.{WordOf}
 use Rattle.tell.specs.Bench.{ReadsAndJudged, refused_at}
-use Rattle.tell.specs.BenchModels.{worked, worked_text, scanned_once, released, close_low, branching, no_steps, print_loop}
+use Rattle.tell.specs.BenchModels.{worked, worked_text, scanned_once, released, close_low, branching, no_steps}
+use Rattle.tell.specs.BenchModels.{print_loop}
 use Rattle.tell.specs.BenchModels.{unreached_print, unreached_print_text, woken_print}
 use Rattle.tell.specs.Laws.BenchLaws.{joint-fact, second-start}
 use Rattle.columns.specs.LowNames.{passing}
@@ -68,7 +69,8 @@ record Computed : Type 0 where
   woken_print_is : page_with woken_print (refused_at 0 1) (word_lines woken_print (0 ∷ []) Target) ≡ woken_print_lines
 
 computed : Computed
-unfolding state_lines_of least_passing step? start? rank_below alike? weak_answers? low_move? silent_move? answers? answered?
+unfolding state_lines_of least_passing step? start? rank_below alike? weak_answers? low_move? silent_move? answers?
+    answered?
     within? all any worked_lines scanned_once_lines released_lines close_low_lines branching_lines one_state_lines
     unreached_print_lines woken_print_lines
 computed = record {
@@ -191,7 +193,8 @@ unfolding form_bytes roll_bytes roll_rows rows_bytes flush_left flush_right stat
 unreached-print_rows = refl
 
 pub rolls_printed : RollsPrinted
-unfolding split cons_first kind_of others lettered? unpadded cons_unless_padding rows_bytes flush_left unreached_print_rows
+unfolding split cons_first kind_of others lettered? unpadded cons_unless_padding rows_bytes flush_left
+    unreached_print_rows
 rolls_printed = record {
   worked = subst (PrintsBytes Roll worked_text) worked_roll_lem (prints_word Roll joint-fact.worked_refused
       (head_start worked) joint-fact.worked_deterministic joint-fact.worked_still joint-fact.worked_word refl

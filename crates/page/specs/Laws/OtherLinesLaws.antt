@@ -109,5 +109,6 @@ without_states_all (l ∷ lines) p =
 
 -- those that are no state's, padded and unpadded
 pub unpadded-others : (lines : List PageLine) → All AnyLine lines
-    → map unpadded (map (flush_left roll_width) (map line_text (without_states lines))) ≡ map line_text (without_states lines)
+    → map unpadded (map (flush_left roll_width) (map line_text (without_states lines))) ≡ map line_text
+    (without_states lines)
 unpadded-others lines p = unpadded_texts (without_states lines) (without_states_all lines p)

@@ -60,5 +60,6 @@ pub run_fields_states : {m : Model} {bytes word : List ℕ} (x : LeakPage m byte
     ≡ some (get_or x.texts.run i 0)
 run_fields_states {bytes = bytes} x i l =
     subst
-    (λ (n : ℕ). number_of (get_or (line_fields (split line_end bytes) (1 + n + i)) 1 []) ≡ some (get_or x.texts.run i 0))
+    (λ (n : ℕ). number_of (get_or (line_fields (split line_end bytes) (1 + n + i)) 1 []) ≡ some
+    (get_or x.texts.run i 0))
     (state_lines-length x.state_lines) (x.texts.run_fields i l)

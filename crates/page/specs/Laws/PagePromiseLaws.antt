@@ -145,12 +145,14 @@ module _ (store distances table run word out : List ℕ) (t u : Outcome)
   pub page_promise_unique : PagePromise store distances table run word out t d' t' r' w' o'
       → PagePromise store distances table run word out u d'' t'' r'' w'' o''
       → (t ≡ u) × (d' ≡ d'') × (t' ≡ t'') × (r' ≡ r'') × (w' ≡ w'') × (o' ≡ o'')
-  page_promise_unique = form_promise_unique Page store distances table run word out t u d' t' r' w' o' d'' t'' r'' w'' o''
+  page_promise_unique = form_promise_unique Page store distances table run word out t u d' t' r' w' o' d'' t'' r'' w''
+      o''
 
   pub roll_promise_unique : RollPromise store distances table run word out t d' t' r' w' o'
       → RollPromise store distances table run word out u d'' t'' r'' w'' o''
       → (t ≡ u) × (d' ≡ d'') × (t' ≡ t'') × (r' ≡ r'') × (w' ≡ w'') × (o' ≡ o'')
-  roll_promise_unique = form_promise_unique Roll store distances table run word out t u d' t' r' w' o' d'' t'' r'' w'' o''
+  roll_promise_unique = form_promise_unique Roll store distances table run word out t u d' t' r' w' o' d'' t'' r'' w''
+      o''
 
 -- ---- equal outcomes are equal answers
 

@@ -88,7 +88,8 @@ module _ {form : Form} {text store distances table run word out : List ℕ} {out
     {store' distances' table' run' word' out' : List ℕ}
     (p : PrintPromise form text store distances table run word out outcome store' distances' table' run' word'
     out') where
-  pub lists_none : (n : ℕ) → outcome ≡ answers (n ∷ []) → print_lists form text store distances table run word out ≡ none
+  pub lists_none : (n : ℕ) → outcome ≡ answers (n ∷ []) → print_lists form text store distances table run word out ≡
+      none
   lists_none n e =
       lists_of_not_short (print_lists form text store distances table run word out) (λ k h. (p.short k h).0)
       (λ k h. answers_not_refuses (sym e ∙ h))

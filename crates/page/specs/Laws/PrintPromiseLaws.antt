@@ -50,7 +50,8 @@ module _ {form : Form} {text store distances table run word out : List ℕ} {t u
       let f = fault_printed_unique a.1 b.1 in
       unchanged_same a.0 b.0 f.0 f.1
 
-  read_same : print_lists form text store distances table run word out ≡ none → (r : Reading) → read_text text ≡ r → Same
+  read_same : print_lists form text store distances table run word out ≡ none → (r : Reading) → read_text text ≡ r →
+      Same
   unfolding reading_outcome
   read_same long (done m) e =
       let a = x.read long m e in

@@ -38,7 +38,8 @@ print_lists_none form text store distances table run word out long =
 
 -- ---- the bytes of a model's page
 
-pub page_bytes_of_printed : {form : Form} {m : Model} {outcome : Outcome} {run word out run' word' out' : List ℕ} (n : ℕ)
+pub page_bytes_of_printed : {form : Form} {m : Model} {outcome : Outcome} {run word out run' word' out' : List ℕ}
+    (n : ℕ)
     → outcome ≡ answers (n ∷ []) → PagePrinted form m outcome run word out run' word' out'
     → PageBytesOf form m (take n out')
 page_bytes_of_printed {run = run} {word} {out} {run'} {word'} n e x = record {

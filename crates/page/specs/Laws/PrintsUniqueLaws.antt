@@ -67,7 +67,8 @@ pub page_lines_unique : {m : Model} {run word run' word' run₀ word₀ run₁ w
     → PageOf m run word run' word' xs → PageOf m run₀ word₀ run₁ word₁ ys → xs ≡ ys
 page_lines_unique {m} {run} {word} x y = (page_of_unique x (page_of_any m run word y).2).0
 
-pub page_bytes_of_unique : {form : Form} {m : Model} {a b : List ℕ} → PageBytesOf form m a → PageBytesOf form m b → a ≡ b
+pub page_bytes_of_unique : {form : Form} {m : Model} {a b : List ℕ} → PageBytesOf form m a → PageBytesOf form m b → a
+    ≡ b
 page_bytes_of_unique {form} {m} x y =
     x.bytes_are ∙ ap (form_bytes form m) (page_lines_unique x.page y.page) ∙ sym y.bytes_are
 

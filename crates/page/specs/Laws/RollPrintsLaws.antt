@@ -39,7 +39,8 @@ module _ {m : Model} (w : WellFormed m) where
 
 module _ {text : List ℕ} {m : Model} (e : read_text text ≡ done m) {roll : List ℕ} (rolls : Prints Roll text roll) where
   pub others_padded_of_text : {page : List ℕ} → Prints Page text page → OthersPadded page roll
-  others_padded_of_text pages = others_padded_of_model (read_text_well_formed text m e) (pages.read m e) (rolls.read m e)
+  others_padded_of_text pages = others_padded_of_model (read_text_well_formed text m e) (pages.read m e)
+      (rolls.read m e)
 
   pub roll_columns_of_text : RollColumns roll
   roll_columns_of_text = roll_columns_of_model (read_text_well_formed text m e) (rolls.read m e)

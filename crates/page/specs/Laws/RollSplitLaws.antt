@@ -82,7 +82,8 @@ fill_rows row (name ∷ names) r p =
 
 one_line_right : (width : ℕ) (text : List ℕ) → OneLine text → OneLine (flush_right width text)
 unfolding flush_right
-one_line_right width text p = one_line-append (blanks (width - length text)) text (one_line-blanks (width - length text)) p
+one_line_right width text p = one_line-append (blanks (width - length text)) text
+    (one_line-blanks (width - length text)) p
 
 -- a number flush right begins with a blank or with a digit
 number_begins : (l : List ℕ) → All (λ b. kind_of b ≡ digit) l
@@ -111,7 +112,8 @@ columns-row p d class =
 
 one_line_left : (row : List ℕ) → OneLine row → OneLine (flush_left roll_width row)
 unfolding flush_left
-one_line_left row p = one_line-append row (blanks (roll_width - length row)) p (one_line-blanks (roll_width - length row))
+one_line_left row p = one_line-append row (blanks (roll_width - length row)) p
+    (one_line-blanks (roll_width - length row))
 
 split_rows : (rows : List (List ℕ)) (rest : List ℕ) → All OneLine rows
     → split line_end (rows_bytes rows ++ rest) ≡ map (flush_left roll_width) rows ++ split line_end rest
@@ -120,7 +122,8 @@ split_rows [] rest p = refl
 split_rows (row ∷ rows) rest p =
     ap (split line_end) (append_assoc (row_bytes row) (rows_bytes rows) rest
     ∙ append_assoc (flush_left roll_width row) (byte_line_end ∷ []) (rows_bytes rows ++ rest))
-    ∙ split-append line_end byte_line_end (flush_left roll_width row) (rows_bytes rows ++ rest) refl (one_line_left row p.0)
+    ∙ split-append line_end byte_line_end (flush_left roll_width row) (rows_bytes rows ++ rest) refl
+    (one_line_left row p.0)
     ∙ ap (◌∷◌ (flush_left roll_width row)) (split_rows rows rest p.1)
 
 -- a state's are none of those that begin with a capital
@@ -143,7 +146,8 @@ module _ {m : Model} (w : WellFormed m) where
   names_one_line p =
       all_map OneLine (name_of m) (low_actions m p)
       (all_of_all (λ (a : ℕ). a < length m.actions) (λ (a : ℕ). OneLine (name_of m a))
-      (λ a l. (no_blanks_name w a l).no_line_end) (low_actions m p) (passing_lt (length m.actions) (low_from? m p (length m.steps))))
+      (λ a l. (no_blanks_name w a l).no_line_end) (low_actions m p)
+      (passing_lt (length m.actions) (low_from? m p (length m.steps))))
 
   state_rows_is : (p : ℕ) (d : Option ℕ) (class : ℕ) → All StateRow (state_rows m p d class)
   state_rows_is p d class =

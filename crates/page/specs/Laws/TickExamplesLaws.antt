@@ -26,12 +26,14 @@ use Rattle.page.specs.Laws.ExamplesLaws.{page_with, prints_passed, prints_silent
 -- ---- what evaluation finds
 
 before-scan_lines : page_with ticks_before_scan (Passed 1) [] ≡ before_scan_lines
-unfolding state_lines_of least_passing step? start? rank_below alike? weak_answers? low_move? silent_move? answers? answered?
+unfolding state_lines_of least_passing step? start? rank_below alike? weak_answers? low_move? silent_move? answers?
+    answered?
     within? all any before_scan_lines
 before-scan_lines = refl
 
 depth_one_lines_lem : page_with tick_depth_one (refused_at 0 1) (no_word_line ∷ []) ≡ depth_one_lines
-unfolding state_lines_of least_passing step? start? rank_below alike? weak_answers? low_move? silent_move? answers? answered?
+unfolding state_lines_of least_passing step? start? rank_below alike? weak_answers? low_move? silent_move? answers?
+    answered?
     within? all any depth_one_lines
 depth_one_lines_lem = refl
 

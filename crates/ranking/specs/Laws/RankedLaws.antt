@@ -13,7 +13,8 @@ use Rattle.ranking.specs.Table.{Below, SomePair, Ranks, LastRound, Greatest, Ran
 -- ---- one table, one answer
 
 -- each place of the table is the place of a pair
-place_pair : (i : ℕ) → i < table_length → (p : ℕ) × (q : ℕ) × (p < state_limit) × (q < state_limit) × (i ≡ pair_place p q)
+place_pair : (i : ℕ) → i < table_length → (p : ℕ) × (q : ℕ) × (p < state_limit) × (q < state_limit) ×
+    (i ≡ pair_place p q)
 place_pair i l = (i / state_limit, i % state_limit, omega arith, omega arith, omega arith)
 
 pub greatest_unique : (Move : Moves) (Among : ℕ → Type 0) (top top' : ℕ) → Greatest Move Among top

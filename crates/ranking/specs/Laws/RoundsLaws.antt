@@ -51,7 +51,8 @@ module _ {Move : Moves} {n : ℕ} (target_lt : (p a q : ℕ) → p < n → Move 
 -- ---- after the last round
 
 module _ {Move : Moves} {n : ℕ} {round : (ℕ → ℕ → Bool) → ℕ → ℕ → Bool} (G : Game Move n round) (some : 0 < n)
-    {last : ℕ} {t u w : List ℕ} (limit : n ≤ state_limit) (C : Cleared 0 table_length t u) (F : Finished Move n last u w)
+    {last : ℕ} {t u w : List ℕ} (limit : n ≤ state_limit) (C : Cleared 0 table_length t u)
+    (F : Finished Move n last u w)
     (same_length : length w ≡ length t) where
   -- A pair that round `last` separated, if there is such a round.
   LastPair : ℕ → Type 0

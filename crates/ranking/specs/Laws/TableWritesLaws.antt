@@ -1,7 +1,8 @@
 -- A round that writes its number for each pair that it separates makes the entries right one round further; and the
 -- rows of the states that changed their class hold every such pair. Document 01, operation 3. Assumes nothing.
 use Rattle.std.specs.Prelude.{◌≡◌, refl, ◌⊎◌, List, ℕ, suc, ◌+◌, ◌≤◌, ◌<◌, length, get_or, set}
-use Rattle.std.proofs.Common.{sym, ap, ◌∙◌, subst, inl, inr, ⊎_elim, arith, lt-length-set, get_or-set_same, get_or-set_other, below_more}
+use Rattle.std.proofs.Common.{sym, ap, ◌∙◌, subst, inl, inr, ⊎_elim, arith, lt-length-set, get_or-set_same}
+use Rattle.std.proofs.Common.{get_or-set_other, below_more}
 use Rattle.lts.specs.Alike.{Moves, Alike, Separated}
 use Rattle.lts.proofs.AlikeLaws.{alike_le}
 use Rattle.lts.proofs.TestsLaws.{eq_or_not, both_or_not}
@@ -14,14 +15,16 @@ use Rattle.ranking.specs.Inner.TableWrites.{RankUpTo, RanksUpTo}
 
 -- ---- the two entries of a pair
 
-pub pair_written-set : (t : List ℕ) (round : ℕ) {p q i j : ℕ} → i ≡ pair_place p q → j ≡ pair_place q p → p < state_limit
+pub pair_written-set : (t : List ℕ) (round : ℕ) {p q i j : ℕ} → i ≡ pair_place p q → j ≡ pair_place q p → p <
+    state_limit
     → q < state_limit → table_length ≤ length t → PairWritten p q round t (set (set t i round) j round)
 pair_written-set t round {p} {q} {i} {j} ei ej lp lq lt = record {
   there = ap (λ (k : ℕ). get_or w k 0) (sym ei) ∙ there (eq_or_not i j);
   back = ap (λ (k : ℕ). get_or w k 0) (sym ej) ∙ get_or-set_same u j round 0 long;
   kept = λ x y l d e.
       get_or-set_other u j (pair_place x y) round 0 (λ h. e (omega (arith, h, l, lp, ej), omega (arith, h, l, lp, ej)))
-      ∙ get_or-set_other t i (pair_place x y) round 0 (λ h. d (omega (arith, h, l, lq, ei), omega (arith, h, l, lq, ei)));
+      ∙ get_or-set_other t i (pair_place x y) round 0 (λ h. d
+      (omega (arith, h, l, lq, ei), omega (arith, h, l, lq, ei)));
 }
   where
     u : List ℕ

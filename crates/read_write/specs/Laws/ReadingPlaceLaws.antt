@@ -13,7 +13,8 @@ use Rattle.text.specs.Lines.{Line, good, bad, head_of, action_of, start_of, step
 use Rattle.text.specs.Model.{Model, some_high?, with_action, with_extra_start, with_step}
 use Rattle.read_write.specs.ReadPromise.{reading_outcome}
 use Rattle.model.specs.Reading.{Reading, done, too_long, faulty, on_line, or_fault, read_nothing, read_end, read_steps}
-use Rattle.model.specs.Reading.{start_lines, read_starts, behind_actions, read_actions, head_model, read_model, read_text}
+use Rattle.model.specs.Reading.{start_lines, read_starts, behind_actions, read_actions, head_model, read_model}
+use Rattle.model.specs.Reading.{read_text}
 use Rattle.text.specs.Split.{split, same?}
 use Rattle.text.specs.Laws.SplitLaws.{split-length_le}
 
@@ -63,7 +64,8 @@ module _ (n : ℕ) where
       place_or_fault k (step_of m.head m.steps line) _ (omega arith) (λ s.
       place_steps i (suc k) (with_step m s) rest h))
 
-  place_starts : (i k : ℕ) (m : Model) (parts : List (List ℕ)) → k + length parts ≤ n → PlaceLe (read_starts i k m parts)
+  place_starts : (i k : ℕ) (m : Model) (parts : List (List ℕ)) → k + length parts ≤ n → PlaceLe
+      (read_starts i k m parts)
   unfolding read_starts
   place_starts zero k m parts l = place_steps m.head.steps k m parts l
   place_starts (suc i) k m parts l = place_on_line k parts _ l (λ line rest h.

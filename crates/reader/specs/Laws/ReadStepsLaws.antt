@@ -103,7 +103,8 @@ after_steps h text start j last store b c =
 -- ---- the end
 
 -- bytes after the end
-read_nothing_more : (k : ℕ) (m : Model) (s : List ℕ) → 0 < length s → read_nothing k m (split line_end s) ≡ faulty Absent k
+read_nothing_more : (k : ℕ) (m : Model) (s : List ℕ) → 0 < length s → read_nothing k m (split line_end s) ≡ faulty
+    Absent k
 unfolding read_nothing cons_first
 read_nothing_more k m [] h = absurd (omega arith)
 read_nothing_more k m (b ∷ bs) h = go (is (kind_of b) line_end) (split_first line_end bs)

@@ -31,7 +31,8 @@ past text at h = let l : length text ≤ at = omega arith in rw (drop_of_length-
 one_part : {line part p : List ℕ} {parts : List (List ℕ)} → p ∷ [] ≡ line ∷ part ∷ parts → ⊥
 one_part h = let z : ◌≡◌ {A = ℕ} 0 1 = cc in absurd (omega arith)
 
-pub first_line_past : (text : List ℕ) (at : ℕ) → length text < at → bad Absent ≡ first_line (split line_end (drop at text))
+pub first_line_past : (text : List ℕ) (at : ℕ) → length text < at → bad Absent ≡ first_line
+    (split line_end (drop at text))
 unfolding first_line
 first_line_past text at h = rw (past text at h)
 
@@ -44,7 +45,8 @@ module _ (text : List ℕ) (at e : ℕ) (le : at ≤ length text) (found : e ≡
   unfolding first_line
   first_line_absent l = rw (split_last line_end text at e le found l)
 
-  first_line_line : e < length text → head_of (take (e - at) (drop at text)) ≡ first_line (split line_end (drop at text))
+  first_line_line : e < length text → head_of (take (e - at) (drop at text)) ≡ first_line
+      (split line_end (drop at text))
   unfolding first_line
   first_line_line l =
       let w = split_first line_end (drop (e + 1) text) in rw (split_part line_end text at e le found l, w.2)
@@ -108,7 +110,8 @@ pub after_first_bad : (r : HeadRead) (text : List ℕ) (at : ℕ) (fault : Fault
 unfolding AfterFirst
 after_first_bad r text at fault e b = rw e at b
 
-pub after_first_good : (r : HeadRead) (text : List ℕ) (at : ℕ) (h : Head) → r ≡ head_answer.Good h → AfterFirst r text at
+pub after_first_good : (r : HeadRead) (text : List ℕ) (at : ℕ) (h : Head) → r ≡ head_answer.Good h → AfterFirst r text
+    at
     → AfterHead h text (record { at = at; line = 2 })
 unfolding AfterFirst
 after_first_good r text at h e b = rw e at b

@@ -27,5 +27,6 @@ returns c =
       joined = joined_words at.ensures of.ensures l refl;
       decides = λ e.
           let same = words_of_stored at.result l e in
-          ⊎_elim (λ w. w.if-high-old_high.false same.1) (λ w. w.if-low-old_low.false same.0) c.if-low-old_low.branch-raw;
+          ⊎_elim (λ w. w.if-high-old_high.false same.1) (λ w. w.if-low-old_low.false same.0)
+          c.if-low-old_low.branch-raw;
     }

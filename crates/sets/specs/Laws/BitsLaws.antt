@@ -1,8 +1,10 @@
 -- Bit i of w is w / 2 ^ i % 2. The bits of bit_or, of a power of two and below the least bit of a word.
 -- Assumes nothing.
 use Rattle.std.specs.Prelude.{◌≡◌, refl, ◌⊎◌, ℕ, zero, suc, ◌+◌, ◌-◌, ◌*◌, ◌/◌, ◌%◌, ◌^◌, ◌≤◌, ◌<◌, max}
-use Rattle.std.proofs.Common.{sym, ap, ap₂, ◌∙◌, subst, inl, inr, one-mul, pow-suc, div-one, div-add-mod', le_of_suc-le-suc, lt_of_lt_of_le, arith, pow_pos, pow_mono, pow-add, shl_exact}
-use Rattle.std.proofs.Math.Nat.{max-eq_left, max-eq_right, max-le, zero-max, pow-succ', div-eq_of_lt, div-div-eq-div-mul}
+use Rattle.std.proofs.Common.{sym, ap, ap₂, ◌∙◌, subst, inl, inr, one-mul, pow-suc, div-one, div-add-mod'}
+use Rattle.std.proofs.Common.{le_of_suc-le-suc, lt_of_lt_of_le, arith, pow_pos, pow_mono, pow-add, shl_exact}
+use Rattle.std.proofs.Math.Nat.{max-eq_left, max-eq_right, max-le, zero-max, pow-succ', div-eq_of_lt}
+use Rattle.std.proofs.Math.Nat.{div-div-eq-div-mul}
 use Rattle.std.proofs.Math.Arith.{digits_mod, lt-one}
 use Rattle.std.proofs.Math.Pow.{pow-lt}
 use Rattle.std.proofs.lemmas.Nat.{shl-shr, or_shr, or_comm}

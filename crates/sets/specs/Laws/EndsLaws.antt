@@ -24,7 +24,8 @@ first_bit_trailing w fits = record {
   set = λ l. go l (eq-zero-or-pos w);
 }
   where
-    go : count_trailing_zeros word_bits w < word_bits → (w ≡ 0) ⊎ (0 < w) → w / 2 ^ count_trailing_zeros word_bits w % 2 ≡ 1
+    go : count_trailing_zeros word_bits w < word_bits → (w ≡ 0) ⊎ (0 < w) → w / 2 ^ count_trailing_zeros word_bits w %
+        2 ≡ 1
     go l (inl e) = absurd (omega (arith, l, ap (count_trailing_zeros word_bits) e ∙ trailing_of_zero word_bits))
     go l (inr p) = trailing-bit word_bits w p fits
 
@@ -139,7 +140,8 @@ leading_lt w fits some =
     omega (arith, t.1)
 
 -- The last bit of the second word,
-pub greatest-high : {s : Set} → s.1 < 2 ^ word_bits → ¬ (s.1 ≡ 0) → GreatestOf s (127 - count_leading_zeros word_bits s.1)
+pub greatest-high : {s : Set} → s.1 < 2 ^ word_bits → ¬ (s.1 ≡ 0) → GreatestOf s
+    (127 - count_leading_zeros word_bits s.1)
 greatest-high {s} fits some =
     let t = leading_top word_bits s.1 (omega (arith, some)) fits in
     let e : 127 - count_leading_zeros word_bits s.1 ≡ word_bits + t.0 = omega (arith, t.1) in

@@ -1,7 +1,8 @@
 -- The bits of bit_and and of a complement, the highest bit, words without bits, and a word without its least bit.
 -- Assumes nothing.
 use Rattle.std.specs.Prelude.{◌≡◌, ◌⊎◌, ℕ, zero, suc, ◌+◌, ◌-◌, ◌*◌, ◌/◌, ◌%◌, ◌^◌, ◌≤◌, ◌<◌, min}
-use Rattle.std.proofs.Common.{sym, ap, ap₂, ◌∙◌, inl, inr, lt_of_le_of_lt, pow-suc, div-one, eq-zero-or-pos, arith, shr-shr}
+use Rattle.std.proofs.Common.{sym, ap, ap₂, ◌∙◌, inl, inr, lt_of_le_of_lt, pow-suc, div-one, eq-zero-or-pos, arith}
+use Rattle.std.proofs.Common.{shr-shr}
 use Rattle.std.proofs.Math.Nat.{min-le_left, min-le_right}
 use Rattle.std.proofs.Math.Arith.{digits_mod}
 use Rattle.std.proofs.Math.Pow.{high}

@@ -27,7 +27,8 @@ least_rises {gone = gone} h g s =
     least_after h g.member_lt (λ z i. ((s.only z i).0, λ e. (s.only z i).1 (subst (In gone) (sym e) g)))
 
 -- The walk comes nearer to its end,
-pub walk_nearer : {a b : Set} {x y : ℕ} → LeastOf a x → x < state_limit → SetOf (λ z. In a z × ¬ (z ≡ x)) b → LeastOf b y
+pub walk_nearer : {a b : Set} {x y : ℕ} → LeastOf a x → x < state_limit → SetOf (λ z. In a z × ¬ (z ≡ x)) b → LeastOf
+    b y
     → state_limit - y < state_limit - x
 walk_nearer h l s k = omega (arith, least_after h l s.only k, l)
 

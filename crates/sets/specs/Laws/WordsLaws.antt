@@ -18,7 +18,8 @@ module _ {sets others : List ℕ} {k j : ℕ} where
       → (x : ℕ) → Member sets k x → Member others j x
   within_of_words {a} {b} {c} {d} ea eb ec ed l h x m = go x m (x / word_bits) refl
     where
-      at : (list : List ℕ) (n z x : ℕ) → x / word_bits ≡ z → get_or list (2 * n + z) 0 ≡ get_or list (2 * n + x / word_bits) 0
+      at : (list : List ℕ) (n z x : ℕ) → x / word_bits ≡ z → get_or list (2 * n + z) 0 ≡ get_or list
+          (2 * n + x / word_bits) 0
       at list n z x f = ap (λ (y : ℕ). get_or list (2 * n + y) 0) (sym f)
 
       go : (x : ℕ) → Member sets k x → (z : ℕ) → x / word_bits ≡ z → Member others j x
@@ -50,7 +51,8 @@ joined_words {sets} {others} {k} {j} {p} {q} {b} d e l f =
 -- Neither word takes a bit.
 pub joined_same-words : {sets : List ℕ} {k j p q : ℕ} → p ≡ 2 * k → q ≡ 2 * j
     → bit_or (get_or sets p 0) (get_or sets q 0) ≡ get_or sets p 0
-    → bit_or (get_or sets (p + 1) 0) (get_or sets (q + 1) 0) ≡ get_or sets (p + 1) 0 → Joined k (Member sets j) sets sets
+    → bit_or (get_or sets (p + 1) 0) (get_or sets (q + 1) 0) ≡ get_or sets (p + 1) 0 → Joined k (Member sets j) sets
+    sets
 joined_same-words {sets} {k} {j} {p} {q} d e l h = record {
   joined = within_of_words (at q f) (at (q + 1) g) (at p m) (at (p + 1) n)
       (or_comm (get_or sets q 0) (get_or sets p 0) ∙ l) (or_comm (get_or sets (q + 1) 0) (get_or sets (p + 1) 0) ∙ h);

@@ -87,7 +87,8 @@ module _ {n : ℕ} {from sources targets : List ℕ} (L : LabelList n from sourc
   label_move_label (silent e s) = inr e
 
   -- Between the actions and the silent label there is no label.
-  pub label_move_between : (p b t : ℕ) → action_limit ≤ b → b < silent_label → ¬ (LabelMove n from sources targets p b t)
+  pub label_move_between : (p b t : ℕ) → action_limit ≤ b → b < silent_label → ¬
+      (LabelMove n from sources targets p b t)
   label_move_between p b t l k m = ⊎_elim (λ h. omega (arith, h, l)) (λ h. omega (arith, h, k)) (label_move_label m)
 
   -- ---- the game

@@ -113,7 +113,8 @@ module _ {sources targets : List ℕ} {b : Bool} where
   }
 
   -- No turn before misses a member that the set of this one's source has got: it was not read, or has not grown.
-  pub closed_to_suc : {begin end i at : ℕ} {again after : Bool} {marks sets exit : List ℕ} → at ≡ turn_place b begin end i
+  pub closed_to_suc : {begin end i at : ℕ} {again after : Bool} {marks sets exit : List ℕ} → at ≡ turn_place b begin
+      end i
       → get_or targets at 0 < state_limit → Joined (get_or sources at 0) (Member sets (get_or targets at 0)) sets exit
       → (after ≡ false → (again ≡ false) × (get_or marks (get_or sources at 0) 0 ≡ 1 → exit ≡ sets))
       → ClosedTo sources targets b begin end i again marks sets

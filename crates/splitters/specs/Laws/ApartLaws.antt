@@ -145,7 +145,8 @@ module _ {old round : ℕ} {origin' : List ℕ} {apart apart' : ℕ → ℕ → 
   round_written_after {n} {class = class} {next} A class_lt before = record {
     written = λ p q lp lq s. B.now (before p lp ∙ s.same_before ∙ sym (before q lq)) s.not_same_after;
     kept = λ p q lp lq d.
-        kept p q lp lq d (eq_or_not (get_or class p 0) (get_or class q 0)) (eq_or_not (get_or next p 0) (get_or next q 0));
+        kept p q lp lq d (eq_or_not (get_or class p 0) (get_or class q 0))
+        (eq_or_not (get_or next p 0) (get_or next q 0));
   }
     where
       kept : (p q : ℕ) → p < n → q < n → ¬ (SeparatedBy class next p q) → Same class p q ⊎ ¬ (Same class p q)

@@ -20,7 +20,8 @@ use Rattle.tree.specs.Inner.Tree.{Tree, Apart, MemberSets}
 use Rattle.splitters.specs.Inner.Partition.{Partition, home, HomesKept}
 use Rattle.splitters.specs.Inner.Splitters.{Fresh, SetsKept, Grown, Ready, Rounded, Rounds, LastRounded}
 use Rattle.splitters.specs.Inner.MoveSplits.{UsedLabels, UsedSplit}
-use Rattle.splitters.specs.Laws.ApartLaws.{apart_after, apart_after_is, tree_after, apart_after_holds, round_written_after}
+use Rattle.splitters.specs.Laws.ApartLaws.{apart_after, apart_after_is, tree_after, apart_after_holds}
+use Rattle.splitters.specs.Laws.ApartLaws.{round_written_after}
 use Rattle.splitters.specs.Laws.HomeLaws.{home_lt, home_before, origin_lt}
 use Rattle.splitters.specs.Laws.StableLaws.{refined_of_split_under, stable_of_refined}
 use Rattle.splitters.specs.Laws.UnderLaws.{under_sets_noted, under_sets_divided}

@@ -29,7 +29,8 @@ split_empty f = split_refl (λ p q l _ _ h. absurd (f p l h))
 
 -- ---- one split after another
 
-pub homes_kept_trans : {n old : ℕ} {o c o' c' o'' c'' : List ℕ} → HomesKept n old o c o' c' → HomesKept n old o' c' o'' c''
+pub homes_kept_trans : {n old : ℕ} {o c o' c' o'' c'' : List ℕ} → HomesKept n old o c o' c' → HomesKept n old o' c'
+    o'' c''
     → HomesKept n old o c o'' c''
 homes_kept_trans f g = record {
   same = λ p l. g.same p l ∙ f.same p l;

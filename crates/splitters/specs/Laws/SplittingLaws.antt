@@ -162,7 +162,8 @@ module _ {n classes c x : ℕ} {class members : List ℕ} {together set left who
             (less_too p q lp lq h f) (less_too q p lq lp (sym h) g);
       })
         where
-          side : (p q : ℕ) → p < n → q < n → Same c'' p q → In left p → (get_or class p 0 ≡ c) ⊎ ¬ (get_or class p 0 ≡ c)
+          side : (p q : ℕ) → p < n → q < n → Same c'' p q → In left p → (get_or class p 0 ≡ c) ⊎ ¬
+              (get_or class p 0 ≡ c)
               → In left q
           side p q lp lq h j (inl d) =
               let s = G.by.same_before p q lp lq h in

@@ -93,7 +93,8 @@ joint-fact = record {
   released_passed = judged_of_computed released_text released read.released (Passed 1) computed.released;
   released_deterministic = unbranched?→DeterministicModel released unbranched.released;
   released_still = still?→NoSilentStep released none-silent.released;
-  close-low-refused = judged_of_computed close_low_text close_low read.close_low_is (refused_at 0 1) computed.close_low_is;
+  close-low-refused = judged_of_computed close_low_text close_low read.close_low_is (refused_at 0 1)
+      computed.close_low_is;
   close_low_deterministic = unbranched?→DeterministicModel close_low unbranched.close_low_is;
   close_low_still = still?→NoSilentStep close_low none-silent.close_low_is;
   close_low_word = word_of?→WordOf (stored_of_read close_low_text close_low read.close_low_is) 0 (close ∷ []) Target
@@ -106,7 +107,8 @@ joint-fact = record {
   no_steps_passed = judged_of_computed no_steps_text no_steps read.no_steps_is (Passed 0) computed.no_steps_is;
   no_steps_deterministic = unbranched?→DeterministicModel no_steps unbranched.no_steps_is;
   no_steps_still = still?→NoSilentStep no_steps none-silent.no_steps_is;
-  print_loop_passed = judged_of_computed print_loop_text print_loop read.print_loop_is (Passed 0) computed.print_loop_is;
+  print_loop_passed = judged_of_computed print_loop_text print_loop read.print_loop_is (Passed 0)
+      computed.print_loop_is;
   print_loop_deterministic = unbranched?→DeterministicModel print_loop unbranched.print_loop_is;
   print_loop_still = still?→NoSilentStep print_loop none-silent.print_loop_is;
   unreached_print_passed =

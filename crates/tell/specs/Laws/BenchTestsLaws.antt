@@ -11,9 +11,12 @@ use Rattle.text.specs.Bytes.{kind_of}
 use Rattle.text.specs.Numbers.{digits_value, number_shape?, number_of, in_bounds?, bounded, number_in}
 use Rattle.text.specs.Split.{cons_first, split, same?}
 use Rattle.text.specs.Model.{Model, some_high?, last_start, above?, above_last?}
-use Rattle.text.specs.Lines.{checked, fields_from, fields_of, cons_number, numbers_of, head_bounds, start_bounds, step_bounds}
-use Rattle.text.specs.Lines.{row_letter, row_count, row_bounds, value_or0, states_of, row_from, row_of, head_from, head_of}
-use Rattle.text.specs.Lines.{level_of, all_of, name_byte?, name?, name_from, action_fields, used?, action_from, action_of}
+use Rattle.text.specs.Lines.{checked, fields_from, fields_of, cons_number, numbers_of, head_bounds, start_bounds}
+use Rattle.text.specs.Lines.{step_bounds}
+use Rattle.text.specs.Lines.{row_letter, row_count, row_bounds, value_or0, states_of, row_from, row_of, head_from}
+use Rattle.text.specs.Lines.{head_of}
+use Rattle.text.specs.Lines.{level_of, all_of, name_byte?, name?, name_from, action_fields, used?, action_from}
+use Rattle.text.specs.Lines.{action_of}
 use Rattle.text.specs.Lines.{above_starts?, start_from, start_of, step_from, step_of}
 use Rattle.model.specs.Reading.{done, on_line, or_fault, read_nothing, read_end, read_steps, start_line?, start_lines}
 use Rattle.model.specs.Reading.{read_starts, behind_actions, read_actions, read_model, read_text}
@@ -55,10 +58,14 @@ pub record Read : Type 0 where
   pub depth_one : read_text tick_depth_one_text ≡ done tick_depth_one
 
 pub read : Read
-unfolding read_text read_model read_actions behind_actions some_high? start_lines start_line? read_starts read_steps read_end
-    read_nothing or_fault on_line step_of step_from start_of start_from above_starts? last_start action_of action_from used?
-    action_fields name_from name? name_byte? all_of level_of head_of head_from row_of row_from states_of value_or0 row_bounds
-    row_count row_letter step_bounds start_bounds head_bounds numbers_of cons_number fields_of fields_from checked above?
+unfolding read_text read_model read_actions behind_actions some_high? start_lines start_line? read_starts read_steps
+    read_end
+    read_nothing or_fault on_line step_of step_from start_of start_from above_starts? last_start action_of action_from
+    used?
+    action_fields name_from name? name_byte? all_of level_of head_of head_from row_of row_from states_of value_or0
+    row_bounds
+    row_count row_letter step_bounds start_bounds head_bounds numbers_of cons_number fields_of fields_from checked
+    above?
     above_last? same? split cons_first number_in bounded in_bounds? number_of number_shape? digits_value kind_of
 read = record {
   worked = refl;
@@ -88,7 +95,8 @@ pub record Computed : Type 0 where
   pub depth_one : verdict_of tick_depth_one ≡ refused_at 0 1
 
 pub computed : Computed
-unfolding greatest_below least_below step? start? rank_below alike? weak_answers? low_move? silent_move? answers? answered?
+unfolding greatest_below least_below step? start? rank_below alike? weak_answers? low_move? silent_move? answers?
+    answered?
     within? all any
 computed = record {
   worked = refl;

@@ -57,7 +57,8 @@ module _ (text store distances table word : List ℕ) where
   tell_promise_unique (Unread p) (Judged k u) s d t w s' d' t' w' x y = absurd (not_both x y)
   tell_promise_unique (Judged j v) (Unread q) s d t w s' d' t' w' x y = absurd (not_both y x)
   tell_promise_unique (Judged j v) (Judged k u) s d t w s' d' t' w' x y =
-      let e = read_judged_unique (judge_outcome j) (judge_outcome k) (word_outcome v) (word_outcome u) s d t w s' d' t' w'
+      let e = read_judged_unique (judge_outcome j) (judge_outcome k) (word_outcome v) (word_outcome u) s d t w s' d'
+      t' w'
       x y in (
         ap (λ (z : JudgeAnswer). Judged z v) (judge_outcome_injective j k e.0.0)
             ∙ ap (Judged k) (word_outcome_injective v u e.0.1),

@@ -1,7 +1,8 @@
 -- How far the numbers of a row are read, and what the row at a place of a text comes to. Only the contracts of inner
 -- functions cite it.
 -- Document 01, "The text"; document 02, (i).
-use Rattle.std.specs.Prelude.{Bool, true, false, cond, List, [], ◌∷◌, ◌++◌, ◌⊎◌, ◌≡◌, ℕ, ◌+◌, ◌-◌, ◌≤◌, ◌<◌, eqb, length, take, drop, get_or}
+use Rattle.std.specs.Prelude.{Bool, true, false, cond, List, [], ◌∷◌, ◌++◌, ◌⊎◌, ◌≡◌, ℕ, ◌+◌, ◌-◌, ◌≤◌, ◌<◌, eqb}
+use Rattle.std.specs.Prelude.{length, take, drop, get_or}
 use Rattle.text.specs.declared.Fault.{Fault}
 use Rattle.text.specs.declared.Fault.TheVariants.{Absent, Digits, Range}
 use Rattle.text.specs.declared.number.Bounds.{Bounds}

@@ -25,7 +25,8 @@ pub all_of_all : {A : Type 0} (P Q : A → Type 0) → ((x : A) → P x → Q x)
 all_of_all P Q f [] p = tt
 all_of_all P Q f (x ∷ xs) p = (f x p.0, all_of_all P Q f xs p.1)
 
-pub get_or_all : {A : Type 0} (P : A → Type 0) (xs : List A) (i : ℕ) (d : A) → All P xs → i < length xs → P (get_or xs i d)
+pub get_or_all : {A : Type 0} (P : A → Type 0) (xs : List A) (i : ℕ) (d : A) → All P xs → i < length xs → P
+    (get_or xs i d)
 get_or_all P [] i d p h = absurd (omega arith)
 get_or_all P (x ∷ xs) zero d p h = p.0
 get_or_all P (x ∷ xs) (suc i) d p h = get_or_all P xs i d p.1 (omega arith)

@@ -4,7 +4,8 @@ use Rattle.std.specs.Prelude.{Bool, true, false, cond, not, [], ◌∷◌, ◌�
 use Rattle.std.proofs.Common.{inl, inr, sym, subst, arith, leb→le, le→leb}
 use borrow.Author.Tests.{eqb-true, le-leb, ne_eqb}
 use Rattle.lts.proofs.TestsLaws.{and_left, and_right, and_intro, T_cases, not-T→false}
-use Rattle.text.specs.Bytes.{byte_zero, byte_nine, byte_small_a, byte_small_z, byte_a, byte_z, byte_comma, byte_line_end}
+use Rattle.text.specs.Bytes.{byte_zero, byte_nine, byte_small_a, byte_small_z, byte_a, byte_z, byte_comma}
+use Rattle.text.specs.Bytes.{byte_line_end}
 use Rattle.text.specs.Bytes.{between?, kind_of, other, digit, small_letter, capital, comma, line_end}
 
 pub between?→le : (least most x : ℕ) → T (between? least most x) → (least ≤ x) × (x ≤ most)

@@ -1,6 +1,7 @@
 -- A row, column by column: the columns that it leaves free are passed, and the others hold its numbers.
 -- Assumes nothing. Only functions that read a row cite it.
-use Rattle.std.specs.Prelude.{Bool, true, false, List, [], ◌∷◌, ◌≡◌, refl, ℕ, zero, suc, ◌+◌, ◌-◌, ◌≤◌, ◌<◌, length, get_or}
+use Rattle.std.specs.Prelude.{Bool, true, false, List, [], ◌∷◌, ◌≡◌, refl, ℕ, zero, suc, ◌+◌, ◌-◌, ◌≤◌, ◌<◌, length}
+use Rattle.std.specs.Prelude.{get_or}
 use Rattle.std.proofs.Common.{sym, ◌∙◌, length-drop, get_or-drop}
 use Rattle.std.proofs.Math.Path.{ap}
 use native.Mathlib.Omega.{arith}
@@ -96,7 +97,8 @@ module _ (row : Row) (text : List ℕ) (at : ℕ) (outside : Bool) (out : List �
     separator : separator_kind (column + 1) columns ≡ separator_kind (i + 1) (row_count row)
     separator = by_place (is (column + 1) columns)
       where
-        by_place : Is (column + 1) columns → separator_kind (column + 1) columns ≡ separator_kind (i + 1) (row_count row)
+        by_place : Is (column + 1) columns → separator_kind (column + 1) columns ≡ separator_kind (i + 1)
+            (row_count row)
         by_place (same z) =
             let l = row_count_le row in
             separator_kind_last (column + 1) columns z

@@ -1,7 +1,9 @@
 -- The digits of a number read back to it, and a field that holds a number consists of that number's digits.
 -- Document 01, "The text": "Numbers have 1 to 5 digits and no leading zero, except `0` itself." Assumes nothing.
-use Rattle.std.specs.Prelude.{Bool, true, false, cond, not, ◌&&◌, List, [], ◌∷◌, ◌++◌, ◌⊎◌, ◌≡◌, refl, ℕ, zero, suc, ◌+◌, ◌-◌, ◌*◌, ◌/◌, ◌%◌, ◌^◌, ◌≤◌, ◌<◌, leb, eqb, length, get_or}
-use Rattle.std.proofs.Common.{append_assoc, append-nil, inl, inr, sym, ap, ◌∙◌, arith, pow-suc, lt_of_lt_of_le, lit<, length-append, leb-true, eqb-true, lt-ltb, le-ltb, ne_eqb}
+use Rattle.std.specs.Prelude.{Bool, true, false, cond, not, ◌&&◌, List, [], ◌∷◌, ◌++◌, ◌⊎◌, ◌≡◌, refl, ℕ, zero, suc}
+use Rattle.std.specs.Prelude.{◌+◌, ◌-◌, ◌*◌, ◌/◌, ◌%◌, ◌^◌, ◌≤◌, ◌<◌, leb, eqb, length, get_or}
+use Rattle.std.proofs.Common.{append_assoc, append-nil, inl, inr, sym, ap, ◌∙◌, arith, pow-suc, lt_of_lt_of_le, lit<}
+use Rattle.std.proofs.Common.{length-append, leb-true, eqb-true, lt-ltb, le-ltb, ne_eqb}
 use Rattle.std.proofs.Math.Option.{none, some}
 use Rattle.std.proofs.Math.Nat.{pow-le-pow_right}
 use Rattle.std.proofs.Math.ListN.{get_or-append}
@@ -25,7 +27,8 @@ pub digits_up_to_lt : (k n : ℕ) → n < 10 → digits_up_to (suc k) n ≡ (byt
 unfolding digits_up_to
 digits_up_to_lt k n h = rw (lt-ltb n 10 h)
 
-pub digits_up_to_le : (k n : ℕ) → 10 ≤ n → digits_up_to (suc k) n ≡ digits_up_to k (n / 10) ++ ((byte_zero + n % 10) ∷ [])
+pub digits_up_to_le : (k n : ℕ) → 10 ≤ n → digits_up_to (suc k) n ≡ digits_up_to k (n / 10) ++
+    ((byte_zero + n % 10) ∷ [])
 unfolding digits_up_to
 digits_up_to_le k n h = rw (le-ltb n 10 h)
 
@@ -40,7 +43,8 @@ value-digit v b bs n h = by_test (eqb (kind_of b) digit) refl
         let k : digits_value v (b ∷ bs) ≡ none = rw (ne_eqb (kind_of b) digit (eqb-false (kind_of b) digit e)) in cc
 
 -- a value goes on into the digits after it
-pub value-append : (xs ys : List ℕ) (v w : ℕ) → digits_value v xs ≡ some w → digits_value v (xs ++ ys) ≡ digits_value w ys
+pub value-append : (xs ys : List ℕ) (v w : ℕ) → digits_value v xs ≡ some w → digits_value v (xs ++ ys) ≡ digits_value
+    w ys
 value-append [] ys v w h = let e : v ≡ w = cc (digits_value-nil v) in ap (λ (z : ℕ). digits_value z ys) e
 value-append (x ∷ xs) ys v w h =
     let k = value-digit v x xs w h in
@@ -139,7 +143,8 @@ digits-digit n = digits_up_to-digit digit_limit n
 
 -- a number below 10 to the k has at most k digits
 pub digits-length_le : (k n : ℕ) → n < 10 ^ k → 0 < k → k ≤ digit_limit → length (digits n) ≤ k
-digits-length_le k n h p l = rw (digits-digits_up_to (digit_limit - k) k n h p (omega arith)) (digits_up_to-length_le k n)
+digits-length_le k n h p l = rw (digits-digits_up_to (digit_limit - k) k n h p (omega arith))
+    (digits_up_to-length_le k n)
 
 -- what is written reads back
 pub number_of-digits : (n : ℕ) → n < 100000 → number_of (digits n) ≡ some n
@@ -188,7 +193,11 @@ digits_of_value : (b : ℕ) (ds : List ℕ) (n : ℕ) → length ds ≤ 4 → (0
 digits_of_value b [] n l z h =
     let q = value-digit 0 b [] n h in
     let r = digit_within b q in
-    let e : 0 * 10 + (b - byte_zero) ≡ n = cc (digits_value-cons 0 b [] q, digits_value-nil (0 * 10 + (b - byte_zero))) in
+    let e : 0 * 10 + (b - byte_zero) ≡ n = cc (
+      digits_value-cons 0 b [] q,
+      digits_value-nil
+          (0 * 10 + (b - byte_zero)),
+    ) in
     let m : byte_zero + n ≡ b = omega arith in
     let u : n < 10 = omega arith in
     (sym (digits-digits_up_to 4 1 n u (lit< tt) refl ∙ digits_up_to_lt 0 n u ∙ ap (λ (x : ℕ). x ∷ []) m), omega arith)

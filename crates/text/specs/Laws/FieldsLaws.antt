@@ -1,6 +1,7 @@
 -- The fields of a line: how many there are, a field of one byte, and those after a letter.
 -- Document 01, "The text": "Fields in fixed order parted by commas". Assumes nothing.
-use Rattle.std.specs.Prelude.{Bool, ◌&&◌, List, [], ◌∷◌, ◌≡◌, refl, ℕ, suc, ◌+◌, ◌-◌, ◌≤◌, ◌<◌, T, ltb, length, take, drop, get_or}
+use Rattle.std.specs.Prelude.{Bool, ◌&&◌, List, [], ◌∷◌, ◌≡◌, refl, ℕ, suc, ◌+◌, ◌-◌, ◌≤◌, ◌<◌, T, ltb, length, take}
+use Rattle.std.specs.Prelude.{drop, get_or}
 use Rattle.std.proofs.Math.Bool.{true, false}
 use Rattle.std.proofs.Common.{sym, ◌∙◌, arith, eqb→eq, length-drop, get_or-drop, length-take-le}
 use Rattle.std.proofs.Math.Path.{ap}
@@ -81,7 +82,8 @@ take_one (x ∷ xs) h = refl
 module _ (line : List ℕ) (at e : ℕ) (le : at ≤ length line) (found : e ≡ at + index_of comma (drop at line)) where
   -- the comma after a field of one byte stands one place further on
   pub byte_field : e ≡ at + 1 → 1 < length (split comma (drop at line))
-      → (at + 2 ≤ length line) × (split comma (drop at line) ≡ (get_or line at 0 ∷ []) ∷ split comma (drop (at + 2) line))
+      → (at + 2 ≤ length line) × (split comma (drop at line) ≡ (get_or line at 0 ∷ []) ∷ split comma
+      (drop (at + 2) line))
   byte_field one many =
       let l = split_more comma line at e le found many in
       let d = length-drop at line in

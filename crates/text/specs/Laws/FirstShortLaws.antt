@@ -111,7 +111,8 @@ module _ {a b least-a least-b : ℕ} (long-a : least-a ≤ a) (long-b : least-b 
             (least-a ∷ least-b ∷ least-c ∷ least-d ∷ least-e ∷ least-f ∷ []) ≡ none
         none_short_six =
             first_short_le 1 _ _ long-a ∙ first_short_le 2 _ _ long-b ∙ first_short_le 3 _ _ long-c
-            ∙ first_short_le 4 _ _ long-d ∙ first_short_le 5 _ _ long-e ∙ first_short_le 6 _ _ long-f ∙ first_short_nil 7
+            ∙ first_short_le 4 _ _ long-d ∙ first_short_le 5 _ _ long-e ∙ first_short_le 6 _ _ long-f ∙
+            first_short_nil 7
 
         pub none_short_seven : {g least-g : ℕ} → least-g ≤ g
             → first_short 1 (a ∷ b ∷ c ∷ d ∷ e ∷ f ∷ g ∷ [])

@@ -36,4 +36,5 @@ pub kind_kept : (b answer : ℕ) → b < 256 → answer ≡ kind_of b → answer
 unfolding all kind_of kind_table
 kind_kept b answer l is-kind =
     is-kind
-    ∙ eqb→eq (kind_of b) (get_or kind_table b no_kind) (all→Each 256 (λ x. eqb (kind_of x) (get_or kind_table x no_kind)) tt b l)
+    ∙ eqb→eq (kind_of b) (get_or kind_table b no_kind) (all→Each 256
+    (λ x. eqb (kind_of x) (get_or kind_table x no_kind)) tt b l)

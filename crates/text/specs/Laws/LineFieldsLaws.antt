@@ -87,7 +87,8 @@ field_of_follows (b ∷ bs) p = go (ends b) (field_of_follows bs) p
   where
     go : Ends b
         → (length (field_of bs) < length bs
-        → (kind_of (get_or bs (length (field_of bs)) 0) ≡ comma) ⊎ (kind_of (get_or bs (length (field_of bs)) 0) ≡ line_end))
+        → (kind_of (get_or bs (length (field_of bs)) 0) ≡ comma) ⊎
+        (kind_of (get_or bs (length (field_of bs)) 0) ≡ line_end))
         → length (field_of (b ∷ bs)) < length (b ∷ bs)
         → (kind_of (get_or (b ∷ bs) (length (field_of (b ∷ bs))) 0) ≡ comma)
         ⊎ (kind_of (get_or (b ∷ bs) (length (field_of (b ∷ bs))) 0) ≡ line_end)

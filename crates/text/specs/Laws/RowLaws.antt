@@ -38,7 +38,8 @@ row_bounds-length (StartRow h) states = refl
 row_bounds-length (StepRow h) states = refl
 
 -- the bounds of the first number depend on none
-pub row_bounds_first : (row : Row) (a b : ℕ) (d : Bounds) → get_or (row_bounds row a) 0 d ≡ get_or (row_bounds row b) 0 d
+pub row_bounds_first : (row : Row) (a b : ℕ) (d : Bounds) → get_or (row_bounds row a) 0 d ≡ get_or (row_bounds row b)
+    0 d
 unfolding row_bounds head_bounds start_bounds step_bounds
 row_bounds_first HeadRow a b d = refl
 row_bounds_first (StartRow h) a b d = refl

@@ -1,6 +1,7 @@
 -- Laws of the parts of a list at the bytes of a kind: part by part, and from the place that a search finds.
 -- Document 01, "The text". Assumes nothing.
-use Rattle.std.specs.Prelude.{Bool, true, false, List, [], ◌∷◌, ◌≡◌, refl, ℕ, suc, ◌+◌, ◌-◌, ◌≤◌, ◌<◌, eqb, length, take, drop}
+use Rattle.std.specs.Prelude.{Bool, true, false, List, [], ◌∷◌, ◌≡◌, refl, ℕ, suc, ◌+◌, ◌-◌, ◌≤◌, ◌<◌, eqb, length}
+use Rattle.std.specs.Prelude.{take, drop}
 use Rattle.std.proofs.Common.{ap, ◌∙◌, arith, length-drop, drop-drop, take_all, eqb-true, eq-eqb, ne_eqb}
 use Rattle.std.proofs.lemmas.Bool.{eqb-false}
 use Rattle.text.specs.Bytes.{kind_of}
@@ -30,7 +31,8 @@ unfolding split
 split-end kind b bs h = rw (eq-eqb (kind_of b) kind h)
 
 -- any other byte belongs to the first part
-pub split-cons : (kind b : ℕ) (bs : List ℕ) → (kind_of b ≡ kind → ⊥) → split kind (b ∷ bs) ≡ cons_first b (split kind bs)
+pub split-cons : (kind b : ℕ) (bs : List ℕ) → (kind_of b ≡ kind → ⊥) → split kind (b ∷ bs) ≡ cons_first b
+    (split kind bs)
 unfolding split
 split-cons kind b bs h = rw (ne_eqb (kind_of b) kind h)
 
@@ -65,7 +67,8 @@ pub index_of-end : (kind b : ℕ) (bs : List ℕ) → kind_of b ≡ kind → ind
 unfolding index_of
 index_of-end kind b bs h = rw (eq-eqb (kind_of b) kind h)
 
-pub index_of-cons : (kind b : ℕ) (bs : List ℕ) → (kind_of b ≡ kind → ⊥) → index_of kind (b ∷ bs) ≡ suc (index_of kind bs)
+pub index_of-cons : (kind b : ℕ) (bs : List ℕ) → (kind_of b ≡ kind → ⊥) → index_of kind (b ∷ bs) ≡ suc
+    (index_of kind bs)
 unfolding index_of
 index_of-cons kind b bs h = rw (ne_eqb (kind_of b) kind h)
 

@@ -39,6 +39,8 @@ pub returns-in_default : goal.returns-in_default
 returns-in_default c =
     let room : page_length ≤ length c.args.out.now = omega (arith, c.requires.book_length_in_bounds) in
     record {
-      prefix_len = line_counts c.fault_line-line.ensures.number c.fault_line-line.ensures.place room c.fault_line-line.ensures.wrote;
-      prints_book = prints_text_unread BookBytesOf c.read-read.result c.read-read.ensures.read_promise (omega arith) room c.fault_line-line.ensures;
+      prefix_len = line_counts c.fault_line-line.ensures.number c.fault_line-line.ensures.place room
+          c.fault_line-line.ensures.wrote;
+      prints_book = prints_text_unread BookBytesOf c.read-read.result c.read-read.ensures.read_promise (omega arith)
+          room c.fault_line-line.ensures;
     }

@@ -43,7 +43,9 @@ pub returns-in_default : goal.returns-in_default
 returns-in_default c =
     let room = c.requires.page_length_in_bounds in
     record {
-      prefix_len = line_counts c.fault_line-line.ensures.number c.fault_line-line.ensures.place room c.fault_line-line.ensures.wrote;
-      prints_check = prints_text_unread (CheckBytesOf c.args.book.now) c.read-read.result c.read-read.ensures.read_promise
+      prefix_len = line_counts c.fault_line-line.ensures.number c.fault_line-line.ensures.place room
+          c.fault_line-line.ensures.wrote;
+      prints_check = prints_text_unread (CheckBytesOf c.args.book.now) c.read-read.result
+          c.read-read.ensures.read_promise
           (omega arith) room c.fault_line-line.ensures;
     }

@@ -13,7 +13,8 @@ use Rattle.page.specs.Laws.PrintsTextLaws.{prints_text_unique}
 use Rattle.till_check.specs.PrintsCheck.{outcome_bytes, CheckBytesOf, PrintsCheck}
 use Rattle.till_check.specs.Inner.Found.{PlaceFits}
 
-check_bytes_of_unique : {book : List ℕ} {m : Model} {a b : List ℕ} → CheckBytesOf book m a → CheckBytesOf book m b → a ≡ b
+check_bytes_of_unique : {book : List ℕ} {m : Model} {a b : List ℕ} → CheckBytesOf book m a → CheckBytesOf book m b → a
+    ≡ b
 check_bytes_of_unique x y =
     x.bytes_are ∙ ap outcome_bytes (check_done_unique x.checked y.checked) ∙ sym y.bytes_are
 

@@ -46,7 +46,8 @@ module _ {m : ℕ} {origin when : List ℕ} {apart : ℕ → ℕ → ℕ} (T : T
       turned c d l k (inr e) (inr f) = A.both_ways c d (omega arith) (omega arith)
 
       divided : (c : ℕ) → 0 < c → c < suc m → (x : (c ≡ m) ⊎ ¬ (c ≡ m))
-          → (y : (get_or origin c 0 ≡ m) ⊎ ¬ (get_or origin c 0 ≡ m)) → new_with c (get_or origin c 0) x y ≡ get_or when c 0
+          → (y : (get_or origin c 0 ≡ m) ⊎ ¬ (get_or origin c 0 ≡ m)) → new_with c (get_or origin c 0) x y ≡ get_or
+          when c 0
       divided c p l x (inl f) = absurd (omega (arith, f, T.origin_lt c p l, l))
       divided c p l (inl e) (inr f) = go (eq_or_not (get_or origin c 0) (get_or origin m 0))
         where

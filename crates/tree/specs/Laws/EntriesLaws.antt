@@ -113,7 +113,8 @@ entries_written-fill above o {c} {m} {u = u} e k l h put v-is =
     (ap (λ (z : ℕ). get_or u (z + m) 0) e ∙ h.kept c m l (λ a. omega (arith, a.1))))
 
 -- Those of the states of s that are not left are written, and that of one that is left.
-pub entries_written_other : {c x at v : ℕ} {s left rest : Set} {t u w : List ℕ} → at ≡ state_limit * c → at + x < length u
+pub entries_written_other : {c x at v : ℕ} {s left rest : Set} {t u w : List ℕ} → at ≡ state_limit * c → at + x <
+    length u
     → In s x → SetOf (λ y. In left y × ¬ (y ≡ x)) rest
     → EntriesWritten c (λ y. In s y × ¬ (In left y)) (λ _. v) t u → w ≡ set u (at + x) v
     → EntriesWritten c (λ y. In s y × ¬ (In rest y)) (λ _. v) t w

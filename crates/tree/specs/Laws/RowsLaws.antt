@@ -36,7 +36,8 @@ module _ {origin under : List ℕ} {c x e : ℕ} where
 -- The states that class `to` had when it was divided off are written into the row of its origin.
 pub parts_written-suc : {to : ℕ} {s : Set} {origin under when t u w : List ℕ} → 0 < to
     → PartsWritten to origin under when t u → SetOf (Member under to) s
-    → EntriesWritten (get_or origin to 0) (In s) (λ _. get_or when to 0) u w → PartsWritten (to + 1) origin under when t w
+    → EntriesWritten (get_or origin to 0) (In s) (λ _. get_or when to 0) u w → PartsWritten (to + 1) origin under when
+    t w
 parts_written-suc {to} {s} {origin} {under} {when} {t} {u} {w} p h m f = record {
   found = λ c x l. go c x l (h.found c x l) (eq_or_not c (get_or origin to 0)) (in_or_not s x);
 }
@@ -87,7 +88,8 @@ rows_filled_one t = record {
 module _ {to : ℕ} {s : Set} {members origin when above t u v w : List ℕ} (p : 0 < to)
     (lt : (c : ℕ) → 0 < c → c < to + 1 → get_or origin c 0 < c) (h : RowsFilled to members origin when t u)
     (a : RowTaken (get_or origin to 0) state_limit u above)
-    (f : EntriesWritten to (λ x. x < state_limit) (λ x. filled (entry_of u to x) (get_or above x 0) (get_or when to 0)) u v)
+    (f : EntriesWritten to (λ x. x < state_limit) (λ x. filled (entry_of u to x) (get_or above x 0)
+    (get_or when to 0)) u v)
     (m : SetOf (Member members to) s) (z : EntriesWritten to (In s) (λ _. 0) v w) where
   other_row : (c x : ℕ) → x < state_limit → ¬ (c ≡ to) → entry_of w c x ≡ entry_of u c x
   other_row c x l d = z.kept c x l (λ g. d g.0) ∙ f.kept c x l (λ g. d g.0)

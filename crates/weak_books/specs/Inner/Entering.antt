@@ -20,7 +20,8 @@ OtherClass class t u = ¬ (Same class t u)
 
 -- p has no opening with the first i labels of the list.
 pub record NoneOpens (labels : List ℕ) (i : ℕ) (slots pool class : List ℕ) (p q : ℕ) : Type 0 where
-  pub none : (j t : ℕ) → j < i → ¬ (OpensTo (HeldAt slots pool (target_row (get_or labels j 0))) (OtherClass class) p q t)
+  pub none : (j t : ℕ) → j < i → ¬ (OpensTo (HeldAt slots pool (target_row (get_or labels j 0))) (OtherClass class) p
+      q t)
 
 -- The first opening of p against q all of whose answers are of other classes, by label and then by target; its target
 -- is 128 if there is none.

@@ -69,9 +69,11 @@ pub record OnlyAt (n : ℕ) (at : List ℕ) (entry exit : List ℕ) : Type 0 whe
 -- further entries.
 pub record OpenedBefore (Move : Moves) (n : ℕ) (table : List ℕ) (depth : ℕ) (book : List ℕ) : Type 0 where
   pub opened : (p q : ℕ) → p < n → q < n → 0 < get_or table (pair_place p q) 0 → get_or table (pair_place p q) 0 < depth
-      → OpenedBelow Move (LowerRank Move (get_or table (pair_place p q) 0)) (get_or table (pair_place p q) 0) p q label_limit
+      → OpenedBelow Move (LowerRank Move (get_or table (pair_place p q) 0)) (get_or table (pair_place p q) 0) p q
+      label_limit
       (entry_number book (pair_place p q))
-  pub empty : (p q : ℕ) → p < n → q < n → (get_or table (pair_place p q) 0 ≡ 0) ⊎ (depth ≤ get_or table (pair_place p q) 0)
+  pub empty : (p q : ℕ) → p < n → q < n → (get_or table (pair_place p q) 0 ≡ 0) ⊎
+      (depth ≤ get_or table (pair_place p q) 0)
       → entry_number book (pair_place p q) ≡ no_entry
   pub outside : (p q : ℕ) → p < state_limit → q < state_limit → (n ≤ p) ⊎ (n ≤ q)
       → entry_number book (pair_place p q) ≡ no_entry

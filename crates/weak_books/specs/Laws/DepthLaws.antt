@@ -69,7 +69,8 @@ module _ {Move : Moves} {n : ℕ} {table : List ℕ} (states_le : n ≤ state_li
     opened_before_suc {d} {lower} {at} {book} {book'} pos s a x y w = record {
       opened = λ p q lp lq k l. ⊎_elim
           (λ h.
-          subst (OpenedBelow Move (LowerRank Move (get_or table (pair_place p q) 0)) (get_or table (pair_place p q) 0) p q
+          subst (OpenedBelow Move (LowerRank Move (get_or table (pair_place p q) 0)) (get_or table (pair_place p q) 0)
+          p q
           label_limit) (sym (kept_outside a w p q (omega (arith, lq, states_le)) (λ _ _ e. omega (arith, e, h))))
           (x.opened p q lp lq k h))
           (λ h.

@@ -51,7 +51,8 @@ module _ {Move : Moves} {book : List ℕ} where
     bad = λ p q lp lq e l. bad p q lp lq e l (eq_or_not j k);
   }
     where
-      sound : (p q : ℕ) → p < state_limit → q < state_limit → pair_place p q < j → P (pair_place p q) ⊎ Q (pair_place p q)
+      sound : (p q : ℕ) → p < state_limit → q < state_limit → pair_place p q < j → P (pair_place p q) ⊎ Q
+          (pair_place p q)
           → SoundAt Move (book_of book) p q
       sound p q lp lq l (inl h) = x.sound p q lp lq h (omega (arith, l, y.number_le))
       sound p q lp lq l (inr h) = y.sound p q lp lq h l

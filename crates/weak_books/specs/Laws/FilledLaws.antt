@@ -69,7 +69,8 @@ module _ {Move : Moves} {n : ℕ} {round : (ℕ → ℕ → Bool) → ℕ → �
       back : 0 < r → OpenedBelow Move (LowerRank Move r) r q p label_limit (entry_number book (pair_place q p))
       back pos =
           let e = rank_unique Move q p _ r (R.ranks q p lq lp) (rank_sym Move p q r rank) in
-          subst (λ (k : ℕ). OpenedBelow Move (LowerRank Move k) k q p label_limit (entry_number book (pair_place q p))) e
+          subst (λ (k : ℕ). OpenedBelow Move (LowerRank Move k) k q p label_limit
+          (entry_number book (pair_place q p))) e
           (O.opened q p lq lp (omega (arith, e, pos)) (omega (arith, top-is q p lq lp)))
 
       pair_own : PairOwn Move p q (entry_number book' (pair_place p q))

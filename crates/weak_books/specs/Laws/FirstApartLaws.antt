@@ -77,7 +77,8 @@ lowest_to-row Row {Leads} {p = p} {q} {t} e = subst (λ (x : ℕ). LowestTo (Row
 -- What is known of label i of the list, whose row was read.
 module _ {n : ℕ} {labels : List ℕ} {count : ℕ} {slots pool : List ℕ} (H : HeldList n labels count slots pool) {i : ℕ}
     (l : i < count) where
-  pub row_target_lt : {r : ℕ} → r ≡ target_row (get_or labels i 0) → (x y : ℕ) → x < state_limit → HeldAt slots pool r x y
+  pub row_target_lt : {r : ℕ} → r ≡ target_row (get_or labels i 0) → (x y : ℕ) → x < state_limit → HeldAt slots pool r
+      x y
       → y < n
   row_target_lt e x y lx h = (H.state_lt i x y l lx (subst (λ (r : ℕ). HeldAt slots pool r x y) e h)).1
 
@@ -156,6 +157,7 @@ module _ {n : ℕ} {labels : List ℕ} {count : ℕ} {slots pool : List ℕ} {p 
           let m = x.opening in
           let same : m.number ≡ i = omega (arith, k, j) in
           let f : get_or labels i 0 ≡ b = subst (λ (y : ℕ). get_or labels y 0 ≡ b) same m.label_is in
-          let r = subst (λ (y : ℕ). OpensTo (HeldAt slots pool (target_row (get_or labels y 0))) (OtherClass class) p q u)
+          let r = subst (λ (y : ℕ). OpensTo (HeldAt slots pool (target_row (get_or labels y 0))) (OtherClass class) p
+          q u)
           same (row_of_opens x) in
           inr (e ∙ f, ⊎_elim (λ h. absurd (low.none_before u h r)) (λ h. h) (lt_or_le u o.target))

@@ -34,7 +34,8 @@ module _ {targets lower : List ℕ} {d a p q : ℕ} where
     past = past_refl book;
   }
 
-  pub pair_opened_entry : {t : ℕ} {book book' : List ℕ} → (entry_number book (pair_place p q)).side ≡ 0 → t < state_limit
+  pub pair_opened_entry : {t : ℕ} {book book' : List ℕ} → (entry_number book (pair_place p q)).side ≡ 0 → t <
+      state_limit
       → LowestTo (Member targets) (Member lower) p q t
       → EntryWritten (pair_place p q) (record { side = 1; action = a; target = t; depth = d }) book book'
       → PairOpened targets lower d a p q book book'

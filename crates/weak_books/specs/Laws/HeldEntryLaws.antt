@@ -198,6 +198,7 @@ module _ (labels : List ℕ) (count : ℕ) (slots pool book : List ℕ) (k : ℕ
   entry_second {row = row} s l listed row_is L r d = entry_second_opens l listed row_is r s
       (decides_iff r (leads_of_lower slots pool row L.seconds) (lower_of_leads slots pool row L.seconds) d)
 
-  pub entry_other : Present (entry_number book k) → ¬ ((entry_number book k).side ≡ 1) → ¬ ((entry_number book k).side ≡ 2)
+  pub entry_other : Present (entry_number book k) → ¬ ((entry_number book k).side ≡ 1) → ¬
+      ((entry_number book k).side ≡ 2)
       → ¬ (SoundAt Move (book_of book) p q)
   entry_other = bad_side Move (book_of book) p q read entry_is

@@ -81,7 +81,8 @@ module _ {book : List ℕ} where
 
 -- ---- an action that is not used
 
-pub first_under_unused : {Move : Moves} {book used : List ℕ} {a limit : ℕ} → UsedTo book used limit → get_or used a 0 ≡ 0
+pub first_under_unused : {Move : Moves} {book used : List ℕ} {a limit : ℕ} → UsedTo book used limit → get_or used a 0
+    ≡ 0
     → FirstUnder Move (λ b. b ≡ a) book limit limit
 first_under_unused {Move} {book} {used} {a} {limit} u z = record {
   number_le = omega arith;

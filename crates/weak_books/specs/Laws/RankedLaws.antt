@@ -43,7 +43,8 @@ module _ {n : ℕ} {table : List ℕ} {r : ℕ} where
   pub at_rank_zero : {sets : List ℕ} → Empty sets → AtRank n table r 0 sets
   at_rank_zero e = record { at = λ p q l. absurd (omega arith); only = λ p q m. absurd (e.none p q m) }
 
-  pub at_rank_suc : {p : ℕ} {sets sets' : List ℕ} → AtRank n table r p sets → Joined p (RowAtRank table r p n) sets sets'
+  pub at_rank_suc : {p : ℕ} {sets sets' : List ℕ} → AtRank n table r p sets → Joined p (RowAtRank table r p n) sets
+      sets'
       → AtRank n table r (p + 1) sets'
   at_rank_suc {p} {sets} {sets'} a u = record {
     at = λ x q l k e. ⊎_elim

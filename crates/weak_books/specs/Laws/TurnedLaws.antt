@@ -24,7 +24,8 @@ module _ {table : List ℕ} {p q d : ℕ} (known : d ≡ get_or table (pair_plac
     past = past_refl book;
   }
 
-  pub pair_turned_stays : {book : List ℕ} → Present (entry_number book (pair_place p q)) → PairTurned table p q book book
+  pub pair_turned_stays : {book : List ℕ} → Present (entry_number book (pair_place p q)) → PairTurned table p q book
+      book
   pair_turned_stays {book} present = record {
     turned = record { stays = λ h. refl; together = λ h. refl; turned = λ h z. absurd (present z) };
     kept = λ k h. refl;
@@ -125,7 +126,8 @@ module _ {n : ℕ} {table : List ℕ} where
 
   -- Up to the next row there are no states.
   pub all_turned_row : {i : ℕ} (p : ℕ) {book book' book'' : List ℕ} → n ≤ state_limit → i ≤ pair_place p 0
-      → AllTurned n table i (pair_place p 0) book book' → AllTurned n table (pair_place p 0) (pair_place p n) book' book''
+      → AllTurned n table i (pair_place p 0) book book' → AllTurned n table (pair_place p 0) (pair_place p n) book'
+      book''
       → AllTurned n table i (pair_place (p + 1) 0) book book''
   all_turned_row {i} p {book'' = book''} le li x y =
       all_turned_then (omega (arith, li)) (omega (arith, le)) (all_turned_then li (omega arith) x y)

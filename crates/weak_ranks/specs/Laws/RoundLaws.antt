@@ -49,7 +49,8 @@ module _ {Move : Moves} {n : ℕ} (target_lt : (p a q : ℕ) → p < n → Move 
       separates = λ l. separates_of_left (get_or list 0 0) (H.listed_lt 0 l) (H.differs 0 l);
     }
       where
-        none : count ≡ 0 → (p : ℕ) → p < n → (get_or class p 0 ≡ get_or next p 0) ⊎ ¬ (get_or class p 0 ≡ get_or next p 0)
+        none : count ≡ 0 → (p : ℕ) → p < n → (get_or class p 0 ≡ get_or next p 0) ⊎ ¬
+            (get_or class p 0 ≡ get_or next p 0)
             → get_or class p 0 ≡ get_or next p 0
         none e p lp (inl o) = o
         none e p lp (inr i) = absurd (omega (arith, (H.complete p lp i).1))

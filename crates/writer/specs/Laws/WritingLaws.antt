@@ -8,7 +8,8 @@ use Rattle.text.specs.Model.{ActionLine, Model}
 use Rattle.model.specs.Laws.Store.BlocksLaws.{blocks-snoc}
 use Rattle.text.specs.Numbers.{digits}
 use Rattle.model.specs.StoredModel.{listed}
-use Rattle.model.specs.Text.{head_text, action_text, start_text, step_text, actions_text, starts_text, steps_text, model_text}
+use Rattle.model.specs.Text.{head_text, action_text, start_text, step_text, actions_text, starts_text, steps_text}
+use Rattle.model.specs.Text.{model_text}
 
 -- ---- lengths of lines
 
@@ -56,7 +57,8 @@ module _ {A : Type 0} (line : A → List ℕ) (text : List A → List ℕ) (nil 
 
 -- ---- the lines of actions, of extra starts, and of steps
 
-actions_text-cons : (a : ActionLine) (rest : List ActionLine) → actions_text (a ∷ rest) ≡ action_text a ++ actions_text rest
+actions_text-cons : (a : ActionLine) (rest : List ActionLine) → actions_text (a ∷ rest) ≡ action_text a ++
+    actions_text rest
 unfolding actions_text
 actions_text-cons a rest = refl
 

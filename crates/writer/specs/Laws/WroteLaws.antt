@@ -1,7 +1,8 @@
 -- Writers one after another write their texts one after another; a writing from place 0 puts its bytes in front.
 -- Document 01, "The page": "Writing a line goes on from where the last one ended." Assumes nothing.
 use Rattle.std.specs.Prelude.{◌≡◌, refl, List, [], ◌∷◌, ◌++◌, ℕ, suc, ◌+◌, ◌≤◌, ◌<◌, length, set, take, drop, get_or}
-use Rattle.std.proofs.Common.{sym, ap, ◌∙◌, arith, add-zero, zero-add, add-suc, suc-add, add-one, length-append, take-suc}
+use Rattle.std.proofs.Common.{sym, ap, ◌∙◌, arith, add-zero, zero-add, add-suc, suc-add, add-one, length-append}
+use Rattle.std.proofs.Common.{take-suc}
 use Rattle.std.proofs.lemmas.List.Edits.{sets, sets-eq}
 use Rattle.std.proofs.Math.Seq.{length-sets}
 use Rattle.writer.specs.Wrote.{Wrote}

@@ -10,7 +10,8 @@ pub returns-then-depth-eq0 : goal.returns-then-depth-eq0
 returns-then-depth-eq0 c =
     let lp = c.requires.p_lt_n.0 in
     let lq = c.requires.p_lt_n.1 in
-    pair_none c.requires.move_list c.requires.ordered c.requires.ranks.0 lp lq c.rank_at-depth.ensures c.if-depth-eq0.true
+    pair_none c.requires.move_list c.requires.ordered c.requires.ranks.0 lp lq c.rank_at-depth.ensures
+    c.if-depth-eq0.true
     c.requires.q_value
 
 pub write_entry-requires : goal.write_entry-requires
@@ -26,7 +27,8 @@ write_entry-requires c =
 
 pub returns-then-i-moves_to : goal.returns-then-i-moves_to
 returns-then-i-moves_to c =
-    pair_first c.requires.move_list c.requires.ordered c.requires.ranks.0 c.requires.p_lt_n.0 c.requires.p_lt_n.1 c.rank_at-depth.ensures
+    pair_first c.requires.move_list c.requires.ordered c.requires.ranks.0 c.requires.p_lt_n.0 c.requires.p_lt_n.1
+    c.rank_at-depth.ensures
     c.if-depth-eq0.false c.first_opening-i.ensures
     (omega (arith, c.if-i-moves_to.true, c.moves_to.ensures)) c.write_entry.ensures
 
@@ -45,7 +47,8 @@ write_entry-requires-2 c =
 
 pub returns : goal.returns
 returns c =
-    pair_second c.requires.move_list c.requires.ordered c.requires.ranks.0 c.requires.p_lt_n.0 c.requires.p_lt_n.1 c.rank_at-depth.ensures
+    pair_second c.requires.move_list c.requires.ordered c.requires.ranks.0 c.requires.p_lt_n.0 c.requires.p_lt_n.1
+    c.rank_at-depth.ensures
     c.if-depth-eq0.false c.first_opening-i.ensures
     (λ k. omega (arith, k, c.if-i-moves_to.false, c.moves_to.ensures))
     c.first_opening-j.ensures c.write_entry-2.ensures

@@ -20,14 +20,16 @@ loop-j-init c =
 pub is_lower-requires : goal.is_lower-requires
 is_lower-requires c =
     let a = c.args in
-    let target_lt = in_group_target_lt a.groups.now a.targets.now c.requires.q_lt_state_limit.0 c.requires.q_lt_state_limit.1
+    let target_lt = in_group_target_lt a.groups.now a.targets.now c.requires.q_lt_state_limit.0
+    c.requires.q_lt_state_limit.1
     c.group_to-to.ensures c.requires.groups _ c.loop-j-test.true in
     (c.requires.q_lt_state_limit.2, target_lt, c.requires.book_length_in_bounds)
 
 pub returns-then-not-is_lower : goal.returns-then-not-is_lower
 returns-then-not-is_lower c all =
     let a = c.args in
-    let move = indexed_at a.groups.now a.targets.now c.requires.q_lt_state_limit.0 c.requires.q_lt_state_limit.1 c.group_to-to.ensures
+    let move = indexed_at a.groups.now a.targets.now c.requires.q_lt_state_limit.0 c.requires.q_lt_state_limit.1
+    c.group_to-to.ensures
     c.group_from-j.ensures c.loop-j.invariant.1 c.loop-j-test.true refl in
     decides-refused c.is_lower.result _ c.is_lower.ensures c.if-not-is_lower.true-raw (all _ move)
 
@@ -40,6 +42,7 @@ loop-j-preserved c =
 pub returns : goal.returns
 returns c =
     let a = c.args in
-    indexed_each a.groups.now a.targets.now c.requires.q_lt_state_limit.0 c.requires.q_lt_state_limit.1 c.group_to-to.ensures
+    indexed_each a.groups.now a.targets.now c.requires.q_lt_state_limit.0 c.requires.q_lt_state_limit.1
+    c.group_to-to.ensures
     c.group_from-j.ensures (λ (u : ℕ). BySide a.forward (LowerEntry (book_of a.book.now) a.depth) a.t.0 u)
     (λ j l. c.loop-j.invariant.2 j (omega arith))

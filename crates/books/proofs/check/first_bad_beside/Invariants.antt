@@ -9,7 +9,8 @@ use Rattle.books.proofs.check.first_bad_beside.Given as goal
 
 abbrev pub invariant-loop-q : goal.invariant-loop-q
 invariant-loop-q l =
-    (l.q ≤ state_limit) × ((y : ℕ) → y < l.q → SoundAt (Still (Indexed l.groups l.targets) l.n) (book_of l.book) l.p.0 y)
+    (l.q ≤ state_limit) × ((y : ℕ) → y < l.q → SoundAt (Still (Indexed l.groups l.targets) l.n) (book_of l.book) l.p.0
+    y)
 
 abbrev pub decreases-loop-q : goal.decreases-loop-q
 decreases-loop-q l = state_limit - l.q

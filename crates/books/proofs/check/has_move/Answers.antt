@@ -27,5 +27,6 @@ pub returns : goal.returns
 returns c m =
     let a = c.args in
     let inv = c.loop-i.invariant in
-    indexed_each a.groups.now a.targets.now c.requires.p_lt_state_limit.0 c.requires.p_lt_state_limit.1 c.group_to-to.ensures c.group_from-i.ensures
+    indexed_each a.groups.now a.targets.now c.requires.p_lt_state_limit.0 c.requires.p_lt_state_limit.1
+    c.group_to-to.ensures c.group_from-i.ensures
     (λ (u : ℕ). ¬ (u ≡ a.t.0)) (λ j l. inv.2 j (omega arith)) a.t.0 m refl

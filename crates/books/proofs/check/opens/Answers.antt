@@ -12,7 +12,12 @@ answers_lower_entries-requires c =
     let move = decides_passed c.has_move.result _ c.has_move.ensures c.if-not-has_move.false-raw in
     record {
       groups = c.requires.groups;
-      q_lt_state_limit = (c.requires.p_lt_state_limit.1, c.requires.p_lt_state_limit.2, indexed-target_lt c.requires.groups move);
+      q_lt_state_limit = (
+        c.requires.p_lt_state_limit.1,
+        c.requires.p_lt_state_limit.2,
+        indexed-target_lt
+            c.requires.groups move,
+      );
       book_length_in_bounds = c.requires.book_length_in_bounds;
     }
 

@@ -9,7 +9,8 @@ pub returns-then-sound_by_steps : goal.returns-then-sound_by_steps
 returns-then-sound_by_steps c =
     let a = c.args in
     sound_of_steps (Indexed a.groups.now a.targets.now) a.n (λ x b y m. m.in_group.action_lt)
-    (book_of a.book.now) a.p.0 a.q.0 (decides_true c.sound_by_steps.result _ c.sound_by_steps.ensures c.if-sound_by_steps.true)
+    (book_of a.book.now) a.p.0 a.q.0 (decides_true c.sound_by_steps.result _ c.sound_by_steps.ensures
+    c.if-sound_by_steps.true)
 
 pub returns : goal.returns
 returns c =

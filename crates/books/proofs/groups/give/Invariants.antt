@@ -7,7 +7,8 @@ use Rattle.books.proofs.groups.give.Given as goal
 
 abbrev pub invariant-loop-k : goal.invariant-loop-k
 invariant-loop-k l =
-    Given l.from l.k l.value l.k l.initial.groups l.groups × ((i : ℕ) → l.from ≤ i → i < l.k → i < l.to) × (length l.groups ≡ length l.initial.groups)
+    Given l.from l.k l.value l.k l.initial.groups l.groups × ((i : ℕ) → l.from ≤ i → i < l.k → i < l.to) ×
+    (length l.groups ≡ length l.initial.groups)
 
 abbrev pub decreases-loop-k : goal.decreases-loop-k
 decreases-loop-k l = l.to - l.k

@@ -21,7 +21,8 @@ pub group_place-group-requires : goal.group_place-group-requires
 group_place-group-requires c =
     let lp = c.requires.p_lt_n.0 in (
       omega (arith, c.requires.move_list.states_le, lp),
-      place_of_action_lt c.requires.move_list (place_of_between lp c.moves_from-i.ensures c.moves_to-to.ensures c.loop-i.invariant.0 c.loop-i-test.true),
+      place_of_action_lt c.requires.move_list (place_of_between lp c.moves_from-i.ensures c.moves_to-to.ensures
+          c.loop-i.invariant.0 c.loop-i-test.true),
     )
 
 pub give-k-requires : goal.give-k-requires
@@ -37,7 +38,8 @@ loop-i-preserved c =
       omega arith,
       omega arith,
       inv.2,
-      indexed_to_add_one c.requires.move_list c.requires.ordered (place_of_between c.requires.p_lt_n.0 c.moves_from-i.ensures c.moves_to-to.ensures inv.0 l) group inv.3
+      indexed_to_add_one c.requires.move_list c.requires.ordered
+          (place_of_between c.requires.p_lt_n.0 c.moves_from-i.ensures c.moves_to-to.ensures inv.0 l) group inv.3
           c.give-k.ensures,
       c.give-k.auto.groups ∙ inv.4,
     )

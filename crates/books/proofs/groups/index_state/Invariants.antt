@@ -8,7 +8,8 @@ use Rattle.books.proofs.groups.index_state.Given as goal
 
 abbrev pub invariant-loop-i : goal.invariant-loop-i
 invariant-loop-i l =
-    (l.initial.i ≤ l.i) × (l.i ≤ l.to) × (l.to ≤ step_limit) × IndexedTo l.n l.first l.actions l.groups l.k l.i × (length l.groups ≡ length l.initial.groups)
+    (l.initial.i ≤ l.i) × (l.i ≤ l.to) × (l.to ≤ step_limit) × IndexedTo l.n l.first l.actions l.groups l.k l.i ×
+    (length l.groups ≡ length l.initial.groups)
 
 abbrev pub decreases-loop-i : goal.decreases-loop-i
 decreases-loop-i l = l.to - l.i

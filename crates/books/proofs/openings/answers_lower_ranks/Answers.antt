@@ -17,14 +17,16 @@ loop-i-init c =
 pub is_lower_rank-requires : goal.is_lower_rank-requires
 is_lower_rank-requires c =
     let a = c.args in
-    let target_lt = in_group_target_lt a.groups.now a.targets.now c.requires.q_lt_state_limit.0 c.requires.q_lt_state_limit.1
+    let target_lt = in_group_target_lt a.groups.now a.targets.now c.requires.q_lt_state_limit.0
+    c.requires.q_lt_state_limit.1
     c.group_to-to.ensures c.requires.groups _ c.loop-i-test.true in
     (c.requires.q_lt_state_limit.2, target_lt, c.requires.table_length_in_bounds)
 
 pub returns-then-not-is_lower_rank : goal.returns-then-not-is_lower_rank
 returns-then-not-is_lower_rank c all =
     let a = c.args in
-    let move = indexed_at a.groups.now a.targets.now c.requires.q_lt_state_limit.0 c.requires.q_lt_state_limit.1 c.group_to-to.ensures
+    let move = indexed_at a.groups.now a.targets.now c.requires.q_lt_state_limit.0 c.requires.q_lt_state_limit.1
+    c.group_to-to.ensures
     c.group_from-i.ensures c.loop-i.invariant.1 c.loop-i-test.true refl in
     decides-refused c.is_lower_rank.result _ c.is_lower_rank.ensures c.if-not-is_lower_rank.true-raw (all _ move)
 
@@ -37,6 +39,7 @@ loop-i-preserved c =
 pub returns : goal.returns
 returns c =
     let a = c.args in
-    indexed_each a.groups.now a.targets.now c.requires.q_lt_state_limit.0 c.requires.q_lt_state_limit.1 c.group_to-to.ensures
+    indexed_each a.groups.now a.targets.now c.requires.q_lt_state_limit.0 c.requires.q_lt_state_limit.1
+    c.group_to-to.ensures
     c.group_from-i.ensures (RankIn a.table.now a.depth a.t.0)
     (λ j l. c.loop-i.invariant.2 j (omega arith))

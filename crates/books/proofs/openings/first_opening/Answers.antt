@@ -21,22 +21,46 @@ loop-i-init c =
 pub offset_bounds-actions-i : goal.offset_bounds-actions-i
 offset_bounds-actions-i c =
     let l = c.loop-i-test.true in
-    omega (arith, l, c.moves_to-to.ensures, c.requires.move_list.last_le (c.args.p.0 + 1) (omega (arith, c.requires.p_lt_n.0)))
+    omega (
+      arith,
+      l,
+      c.moves_to-to.ensures,
+      c.requires.move_list.last_le (c.args.p.0 + 1)
+          (omega (arith, c.requires.p_lt_n.0)),
+    )
 
 pub bounds-actions-i : goal.bounds-actions-i
 bounds-actions-i c =
     let l = c.loop-i-test.true in
-    omega (arith, l, c.moves_to-to.ensures, c.requires.move_list.last_le (c.args.p.0 + 1) (omega (arith, c.requires.p_lt_n.0)))
+    omega (
+      arith,
+      l,
+      c.moves_to-to.ensures,
+      c.requires.move_list.last_le (c.args.p.0 + 1)
+          (omega (arith, c.requires.p_lt_n.0)),
+    )
 
 pub offset_bounds-targets-i : goal.offset_bounds-targets-i
 offset_bounds-targets-i c =
     let l = c.loop-i-test.true in
-    omega (arith, l, c.moves_to-to.ensures, c.requires.move_list.last_le (c.args.p.0 + 1) (omega (arith, c.requires.p_lt_n.0)))
+    omega (
+      arith,
+      l,
+      c.moves_to-to.ensures,
+      c.requires.move_list.last_le (c.args.p.0 + 1)
+          (omega (arith, c.requires.p_lt_n.0)),
+    )
 
 pub bounds-targets-i : goal.bounds-targets-i
 bounds-targets-i c =
     let l = c.loop-i-test.true in
-    omega (arith, l, c.moves_to-to.ensures, c.requires.move_list.last_le (c.args.p.0 + 1) (omega (arith, c.requires.p_lt_n.0)))
+    omega (
+      arith,
+      l,
+      c.moves_to-to.ensures,
+      c.requires.move_list.last_le (c.args.p.0 + 1)
+          (omega (arith, c.requires.p_lt_n.0)),
+    )
 
 pub answers_lower_ranks-requires : goal.answers_lower_ranks-requires
 answers_lower_ranks-requires c =
@@ -57,7 +81,8 @@ answers_lower_ranks-requires c =
 
 pub returns-then-answers_lower_ranks : goal.returns-then-answers_lower_ranks
 returns-then-answers_lower_ranks c =
-    let lower = decides_true c.answers_lower_ranks.result _ c.answers_lower_ranks.ensures c.if-answers_lower_ranks.true in
+    let lower = decides_true c.answers_lower_ranks.result _ c.answers_lower_ranks.ensures
+    c.if-answers_lower_ranks.true in
     record {
       from_le = omega (arith, c.moves_from-i.ensures, c.loop-i.invariant.0);
       to_le = omega (arith, c.moves_to-to.ensures, c.loop-i.invariant.1);
@@ -68,7 +93,8 @@ returns-then-answers_lower_ranks c =
 pub loop-i-preserved : goal.loop-i-preserved
 loop-i-preserved c =
     let inv = c.loop-i.invariant in
-    let refused = decides_false c.answers_lower_ranks.result _ c.answers_lower_ranks.ensures c.if-answers_lower_ranks.false in (
+    let refused = decides_false c.answers_lower_ranks.result _ c.answers_lower_ranks.ensures
+    c.if-answers_lower_ranks.false in (
       omega (arith, inv.0),
       omega (arith, c.loop-i-test.true),
       below_more _ _ inv.2 (λ l h. refused (λ u m. h u (c.requires.index_of.back _ _ u m))),

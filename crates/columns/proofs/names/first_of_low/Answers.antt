@@ -13,7 +13,14 @@ pub is_low-requires : goal.is_low-requires
 is_low-requires c =
     let step = c.requires.step_from in
     let e = ap (λ (x : Action). x.0) c.action-a.ensures ∙ stored_action c.requires.stored _ step.number_lt in
-    omega (arith, e, c.requires.roles_of.roles_length, c.requires.stored.actions_le, c.requires.stored.action_lt _ step.number_lt)
+    omega (
+      arith,
+      e,
+      c.requires.roles_of.roles_length,
+      c.requires.stored.actions_le,
+      c.requires.stored.action_lt _
+          step.number_lt,
+    )
 
 pub returns-then-not-is_low : goal.returns-then-not-is_low
 returns-then-not-is_low c x =

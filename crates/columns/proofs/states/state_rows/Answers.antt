@@ -72,7 +72,8 @@ step_name-row-requires c =
       step_from = record { from_le = inv.0; number_lt = own.0; begins = begins_at (sym own.1) b };
       name_room = λ x.
           let split = low_names_split c.requires.writable L l c.loop-j.j inv.0 k x in
-          filling_room (filling_at (goal.at.step_name-row-requires c).At-loop-j) _ split.0 split.1 c.requires.class_in_bounds;
+          filling_room (filling_at (goal.at.step_name-row-requires c).At-loop-j) _ split.0 split.1
+          c.requires.class_in_bounds;
     }
 
 pub overflow_add-j : goal.overflow_add-j
@@ -95,7 +96,8 @@ loop-j-preserved c =
 
 pub end-requires : goal.end-requires
 end-requires c =
-    let room = filling_end_room (filling_at (goal.at.end-requires c).At-loop-j) (all_names (goal.at.end-requires c).After-loop-j) c.requires.class_in_bounds in
+    let room = filling_end_room (filling_at (goal.at.end-requires c).At-loop-j)
+    (all_names (goal.at.end-requires c).After-loop-j) c.requires.class_in_bounds in
     record {
       begin_le_at = (room.0, room.1);
       roll_width_in_bounds = room.2;

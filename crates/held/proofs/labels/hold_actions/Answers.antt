@@ -40,7 +40,8 @@ loop-a-preserved c =
     let made = w.hold_label-used.ensures in
     let fits : c.loop-a.count < length c.loop-a.labels = omega (arith, inv.1.count_le, l) in
     let P = put_of-set refl fits w.put.ensures in
-    let h = held_to_suc inv.1 (label_move_among c.requires.label_list) inv.0 (omega arith) (λ p b q i j m. omega (arith, i, j)) P
+    let h = held_to_suc inv.1 (label_move_among c.requires.label_list) inv.0 (omega arith)
+    (λ p b q i j m. omega (arith, i, j)) P
     made.held_label made.labels_kept in
     rw (w.labels-is, w.slots-is, w.pool-is, w.used-is, w.count-is) (omega (arith, l), h, made.pooled.0, made.pooled.1))
     (λ w. rw (w.labels-is, w.slots-is, w.pool-is, w.used-is, w.count-is) (

@@ -8,7 +8,8 @@ use Rattle.held.proofs.labels.hold_actions.Given as goal
 
 abbrev pub invariant-loop-a : goal.invariant-loop-a
 invariant-loop-a l =
-    (l.a ≤ action_limit) × HeldTo (LabelMove l.n l.from l.sources l.targets) l.a l.labels l.count l.slots l.pool × Pooled l.used l.slots l.pool
+    (l.a ≤ action_limit) × HeldTo (LabelMove l.n l.from l.sources l.targets) l.a l.labels l.count l.slots l.pool ×
+    Pooled l.used l.slots l.pool
     × FreeFrom (slot_place (2 * l.a) 0) l.slots
 
 abbrev pub decreases-loop-a : goal.decreases-loop-a

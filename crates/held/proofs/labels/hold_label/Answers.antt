@@ -22,8 +22,13 @@ low_targets-requires c =
 pub hold_row-next-requires : goal.hold_row-next-requires
 hold_row-next-requires c =
     let pre = c.requires.a_lt_action_limit in
-    let e = target_row-action c.args.a.0 pre.0 in
-    (omega (arith, c.target_row-row.ensures.1), omega (arith, pre.1), pre.2, free_from_le (omega (arith, e, c.target_row-row.ensures.0)) pre.3)
+    let e = target_row-action c.args.a.0 pre.0 in (
+      omega (arith, c.target_row-row.ensures.1),
+      omega (arith, pre.1),
+      pre.2,
+      free_from_le
+          (omega (arith, e, c.target_row-row.ensures.0)) pre.3,
+    )
 
 pub low_targets-requires-2 : goal.low_targets-requires-2
 low_targets-requires-2 c =
@@ -43,8 +48,14 @@ hold_row-requires c =
 pub returns : goal.returns
 returns c =
     let at = target_row-action c.args.a.0 c.requires.a_lt_action_limit.0 in record {
-      held_label = held_label_of_rows c.requires.label_list c.target_row-row.ensures.0 c.target_row-row.ensures.1 c.low_targets.ensures c.low_targets-2.ensures c.hold_row-next.ensures.row_held
+      held_label = held_label_of_rows c.requires.label_list c.target_row-row.ensures.0 c.target_row-row.ensures.1
+          c.low_targets.ensures c.low_targets-2.ensures c.hold_row-next.ensures.row_held
           c.hold_row.ensures.rows_kept c.hold_row.ensures.row_held;
-      labels_kept = labels_kept_of_rows c.target_row-row.ensures.0 c.hold_row-next.ensures.rows_kept c.hold_row.ensures.rows_kept;
-      pooled = (c.hold_row.ensures.lower_bound.2, free_from_le (omega (arith, c.target_row-row.ensures.0, at)) c.hold_row.ensures.lower_bound.3);
+      labels_kept = labels_kept_of_rows c.target_row-row.ensures.0 c.hold_row-next.ensures.rows_kept
+          c.hold_row.ensures.rows_kept;
+      pooled = (
+        c.hold_row.ensures.lower_bound.2,
+        free_from_le (omega (arith, c.target_row-row.ensures.0, at))
+            c.hold_row.ensures.lower_bound.3,
+      );
     }

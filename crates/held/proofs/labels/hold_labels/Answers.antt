@@ -60,8 +60,13 @@ pub hold_row-next-requires : goal.hold_row-next-requires
 hold_row-next-requires c =
     let held = c.hold_actions-held.ensures (some (goal.at.hold_row-next-requires c).After-target_row-row) in
     let e = target_row-silent silent_label (omega arith) in
-    let room = c.if-held-gt-ROOM.false in
-    (omega (arith, c.target_row-row.ensures.1), omega (arith, room), held.1, free_from_le (omega (arith, e, c.target_row-row.ensures.0)) held.2)
+    let room = c.if-held-gt-ROOM.false in (
+      omega (arith, c.target_row-row.ensures.1),
+      omega (arith, room),
+      held.1,
+      free_from_le
+          (omega (arith, e, c.target_row-row.ensures.0)) held.2,
+    )
 
 pub hold_row-requires : goal.hold_row-requires
 hold_row-requires c =
@@ -83,7 +88,8 @@ returns c =
     let L = c.requires.label_list in
     let e = c.target_row-row.ensures in
     let held = c.hold_actions-held.ensures (some (goal.at.returns c).After-target_row-row) in
-    let fits : c.hold_actions-held.result.count < length c.hold_actions-held.new.labels = omega (arith, held.0.count_le) in
+    let fits : c.hold_actions-held.result.count < length c.hold_actions-held.new.labels = omega
+    (arith, held.0.count_le) in
     let P = put_of-set refl fits c.put.ensures in
     let H = held_label_of_rows L e.0 e.1 c.silent_targets.ensures c.silent_targets-2.ensures
     c.hold_row-next.ensures.row_held c.hold_row.ensures.rows_kept c.hold_row.ensures.row_held in

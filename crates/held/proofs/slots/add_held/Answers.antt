@@ -18,7 +18,12 @@ returns-then-slot-eq0 c =
     sym c.wide-slot.ensures ∙ c.if-slot-eq0.true in record {
       member_added = member_added_new c.args.row D l S c.insert.ensures M
           (ap (λ (i : ℕ). get_or c.args.slots.now i 0) (sym c.slot_place-at.ensures) ∙ none);
-      lower_bound = (omega arith, omega arith, separate_new c.args.row D l S c.insert.ensures M c.requires.row_lt_slot_rows.1);
+      lower_bound = (
+        omega arith,
+        omega arith,
+        separate_new c.args.row D l S c.insert.ensures M
+            c.requires.row_lt_slot_rows.1,
+      );
     }
 
 pub insert-requires-2 : goal.insert-requires-2
@@ -33,5 +38,10 @@ returns c =
     let lower = D.pooled.slot_lt c.slot_place-at.result in record {
       member_added = member_added_more D some c.insert-2.ensures
           (c.wide-slot.ensures ∙ ap (λ (i : ℕ). get_or c.args.slots.now i 0) c.slot_place-at.ensures);
-      lower_bound = (omega arith, omega arith, separate_more D some c.insert-2.ensures (omega (arith, c.wide-slot.ensures, lower)));
+      lower_bound = (
+        omega arith,
+        omega arith,
+        separate_more D some c.insert-2.ensures
+            (omega (arith, c.wide-slot.ensures, lower)),
+      );
     }

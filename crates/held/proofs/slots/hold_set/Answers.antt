@@ -38,7 +38,8 @@ given c from to lt =
       (
         from,
         to,
-        pooled_put a.row c.requires.pooled.0 c.requires.row_lt_slot_rows.2 from to lt c.requires.row_lt_slot_rows.1 S c.share-number.ensures.kept own J,
+        pooled_put a.row c.requires.pooled.0 c.requires.row_lt_slot_rows.2 from to lt c.requires.row_lt_slot_rows.1 S
+            c.share-number.ensures.kept own J,
         free_from_put S c.requires.pooled.1,
       ),
     )

@@ -11,22 +11,26 @@ use Rattle.judge.proofs.book.book.Goals as goal
 
 pub returns-then-store-lt-STORE_LENGTH : goal.returns-then-store-lt-STORE_LENGTH
 unfolding book_outcome
-returns-then-store-lt-STORE_LENGTH c = on_store_short (first_short_is _ _ c.if-store-lt-STORE_LENGTH.true) refl (refl, refl)
+returns-then-store-lt-STORE_LENGTH c = on_store_short (first_short_is _ _ c.if-store-lt-STORE_LENGTH.true) refl
+    (refl, refl)
 
 pub returns-then-table-lt-TABLE_LENGTH : goal.returns-then-table-lt-TABLE_LENGTH
 unfolding book_outcome
-returns-then-table-lt-TABLE_LENGTH c = on_store_short (second_short _ _ c.if-store-lt-STORE_LENGTH.false c.if-table-lt-TABLE_LENGTH.true) refl (refl, refl)
+returns-then-table-lt-TABLE_LENGTH c = on_store_short (second_short _ _ c.if-store-lt-STORE_LENGTH.false
+    c.if-table-lt-TABLE_LENGTH.true) refl (refl, refl)
 
 pub returns-then-book-lt-BOOK_LENGTH : goal.returns-then-book-lt-BOOK_LENGTH
 unfolding book_outcome
 returns-then-book-lt-BOOK_LENGTH c =
-    on_store_short (third_short _ _ c.if-store-lt-STORE_LENGTH.false c.if-table-lt-TABLE_LENGTH.false c.if-book-lt-BOOK_LENGTH.true) refl
+    on_store_short (third_short _ _ c.if-store-lt-STORE_LENGTH.false c.if-table-lt-TABLE_LENGTH.false
+    c.if-book-lt-BOOK_LENGTH.true) refl
     (refl, refl)
 
 pub returns-then-not-good : goal.returns-then-not-good
 unfolding book_outcome
 returns-then-not-good c =
-    on_store_not_good (none_short_three c.if-store-lt-STORE_LENGTH.false c.if-table-lt-TABLE_LENGTH.false c.if-book-lt-BOOK_LENGTH.false)
+    on_store_not_good (none_short_three c.if-store-lt-STORE_LENGTH.false c.if-table-lt-TABLE_LENGTH.false
+    c.if-book-lt-BOOK_LENGTH.false)
     (decides-refused c.good.result _ c.good.ensures c.if-not-good.true-raw) refl (refl, refl)
 
 pub book_good-requires : goal.book_good-requires

@@ -30,7 +30,14 @@ pub fill_steps-requires : goal.fill_steps-requires
 fill_steps-requires c =
     record {
       stored = c.requires.stored;
-      ranks = (c.fill_plain_table-last.ensures.table, omega (arith, c.fill_plain_table-last.ensures.past.same_length, c.requires.table_length_in_bounds.0));
+      ranks = (
+        c.fill_plain_table-last.ensures.table,
+        omega (
+          arith,
+          c.fill_plain_table-last.ensures.past.same_length,
+          c.requires.table_length_in_bounds.0,
+        ),
+      );
       book_length_in_bounds = c.requires.table_length_in_bounds.1;
     }
 

@@ -16,7 +16,8 @@ returns-then-store-lt-STORE_LENGTH c = on_store_short (first_short_is _ _ c.if-s
 
 pub returns-then-book-lt-BOOK_LENGTH : goal.returns-then-book-lt-BOOK_LENGTH
 unfolding check_outcome
-returns-then-book-lt-BOOK_LENGTH c = on_store_short (second_short _ _ c.if-store-lt-STORE_LENGTH.false c.if-book-lt-BOOK_LENGTH.true) refl tt
+returns-then-book-lt-BOOK_LENGTH c = on_store_short (second_short _ _ c.if-store-lt-STORE_LENGTH.false
+    c.if-book-lt-BOOK_LENGTH.true) refl tt
 
 pub returns-then-not-good : goal.returns-then-not-good
 unfolding check_outcome

@@ -8,5 +8,6 @@ check_steps-requires c =
     record {
       stored = c.requires.stored;
       book_length_in_bounds = c.requires.book_length_in_bounds;
-      by_index = no-tick c.requires.stored (decides_false c.has_silent.result _ c.has_silent.ensures c.if-has_silent.false);
+      by_index = no-tick c.requires.stored (decides_false c.has_silent.result _ c.has_silent.ensures
+          c.if-has_silent.false);
     }

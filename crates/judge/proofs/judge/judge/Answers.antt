@@ -31,7 +31,8 @@ pub returns-then-not-good : goal.returns-then-not-good
 returns-then-not-good c =
     let args = c.args in
     let store = args.store.now in
-    judge_not_good store args.distances.now args.table.now c.if-store-lt-STORE_LENGTH.false c.if-distances-lt-DISTANCES_LENGTH.false
+    judge_not_good store args.distances.now args.table.now c.if-store-lt-STORE_LENGTH.false
+    c.if-distances-lt-DISTANCES_LENGTH.false
     c.if-table-lt-TABLE_LENGTH.false
     (decides-refused c.good.result (Good store) c.good.ensures c.if-not-good.true-raw)
 
@@ -52,5 +53,6 @@ returns c =
     let args = c.args in
     let store = args.store.now in
     let good = decides_passed c.good.result (Good store) c.good.ensures c.if-not-good.false-raw in
-    judge_done store args.distances.now args.table.now c.if-store-lt-STORE_LENGTH.false c.if-distances-lt-DISTANCES_LENGTH.false
+    judge_done store args.distances.now args.table.now c.if-store-lt-STORE_LENGTH.false
+    c.if-distances-lt-DISTANCES_LENGTH.false
     c.if-table-lt-TABLE_LENGTH.false good _ _ _ _ _ c.judge_good-v.ensures

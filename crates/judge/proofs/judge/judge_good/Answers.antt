@@ -21,7 +21,10 @@ fill_distances-requires c =
     record {
       stored = c.requires.stored;
       index = c.index.ensures;
-      index_length_in_bounds = (omega (arith, c.index.auto, c.requires.index_length_is), c.requires.distances_length_is);
+      index_length_in_bounds = (
+        omega (arith, c.index.auto, c.requires.index_length_is),
+        c.requires.distances_length_is,
+      );
     }
 
 pub fill_table-top-requires : goal.fill_table-top-requires

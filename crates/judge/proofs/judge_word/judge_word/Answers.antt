@@ -32,12 +32,14 @@ pub returns-then-word-lt-WORD_LENGTH : goal.returns-then-word-lt-WORD_LENGTH
 returns-then-word-lt-WORD_LENGTH c =
     let args = c.args in
     short_word_answered args.store.now args.distances.now args.table.now args.word.now c.requires.0
-    c.if-distances-lt-DISTANCES_LENGTH.false c.if-table-lt-TABLE_LENGTH.false c.requires.1 c.judge_good-v.ensures c.if-word-lt-WORD_LENGTH.true
+    c.if-distances-lt-DISTANCES_LENGTH.false c.if-table-lt-TABLE_LENGTH.false c.requires.1 c.judge_good-v.ensures
+    c.if-word-lt-WORD_LENGTH.true
 
 pub show-shown-requires : goal.show-shown-requires
 show-shown-requires c =
     let store = c.args.store.now in
-    judging→Showable c.judge_good-v.ensures c.if-distances-lt-DISTANCES_LENGTH.false c.if-table-lt-TABLE_LENGTH.false store
+    judging→Showable c.judge_good-v.ensures c.if-distances-lt-DISTANCES_LENGTH.false c.if-table-lt-TABLE_LENGTH.false
+    store
     c.args.word.now (good→Stored store c.requires.0 c.requires.1)
     (omega (arith, c.judge_good-v.auto.begins)) (omega (arith, c.judge_good-v.auto.roles))
     c.if-word-lt-WORD_LENGTH.false

@@ -20,7 +20,8 @@ returns-then-store-lt-STORE_LENGTH c = on_store_short (first_short_is _ _ c.if-s
 
 pub returns-then-table-lt-TABLE_LENGTH : goal.returns-then-table-lt-TABLE_LENGTH
 unfolding rank_outcome
-returns-then-table-lt-TABLE_LENGTH c = on_store_short (second_short _ _ c.if-store-lt-STORE_LENGTH.false c.if-table-lt-TABLE_LENGTH.true) refl refl
+returns-then-table-lt-TABLE_LENGTH c = on_store_short (second_short _ _ c.if-store-lt-STORE_LENGTH.false
+    c.if-table-lt-TABLE_LENGTH.true) refl refl
 
 pub returns-then-not-good : goal.returns-then-not-good
 unfolding rank_outcome

@@ -9,22 +9,26 @@ use Rattle.judge.proofs.run.run.Goals as goal
 
 pub returns-then-store-lt-STORE_LENGTH : goal.returns-then-store-lt-STORE_LENGTH
 unfolding run_outcome
-returns-then-store-lt-STORE_LENGTH c = on_store_short (first_short_is _ _ c.if-store-lt-STORE_LENGTH.true) refl (refl, refl)
+returns-then-store-lt-STORE_LENGTH c = on_store_short (first_short_is _ _ c.if-store-lt-STORE_LENGTH.true) refl
+    (refl, refl)
 
 pub returns-then-distances-lt-DISTANCES_LENGTH : goal.returns-then-distances-lt-DISTANCES_LENGTH
 unfolding run_outcome
-returns-then-distances-lt-DISTANCES_LENGTH c = on_store_short (second_short _ _ c.if-store-lt-STORE_LENGTH.false c.if-distances-lt-DISTANCES_LENGTH.true) refl (refl, refl)
+returns-then-distances-lt-DISTANCES_LENGTH c = on_store_short
+    (second_short _ _ c.if-store-lt-STORE_LENGTH.false c.if-distances-lt-DISTANCES_LENGTH.true) refl (refl, refl)
 
 pub returns-then-run-lt-RUN_LENGTH : goal.returns-then-run-lt-RUN_LENGTH
 unfolding run_outcome
 returns-then-run-lt-RUN_LENGTH c =
-    on_store_short (third_short _ _ c.if-store-lt-STORE_LENGTH.false c.if-distances-lt-DISTANCES_LENGTH.false c.if-run-lt-RUN_LENGTH.true) refl
+    on_store_short (third_short _ _ c.if-store-lt-STORE_LENGTH.false c.if-distances-lt-DISTANCES_LENGTH.false
+    c.if-run-lt-RUN_LENGTH.true) refl
     (refl, refl)
 
 pub returns-then-not-good : goal.returns-then-not-good
 unfolding run_outcome
 returns-then-not-good c =
-    on_store_not_good (none_short_three c.if-store-lt-STORE_LENGTH.false c.if-distances-lt-DISTANCES_LENGTH.false c.if-run-lt-RUN_LENGTH.false)
+    on_store_not_good (none_short_three c.if-store-lt-STORE_LENGTH.false c.if-distances-lt-DISTANCES_LENGTH.false
+    c.if-run-lt-RUN_LENGTH.false)
     (decides-refused c.good.result _ c.good.ensures c.if-not-good.true-raw) refl (refl, refl)
 
 pub run_good-requires : goal.run_good-requires
@@ -38,5 +42,6 @@ pub returns : goal.returns
 returns c =
     let good = decides_passed c.good.result _ c.good.ensures c.if-not-good.false-raw in
     on_store-model (λ m. RunDone m _ (run_outcome c.run_good.result) _ _ _ _)
-    (none_short_three c.if-store-lt-STORE_LENGTH.false c.if-distances-lt-DISTANCES_LENGTH.false c.if-run-lt-RUN_LENGTH.false) good
+    (none_short_three c.if-store-lt-STORE_LENGTH.false c.if-distances-lt-DISTANCES_LENGTH.false
+    c.if-run-lt-RUN_LENGTH.false) good
     c.run_good.ensures

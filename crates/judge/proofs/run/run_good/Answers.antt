@@ -23,8 +23,11 @@ fill_distances-requires c =
 pub is_unreachable-requires : goal.is_unreachable-requires
 is_unreachable-requires c =
     let e = c.states.ensures ∙ stored_states c.requires.stored in
-    let n = c.fill_distances.ensures.past.same_length in
-    (omega (arith, e, c.if-states-p.false, c.requires.stored.states_le), omega (arith, n, c.requires.distances_length_in_bounds))
+    let n = c.fill_distances.ensures.past.same_length in (
+      omega (arith, e, c.if-states-p.false, c.requires.stored.states_le),
+      omega
+          (arith, n, c.requires.distances_length_in_bounds),
+    )
 
 pub returns-then-is_unreachable : goal.returns-then-is_unreachable
 returns-then-is_unreachable c =
@@ -36,10 +39,18 @@ pub fill_run-n-requires : goal.fill_run-n-requires
 fill_run-n-requires c =
     let e = c.states.ensures ∙ stored_states c.requires.stored in
     let has-distance = decides_false _ _ c.is_unreachable.ensures c.if-is_unreachable.false in
-    let r = list_reachable c.requires.stored c.fill_distances.ensures.list (omega (arith, e, c.if-states-p.false)) has-distance in
+    let r = list_reachable c.requires.stored c.fill_distances.ensures.list (omega (arith, e, c.if-states-p.false))
+    has-distance in
     record {
       stored = c.requires.stored;
-      distances_length_in_bounds = (omega (arith, c.fill_distances.ensures.past.same_length, c.requires.distances_length_in_bounds), c.fill_distances.ensures.list);
+      distances_length_in_bounds = (
+        omega (
+          arith,
+          c.fill_distances.ensures.past.same_length,
+          c.requires.distances_length_in_bounds,
+        ),
+        c.fill_distances.ensures.list,
+      );
       reachable_in = (r, c.requires.distances_length_in_bounds.1);
     }
 

@@ -11,10 +11,12 @@ pub returns-then-store-lt-STORE_LENGTH : goal.returns-then-store-lt-STORE_LENGTH
 returns-then-store-lt-STORE_LENGTH c = short_store_promised _ _ _ _ c.if-store-lt-STORE_LENGTH.true
 
 pub returns-then-distances-lt-DISTANCES_LENGTH : goal.returns-then-distances-lt-DISTANCES_LENGTH
-returns-then-distances-lt-DISTANCES_LENGTH c = short_distances_promised _ _ _ _ c.if-store-lt-STORE_LENGTH.false c.if-distances-lt-DISTANCES_LENGTH.true
+returns-then-distances-lt-DISTANCES_LENGTH c = short_distances_promised _ _ _ _ c.if-store-lt-STORE_LENGTH.false
+    c.if-distances-lt-DISTANCES_LENGTH.true
 
 pub returns-then-table-lt-TABLE_LENGTH : goal.returns-then-table-lt-TABLE_LENGTH
-returns-then-table-lt-TABLE_LENGTH c = short_table_promised _ _ _ _ c.if-store-lt-STORE_LENGTH.false c.if-distances-lt-DISTANCES_LENGTH.false c.if-table-lt-TABLE_LENGTH.true
+returns-then-table-lt-TABLE_LENGTH c = short_table_promised _ _ _ _ c.if-store-lt-STORE_LENGTH.false
+    c.if-distances-lt-DISTANCES_LENGTH.false c.if-table-lt-TABLE_LENGTH.true
 
 pub returns-then-word-lt-WORD_LENGTH : goal.returns-then-word-lt-WORD_LENGTH
 returns-then-word-lt-WORD_LENGTH c =
@@ -46,13 +48,16 @@ pub show-shown-requires : goal.show-shown-requires
 show-shown-requires c =
     let first-long = c.if-store-lt-STORE_LENGTH.false in
     let good = decides_passed c.good.result _ c.good.ensures c.if-not-good.false-raw in
-    judging→Showable c.judge_good-verdict.ensures c.if-distances-lt-DISTANCES_LENGTH.false c.if-table-lt-TABLE_LENGTH.false _ _
-    (good→Stored _ first-long good) (omega (arith, c.judge_good-verdict.auto)) (omega (arith, c.judge_good-verdict.auto))
+    judging→Showable c.judge_good-verdict.ensures c.if-distances-lt-DISTANCES_LENGTH.false
+    c.if-table-lt-TABLE_LENGTH.false _ _
+    (good→Stored _ first-long good) (omega (arith, c.judge_good-verdict.auto))
+    (omega (arith, c.judge_good-verdict.auto))
     c.if-word-lt-WORD_LENGTH.false
 
 pub returns : goal.returns
 returns c =
     let good = decides_passed c.good.result _ c.good.ensures c.if-not-good.false-raw in
     done_promised _ _ _ _ c.if-store-lt-STORE_LENGTH.false c.if-distances-lt-DISTANCES_LENGTH.false
-    c.if-table-lt-TABLE_LENGTH.false c.if-word-lt-WORD_LENGTH.false c.show-shown.result _ _ _ good c.judge_good-verdict.ensures.filled
+    c.if-table-lt-TABLE_LENGTH.false c.if-word-lt-WORD_LENGTH.false c.show-shown.result _ _ _ good
+    c.judge_good-verdict.ensures.filled
     c.show-shown.ensures

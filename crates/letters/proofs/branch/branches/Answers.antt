@@ -31,8 +31,10 @@ returns-then-a-b c x =
 pub is_unreachable-requires : goal.is_unreachable-requires
 is_unreachable-requires c =
     let j = c.requires.j_nonzero in
-    let f = ap (λ (y : State). y.0) c.source-q.ensures ∙ stored_source c.requires.stored _ j.1 in
-    (omega (arith, f, c.requires.stored.source_lt _ j.1, c.requires.stored.states_le), c.requires.distances_length_in_bounds.0)
+    let f = ap (λ (y : State). y.0) c.source-q.ensures ∙ stored_source c.requires.stored _ j.1 in (
+      omega (arith, f, c.requires.stored.source_lt _ j.1, c.requires.stored.states_le),
+      c.requires.distances_length_in_bounds.0,
+    )
 
 pub returns-then-is_unreachable : goal.returns-then-is_unreachable
 returns-then-is_unreachable c x =
@@ -40,7 +42,8 @@ returns-then-is_unreachable c x =
     let e = ap (λ (y : State). y.0) c.source-p.ensures
     ∙ stored_source c.requires.stored _ (omega (arith, j.0, j.1)) in
     let f = ap (λ (y : State). y.0) c.source-q.ensures ∙ stored_source c.requires.stored _ j.1 in
-    list_unreachable c.requires.stored c.requires.distances_length_in_bounds.1 (decides_true _ _ c.is_unreachable.ensures c.if-is_unreachable.true)
+    list_unreachable c.requires.stored c.requires.distances_length_in_bounds.1
+    (decides_true _ _ c.is_unreachable.ensures c.if-is_unreachable.true)
     (branches_reachable refl e f x)
 
 pub returns : goal.returns
@@ -53,5 +56,6 @@ returns c =
     ∙ stored_action c.requires.stored _ (omega (arith, j.0, j.1)) in
     let h = ap (λ (y : Action). y.0) c.action-b.ensures ∙ stored_action c.requires.stored _ j.1 in
     let reached = decides_false _ _ c.is_unreachable.ensures c.if-is_unreachable.false in
-    let r = list_reachable c.requires.stored c.requires.distances_length_in_bounds.1 (omega (arith, f, c.requires.stored.source_lt _ j.1)) reached in
+    let r = list_reachable c.requires.stored c.requires.distances_length_in_bounds.1
+    (omega (arith, f, c.requires.stored.source_lt _ j.1)) reached in
     branches_of refl e f j.0 j.1 c.if-p-q.false d h c.if-a-b.false r

@@ -16,13 +16,18 @@ bounds-begins-of-2 c =
     omega (arith, c.requires.step_lists.index_length_is, c.requires.step_lists.stored.states_le, c.requires.p_bound.0)
 
 pub loop-j-init : goal.loop-j-init
-loop-j-init c =
-    (refl, omega arith, none_before c.requires.step_lists.index c.requires.p_bound.0 _ (λ j x. (x.unanswered.number_lt, x.source_is)))
+loop-j-init c = (
+  refl,
+  omega arith,
+  none_before c.requires.step_lists.index c.requires.p_bound.0 _
+      (λ j x. (x.unanswered.number_lt, x.source_is)),
+)
 
 pub unanswered-requires : goal.unanswered-requires
 unanswered-requires c =
     let inv = c.loop-j.invariant in
-    let own = own_of_index c.requires.step_lists.index c.requires.p_bound.0 _ inv.1 (omega (arith, inv.0, c.loop-j-test.true)) in
+    let own = own_of_index c.requires.step_lists.index c.requires.p_bound.0 _ inv.1
+    (omega (arith, inv.0, c.loop-j-test.true)) in
     record {
       step_lists = c.requires.step_lists;
       q_bound = (c.requires.p_bound.1, own.0);
@@ -31,7 +36,8 @@ unanswered-requires c =
 pub returns-then-unanswered : goal.returns-then-unanswered
 returns-then-unanswered c =
     let inv = c.loop-j.invariant in
-    let own = own_of_index c.requires.step_lists.index c.requires.p_bound.0 _ inv.1 (omega (arith, inv.0, c.loop-j-test.true)) in
+    let own = own_of_index c.requires.step_lists.index c.requires.p_bound.0 _ inv.1
+    (omega (arith, inv.0, c.loop-j-test.true)) in
     first_found inv.2 (record {
       source_is = own.1;
       unanswered = decides_true _ _ c.unanswered.ensures c.if-unanswered.true;
@@ -40,7 +46,8 @@ returns-then-unanswered c =
 pub overflow_add-j : goal.overflow_add-j
 overflow_add-j c =
     let inv = c.loop-j.invariant in
-    let own = own_of_index c.requires.step_lists.index c.requires.p_bound.0 _ inv.1 (omega (arith, inv.0, c.loop-j-test.true)) in
+    let own = own_of_index c.requires.step_lists.index c.requires.p_bound.0 _ inv.1
+    (omega (arith, inv.0, c.loop-j-test.true)) in
     omega (arith, own.0, c.requires.step_lists.stored.steps_le)
 
 pub loop-j-preserved : goal.loop-j-preserved

@@ -47,7 +47,11 @@ rank_at-requires c =
     let n = (found_at _ c.in-At.is c.step_of_action.ensures).holds.number_lt in
     let e = ap (λ (x : State). x.0) c.target-x.ensures ∙ stored_target st _ l in
     let g = ap (λ (x : State). x.0) c.target-y.ensures ∙ stored_target st _ n in record {
-      p_lt_state_limit = (omega (arith, e, st.target_lt _ l, st.states_le), omega (arith, g, st.target_lt _ n, st.states_le));
+      p_lt_state_limit = (
+        omega (arith, e, st.target_lt _ l, st.states_le),
+        omega
+            (arith, g, st.target_lt _ n, st.states_le),
+      );
       table_length_in_bounds = c.requires.word_lists.table_length_is;
     }
 
@@ -59,7 +63,8 @@ returns-then-rank_at-k c =
     let d = ap (λ (x : Action). x.0) c.action-action.ensures ∙ stored_action st _ l in
     let e = ap (λ (x : State). x.0) c.target-x.ensures ∙ stored_target st _ l in
     let g = ap (λ (x : State). x.0) c.target-y.ensures ∙ stored_target st _ f.holds.number_lt in
-    not_answer c.requires.word_lists l c.requires.k_nonzero.2 c.requires.deterministic_model.1 f.holds e g c.requires.deterministic_model.0 d
+    not_answer c.requires.word_lists l c.requires.k_nonzero.2 c.requires.deterministic_model.1 f.holds e g
+    c.requires.deterministic_model.0 d
     (λ h. c.if-rank_at-k.true (c.rank_at.ensures ∙ h))
 
 pub returns-in-Nothing : goal.returns-in-Nothing
@@ -81,7 +86,8 @@ returns-else-rank_at-k c =
       holds = record {
         is_low = letter_low S d l z;
         step_of = step_of_at d f.holds;
-        targets = separated_of_entry c.requires.word_lists l c.requires.k_nonzero.2 c.requires.deterministic_model.1 f.holds e g c.requires.k_nonzero.0
+        targets = separated_of_entry c.requires.word_lists l c.requires.k_nonzero.2 c.requires.deterministic_model.1
+            f.holds e g c.requires.k_nonzero.0
             (sym c.rank_at.ensures ∙ c.if-rank_at-k.false);
       };
       first = λ i x. f.first i (step_of_at (sym d) x.step_of);

@@ -11,12 +11,24 @@ use Rattle.letters.proofs.letters.first_letter.Goals as goal
 pub bounds-begins-of : goal.bounds-begins-of
 bounds-begins-of c =
     let S = c.requires.word_lists.step_lists in
-    omega (arith, S.index_length_is, S.stored.states_le, reachable_state S.stored c.requires.k_nonzero.1.first_reachable)
+    omega (
+      arith,
+      S.index_length_is,
+      S.stored.states_le,
+      reachable_state S.stored
+          c.requires.k_nonzero.1.first_reachable,
+    )
 
 pub bounds-begins-of-2 : goal.bounds-begins-of-2
 bounds-begins-of-2 c =
     let S = c.requires.word_lists.step_lists in
-    omega (arith, S.index_length_is, S.stored.states_le, reachable_state S.stored c.requires.k_nonzero.1.first_reachable)
+    omega (
+      arith,
+      S.index_length_is,
+      S.stored.states_le,
+      reachable_state S.stored
+          c.requires.k_nonzero.1.first_reachable,
+    )
 
 pub loop-j-init : goal.loop-j-init
 loop-j-init c =

@@ -9,12 +9,14 @@ use Rattle.letters.proofs.letters.unanswered.Goals as goal
 
 pub is_low-requires : goal.is_low-requires
 is_low-requires c =
-    let e = ap (λ (x : Action). x.0) c.action-a.ensures ∙ stored_action c.requires.step_lists.stored _ c.requires.q_bound.1 in
+    let e = ap (λ (x : Action). x.0) c.action-a.ensures ∙ stored_action c.requires.step_lists.stored _
+    c.requires.q_bound.1 in
     role_fits c.requires.step_lists e c.requires.q_bound.1
 
 pub returns-then-not-is_low : goal.returns-then-not-is_low
 returns-then-not-is_low c x =
-    let e = ap (λ (x : Action). x.0) c.action-a.ensures ∙ stored_action c.requires.step_lists.stored _ c.requires.q_bound.1 in
+    let e = ap (λ (x : Action). x.0) c.action-a.ensures ∙ stored_action c.requires.step_lists.stored _
+    c.requires.q_bound.1 in
     decides-refused c.is_low.result _ c.is_low.ensures c.if-not-is_low.true-raw
     (letter_role c.requires.step_lists e c.requires.q_bound.1 x.is_low)
 
@@ -29,12 +31,15 @@ step_of_action-requires c =
 
 pub returns-in-At : goal.returns-in-At
 returns-in-At c x =
-    let e = ap (λ (y : Action). y.0) c.action-a.ensures ∙ stored_action c.requires.step_lists.stored _ c.requires.q_bound.1 in
+    let e = ap (λ (y : Action). y.0) c.action-a.ensures ∙ stored_action c.requires.step_lists.stored _
+    c.requires.q_bound.1 in
     let f = found_at _ c.in-At.is c.step_of_action.ensures in
     x.none _ (step_of_at e f.holds)
 
 pub returns-in-Nothing : goal.returns-in-Nothing
 returns-in-Nothing c =
-    let e = ap (λ (y : Action). y.0) c.action-a.ensures ∙ stored_action c.requires.step_lists.stored _ c.requires.q_bound.1 in
+    let e = ap (λ (y : Action). y.0) c.action-a.ensures ∙ stored_action c.requires.step_lists.stored _
+    c.requires.q_bound.1 in
     let z = decides_passed c.is_low.result _ c.is_low.ensures c.if-not-is_low.false-raw in
-    unanswered_of c.requires.step_lists e c.requires.q_bound.1 z (found_nothing _ c.in-Nothing.is c.step_of_action.ensures)
+    unanswered_of c.requires.step_lists e c.requires.q_bound.1 z
+    (found_nothing _ c.in-Nothing.is c.step_of_action.ensures)

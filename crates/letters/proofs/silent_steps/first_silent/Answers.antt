@@ -11,7 +11,8 @@ use Rattle.letters.proofs.silent_steps.first_silent.Goals as goal
 
 pub returns-then-not-some_silent : goal.returns-then-not-some_silent
 returns-then-not-some_silent c =
-    let still = no-tick c.requires.stored (decides-refused c.some_silent.result _ c.some_silent.ensures c.if-not-some_silent.true-raw) in
+    let still = no-tick c.requires.stored (decides-refused c.some_silent.result _ c.some_silent.ensures
+    c.if-not-some_silent.true-raw) in
     (no_tick_of_no_silent_step _).1 (λ p q _. still p q)
 
 pub loop-j-init : goal.loop-j-init

@@ -25,14 +25,17 @@ returns-then-not-is_silent c x =
 pub is_unreachable-requires : goal.is_unreachable-requires
 is_unreachable-requires c =
     let l = c.requires.j_in_bounds in
-    let f = ap (λ (y : State). y.0) c.source-p.ensures ∙ stored_source c.requires.stored _ l in
-    (omega (arith, f, c.requires.stored.source_lt _ l, c.requires.stored.states_le), c.requires.distances_length_in_bounds.0)
+    let f = ap (λ (y : State). y.0) c.source-p.ensures ∙ stored_source c.requires.stored _ l in (
+      omega (arith, f, c.requires.stored.source_lt _ l, c.requires.stored.states_le),
+      c.requires.distances_length_in_bounds.0,
+    )
 
 pub returns-then-is_unreachable : goal.returns-then-is_unreachable
 returns-then-is_unreachable c x =
     let l = c.requires.j_in_bounds in
     let f = ap (λ (y : State). y.0) c.source-p.ensures ∙ stored_source c.requires.stored _ l in
-    list_unreachable c.requires.stored c.requires.distances_length_in_bounds.1 (decides_true _ _ c.is_unreachable.ensures c.if-is_unreachable.true)
+    list_unreachable c.requires.stored c.requires.distances_length_in_bounds.1
+    (decides_true _ _ c.is_unreachable.ensures c.if-is_unreachable.true)
     (reachable_at (sym f) x.reachable)
 
 pub returns : goal.returns
@@ -42,5 +45,6 @@ returns c =
     let f = ap (λ (y : State). y.0) c.source-p.ensures ∙ stored_source c.requires.stored _ l in
     let z = decides_passed c.is_silent.result _ c.is_silent.ensures c.if-not-is_silent.false-raw in
     let reached = decides_false _ _ c.is_unreachable.ensures c.if-is_unreachable.false in
-    let r = list_reachable c.requires.stored c.requires.distances_length_in_bounds.1 (omega (arith, f, c.requires.stored.source_lt _ l)) reached in
+    let r = list_reachable c.requires.stored c.requires.distances_length_in_bounds.1
+    (omega (arith, f, c.requires.stored.source_lt _ l)) reached in
     silent_step_of c.requires.stored c.requires.roles_of.roles_are e l z f r

@@ -32,7 +32,15 @@ pub bounds-word-at : goal.bounds-word-at
 bounds-word-at c =
     let inv = c.loop-left.invariant in
     let st = c.requires.word_lists.step_lists.stored in
-    omega (arith, inv.0, inv.1, inv.2, pair_lt st c.requires.separated_pair.0, st.states_le, c.requires.separated_pair.1)
+    omega (
+      arith,
+      inv.0,
+      inv.1,
+      inv.2,
+      pair_lt st c.requires.separated_pair.0,
+      st.states_le,
+      c.requires.separated_pair.1,
+    )
 
 pub target-from-requires : goal.target-from-requires
 target-from-requires c =
@@ -59,7 +67,8 @@ loop-left-preserved c =
     let l = c.loop-left-test.true in
     let st = c.requires.word_lists.step_lists.stored in
     let d = ap (λ (x : Action). x.0) c.action-a.ensures ∙ stored_action st _ c.first_letter-letter.ensures.number_lt in
-    let e = ap (λ (x : State). x.0) c.target-from.ensures ∙ stored_target st _ c.first_letter-letter.ensures.number_lt in
+    let e = ap (λ (x : State). x.0) c.target-from.ensures ∙ stored_target st _
+    c.first_letter-letter.ensures.number_lt in
     let f = ap (λ (x : State). x.0) c.target-to.ensures
     ∙ stored_target st _ c.first_letter-letter.ensures.answer.step_of.number_lt in (
       omega (arith, l),
@@ -67,7 +76,14 @@ loop-left-preserved c =
       simp length-set inv.2,
       pair_next c.first_letter-letter.ensures inv.3 e f,
       head_next st (omega (arith, l)) (omega (arith, l)) inv.3 c.first_letter-letter.ensures d e f
-          (omega (arith, inv.0, inv.1, pair_lt st c.requires.separated_pair.0, st.states_le, c.requires.separated_pair.1)) inv.4,
+          (omega (
+            arith,
+            inv.0,
+            inv.1,
+            pair_lt st c.requires.separated_pair.0,
+            st.states_le,
+            c.requires.separated_pair.1,
+          )) inv.4,
     )
 
 pub last_letter-last-requires : goal.last_letter-last-requires
@@ -82,7 +98,15 @@ pub bounds-word-at-2 : goal.bounds-word-at-2
 bounds-word-at-2 c =
     let inv = c.loop-left.invariant in
     let st = c.requires.word_lists.step_lists.stored in
-    omega (arith, inv.0, inv.1, inv.2, pair_lt st c.requires.separated_pair.0, st.states_le, c.requires.separated_pair.1)
+    omega (
+      arith,
+      inv.0,
+      inv.1,
+      inv.2,
+      pair_lt st c.requires.separated_pair.0,
+      st.states_le,
+      c.requires.separated_pair.1,
+    )
 
 pub shape_of-word : goal.shape_of-word
 shape_of-word c = let inv = c.loop-left.invariant in simp length-set inv.2
@@ -92,4 +116,5 @@ returns c =
     let inv = c.loop-left.invariant in
     let st = c.requires.word_lists.step_lists.stored in
     head_end (omega (arith, inv.0, inv.1, c.loop-left-test.false))
-    (omega (arith, inv.0, inv.1, pair_lt st c.requires.separated_pair.0, st.states_le, c.requires.separated_pair.1)) c.last_letter-last.ensures inv.4
+    (omega (arith, inv.0, inv.1, pair_lt st c.requires.separated_pair.0, st.states_le, c.requires.separated_pair.1))
+    c.last_letter-last.ensures inv.4

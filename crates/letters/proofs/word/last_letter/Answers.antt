@@ -13,7 +13,11 @@ alone-here-requires c =
     let st = c.requires.step_lists.stored in
     record {
       step_lists = c.requires.step_lists;
-      p_bound = (reachable_state st c.requires.separated_pair.first_reachable, reachable_state st c.requires.separated_pair.second_reachable);
+      p_bound = (
+        reachable_state st c.requires.separated_pair.first_reachable,
+        reachable_state st
+            c.requires.separated_pair.second_reachable,
+      );
     }
 
 pub alone-there-requires : goal.alone-there-requires
@@ -21,7 +25,11 @@ alone-there-requires c =
     let st = c.requires.step_lists.stored in
     record {
       step_lists = c.requires.step_lists;
-      p_bound = (reachable_state st c.requires.separated_pair.second_reachable, reachable_state st c.requires.separated_pair.first_reachable);
+      p_bound = (
+        reachable_state st c.requires.separated_pair.second_reachable,
+        reachable_state st
+            c.requires.separated_pair.first_reachable,
+      );
     }
 
 pub action-action-requires : goal.action-action-requires

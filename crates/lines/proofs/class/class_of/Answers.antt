@@ -10,7 +10,11 @@ loop-q-init c = (omega arith, λ i l. absurd (omega arith))
 pub rank_at-requires : goal.rank_at-requires
 rank_at-requires c =
     record {
-      p_lt_state_limit = (c.requires.p_lt_state_limit.0, omega (arith, c.requires.p_lt_state_limit.0, c.loop-q-test.true));
+      p_lt_state_limit = (
+        c.requires.p_lt_state_limit.0,
+        omega
+            (arith, c.requires.p_lt_state_limit.0, c.loop-q-test.true),
+      );
       table_length_in_bounds = c.requires.p_lt_state_limit.1;
     }
 

@@ -19,7 +19,8 @@ use Rattle.text.specs.Model.{Model}
 use Rattle.verdicts.specs.declared.judging.Verdict.{Verdict}
 use Rattle.lines.specs.declared.lines.Form.{Form}
 use Rattle.lines.proofs.whole.judged_page.Goals as goal
-use Rattle.lines.proofs.whole.judged_page.Goals.{After-leak_lines-leak, After-line_end-verdict, After-state_lines-states, Start}
+use Rattle.lines.proofs.whole.judged_page.Goals.{After-leak_lines-leak, After-line_end-verdict}
+use Rattle.lines.proofs.whole.judged_page.Goals.{After-state_lines-states, Start}
 
 -- ---- the room from the states on, from what follows them on, and for the end
 
@@ -33,7 +34,10 @@ abbrev states_rest : Form → Model → Verdict → ℕ
 states_rest form m v = states_room form m m.head.states + leak_rest form m v
 
 writable : (s : Start) → Writable s.args.store.now
-writable s = record { long = s.requires.judged_lists.showable.lists.stored.length_le; good = s.requires.judged_lists.good }
+writable s = record {
+  long = s.requires.judged_lists.showable.lists.stored.length_le;
+  good = s.requires.judged_lists.good;
+}
 
 start_room : (s : Start) → line_room s.args.form verdict_width
     + states_rest s.args.form (model_at s.args.store.now) s.args.v ≤ length s.args.out.now
@@ -58,7 +62,8 @@ states_room_left : (c : After-line_end-verdict)
     → c.line_end-verdict.result.at.at + states_rest c.args.form (model_at c.args.store.now) c.args.v
     ≤ length c.line_end-verdict.new.out
 states_room_left c room =
-    written_rest (states_rest c.args.form (model_at c.args.store.now) c.args.v) (omega (arith, room)) (verdict_written c)
+    written_rest (states_rest c.args.form (model_at c.args.store.now) c.args.v) (omega (arith, room))
+    (verdict_written c)
 
 leak_room_left : (c : After-state_lines-states)
     → c.line_end-verdict.result.at.at + states_rest c.args.form (model_at c.args.store.now) c.args.v
@@ -96,7 +101,11 @@ state_lines-states-requires c =
         roles_of = lists.roles_of;
       };
       model_lists = lists;
-      store_in_bounds = omega (arith, states_room_left (goal.at.state_lines-states-requires c).After-line_end-verdict (start_room (goal.at.state_lines-states-requires c).Start));
+      store_in_bounds = omega (
+        arith,
+        states_room_left (goal.at.state_lines-states-requires c).After-line_end-verdict
+            (start_room (goal.at.state_lines-states-requires c).Start),
+      );
     }
 
 pub leak_lines-leak-requires : goal.leak_lines-leak-requires
@@ -106,21 +115,25 @@ leak_lines-leak-requires c =
       v_in_bounds = omega (
         arith,
         leak_room_left (goal.at.leak_lines-leak-requires c).After-state_lines-states
-            (states_room_left (goal.at.leak_lines-leak-requires c).After-line_end-verdict (start_room (goal.at.leak_lines-leak-requires c).Start)),
+            (states_room_left (goal.at.leak_lines-leak-requires c).After-line_end-verdict
+            (start_room (goal.at.leak_lines-leak-requires c).Start)),
       );
     }
 
 pub last_text-requires : goal.last_text-requires
 last_text-requires c =
-    text_room last_fits c.args.form c.leak_lines-leak.result.at.at (last_room_left (goal.at.last_text-requires c).After-leak_lines-leak
+    text_room last_fits c.args.form c.leak_lines-leak.result.at.at
+    (last_room_left (goal.at.last_text-requires c).After-leak_lines-leak
     (leak_room_left (goal.at.last_text-requires c).After-state_lines-states
-    (states_room_left (goal.at.last_text-requires c).After-line_end-verdict (start_room (goal.at.last_text-requires c).Start))))
+    (states_room_left (goal.at.last_text-requires c).After-line_end-verdict
+    (start_room (goal.at.last_text-requires c).Start))))
 
 pub line_end-requires : goal.line_end-requires
 line_end-requires c =
     end_room last_fits c.args.form (last_room_left (goal.at.line_end-requires c).After-leak_lines-leak
     (leak_room_left (goal.at.line_end-requires c).After-state_lines-states
-    (states_room_left (goal.at.line_end-requires c).After-line_end-verdict (start_room (goal.at.line_end-requires c).Start)))) c.last_text.ensures
+    (states_room_left (goal.at.line_end-requires c).After-line_end-verdict
+    (start_room (goal.at.line_end-requires c).Start)))) c.last_text.ensures
 
 pub shape_of-out : goal.shape_of-out
 shape_of-out c =

@@ -10,18 +10,22 @@ use Rattle.std.proofs.Math.Dec.{not_T}
 use Rattle.std.proofs.Math.ListN.{length, take, length-drop}
 use Rattle.std.proofs.Math.Seq.{take-add}
 use Rattle.lts.proofs.TestsLaws.{and_intro}
-use Rattle.text.specs.Limits.{name_limit, state_count_place, action_count_place, step_count_place, start_place, head_end}
+use Rattle.text.specs.Limits.{name_limit, state_count_place, action_count_place, step_count_place, start_place}
+use Rattle.text.specs.Limits.{head_end}
 use Rattle.text.specs.Limits.{actions_begin, action_size, actions_length, actions_end, action_column, target_column}
-use Rattle.text.specs.Limits.{steps_begin, step_size, steps_length, steps_end, extra_count_place, extra_begin, extra_limit}
+use Rattle.text.specs.Limits.{steps_begin, step_size, steps_length, steps_end, extra_count_place, extra_begin}
+use Rattle.text.specs.Limits.{extra_limit}
 use Rattle.text.specs.Limits.{store_length}
-use Rattle.text.specs.Limits.{action_place, name_length_place, name_place, step_place, action_of_step_place, target_place}
+use Rattle.text.specs.Limits.{action_place, name_length_place, name_place, step_place, action_of_step_place}
+use Rattle.text.specs.Limits.{target_place}
 use Rattle.text.specs.Bytes.{between?}
 use Rattle.text.specs.Model.{above_last?}
 use Rattle.text.specs.Lines.{all_of, name_byte?, name?, used?}
 use Rattle.model.specs.Store.{padded, action_numbers, actions_numbers, step_row, steps_numbers, head_row}
 use Rattle.model.specs.Store.{extra_numbers, store_of}
 use Rattle.model.specs.WellFormed.{ActionFits, StartFits, StepFits, WellFormed}
-use Rattle.model.specs.StoredModel.{head_at, action_at, step_at, extra_count_at, extra_start_at, listed, model_at, Holds}
+use Rattle.model.specs.StoredModel.{head_at, action_at, step_at, extra_count_at, extra_start_at, listed, model_at}
+use Rattle.model.specs.StoredModel.{Holds}
 use Rattle.text.specs.Inner.Ranges.{HeadRanges}
 use Rattle.text.specs.Laws.BytesLaws.{le→between?}
 use Rattle.text.specs.Laws.RangesLaws.{head_fits?→HeadRanges, lt→above_starts?}
@@ -166,7 +170,8 @@ module _ (s : List ℕ) (fits : store_length ≤ length s) where
         let c = x.count in
         let d = length-drop extra_begin s in
         let starts : listed n (extra_start_at s) ≡ take n (drop extra_begin s) =
-        listed-take (drop extra_begin s) 0 (extra_start_at s) n (omega arith) (λ i l. sym (get_or-drop extra_begin s i 0)) in
+        listed-take (drop extra_begin s) 0 (extra_start_at s) n (omega arith)
+        (λ i l. sym (get_or-drop extra_begin s i 0)) in
         let p = padded_part s extra_begin n extra_limit c (omega arith) x.unused in
         let cons = part-cons s extra_count_place extra_begin extra_limit (omega arith) refl in
         rw (listed-length n (extra_start_at s), starts, p) (sym cons)

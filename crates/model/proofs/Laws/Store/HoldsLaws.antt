@@ -10,14 +10,16 @@ use Rattle.std.proofs.Math.Dec.{T, T_not}
 use Rattle.std.proofs.Math.ListN.{length, get_or}
 use Rattle.lts.proofs.TestsLaws.{lt_or_le, and_right}
 use Rattle.text.specs.Limits.{action_limit, name_limit, actions_begin, actions_length, actions_end, name_column}
-use Rattle.text.specs.Limits.{steps_begin, steps_length, steps_end, extra_count_place, extra_begin, extra_end, extra_limit}
+use Rattle.text.specs.Limits.{steps_begin, steps_length, steps_end, extra_count_place, extra_begin, extra_end}
+use Rattle.text.specs.Limits.{extra_limit}
 use Rattle.text.specs.Limits.{store_length, action_place, name_place, step_place, extra_place}
 use Rattle.text.specs.Bytes.{between?}
 use Rattle.text.specs.Model.{ActionLine, above?, above_last?}
 use Rattle.text.specs.Lines.{all_of, name_byte?, name?, used?}
 use Rattle.model.specs.Store.{padded, action_numbers, actions_numbers, steps_numbers, head_row, extra_numbers, store_of}
 use Rattle.model.specs.WellFormed.{ActionFits, StartFits, StepFits}
-use Rattle.model.specs.StoredModel.{head_at, action_at, step_at, extra_count_at, extra_start_at, listed, model_at, Holds}
+use Rattle.model.specs.StoredModel.{head_at, action_at, step_at, extra_count_at, extra_start_at, listed, model_at}
+use Rattle.model.specs.StoredModel.{Holds}
 use Rattle.model.specs.Inner.Sections.{before_steps}
 use Rattle.text.specs.Inner.Ranges.{HeadRanges}
 use Rattle.text.specs.Laws.RangesLaws.{head_fits?→HeadRanges, above_starts?→lt}
@@ -60,7 +62,8 @@ module _ (s : List ℕ) (fits : store_length ≤ length s) where
         let d = length-drop (name_place i) s in
         ⊎_elim
         (λ l.
-        let e = take_all (name_length_at s i) (drop (name_place i) s) (omega arith) in absurd (omega (arith, ap length e)))
+        let e = take_all (name_length_at s i) (drop (name_place i) s) (omega arith) in absurd
+        (omega (arith, ap length e)))
         (λ l. length-take-le (name_length_at s i) (drop (name_place i) s) l)
         (lt_or_le (length (drop (name_place i) s)) (name_length_at s i))
 

@@ -3,7 +3,8 @@
 use mathlib.Core.List.{List, ◌++◌}
 use Rattle.std.specs.Prelude.{◌↔◌, ◌≡◌, refl, get_or, take, drop}
 use Rattle.std.proofs.Math.Path.{sym, ap}
-use Rattle.std.proofs.Common.{◌∙◌, subst, add-zero, take-append-drop, length-append, take-suc, take_at, get_or-drop, drop-drop}
+use Rattle.std.proofs.Common.{◌∙◌, subst, add-zero, take-append-drop, length-append, take-suc, take_at, get_or-drop}
+use Rattle.std.proofs.Common.{drop-drop}
 use Prim.Native.Nat.{ℕ, zero, suc, ◌+◌, ◌≤◌, ◌<◌}
 use native.Mathlib.Omega.{arith}
 use Rattle.std.proofs.Math.ListN.{length, get_or-append}
@@ -11,7 +12,8 @@ use Rattle.std.proofs.Math.Seq.{take-length}
 use Rattle.text.specs.declared.Head.{Head}
 use Rattle.text.specs.declared.StepLine.{StepLine}
 use Rattle.text.specs.Limits.{name_limit, name_length_column, name_column, action_column, target_column, store_length}
-use Rattle.text.specs.Limits.{action_place, name_length_place, name_place, step_place, action_of_step_place, target_place}
+use Rattle.text.specs.Limits.{action_place, name_length_place, name_place, step_place, action_of_step_place}
+use Rattle.text.specs.Limits.{target_place}
 use Rattle.text.specs.Limits.{extra_count_place, extra_place}
 use Rattle.text.specs.Model.{ActionLine, Model, no_action, no_step}
 use Rattle.model.proofs.Laws.Text.ReadingLaws.{read_text-model_text, read_text_well_formed, states_of-read_text}
@@ -19,7 +21,8 @@ use Rattle.model.proofs.Laws.Text.ReadingLaws.{states_m_text, m_text_unique}
 use Rattle.model.specs.Text.{model_text}
 use Rattle.model.specs.Store.{action_numbers, step_row, head_row, extra_numbers, store_of, Good}
 use Rattle.model.specs.Laws.Store.StoreLaws.{store_of_length, store_of_action, store_of_step, store_of_extra}
-use Rattle.model.specs.StoredModel.{head_at, action_at, step_at, extra_count_at, extra_start_at, listed, model_at, Holds}
+use Rattle.model.specs.StoredModel.{head_at, action_at, step_at, extra_count_at, extra_start_at, listed, model_at}
+use Rattle.model.specs.StoredModel.{Holds}
 use Rattle.model.specs.System.{level}
 use Rattle.model.specs.WellFormed.{WellFormed}
 use Rattle.model.specs.StatedText.{MText}
@@ -53,13 +56,15 @@ get_or_of-drop s l p k e = sym (get_or-drop p s k 0) ∙ ap (λ (x : List ℕ). 
 first_of-drop : (s l : List ℕ) (p : ℕ) → drop p s ≡ l → get_or s p 0 ≡ get_or l 0 0
 first_of-drop s l p e = ap (λ (k : ℕ). get_or s k 0) (sym (add-zero p)) ∙ get_or_of-drop s l p 0 e
 
-pub action_at_lem : (s : List ℕ) (i : ℕ) (a : ActionLine) (more : List ℕ) → drop (action_place i) s ≡ action_numbers a ++ more
+pub action_at_lem : (s : List ℕ) (i : ℕ) (a : ActionLine) (more : List ℕ) → drop (action_place i) s ≡ action_numbers a
+    ++ more
     → action_at s i ≡ a
 unfolding action_numbers
 action_at_lem s i a more e =
     let all : List ℕ = action_numbers a ++ more in
     let level : get_or s (action_place i) 0 ≡ a.level = first_of-drop s all (action_place i) e in
-    let n : get_or s (name_length_place i) 0 ≡ length a.name = get_or_of-drop s all (action_place i) name_length_column e in
+    let n : get_or s (name_length_place i) 0 ≡ length a.name = get_or_of-drop s all (action_place i)
+    name_length_column e in
     let d : drop (name_place i) s ≡ drop name_column all =
     sym (drop-drop name_column (action_place i) s) ∙ ap (drop name_column) e in
     rw (level, n, d, padded-append name_limit a.name more, take_at a.name _ (length a.name) refl)
@@ -69,7 +74,8 @@ step_at_lem : (s : List ℕ) (j : ℕ) (t : StepLine) (more : List ℕ) → drop
 step_at_lem s j t more e =
     let all : List ℕ = step_row t ++ more in
     let source : get_or s (step_place j) 0 ≡ t.source.0 = first_of-drop s all (step_place j) e in
-    let action : get_or s (action_of_step_place j) 0 ≡ t.action.0 = get_or_of-drop s all (step_place j) action_column e in
+    let action : get_or s (action_of_step_place j) 0 ≡ t.action.0 = get_or_of-drop s all (step_place j) action_column
+    e in
     let target : get_or s (target_place j) 0 ≡ t.target.0 = get_or_of-drop s all (step_place j) target_column e in
     rw (source, action, target)
 
@@ -120,7 +126,8 @@ module _ (s : List ℕ) (m : Model) (h : Holds s m) where
       let a : (head_at s).actions ≡ length m.actions =
       ap (λ (x : Head). x.actions) e ∙ sym h.well_formed.action_count in
       let t : (head_at s).steps ≡ length m.steps = ap (λ (x : Head). x.steps) e ∙ sym h.well_formed.step_count in
-      model_of-parts (head_at s) (listed (head_at s).actions (action_at s)) (listed (extra_count_at s) (extra_start_at s))
+      model_of-parts (head_at s) (listed (head_at s).actions (action_at s))
+      (listed (extra_count_at s) (extra_start_at s))
       (listed (head_at s).steps (step_at s)) m e
       (listed_all m.actions no_action (action_at s) (head_at s).actions a (λ i. action_at_holds i no_action))
       (listed_all m.extra_starts 0 (extra_start_at s) (extra_count_at s) extra_count_at_holds extra_start_at_holds)

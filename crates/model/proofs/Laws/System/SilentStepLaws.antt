@@ -62,7 +62,8 @@ module _ {s : List ℕ} {m : Model} (st : Stored s m) where
   -- Where no silent step can be reached, the ranks between reachable states are those under the low steps.
   pub rank↔low_rank : NoTick (view m) → (p q r : ℕ) → ReachableIn m p → ReachableIn m q
       → Rank (LowStep (view m)) p q r ↔ Rank (WeakMove (view m)) p q r
-  rank↔low_rank still = weak_rank (view m) still (bounded_view st) (no_silent_label_view st) (low_round (view m) (tests m))
+  rank↔low_rank still = weak_rank (view m) still (bounded_view st) (no_silent_label_view st)
+      (low_round (view m) (tests m))
       (weak_round (view m) (tests m)) (low_step_game st) (weak_move_game st)
 
   -- "as in the weak bisimulation of source document 002"

@@ -10,7 +10,8 @@ loop-i-init c = each_from_nil _
 pub returns-then-not-action_good : goal.returns-then-not-action_good
 returns-then-not-action_good c =
     let i = c.loop-i.i in
-    λ b. decides-refused c.action_good.result _ c.action_good.ensures c.if-not-action_good.true-raw (b.at i (omega arith) (omega arith))
+    λ b. decides-refused c.action_good.result _ c.action_good.ensures c.if-not-action_good.true-raw
+    (b.at i (omega arith) (omega arith))
 
 pub loop-i-preserved : goal.loop-i-preserved
 loop-i-preserved c =

@@ -6,7 +6,8 @@ use Rattle.model.proofs.good.extra_good.Goals as goal
 
 pub returns-then-not-starts_good : goal.returns-then-not-starts_good
 returns-then-not-starts_good c =
-    λ p. decides-refused c.starts_good.result _ c.starts_good.ensures c.if-not-starts_good.true-raw (each_from_le _ (omega arith) p.each)
+    λ p. decides-refused c.starts_good.result _ c.starts_good.ensures c.if-not-starts_good.true-raw
+    (each_from_le _ (omega arith) p.each)
 
 pub returns : goal.returns
 returns c =

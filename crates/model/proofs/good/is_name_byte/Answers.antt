@@ -37,4 +37,5 @@ returns-then-k-eq-SMALL_LETTER c = letter-name _ (sym c.kind-k.ensures ∙ c.if-
 
 pub returns : goal.returns
 returns c =
-    no_other-name _ (λ e. c.if-k-eq-DIGIT.false (c.kind-k.ensures ∙ e)) (λ e. c.if-k-eq-SMALL_LETTER.false (c.kind-k.ensures ∙ e))
+    no_other-name _ (λ e. c.if-k-eq-DIGIT.false (c.kind-k.ensures ∙ e))
+    (λ e. c.if-k-eq-SMALL_LETTER.false (c.kind-k.ensures ∙ e))

@@ -10,11 +10,13 @@ use Rattle.model.proofs.good.places_good.Goals.{Else-not-head_fits}
 
 ranges : (c : Else-not-head_fits) → HeadRanges c.head-h.result
 ranges c =
-    head_fits?→HeadRanges _ (decides_passed c.head_fits.result _ (decides_test c.head_fits.result _ c.head_fits.ensures) c.if-not-head_fits.false-raw)
+    head_fits?→HeadRanges _ (decides_passed c.head_fits.result _
+    (decides_test c.head_fits.result _ c.head_fits.ensures) c.if-not-head_fits.false-raw)
 
 pub returns-then-not-head_fits : goal.returns-then-not-head_fits
 returns-then-not-head_fits c =
-    λ p. decides-refused c.head_fits.result _ (decides_test c.head_fits.result _ c.head_fits.ensures) c.if-not-head_fits.true-raw (rw c.head-h.ensures p.head)
+    λ p. decides-refused c.head_fits.result _ (decides_test c.head_fits.result _ c.head_fits.ensures)
+    c.if-not-head_fits.true-raw (rw c.head-h.ensures p.head)
 
 pub actions_good-requires : goal.actions_good-requires
 actions_good-requires c = let r = ranges c in (omega arith, r.actions)
@@ -37,7 +39,8 @@ steps_good-requires c = let r = ranges (goal.at.steps_good-requires c).Else-not-
 
 pub returns-then-not-steps_good : goal.returns-then-not-steps_good
 returns-then-not-steps_good c =
-    λ p. decides-refused c.steps_good.result _ c.steps_good.ensures c.if-not-steps_good.true-raw (rw c.head-h.ensures p.steps)
+    λ p. decides-refused c.steps_good.result _ c.steps_good.ensures c.if-not-steps_good.true-raw
+    (rw c.head-h.ensures p.steps)
 
 pub returns-then-not-zeros : goal.returns-then-not-zeros
 returns-then-not-zeros c =
@@ -57,7 +60,8 @@ pub returns : goal.returns
 returns c =
     let n = ap (λ (x : Head). x.actions) c.head-h.ensures in
     let m = ap (λ (x : Head). x.steps) c.head-h.ensures in
-    let head = decides_passed c.head_fits.result _ (decides_test c.head_fits.result _ c.head_fits.ensures) c.if-not-head_fits.false-raw in
+    let head = decides_passed c.head_fits.result _ (decides_test c.head_fits.result _ c.head_fits.ensures)
+    c.if-not-head_fits.false-raw in
     let actions = decides_passed c.actions_good.result _ c.actions_good.ensures c.if-not-actions_good.false-raw in
     let some_high = decides_passed c.some_high.result _ c.some_high.ensures c.if-not-some_high.false-raw in
     let steps = decides_passed c.steps_good.result _ c.steps_good.ensures c.if-not-steps_good.false-raw in

@@ -10,7 +10,8 @@ loop-i-init c = each_from_nil _
 pub returns-then-not-start_good : goal.returns-then-not-start_good
 returns-then-not-start_good c =
     let i = c.loop-i.i in
-    λ b. decides-refused c.start_good.result _ c.start_good.ensures c.if-not-start_good.true-raw (b.at i (omega arith) (omega arith))
+    λ b. decides-refused c.start_good.result _ c.start_good.ensures c.if-not-start_good.true-raw
+    (b.at i (omega arith) (omega arith))
 
 pub loop-i-preserved : goal.loop-i-preserved
 loop-i-preserved c =

@@ -11,7 +11,8 @@ loop-j-init c = (search rules, each_from_nil _)
 pub returns-then-not-step_good : goal.returns-then-not-step_good
 returns-then-not-step_good c =
     let j = c.loop-j.j in
-    λ b. decides-refused c.step_good.result _ c.step_good.ensures c.if-not-step_good.true-raw (b.at j (omega arith) (omega arith))
+    λ b. decides-refused c.step_good.result _ c.step_good.ensures c.if-not-step_good.true-raw
+    (b.at j (omega arith) (omega arith))
 
 pub loop-j-preserved : goal.loop-j-preserved
 loop-j-preserved c =

@@ -8,7 +8,8 @@ use Rattle.model.proofs.Laws.Store.NamesLaws.{named_length, named_differ, named_
 use Rattle.model.proofs.names.named.Goals as goal
 
 pub returns-then-name_length-name : goal.returns-then-name_length-name
-returns-then-name_length-name c line s = named_length _ _ line s _ (λ e. c.if-name_length-name.true (c.name_length.ensures ∙ e))
+returns-then-name_length-name c line s = named_length _ _ line s _
+    (λ e. c.if-name_length-name.true (c.name_length.ensures ∙ e))
 
 pub overflow_cast-name : goal.overflow_cast-name
 overflow_cast-name c = omega (arith, c.shared_slice_known-in-loop-i-2-1.given c.loop-i.i)

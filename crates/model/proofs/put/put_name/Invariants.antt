@@ -6,7 +6,8 @@ use lib.Seq.{paste}
 use Rattle.model.proofs.put.put_name.Given as goal
 
 abbrev pub invariant-loop-i : goal.invariant-loop-i
-invariant-loop-i l = (l.i ≤ length l.name) × (length l.out ≡ length l.initial.out) × (l.out ≡ paste l.initial.out l.at l.name l.i)
+invariant-loop-i l = (l.i ≤ length l.name) × (length l.out ≡ length l.initial.out) ×
+    (l.out ≡ paste l.initial.out l.at l.name l.i)
 
 abbrev pub decreases-loop-i : goal.decreases-loop-i
 decreases-loop-i l = length l.name - l.i

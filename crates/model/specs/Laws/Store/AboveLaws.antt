@@ -1,6 +1,7 @@
 -- The order of steps is transitive, so a well-formed model stays so when a step is taken out.
 -- Document 01, "The text": "strictly rising by source, then action, then target"; document 02, (iii). Assumes nothing.
-use Rattle.std.specs.Prelude.{Bool, ◌&&◌, ◌||◌, List, [], ◌∷◌, ◌++◌, ◌⊎◌, ◌≡◌, refl, ℕ, suc, ◌≤◌, ◌<◌, ltb, eqb, length, get_or, take, drop}
+use Rattle.std.specs.Prelude.{Bool, ◌&&◌, ◌||◌, List, [], ◌∷◌, ◌++◌, ◌⊎◌, ◌≡◌, refl, ℕ, suc, ◌≤◌, ◌<◌, ltb, eqb, length}
+use Rattle.std.specs.Prelude.{get_or, take, drop}
 use Rattle.std.proofs.Common.{append-nil, inl, inr, sym, ◌∙◌, arith, lt→ltb, length-append, length-take, length-drop}
 use Rattle.std.proofs.Math.Path.{subst}
 use Rattle.std.proofs.Math.Dec.{T, ltb→lt, eqb→eq, eqb_refl}

@@ -51,5 +51,6 @@ module _ (s : List ℕ) (fits : store_length ≤ length s) where
       at : (j : ℕ) → j < name_limit + 1 → SameAt s (name_length_place h) (name_length_place i) j
       at zero m = get_or_same (name_length_place h + 0) (name_length_place i + 0) n (omega arith) (omega arith)
       at (suc j) m =
-          get_or_same (name_length_place h + suc j) (name_length_place i + suc j) (in_name j (omega arith)) (omega arith)
+          get_or_same (name_length_place h + suc j) (name_length_place i + suc j) (in_name j (omega arith))
+          (omega arith)
           (omega arith)

@@ -1,7 +1,9 @@
 -- Parts of a list by their places: place by place, where two are the same, and where zeros stand behind them.
 -- Assumes nothing.
-use Rattle.std.specs.Prelude.{Bool, List, [], ◌∷◌, ◌++◌, ◌≡◌, ℕ, zero, suc, ◌+◌, ◌-◌, ◌≤◌, ◌<◌, T, length, get_or, take, drop, replicate}
-use Rattle.std.proofs.Common.{sym, ap, ◌∙◌, arith, add-one, length-drop, length-take-le, drop-cons, drop-drop, take-add, get_or-take, get_or-drop, get_or-append-add, ext_get_or}
+use Rattle.std.specs.Prelude.{Bool, List, [], ◌∷◌, ◌++◌, ◌≡◌, ℕ, zero, suc, ◌+◌, ◌-◌, ◌≤◌, ◌<◌, T, length, get_or, take}
+use Rattle.std.specs.Prelude.{drop, replicate}
+use Rattle.std.proofs.Common.{sym, ap, ◌∙◌, arith, add-one, length-drop, length-take-le, drop-cons, drop-drop, take-add}
+use Rattle.std.proofs.Common.{get_or-take, get_or-drop, get_or-append-add, ext_get_or}
 use Rattle.std.proofs.lemmas.List.{length-replicate, get_or-replicate}
 use Rattle.std.proofs.Math.ListN.{get_or-append}
 use Rattle.lts.proofs.TestsLaws.{and_left, and_right, and_intro}
@@ -77,13 +79,15 @@ padded-zero before l rest n i h g =
 
 -- ---- tests of each element
 
-pub get_or→all_of : (test : ℕ → Bool) (l : List ℕ) → ((i : ℕ) → i < length l → T (test (get_or l i 0))) → T (all_of test l)
+pub get_or→all_of : (test : ℕ → Bool) (l : List ℕ) → ((i : ℕ) → i < length l → T (test (get_or l i 0))) → T
+    (all_of test l)
 unfolding all_of
 get_or→all_of test [] h = tt
 get_or→all_of test (b ∷ bs) h =
     and_intro (test b) (all_of test bs) (h 0 (omega arith)) (get_or→all_of test bs (λ i l. h (suc i) (omega arith)))
 
-pub all_of→get_or : (test : ℕ → Bool) (l : List ℕ) → T (all_of test l) → (i : ℕ) → i < length l → T (test (get_or l i 0))
+pub all_of→get_or : (test : ℕ → Bool) (l : List ℕ) → T (all_of test l) → (i : ℕ) → i < length l → T
+    (test (get_or l i 0))
 unfolding all_of
 all_of→get_or test [] t i h = absurd (omega arith)
 all_of→get_or test (b ∷ bs) t zero h = and_left (test b) (all_of test bs) t

@@ -1,8 +1,10 @@
 -- The store of a model is filled from zeros: its first line, then action by action, extra start by extra start and step
 -- by step.
 -- Document 01, "The model store"; document 02, (iii). Assumes nothing.
-use Rattle.std.specs.Prelude.{List, [], ◌∷◌, ◌++◌, ◌≡◌, refl, ℕ, zero, suc, ◌+◌, ◌-◌, ◌*◌, ◌≤◌, ◌<◌, length, take, drop, get_or, set, replicate}
-use Rattle.std.proofs.Common.{append_assoc, append-nil, sym, ap, ◌∙◌, arith, add-one, length-append, take-suc, drop-cons, length-take-le}
+use Rattle.std.specs.Prelude.{List, [], ◌∷◌, ◌++◌, ◌≡◌, refl, ℕ, zero, suc, ◌+◌, ◌-◌, ◌*◌, ◌≤◌, ◌<◌, length, take, drop}
+use Rattle.std.specs.Prelude.{get_or, set, replicate}
+use Rattle.std.proofs.Common.{append_assoc, append-nil, sym, ap, ◌∙◌, arith, add-one, length-append, take-suc}
+use Rattle.std.proofs.Common.{drop-cons, length-take-le}
 use Rattle.std.proofs.lemmas.List.{length-replicate, replicate-append-replicate, set_at}
 use Rattle.std.proofs.lemmas.List.Edits.{sets}
 use Rattle.std.proofs.Math.Seq.{append_snoc}
@@ -160,7 +162,8 @@ store_of-with_action h actions ps steps a i c l s n =
 -- the count, and the place behind the i starts that are there
 pub store_of-with_extra_start : (h : Head) (actions : List ActionLine) (ps : List ℕ) (p i : ℕ)
     → length (actions_numbers actions) ≤ actions_length → length ps ≡ i → i < extra_limit
-    → set (set (store_of (record { head = h; actions = actions; extra_starts = ps; steps = [] })) extra_count_place (i + 1))
+    → set (set (store_of (record { head = h; actions = actions; extra_starts = ps; steps = [] })) extra_count_place
+    (i + 1))
     (extra_place i) p
     ≡ store_of (record { head = h; actions = actions; extra_starts = ps ++ (p ∷ []); steps = [] })
 unfolding store_of extra_numbers
@@ -187,7 +190,8 @@ steps_numbers-snoc = blocks-snoc step_row steps_numbers refl (λ s rest. refl)
 
 pub store_of-with_step : (h : Head) (actions : List ActionLine) (ps : List ℕ) (steps : List StepLine) (s : StepLine)
     (j : ℕ) → length (actions_numbers actions) ≤ actions_length → length steps ≡ j → j < step_limit
-    → sets (store_of (record { head = h; actions = actions; extra_starts = ps; steps = steps })) (step_place j) (step_row s)
+    → sets (store_of (record { head = h; actions = actions; extra_starts = ps; steps = steps })) (step_place j)
+    (step_row s)
     ≡ store_of (record { head = h; actions = actions; extra_starts = ps; steps = steps ++ (s ∷ []) })
 unfolding store_of
 store_of-with_step h actions ps steps s j f c l =

@@ -9,7 +9,8 @@ use Rattle.std.proofs.Math.Dec.{T}
 use borrow.Author.Tests.{eqb-false}
 use Rattle.lts.proofs.TestsLaws.{and_left, and_right, or_cases, not-T→false}
 use Rattle.text.specs.declared.Fault.TheVariants.{Shape, Repeated}
-use Rattle.text.specs.Bytes.{kind_of, between?, digit, small_letter, capital, comma, byte_a, byte_d, byte_h, byte_l, byte_t}
+use Rattle.text.specs.Bytes.{kind_of, between?, digit, small_letter, capital, comma, byte_a, byte_d, byte_h, byte_l}
+use Rattle.text.specs.Bytes.{byte_t}
 use Rattle.text.specs.Limits.{name_limit}
 use Rattle.text.specs.Laws.BytesLaws.{between?→le, digit_within, small_letter_within}
 use Rattle.text.specs.Split.{same?}
@@ -75,7 +76,8 @@ name_bytes f t = all_of-name f (and_right (between? 1 name_limit (length f)) (al
 
 pub name-length : (f : List ℕ) → T (name? f) → (1 ≤ length f) × (length f ≤ name_limit)
 unfolding name?
-name-length f t = between?→le 1 name_limit (length f) (and_left (between? 1 name_limit (length f)) (all_of name_byte? f) t)
+name-length f t = between?→le 1 name_limit (length f) (and_left (between? 1 name_limit (length f))
+    (all_of name_byte? f) t)
 
 pub name_byte_lt : (b : ℕ) → NameByte b → b < 256
 name_byte_lt b (inl e) = let w = digit_within b e in omega arith

@@ -158,7 +158,8 @@ row_of_line row ns r =
     let e = fields_of_line (row_letter row) (map digits ns) (row_letter-comma row) w in
     let n : length (map digits ns) ≡ row_count row = length-map ns digits ∙ r.count in
     let b = row_bounds-digits row (get_or ns 0 0) ns r.count r.small r.fits in
-    let l : length ns ≡ length (row_bounds row (get_or ns 0 0)) = r.count ∙ sym (row_bounds-length row (get_or ns 0 0)) in
+    let l : length ns ≡ length (row_bounds row (get_or ns 0 0)) = r.count ∙ sym
+    (row_bounds-length row (get_or ns 0 0)) in
     let q = rw n at e in
     rw (q, row_from, b) (numbers_of-digits (row_bounds row (get_or ns 0 0)) ns l r.small r.fits)
 
@@ -168,7 +169,8 @@ pub line_of_row_of : (row : Row) (line ns : List ℕ) → row_of row line ≡ go
 unfolding row_of row_from
 line_of_row_of row line ns h = by_fields (fields_of (row_letter row) (row_count row) line) refl h
   where
-    by_fields : (l : Line (List (List ℕ))) → fields_of (row_letter row) (row_count row) line ≡ l → row_from row l ≡ good ns
+    by_fields : (l : Line (List (List ℕ))) → fields_of (row_letter row) (row_count row) line ≡ l → row_from row l ≡
+        good ns
         → (line ≡ line_of (row_letter row) (map digits ns)) × RowNumbers row ns
     by_fields (good fs) e q =
         let f = line_of_fields_of (row_letter row) fs (row_count row) line e in

@@ -14,7 +14,8 @@ use Rattle.text.specs.Bytes.{byte_i, byte_m, byte_s}
 use Rattle.text.specs.Numbers.{digits}
 use Rattle.text.specs.Model.{above_last?}
 use Rattle.text.specs.Lines.{Line, good, bad, fits?, start_bounds, row_letter, row_count, row_bounds, row_of}
-use Rattle.text.specs.Lines.{head_fits?, head_numbers, head_from, head_of, start_fits?, above_starts?, start_from, start_of}
+use Rattle.text.specs.Lines.{head_fits?, head_numbers, head_from, head_of, start_fits?, above_starts?, start_from}
+use Rattle.text.specs.Lines.{start_of}
 use Rattle.text.specs.Lines.{step_fits?, step_numbers, step_from, step_of}
 use Rattle.text.specs.Laws.FieldsLaws.{good-checked}
 use Rattle.model.specs.Store.{head_row, step_row}

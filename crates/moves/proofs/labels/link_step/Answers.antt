@@ -12,8 +12,11 @@ pub label_of-label-requires : goal.label_of-label-requires
 label_of-label-requires c =
     let j = c.requires.j_in_bounds.0 in
     let e = ap (λ (x : Action). x.0) c.action-a.ensures ∙ stored_action c.requires.stored _ j in
-    let l = c.requires.stored.action_lt _ j in
-    (omega (arith, e, l, c.requires.stored.actions_le, c.requires.roles_of.roles_length), omega (arith, e, l, c.requires.stored.actions_le))
+    let l = c.requires.stored.action_lt _ j in (
+      omega (arith, e, l, c.requires.stored.actions_le, c.requires.roles_of.roles_length),
+      omega
+          (arith, e, l, c.requires.stored.actions_le),
+    )
 
 pub bounds-heads-label : goal.bounds-heads-label
 bounds-heads-label c =
@@ -36,5 +39,6 @@ returns c =
     linked_step j
     (only_label-map (λ k h. step_label_of_role m c.requires.roles_of.roles_are _ e l h)
     (λ k h. role_of_step_label m c.requires.roles_of.roles_are _ e l h) c.label_of-label.ensures)
-    (omega (arith, c.label_of-label.ensures.label_le, c.requires.labels_length_in_bounds.0)) (omega (arith, j, c.requires.stored.steps_le, c.requires.labels_length_in_bounds.1))
+    (omega (arith, c.label_of-label.ensures.label_le, c.requires.labels_length_in_bounds.0))
+    (omega (arith, j, c.requires.stored.steps_le, c.requires.labels_length_in_bounds.1))
     c.requires.j_in_bounds.1

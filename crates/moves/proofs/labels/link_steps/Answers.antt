@@ -24,7 +24,11 @@ link_step-requires c =
     let e : c.loop-j.j ≡ (c.loop-j.j - 1) + 1 = omega (arith, t) in record {
       stored = c.requires.stored;
       roles_of = c.requires.roles_of;
-      labels_length_in_bounds = (omega (arith, inv.1, c.requires.labels_length_in_bounds.0), omega (arith, inv.2, c.requires.labels_length_in_bounds.1));
+      labels_length_in_bounds = (
+        omega (arith, inv.1, c.requires.labels_length_in_bounds.0),
+        omega
+            (arith, inv.2, c.requires.labels_length_in_bounds.1),
+      );
       j_in_bounds = (
         omega (arith, t, inv.0),
         subst (λ (k : ℕ). Linked (model_at c.args.store.now) k c.loop-j.heads c.loop-j.nexts) e inv.3,

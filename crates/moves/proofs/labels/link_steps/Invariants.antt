@@ -8,7 +8,8 @@ use Rattle.moves.proofs.labels.link_steps.Given as goal
 
 abbrev pub invariant-loop-j : goal.invariant-loop-j
 invariant-loop-j l =
-    (l.j ≤ length (model_at l.store).steps) × (length l.heads ≡ length l.initial.heads) × (length l.nexts ≡ length l.initial.nexts)
+    (l.j ≤ length (model_at l.store).steps) × (length l.heads ≡ length l.initial.heads) ×
+    (length l.nexts ≡ length l.initial.nexts)
     × Linked (model_at l.store) l.j l.heads l.nexts
 
 abbrev pub decreases-loop-j : goal.decreases-loop-j

@@ -35,7 +35,12 @@ put_ends-requires c =
     let room = placed_to_lt (inv.4 t) j inv.6 c.requires.stored in
     record {
       stored = c.requires.stored;
-      j_in_bounds = (j, omega (arith, room, inv.2, c.requires.step_limit_in_bounds.0), omega (arith, room, inv.3, c.requires.step_limit_in_bounds.1));
+      j_in_bounds = (
+        j,
+        omega (arith, room, inv.2, c.requires.step_limit_in_bounds.0),
+        omega
+            (arith, room, inv.3, c.requires.step_limit_in_bounds.1),
+      );
     }
 
 pub overflow_add-at : goal.overflow_add-at
@@ -70,7 +75,8 @@ loop-j-preserved c =
       c.put_ends.auto.sources ∙ inv.2,
       c.put_ends.auto.targets ∙ inv.3,
       λ k. f.has_label (omega (arith, inv.0, k)),
-      appended_link (omega (arith, room, inv.2, c.requires.step_limit_in_bounds.0)) (omega (arith, room, inv.3, c.requires.step_limit_in_bounds.1)) h f
+      appended_link (omega (arith, room, inv.2, c.requires.step_limit_in_bounds.0))
+          (omega (arith, room, inv.3, c.requires.step_limit_in_bounds.1)) h f
           c.put_ends.ensures.sources_after c.put_ends.ensures.targets_after inv.5,
       placed_to_skip f.from_le (placed_to_add h l inv.6),
     )

@@ -11,7 +11,8 @@ abbrev pub invariant-loop-j : goal.invariant-loop-j
 invariant-loop-j l =
     (l.n ≡ length (model_at l.store).steps) × (l.j ≤ l.n) × (length l.sources ≡ length l.initial.sources)
     × (length l.targets ≡ length l.initial.targets) × (l.j < l.n → StepLabel (model_at l.store) l.label l.j)
-    × Appended (Among (LabelledAs (model_at l.store) l.label) 0 l.j) l.begin l.at l.initial.sources l.initial.targets l.sources l.targets
+    × Appended (Among (LabelledAs (model_at l.store) l.label) 0 l.j) l.begin l.at l.initial.sources l.initial.targets
+    l.sources l.targets
     × PlacedTo (model_at l.store) l.label l.j l.at
 
 abbrev pub decreases-loop-j : goal.decreases-loop-j

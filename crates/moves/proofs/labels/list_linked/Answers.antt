@@ -39,7 +39,8 @@ loop-label-preserved c =
     let inv = c.loop-label.invariant in
     let l = c.loop-label-test.true in
     let long = inv.1 ∙ length-set c.args.from.now 0 0 in
-    let k : c.loop-label.label + 1 < length c.loop-label.from = omega (arith, long, c.requires.labels_length_in_bounds_2.0, l) in (
+    let k : c.loop-label.label + 1 < length c.loop-label.from = omega
+    (arith, long, c.requires.labels_length_in_bounds_2.0, l) in (
       omega (arith, l),
       length-set c.loop-label.from (c.loop-label.label + 1) c.list_label-at.result ∙ inv.1,
       c.list_label-at.auto.sources ∙ inv.2,

@@ -17,7 +17,13 @@ loop-a-init c =
 
 pub is_silent-requires : goal.is_silent-requires
 is_silent-requires c =
-    omega (arith, c.loop-a.invariant.0, c.loop-a-test.true, c.requires.stored.actions_le, c.requires.roles_of.roles_length)
+    omega (
+      arith,
+      c.loop-a.invariant.0,
+      c.loop-a-test.true,
+      c.requires.stored.actions_le,
+      c.requires.roles_of.roles_length,
+    )
 
 pub returns-then-is_silent : goal.returns-then-is_silent
 returns-then-is_silent c =

@@ -12,8 +12,10 @@ use Rattle.moves.proofs.moves.list_moves.Given as goal
 abbrev pub invariant-loop-p : goal.invariant-loop-p
 invariant-loop-p l =
     (l.n ≡ (model_at l.store).head.states) × (l.p ≤ l.n) × (l.at ≤ get_or l.begins l.p 0)
-    × (length l.first ≡ length l.initial.first) × (length l.actions ≡ length l.initial.actions) × (length l.targets ≡ length l.initial.targets)
-    × ListedTo (LowStep (view (model_at l.store))) l.p l.at l.first l.actions l.targets × Ordered l.p l.first l.actions l.targets
+    × (length l.first ≡ length l.initial.first) × (length l.actions ≡ length l.initial.actions) ×
+    (length l.targets ≡ length l.initial.targets)
+    × ListedTo (LowStep (view (model_at l.store))) l.p l.at l.first l.actions l.targets × Ordered l.p l.first
+    l.actions l.targets
 
 abbrev pub decreases-loop-p : goal.decreases-loop-p
 decreases-loop-p l = l.n - l.p

@@ -11,7 +11,8 @@ abbrev pub invariant-loop-j : goal.invariant-loop-j
 invariant-loop-j l =
     (l.end ≤ length (model_at l.store).steps) × (l.initial.j ≤ l.j) × (l.j ≤ l.end) × (l.at ≤ l.j)
     × (length l.actions ≡ length l.initial.actions) × (length l.targets ≡ length l.initial.targets)
-    × Appended (Among (LowAs (model_at l.store)) l.initial.j l.j) l.from l.at l.initial.actions l.initial.targets l.actions l.targets
+    × Appended (Among (LowAs (model_at l.store)) l.initial.j l.j) l.from l.at l.initial.actions l.initial.targets
+    l.actions l.targets
     × Rising l.from l.at l.actions l.targets
 
 abbrev pub decreases-loop-j : goal.decreases-loop-j

@@ -24,7 +24,8 @@ returns-then-not-is_low c =
     let j = c.requires.j_in_bounds.0 in
     let e = ap (λ (x : Action). x.0) c.action-a.ensures ∙ stored_action c.requires.stored _ j in
     let other = decides-refused c.is_low.result _ c.is_low.ensures c.if-not-is_low.true-raw in record {
-      appended = appended_not_low (λ t. other (role_of_low c.requires.roles_of.roles_are e (c.requires.stored.action_lt _ j) t));
+      appended = appended_not_low (λ t. other (role_of_low c.requires.roles_of.roles_are e
+          (c.requires.stored.action_lt _ j) t));
       upper_bound = omega arith;
     }
 
@@ -39,7 +40,8 @@ returns c =
     let f = ap (λ (x : State). x.0) c.target-q.ensures ∙ stored_target c.requires.stored _ j in
     let role = decides_passed c.is_low.result _ c.is_low.ensures c.if-not-is_low.false-raw in
     let low = low_of_role c.requires.roles_of.roles_are e (c.requires.stored.action_lt _ j) role in record {
-      appended = appended_low (omega (arith, c.requires.j_in_bounds.1, c.requires.step_limit_in_bounds.0)) (omega (arith, c.requires.j_in_bounds.1, c.requires.step_limit_in_bounds.1))
+      appended = appended_low (omega (arith, c.requires.j_in_bounds.1, c.requires.step_limit_in_bounds.0))
+          (omega (arith, c.requires.j_in_bounds.1, c.requires.step_limit_in_bounds.1))
           (sym e) (sym f) low;
       upper_bound = omega arith;
     }

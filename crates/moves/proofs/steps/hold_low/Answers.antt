@@ -6,8 +6,13 @@ use Rattle.moves.specs.Laws.HeldStepsLaws.{held_list_of_low, held_as_of_low}
 use Rattle.moves.proofs.steps.hold_low.Goals as goal
 
 pub loop-j-init : goal.loop-j-init
-loop-j-init c =
-    (c.steps-n.ensures ∙ stored_steps c.requires.stored, omega arith, omega arith, c.requires.separate.0, c.requires.separate.1)
+loop-j-init c = (
+  c.steps-n.ensures ∙ stored_steps c.requires.stored,
+  omega arith,
+  omega arith,
+  c.requires.separate.0,
+  c.requires.separate.1,
+)
 
 pub hold_step-used-requires : goal.hold_step-used-requires
 hold_step-used-requires c =
@@ -21,8 +26,13 @@ hold_step-used-requires c =
 pub loop-j-preserved : goal.loop-j-preserved
 loop-j-preserved c =
     let inv = c.loop-j.invariant in
-    let l = c.loop-j-test.true in
-    (inv.0, omega (arith, l), omega (arith, c.hold_step-used.ensures.upper_bound.0), c.hold_step-used.ensures.upper_bound.1, c.hold_step-used.ensures.low_held_2)
+    let l = c.loop-j-test.true in (
+      inv.0,
+      omega (arith, l),
+      omega (arith, c.hold_step-used.ensures.upper_bound.0),
+      c.hold_step-used.ensures.upper_bound.1,
+      c.hold_step-used.ensures.low_held_2,
+    )
 
 pub returns : goal.returns
 returns c =

@@ -60,7 +60,8 @@ returns-then-not-is_low c =
     let l = c.requires.stored.action_lt _ c.requires.j_in_bounds.0 in
     let other = decides-refused c.is_low.result _ c.is_low.ensures c.if-not-is_low.true-raw in record {
       upper_bound = (omega (arith, c.requires.j_in_bounds.1), c.requires.j_in_bounds.2);
-      low_held_2 = low_held_skip (λ t. other (role_of_low c.requires.roles_of.roles_are (action_is (goal.at.returns-then-not-is_low c).After-action-a) l t)) c.requires.low_held;
+      low_held_2 = low_held_skip (λ t. other (role_of_low c.requires.roles_of.roles_are
+          (action_is (goal.at.returns-then-not-is_low c).After-action-a) l t)) c.requires.low_held;
     }
 
 pub target_row-row-requires : goal.target_row-row-requires
@@ -85,7 +86,13 @@ add_held-requires c =
         c.target_row-row.ensures.1,
         (states_lt (goal.at.add_held-requires c).After-target-q).1,
         (states_lt (goal.at.add_held-requires c).After-target-q).0,
-        omega (arith, c.add_held-next.ensures.lower_bound.1, c.requires.j_in_bounds.0, c.requires.j_in_bounds.1, c.requires.stored.steps_le),
+        omega (
+          arith,
+          c.add_held-next.ensures.lower_bound.1,
+          c.requires.j_in_bounds.0,
+          c.requires.j_in_bounds.1,
+          c.requires.stored.steps_le,
+        ),
       );
       separate = c.add_held-next.ensures.lower_bound.2;
     }
@@ -94,7 +101,17 @@ pub returns : goal.returns
 returns c =
     let row = c.target_row-row.ensures.0 in
     record {
-      upper_bound = (omega (arith, c.add_held-next.ensures.lower_bound.1, c.add_held.ensures.lower_bound.1, c.requires.j_in_bounds.1), c.add_held.ensures.lower_bound.2);
-      low_held_2 = low_held_more (low_at (goal.at.returns c).After-target-q) (action_lt (goal.at.returns c).After-action-a) (states_lt (goal.at.returns c).After-target-q).0 (states_lt (goal.at.returns c).After-target-q).1 c.requires.low_held row
+      upper_bound = (
+        omega (
+          arith,
+          c.add_held-next.ensures.lower_bound.1,
+          c.add_held.ensures.lower_bound.1,
+          c.requires.j_in_bounds.1,
+        ),
+        c.add_held.ensures.lower_bound.2,
+      );
+      low_held_2 = low_held_more (low_at (goal.at.returns c).After-target-q)
+          (action_lt (goal.at.returns c).After-action-a) (states_lt (goal.at.returns c).After-target-q).0
+          (states_lt (goal.at.returns c).After-target-q).1 c.requires.low_held row
           c.add_held-next.ensures.member_added c.add_held.ensures.member_added;
     }

@@ -18,7 +18,13 @@ loop-a-init c =
 
 pub is_low-requires : goal.is_low-requires
 is_low-requires c =
-    omega (arith, c.loop-a.invariant.0, c.loop-a-test.true, c.requires.stored.actions_le, c.requires.roles_of.roles_length)
+    omega (
+      arith,
+      c.loop-a.invariant.0,
+      c.loop-a-test.true,
+      c.requires.stored.actions_le,
+      c.requires.roles_of.roles_length,
+    )
 
 pub put-requires : goal.put-requires
 put-requires c =
@@ -45,5 +51,6 @@ loop-a-preserved c =
 pub returns : goal.returns
 returns c =
     let a = c.args in
-    let e : c.loop-a.a ≡ (model_at a.store.now).head.actions = omega (arith, c.loop-a.invariant.0, c.loop-a.invariant.1, c.loop-a-test.false) in
+    let e : c.loop-a.a ≡ (model_at a.store.now).head.actions = omega
+    (arith, c.loop-a.invariant.0, c.loop-a.invariant.1, c.loop-a-test.false) in
     subst (λ (x : ℕ). LowLabels (model_at a.store.now) x c.loop-a.labels c.loop-a.count) e c.loop-a.invariant.2

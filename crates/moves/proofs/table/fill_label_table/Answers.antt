@@ -15,14 +15,16 @@ states_is c = c.states-n.ensures ∙ stored_states c.requires.stored
 pub hold_labels-count-requires : goal.hold_labels-count-requires
 hold_labels-count-requires c =
     record {
-      label_list = label_list_of_labels c.list_labels.ensures (states_is (goal.at.hold_labels-count-requires c).After-states-n);
+      label_list = label_list_of_labels c.list_labels.ensures
+          (states_is (goal.at.hold_labels-count-requires c).After-states-n);
       pooled = c.requires.pooled;
     }
 
 pub rank_labels-requires : goal.rank_labels-requires
 rank_labels-requires c =
     record {
-      label_list = label_list_of_labels c.list_labels.ensures (states_is (goal.at.rank_labels-requires c).After-states-n);
+      label_list = label_list_of_labels c.list_labels.ensures
+          (states_is (goal.at.rank_labels-requires c).After-states-n);
       table_length_in_bounds = c.requires.table_length_in_bounds;
     }
 

@@ -30,5 +30,6 @@ rank_low-requires c =
 
 pub returns : goal.returns
 returns c =
-    let still = no-tick c.requires.stored (decides_false c.some_silent.result _ c.some_silent.ensures c.if-some_silent.false) in
+    let still = no-tick c.requires.stored (decides_false c.some_silent.result _ c.some_silent.ensures
+    c.if-some_silent.false) in
     ranked_of_steps c.requires.stored still c.rank_low.ensures

@@ -17,7 +17,8 @@ hold_low-count-requires c =
 pub rank_held-requires : goal.rank_held-requires
 rank_held-requires c =
     record {
-      held_list = held_list_at (c.states-n.ensures ∙ stored_states c.requires.stored) c.hold_low-count.ensures.held_list;
+      held_list = held_list_at (c.states-n.ensures ∙ stored_states c.requires.stored)
+          c.hold_low-count.ensures.held_list;
       table_length_in_bounds = c.requires.table_length_in_bounds;
     }
 

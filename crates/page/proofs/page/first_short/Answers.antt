@@ -20,21 +20,25 @@ short_at form store distances table run word out r l k e =
     record { place_le = k; some_short = λ _. e; none_short = λ z. absurd (omega (arith, l, z)) }
 
 pub returns-then-store-lt-STORE_LENGTH : goal.returns-then-store-lt-STORE_LENGTH
-returns-then-store-lt-STORE_LENGTH c = short_at _ _ _ _ _ _ _ 1 (omega arith) (omega arith) (first_short_is _ _ c.if-store-lt-STORE_LENGTH.true)
+returns-then-store-lt-STORE_LENGTH c = short_at _ _ _ _ _ _ _ 1 (omega arith) (omega arith)
+    (first_short_is _ _ c.if-store-lt-STORE_LENGTH.true)
 
 pub returns-then-distances-lt-DISTANCES_LENGTH : goal.returns-then-distances-lt-DISTANCES_LENGTH
 returns-then-distances-lt-DISTANCES_LENGTH c =
-    short_at _ _ _ _ _ _ _ 2 (omega arith) (omega arith) (second_short _ _ c.if-store-lt-STORE_LENGTH.false c.if-distances-lt-DISTANCES_LENGTH.true)
+    short_at _ _ _ _ _ _ _ 2 (omega arith) (omega arith) (second_short _ _ c.if-store-lt-STORE_LENGTH.false
+    c.if-distances-lt-DISTANCES_LENGTH.true)
 
 pub returns-then-table-lt-TABLE_LENGTH : goal.returns-then-table-lt-TABLE_LENGTH
 returns-then-table-lt-TABLE_LENGTH c =
     short_at _ _ _ _ _ _ _ 3 (omega arith) (omega arith)
-    (third_short _ _ c.if-store-lt-STORE_LENGTH.false c.if-distances-lt-DISTANCES_LENGTH.false c.if-table-lt-TABLE_LENGTH.true)
+    (third_short _ _ c.if-store-lt-STORE_LENGTH.false c.if-distances-lt-DISTANCES_LENGTH.false
+    c.if-table-lt-TABLE_LENGTH.true)
 
 pub returns-then-run-lt-RUN_LENGTH : goal.returns-then-run-lt-RUN_LENGTH
 returns-then-run-lt-RUN_LENGTH c =
     short_at _ _ _ _ _ _ _ 4 (omega arith) (omega arith)
-    (fourth_short _ _ c.if-store-lt-STORE_LENGTH.false c.if-distances-lt-DISTANCES_LENGTH.false c.if-table-lt-TABLE_LENGTH.false
+    (fourth_short _ _ c.if-store-lt-STORE_LENGTH.false c.if-distances-lt-DISTANCES_LENGTH.false
+    c.if-table-lt-TABLE_LENGTH.false
     c.if-run-lt-RUN_LENGTH.true)
 
 pub returns-then-word-lt-WORD_LENGTH : goal.returns-then-word-lt-WORD_LENGTH

@@ -22,14 +22,21 @@ judged_page-requires c =
         showable = record {
           lists = record {
             stored = good→Stored _ c.requires.long.store_length_is c.requires.good;
-            roles_of = record { roles_length = omega (arith, c.judge_good-v.auto); roles_are = c.judge_good-v.ensures.roles };
+            roles_of = record {
+              roles_length = omega (arith, c.judge_good-v.auto);
+              roles_are = c.judge_good-v.ensures.roles;
+            };
             distances_length_is = omega (
               arith,
               c.judge_good-v.ensures.filled.distances_filled.past.same_length,
               c.requires.long.distances_length_is,
             );
             distances_are = c.judge_good-v.ensures.filled.distances_filled.list;
-            table_length_is = omega (arith, c.judge_good-v.ensures.filled.table_past.same_length, c.requires.long.table_length_is);
+            table_length_is = omega (
+              arith,
+              c.judge_good-v.ensures.filled.table_past.same_length,
+              c.requires.long.table_length_is,
+            );
             ranks = c.judge_good-v.ensures.filled.ranks;
           };
           index_length_is = omega (arith, c.judge_good-v.auto);

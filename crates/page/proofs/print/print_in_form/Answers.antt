@@ -9,7 +9,8 @@ overflow_add-place c = omega (arith, c.first_short-short.ensures.place_le)
 
 pub returns-then-short-gt0 : goal.returns-then-short-gt0
 returns-then-short-gt0 c =
-    let kept = short_promised _ _ _ _ _ _ _ _ c.first_short-short.result c.first_short-short.ensures c.if-short-gt0.true in
+    let kept = short_promised _ _ _ _ _ _ _ _ c.first_short-short.result c.first_short-short.ensures
+    c.if-short-gt0.true in
     record { print_promise = kept.0; print_claim = kept.1 }
 
 pub print_text-printed-requires : goal.print_text-printed-requires

@@ -34,4 +34,5 @@ returns-in-Done c =
 
 pub returns-in_default : goal.returns-in_default
 returns-in_default c =
-    unread_promised _ _ _ _ _ _ _ _ c.requires c.read-read.result c.read-read.ensures.read_promise _ _ c.fault_line.ensures
+    unread_promised _ _ _ _ _ _ _ _ c.requires c.read-read.result c.read-read.ensures.read_promise _ _
+    c.fault_line.ensures

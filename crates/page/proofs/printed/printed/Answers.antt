@@ -6,7 +6,8 @@ use Rattle.page.proofs.printed.printed.Goals as goal
 
 pub returns-in-Printed : goal.returns-in-Printed
 returns-in-Printed c =
-    let x = printed_prints _ _ _ _ _ _ _ _ c.print_in_form-answer.result c.print_in_form-answer.ensures.print_promise _ c.in-Printed.is in
+    let x = printed_prints _ _ _ _ _ _ _ _ c.print_in_form-answer.result c.print_in_form-answer.ensures.print_promise
+    _ c.in-Printed.is in
     record {
       upper_bound = (x.0, x.1);
       prints = x.2;
@@ -15,7 +16,8 @@ returns-in-Printed c =
 
 pub returns-in-ShortList : goal.returns-in-ShortList
 returns-in-ShortList c =
-    let never : ⊥ = short_list_not_long _ _ _ _ _ _ _ _ c.print_in_form-answer.result c.print_in_form-answer.ensures.print_promise _ c.in-ShortList.is (record {
+    let never : ⊥ = short_list_not_long _ _ _ _ _ _ _ _ c.print_in_form-answer.result
+    c.print_in_form-answer.ensures.print_promise _ c.in-ShortList.is (record {
       store_length_is = omega arith;
       distances_length_is = omega arith;
       table_length_is = omega arith;

@@ -10,7 +10,10 @@ pub returns-then-a-b : goal.returns-then-a-b
 returns-then-a-b c =
     record {
       by_index = λ n _ _ _. written_refl _;
-      separation_written = record { both = λ h. absurd (c.if-a-b.true (c.class_at-a.ensures ∙ h.same_before ∙ sym c.class_at-b.ensures)) };
+      separation_written = record {
+        both = λ h. absurd (c.if-a-b.true
+            (c.class_at-a.ensures ∙ h.same_before ∙ sym c.class_at-b.ensures));
+      };
     }
 
 pub returns-then-c-d : goal.returns-then-c-d

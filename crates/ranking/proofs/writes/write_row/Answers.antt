@@ -12,8 +12,12 @@ pub loop-q-preserved : goal.loop-q-preserved
 loop-q-preserved c =
     let inv = c.loop-q.invariant in
     let W = c.write_pair.ensures.by_index c.args.n (omega arith) (omega arith) (omega arith) in
-    let row = row_stays W (omega arith) (omega arith) inv.2 in
-    (omega arith, written_trans inv.1 W, row_add_one row c.write_pair.ensures.separation_written, c.write_pair.auto.table ∙ inv.3)
+    let row = row_stays W (omega arith) (omega arith) inv.2 in (
+      omega arith,
+      written_trans inv.1 W,
+      row_add_one row c.write_pair.ensures.separation_written,
+      c.write_pair.auto.table ∙ inv.3,
+    )
 
 pub shape_of-table : goal.shape_of-table
 shape_of-table c = c.loop-q.invariant.3

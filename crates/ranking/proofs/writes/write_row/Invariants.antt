@@ -7,7 +7,8 @@ use Rattle.ranking.proofs.writes.write_row.Given as goal
 
 abbrev pub invariant-loop-q : goal.invariant-loop-q
 invariant-loop-q l =
-    (l.q ≤ l.n) × Written l.n l.class l.next l.round l.initial.table l.table × RowWritten l.class l.next l.round l.table l.p.0 l.q
+    (l.q ≤ l.n) × Written l.n l.class l.next l.round l.initial.table l.table × RowWritten l.class l.next l.round
+    l.table l.p.0 l.q
     × (length l.table ≡ length l.initial.table)
 
 abbrev pub decreases-loop-q : goal.decreases-loop-q

@@ -19,8 +19,12 @@ pub loop-i-preserved : goal.loop-i-preserved
 loop-i-preserved c =
     let inv = c.loop-i.invariant in
     let below = c.requires.n_le_state_limit.2 in
-    let rows = rows_stay c.write_row.ensures.written (λ i l. below i (omega arith)) inv.2 in
-    (omega arith, written_trans inv.1 c.write_row.ensures.written, rows_add_one rows c.write_row.ensures.row_written, c.write_row.auto.table ∙ inv.3)
+    let rows = rows_stay c.write_row.ensures.written (λ i l. below i (omega arith)) inv.2 in (
+      omega arith,
+      written_trans inv.1 c.write_row.ensures.written,
+      rows_add_one rows c.write_row.ensures.row_written,
+      c.write_row.auto.table ∙ inv.3,
+    )
 
 pub shape_of-table : goal.shape_of-table
 shape_of-table c = c.loop-i.invariant.3

@@ -24,13 +24,15 @@ read_lines-read-requires c = c.if-store-lt-STORE_LENGTH.false
 pub returns-in-Done : goal.returns-in-Done
 returns-in-Done c =
     let done = read_answer_done c.read_lines-read.ensures c.in-Done.is in record {
-      read_promise = read_promise_lines _ _ c.if-store-lt-STORE_LENGTH.false _ c.if-text-gt-TEXT_LIMIT.false done _ c.read_lines-read.ensures.filled;
+      read_promise = read_promise_lines _ _ c.if-store-lt-STORE_LENGTH.false _ c.if-text-gt-TEXT_LIMIT.false done _
+          c.read_lines-read.ensures.filled;
       read_cause = read_cause_lines _ _ c.if-store-lt-STORE_LENGTH.false _ c.if-text-gt-TEXT_LIMIT.false done;
     }
 
 pub returns-in-Faulty : goal.returns-in-Faulty
 returns-in-Faulty c =
     let faulty = read_answer_faulty c.read_lines-read.ensures c.in-Faulty.is in record {
-      read_promise = read_promise_lines _ _ c.if-store-lt-STORE_LENGTH.false _ c.if-text-gt-TEXT_LIMIT.false faulty _ c.read_lines-read.ensures.filled;
+      read_promise = read_promise_lines _ _ c.if-store-lt-STORE_LENGTH.false _ c.if-text-gt-TEXT_LIMIT.false faulty _
+          c.read_lines-read.ensures.filled;
       read_cause = read_cause_lines _ _ c.if-store-lt-STORE_LENGTH.false _ c.if-text-gt-TEXT_LIMIT.false faulty;
     }

@@ -96,5 +96,7 @@ returns-else-used c =
     let t = sym (c.used.ensures b.actions (actions_stored_so_far _ _ _ _ _ b) b.count)
     ∙ c.if-used.false in
     rw c.put_action.ensures
-    (action_next _ _ _ c.args.i _ b c.requires.1 _ c.find-e.ensures (inside (goal.at.returns-else-used c).Else-e-text).0 _
-    (action_of_good b.actions _ _ (named (goal.at.returns-else-used c).In-Good).2 t) (named (goal.at.returns-else-used c).In-Good).1)
+    (action_next _ _ _ c.args.i _ b c.requires.1 _ c.find-e.ensures
+    (inside (goal.at.returns-else-used c).Else-e-text).0 _
+    (action_of_good b.actions _ _ (named (goal.at.returns-else-used c).In-Good).2 t)
+    (named (goal.at.returns-else-used c).In-Good).1)

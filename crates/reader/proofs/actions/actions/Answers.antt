@@ -37,4 +37,5 @@ returns-then-not-some_high c =
 pub returns : goal.returns
 unfolding Further
 returns c =
-    after_actions _ _ _ _ (all (goal.at.returns c).After-loop-i) (decides_true c.some_high.result _ c.some_high.ensures c.if-not-some_high.false)
+    after_actions _ _ _ _ (all (goal.at.returns c).After-loop-i)
+    (decides_true c.some_high.result _ c.some_high.ensures c.if-not-some_high.false)

@@ -53,7 +53,8 @@ loop-head-smaller c =
 pub loop-head-preserved : goal.loop-head-preserved
 loop-head-preserved c = (
   c.put_extra_start.auto.out ∙ c.loop-head.invariant.0,
-  rw c.put_extra_start.ensures (start_taken _ _ _ c.loop-head.i _ _ c.loop-head.invariant.1 _ _ (named (goal.at.loop-head-preserved c).In-Good) (letter (goal.at.loop-head-preserved c).In-loop-head)),
+  rw c.put_extra_start.ensures (start_taken _ _ _ c.loop-head.i _ _ c.loop-head.invariant.1 _ _
+      (named (goal.at.loop-head-preserved c).In-Good) (letter (goal.at.loop-head-preserved c).In-loop-head)),
 )
 
 pub returns : goal.returns

@@ -15,7 +15,8 @@ pass-requires c =
     let L = c.requires.label_list in
     record {
       label_list = L;
-      of_states = along_silent→OfStates (λ p q s. label_step_source_lt L (omega arith) s) c.loop-passes.invariant.1.silent;
+      of_states = along_silent→OfStates (λ p q s. label_step_source_lt L (omega arith) s)
+          c.loop-passes.invariant.1.silent;
     }
 
 pub returns-then-not-pass : goal.returns-then-not-pass

@@ -8,7 +8,8 @@ use Rattle.silent.proofs.keys.gather.Given as goal
 
 abbrev pub invariant-loop-i : goal.invariant-loop-i
 invariant-loop-i l =
-    (l.of < action_limit) × (l.end ≡ get_or l.from (l.of + 1) 0) × (l.end ≤ step_limit) × (get_or l.from l.of 0 ≤ l.i) × (l.i ≤ l.end)
+    (l.of < action_limit) × (l.end ≡ get_or l.from (l.of + 1) 0) × (l.end ≤ step_limit) × (get_or l.from l.of 0 ≤ l.i)
+    × (l.i ≤ l.end)
     × GatheredTo l.from l.sources l.targets l.of l.i l.sets l.gathered
 
 abbrev pub decreases-loop-i : goal.decreases-loop-i

@@ -12,4 +12,5 @@ close_along-requires c =
 
 pub returns : goal.returns
 returns c =
-    keys_of_gathered c.requires.label_list c.requires.a_lt_action_limit c.requires.keys c.gather.ensures c.close_along.ensures
+    keys_of_gathered c.requires.label_list c.requires.a_lt_action_limit c.requires.keys c.gather.ensures
+    c.close_along.ensures

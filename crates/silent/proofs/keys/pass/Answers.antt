@@ -41,7 +41,8 @@ loop-i-preserved c =
       omega arith,
       omega arith,
       spread_to_suc L inv.0 inv.1 c.turn_place-at.ensures c.turn-again.ensures.joined inv.5,
-      closed_to_suc c.turn_place-at.ensures.0 (turn_states_lt L inv.1 c.turn_place-at.ensures.2).1 c.turn-again.ensures.joined c.turn-again.ensures.again_value inv.6,
+      closed_to_suc c.turn_place-at.ensures.0 (turn_states_lt L inv.1 c.turn_place-at.ensures.2).1
+          c.turn-again.ensures.joined c.turn-again.ensures.again_value inv.6,
     )
 
 pub returns : goal.returns

@@ -8,7 +8,8 @@ use Rattle.silent.proofs.keys.pass.Given as goal
 
 abbrev pub invariant-loop-i : goal.invariant-loop-i
 invariant-loop-i l =
-    (l.begin ≡ get_or l.from action_limit 0) × (l.end ≡ get_or l.from (action_limit + 1) 0) × (l.end ≤ step_limit) × (l.begin ≤ l.i)
+    (l.begin ≡ get_or l.from action_limit 0) × (l.end ≡ get_or l.from (action_limit + 1) 0) × (l.end ≤ step_limit) ×
+    (l.begin ≤ l.i)
     × (l.i ≤ l.end) × SpreadTo l.from l.sources l.targets l.n l.backward l.begin l.end l.i l.initial.sets l.sets
     × ClosedTo l.sources l.targets l.backward l.begin l.end l.i l.again l.marks l.sets
 

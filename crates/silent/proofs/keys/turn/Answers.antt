@@ -7,7 +7,11 @@ pub returns-then-not-spread : goal.returns-then-not-spread
 returns-then-not-spread c =
     record {
       joined = c.spread.ensures.joined;
-      again_value = λ e. (e, λ m. decides_true (not c.spread.result) _ c.spread.ensures.decides c.if-not-spread.true-raw);
+      again_value = λ e. (
+        e,
+        λ m. decides_true (not c.spread.result) _ c.spread.ensures.decides
+            c.if-not-spread.true-raw,
+      );
     }
 
 pub returns-then-marks-p-eq1 : goal.returns-then-marks-p-eq1

@@ -10,7 +10,8 @@ low_keys-requires c =
       targets = c.requires.targets;
       class_numbers = class_numbers_of_own c.requires.label_list.states_le c.requires.own_numbers;
       a_lt_action_limit = c.requires.a_lt_action_limit;
-      keys = keys_of_targets (λ p a q m. label_move_target_lt c.requires.label_list m) c.requires.own_numbers c.requires.targets;
+      keys = keys_of_targets (λ p a q m. label_move_target_lt c.requires.label_list m) c.requires.own_numbers
+          c.requires.targets;
     }
 
 pub returns : goal.returns

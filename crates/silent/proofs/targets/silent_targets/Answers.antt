@@ -12,4 +12,5 @@ silent_keys-requires c =
 
 pub returns : goal.returns
 returns c =
-    targets_of_keys (λ p a q m. label_move_target_lt c.requires.label_list m) c.requires.own_numbers c.silent_keys.ensures
+    targets_of_keys (λ p a q m. label_move_target_lt c.requires.label_list m) c.requires.own_numbers
+    c.silent_keys.ensures

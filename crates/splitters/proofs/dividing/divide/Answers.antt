@@ -11,7 +11,11 @@ use Rattle.splitters.proofs.dividing.divide.Goals.{Start}
 
 -- The new number is one of a class.
 new_lt : (c : Start) → c.args.parts.classes < state_limit
-new_lt c = omega (arith, classes_lt_states c.requires.partition c.requires.n_le_state_limit.1 c.requires.two_parts, c.requires.n_le_state_limit.0)
+new_lt c = omega (
+  arith,
+  classes_lt_states c.requires.partition c.requires.n_le_state_limit.1 c.requires.two_parts,
+  c.requires.n_le_state_limit.0,
+)
 
 pub put-requires : goal.put-requires
 put-requires c = omega (arith, new_lt (goal.at.put-requires c).Start)
@@ -30,12 +34,14 @@ returns c =
     record {
       partition_2 = (
         partition_next P l T c.move_states.ensures c.put_set.ensures c.put_set-2.ensures
-            (c.alone.ensures.by_index, c.alone.ensures.by_index_2) (c.alone-together.ensures.by_index, c.alone-together.ensures.by_index_2),
+            (c.alone.ensures.by_index, c.alone.ensures.by_index_2)
+            (c.alone-together.ensures.by_index, c.alone-together.ensures.by_index_2),
         refl,
       );
       split = record {
         by = split_by_moved P l T c.move_states.ensures;
-        homes = homes_kept_put P l T c.move_states.ensures c.requires.n_le_state_limit.2 (omega (arith, new_lt (goal.at.returns c).Start))
+        homes = homes_kept_put P l T c.move_states.ensures c.requires.n_le_state_limit.2
+            (omega (arith, new_lt (goal.at.returns c).Start))
             c.home_of-from.ensures c.put.ensures;
       };
     }

@@ -14,5 +14,6 @@ pub returns-then-size : goal.returns-then-size
 returns-then-size c =
     record {
       partition_2 = c.divide.ensures.partition_2;
-      split = split_sym c.requires.partition c.requires.n_le_state_limit.1 (two_parts_sym c.requires.two_parts) c.divide.ensures.split;
+      split = split_sym c.requires.partition c.requires.n_le_state_limit.1 (two_parts_sym c.requires.two_parts)
+          c.divide.ensures.split;
     }

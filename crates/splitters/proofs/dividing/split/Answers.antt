@@ -8,8 +8,14 @@ use Rattle.splitters.proofs.dividing.split.Goals as goal
 
 pub loop-p-init : goal.loop-p-init
 loop-p-init c =
-    let P = c.requires.partition in
-    (c.least-p.ensures, P, omega arith, left_of_together P c.both-left.ensures, λ _ _ s. split_together P c.both-left.ensures s)
+    let P = c.requires.partition in (
+      c.least-p.ensures,
+      P,
+      omega arith,
+      left_of_together P c.both-left.ensures,
+      λ _ _ s. split_together P
+          c.both-left.ensures s,
+    )
 
 pub set_at-whole-requires : goal.set_at-whole-requires
 set_at-whole-requires c =
@@ -42,8 +48,10 @@ loop-p-preserved c =
       c.least-p-in-loop-p.ensures,
       c.split_class-parts.ensures.partition_2.0,
       omega (arith, c.split_class-parts.ensures.partition_2.1, inv.2),
-      left_of_less inv.1 inv.3 in_left c.class_at-c.ensures c.set_at-whole.ensures c.without-left.ensures c.split_class-parts.ensures.split.by.same_before,
-      λ d o G. inv.4 d o (split_less inv.1 inv.3 in_left c.class_at-c.ensures c.set_at-whole.ensures c.without-left.ensures c.split_class-parts.ensures.split G),
+      left_of_less inv.1 inv.3 in_left c.class_at-c.ensures c.set_at-whole.ensures c.without-left.ensures
+          c.split_class-parts.ensures.split.by.same_before,
+      λ d o G. inv.4 d o (split_less inv.1 inv.3 in_left c.class_at-c.ensures c.set_at-whole.ensures
+          c.without-left.ensures c.split_class-parts.ensures.split G),
     )
 
 pub returns : goal.returns

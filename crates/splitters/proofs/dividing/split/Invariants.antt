@@ -11,7 +11,8 @@ abbrev pub invariant-loop-p : goal.invariant-loop-p
 invariant-loop-p l =
     LeastOf l.left l.p × Partition l.n l.class l.members l.parts.classes l.parts.together
     × (l.initial.parts.classes ≤ l.parts.classes) × LeftOf l.n l.class l.set l.left
-    × ((c o : List ℕ) → Split l.n l.old (In l.left) l.class l.origin c o → Split l.n l.old (In l.set) l.initial.class l.initial.origin c o)
+    × ((c o : List ℕ) → Split l.n l.old (In l.left) l.class l.origin c o → Split l.n l.old (In l.set) l.initial.class
+    l.initial.origin c o)
 
 abbrev pub decreases-loop-p : goal.decreases-loop-p
 decreases-loop-p l = state_limit - l.p

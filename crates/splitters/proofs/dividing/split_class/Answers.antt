@@ -12,7 +12,8 @@ returns-then-is_empty c =
     let none = decides_true c.is_empty.result ((x : ℕ) → ¬ (In c.both-part.result x))
     c.is_empty.ensures c.if-is_empty.true in record {
       partition_2 = (c.requires.partition, omega arith);
-      split = split_outside c.requires.partition c.requires.n_le_state_limit.1 c.set_at-whole.ensures c.both-part.ensures none;
+      split = split_outside c.requires.partition c.requires.n_le_state_limit.1 c.set_at-whole.ensures
+          c.both-part.ensures none;
     }
 
 pub returns-then-is_empty-2 : goal.returns-then-is_empty-2
@@ -20,7 +21,8 @@ returns-then-is_empty-2 c =
     let none = decides_true c.is_empty-2.result ((x : ℕ) → ¬ (In c.without-rest.result x))
     c.is_empty-2.ensures c.if-is_empty-2.true in record {
       partition_2 = (c.requires.partition, omega arith);
-      split = split_inside c.requires.partition c.requires.n_le_state_limit.1 c.set_at-whole.ensures c.without-rest.ensures none;
+      split = split_inside c.requires.partition c.requires.n_le_state_limit.1 c.set_at-whole.ensures
+          c.without-rest.ensures none;
     }
 
 pub divide_less-requires : goal.divide_less-requires

@@ -18,10 +18,12 @@ tells c =
     let p-lt : c.loop-p.p < state_limit = omega (arith, c.loop-p-test) in
     ⊎_elim
     (λ w. leading_turn_eq w.found-is w.left-is
-    (leading_turn_some c.requires.turned p-lt c.held.ensures c.both.ensures c.greatest-t.ensures w.if-t-lt-STATE_LIMIT.true w.held-told.ensures w.either-found.ensures
+    (leading_turn_some c.requires.turned p-lt c.held.ensures c.both.ensures c.greatest-t.ensures
+    w.if-t-lt-STATE_LIMIT.true w.held-told.ensures w.either-found.ensures
     w.without-left.ensures))
     (λ w. leading_turn_eq w.found-is w.left-is
-    (leading_turn_none c.held.ensures c.both.ensures c.greatest-t.ensures w.if-t-lt-STATE_LIMIT.false (w.drop_least-left.ensures _ c.loop-p.invariant.0)))
+    (leading_turn_none c.held.ensures c.both.ensures c.greatest-t.ensures w.if-t-lt-STATE_LIMIT.false
+    (w.drop_least-left.ensures _ c.loop-p.invariant.0)))
     c.if-t-lt-STATE_LIMIT.branch-raw
 
 pub loop-p-init : goal.loop-p-init
@@ -40,7 +42,8 @@ held-told-requires c =
 pub loop-p-smaller : goal.loop-p-smaller
 loop-p-smaller c =
     let inv = c.loop-p.invariant in
-    let later = least_after inv.0 (omega arith) (tells (goal.at.loop-p-smaller c).Joined-t-lt-STATE_LIMIT).less c.least-p-in-loop-p.ensures in
+    let later = least_after inv.0 (omega arith) (tells (goal.at.loop-p-smaller c).Joined-t-lt-STATE_LIMIT).less
+    c.least-p-in-loop-p.ensures in
     omega (arith, later, c.least-p-in-loop-p.ensures.least_le)
 
 pub loop-p-preserved : goal.loop-p-preserved

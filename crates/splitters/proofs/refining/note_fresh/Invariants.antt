@@ -8,7 +8,8 @@ use Rattle.splitters.proofs.refining.note_fresh.Given as goal
 
 abbrev pub invariant-loop-j : goal.invariant-loop-j
 invariant-loop-j l =
-    (l.first ≤ l.j) × SetsOf (Member l.members) l.first l.j l.fresh × SetsOf (λ k. Member l.members (get_or l.origin k 0)) l.first l.j l.rest
+    (l.first ≤ l.j) × SetsOf (Member l.members) l.first l.j l.fresh × SetsOf
+    (λ k. Member l.members (get_or l.origin k 0)) l.first l.j l.rest
     × SetsKept l.first l.initial.fresh l.fresh
 
 abbrev pub decreases-loop-j : goal.decreases-loop-j

@@ -21,7 +21,11 @@ refine_class-parts-requires c =
     let L = c.requires.held_list in
     let inv = c.loop-j.invariant in
     let room = c.requires.partition.classes_le in record {
-      j_lt_state_limit = (omega (arith, c.loop-j-test, c.requires.first_le.1, room, L.0.states_le), omega (arith, c.requires.first_le.1, inv.2));
+      j_lt_state_limit = (
+        omega (arith, c.loop-j-test, c.requires.first_le.1, room, L.0.states_le),
+        omega
+            (arith, c.requires.first_le.1, inv.2),
+      );
       partition = inv.3;
       held_list = L;
     }

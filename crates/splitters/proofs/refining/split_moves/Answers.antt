@@ -14,13 +14,15 @@ cut : (c : After-is_empty) → CutTo c.args.n c.args.class.now
     (LeadsInto c.args.slots.now c.args.pool.now c.args.row c.args.fresh)
     c.both-from.result
 cut c =
-    cut_to_fresh c.requires.turned c.requires.n_le_state_limit.0 c.requires.partition c.sources.ensures c.both-from.ensures
+    cut_to_fresh c.requires.turned c.requires.n_le_state_limit.0 c.requires.partition c.sources.ensures
+    c.both-from.ensures
 
 pub returns-then-is_empty : goal.returns-then-is_empty
 returns-then-is_empty c =
     record {
       partition_2 = (c.requires.partition, omega arith);
-      split_twice = split_twice_none (cut (goal.at.returns-then-is_empty c).After-is_empty) (decides_true _ _ c.is_empty.ensures c.if-is_empty.true);
+      split_twice = split_twice_none (cut (goal.at.returns-then-is_empty c).After-is_empty)
+          (decides_true _ _ c.is_empty.ensures c.if-is_empty.true);
     }
 
 pub returns-then-is_empty-2 : goal.returns-then-is_empty-2
@@ -29,7 +31,8 @@ returns-then-is_empty-2 c =
     let within = leads_within c.without.ensures none in
     record {
       partition_2 = c.split-parts.ensures.partition_2;
-      split_twice = split_twice_once within (split-cut (cut (goal.at.returns-then-is_empty-2 c).After-is_empty) c.split-parts.ensures.split);
+      split_twice = split_twice_once within (split-cut (cut (goal.at.returns-then-is_empty-2 c).After-is_empty)
+          c.split-parts.ensures.split);
     }
 
 pub overflow_add-row : goal.overflow_add-row
@@ -38,7 +41,11 @@ overflow_add-row c = omega (arith, c.requires.row_bound.0)
 pub leading-to_rest-requires : goal.leading-to_rest-requires
 leading-to_rest-requires c =
     record {
-      row_lt_slot_rows = (omega (arith, c.requires.row_bound.0), omega (arith, c.requires.row_bound.0), c.requires.row_bound.1);
+      row_lt_slot_rows = (
+        omega (arith, c.requires.row_bound.0),
+        omega (arith, c.requires.row_bound.0),
+        c.requires.row_bound.1,
+      );
       turned = c.requires.turned;
     }
 
@@ -53,8 +60,17 @@ split-requires c =
 
 pub returns : goal.returns
 returns c =
-    let rest = cut_to-rest (cut (goal.at.returns c).After-is_empty) c.split-parts.ensures.split.by.same_before c.split-parts.ensures.partition_2.0 c.both-left.ensures
+    let rest = cut_to-rest (cut (goal.at.returns c).After-is_empty) c.split-parts.ensures.split.by.same_before
+    c.split-parts.ensures.partition_2.0 c.both-left.ensures
     c.leading-to_rest.ensures in record {
-      partition_2 = (c.split.ensures.partition_2.0, omega (arith, c.split-parts.ensures.partition_2.1, c.split.ensures.partition_2.1));
-      split_twice = split_twice_of_splits (split-cut (cut (goal.at.returns c).After-is_empty) c.split-parts.ensures.split) (split-cut rest c.split.ensures.split);
+      partition_2 = (
+        c.split.ensures.partition_2.0,
+        omega (
+          arith,
+          c.split-parts.ensures.partition_2.1,
+          c.split.ensures.partition_2.1,
+        ),
+      );
+      split_twice = split_twice_of_splits (split-cut (cut (goal.at.returns c).After-is_empty)
+          c.split-parts.ensures.split) (split-cut rest c.split.ensures.split);
     }

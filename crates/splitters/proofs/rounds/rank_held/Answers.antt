@@ -46,6 +46,8 @@ shape_of-table c =
 
 pub returns : goal.returns
 returns c =
-    let done = finished_of_last c.rounds-done.ensures.rounded refl c.rounds-done.ensures.separates c.fill_table.ensures.by_index c.fill_table.ensures.outside in
-    ranked_of_finished (held_move_game c.requires.held_list) c.requires.held_list.some_state c.requires.held_list.states_le c.clear.ensures done
+    let done = finished_of_last c.rounds-done.ensures.rounded refl c.rounds-done.ensures.separates
+    c.fill_table.ensures.by_index c.fill_table.ensures.outside in
+    ranked_of_finished (held_move_game c.requires.held_list) c.requires.held_list.some_state
+    c.requires.held_list.states_le c.clear.ensures done
     (c.fill_table.auto.table ∙ c.clear.ensures.past.same_length)

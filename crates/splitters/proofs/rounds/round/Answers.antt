@@ -22,7 +22,12 @@ refine-next-requires c =
 
 pub overflow_add-k : goal.overflow_add-k
 overflow_add-k c =
-    omega (arith, c.requires.held_list.0.states_le, c.requires.k_lt_classes.1.partition.classes_le, c.requires.k_lt_classes.0)
+    omega (
+      arith,
+      c.requires.held_list.0.states_le,
+      c.requires.k_lt_classes.1.partition.classes_le,
+      c.requires.k_lt_classes.0,
+    )
 
 pub note_round-requires : goal.note_round-requires
 note_round-requires c =
@@ -30,5 +35,7 @@ note_round-requires c =
 
 pub returns : goal.returns
 returns c =
-    rounded_of_used_split c.requires.held_list.0 c.requires.k_lt_classes.1 c.note_fresh.ensures.0 c.note_fresh.ensures.1 c.refine-next.ensures.partition_2.0 c.refine-next.ensures.partition_2.1 c.refine-next.ensures.used_split
+    rounded_of_used_split c.requires.held_list.0 c.requires.k_lt_classes.1 c.note_fresh.ensures.0
+    c.note_fresh.ensures.1 c.refine-next.ensures.partition_2.0 c.refine-next.ensures.partition_2.1
+    c.refine-next.ensures.used_split
     c.note_round.ensures

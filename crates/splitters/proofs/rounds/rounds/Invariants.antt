@@ -7,7 +7,8 @@ use Rattle.splitters.proofs.rounds.rounds.Given as goal
 
 abbrev pub invariant-loop-next : goal.invariant-loop-next
 invariant-loop-next l =
-    Rounds (HeldMove l.labels l.count l.slots l.pool) l.n l.k l.first l.class l.members l.origin l.under l.when l.parts.classes
+    Rounds (HeldMove l.labels l.count l.slots l.pool) l.n l.k l.first l.class l.members l.origin l.under l.when
+    l.parts.classes
     l.parts.together
 
 abbrev pub decreases-loop-next : goal.decreases-loop-next

@@ -6,7 +6,8 @@ use Rattle.text.specs.Split.{split}
 use Rattle.text.proofs.line.count.Given as goal
 
 abbrev pub invariant-loop-i : goal.invariant-loop-i
-invariant-loop-i l = (l.i ≤ length l.s) × (l.n ≤ l.i) × (length (split l.k l.s) ≡ l.n + length (split l.k (drop l.i l.s)))
+invariant-loop-i l = (l.i ≤ length l.s) × (l.n ≤ l.i) × (length (split l.k l.s) ≡ l.n + length
+    (split l.k (drop l.i l.s)))
 
 abbrev pub decreases-loop-i : goal.decreases-loop-i
 decreases-loop-i l = length l.s - l.i

@@ -39,5 +39,6 @@ returns-then-not-is_letter c =
 
 pub returns : goal.returns
 returns c =
-    fields_yes _ _ _ (first (goal.at.returns c).Else-find-ne1).1 (first (goal.at.returns c).Else-find-ne1).0 (counted (goal.at.returns c).Else-find-ne1)
+    fields_yes _ _ _ (first (goal.at.returns c).Else-find-ne1).1 (first (goal.at.returns c).Else-find-ne1).0
+    (counted (goal.at.returns c).Else-find-ne1)
     (decides_passed c.is_letter.result _ c.is_letter.ensures c.if-not-is_letter.false-raw)

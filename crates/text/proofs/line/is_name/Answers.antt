@@ -31,7 +31,8 @@ loop-i-preserved c =
     let i = c.loop-i.invariant in
     let lt : c.loop-i.i < length f = omega arith in
     let e = sym c.kind-k.ensures in
-    let kinds = ⊎_elim (λ w. inr (e ∙ w.if-k-ne-SMALL_LETTER.false)) (λ w. inl (e ∙ w.if-k-ne-DIGIT.false)) c.if-k-ne-DIGIT.branch-raw in
+    let kinds = ⊎_elim (λ w. inr (e ∙ w.if-k-ne-SMALL_LETTER.false)) (λ w. inl (e ∙ w.if-k-ne-DIGIT.false))
+    c.if-k-ne-DIGIT.branch-raw in
     let next = ap (all_of name_byte?) (drop_next f c.loop-i.i lt) in
     (i.0, i.1, omega arith, sym (all_name-cons _ _ kinds) ∙ sym next ∙ i.3)
 

@@ -8,7 +8,8 @@ use Rattle.text.proofs.line.is_name.Given as goal
 
 abbrev pub invariant-loop-i : goal.invariant-loop-i
 invariant-loop-i l =
-    (1 ≤ length l.f) × (length l.f ≤ name_limit) × (l.i ≤ length l.f) × (all_of name_byte? (drop l.i l.f) ≡ all_of name_byte? l.f)
+    (1 ≤ length l.f) × (length l.f ≤ name_limit) × (l.i ≤ length l.f) ×
+    (all_of name_byte? (drop l.i l.f) ≡ all_of name_byte? l.f)
 
 abbrev pub decreases-loop-i : goal.decreases-loop-i
 decreases-loop-i l = length l.f - l.i

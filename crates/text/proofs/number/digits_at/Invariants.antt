@@ -8,7 +8,8 @@ use Rattle.text.proofs.number.digits_at.Given as goal
 
 abbrev pub invariant-loop-i : goal.invariant-loop-i
 invariant-loop-i l =
-    (l.at ≤ l.i) × (l.i ≤ l.at + digit_limit) × (l.i ≤ length l.s) × (l.value < 10 ^ (l.i - l.at)) × DigitsTo l.s l.at l.i l.value
+    (l.at ≤ l.i) × (l.i ≤ l.at + digit_limit) × (l.i ≤ length l.s) × (l.value < 10 ^ (l.i - l.at)) × DigitsTo l.s l.at
+    l.i l.value
 
 abbrev pub decreases-loop-i : goal.decreases-loop-i
 decreases-loop-i l = length l.s - l.i

@@ -38,7 +38,8 @@ unfolding bounded number_in
 returns-then-not-is_number c =
     let not-shape = decides-refused c.is_number.result _ c.is_number.ensures c.if-not-is_number.true-raw in
     record {
-      read = λ followed. ap (bounded _) (number_none _ _ _ _ _ (found (goal.at.returns-then-not-is_number c).In-To) not-shape);
+      read = λ followed. ap (bounded _) (number_none _ _ _ _ _ (found (goal.at.returns-then-not-is_number c).In-To)
+          not-shape);
       other = λ z. refl;
       place = λ z. absurd (z refl);
     }
@@ -50,6 +51,7 @@ returns c =
     let w = number_some _ _ _ _ _ (found (goal.at.returns c).In-To) shape in
     record {
       read = λ followed. ap (bounded _) w.0 ∙ sym c.bounded_number.ensures;
-      other = λ z. absurd (z (digits_followed _ _ _ _ _ (found (goal.at.returns c).In-To) (ends (goal.at.returns c).In-To)));
+      other = λ z. absurd (z (digits_followed _ _ _ _ _ (found (goal.at.returns c).In-To)
+          (ends (goal.at.returns c).In-To)));
       place = λ z. w.1;
     }

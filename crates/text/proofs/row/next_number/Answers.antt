@@ -36,15 +36,18 @@ number_at-read-requires c =
 pub returns-in-BadDigits : goal.returns-in-BadDigits
 unfolding RowScanned
 returns-in-BadDigits c =
-    column_bad _ _ _ _ _ _ _ c.requires.0 (filled (goal.at.returns-in-BadDigits c).Else-column-count_of) c.requires.1 _ c.bounds_of-bounds.ensures
+    column_bad _ _ _ _ _ _ _ c.requires.0 (filled (goal.at.returns-in-BadDigits c).Else-column-count_of) c.requires.1
+    _ c.bounds_of-bounds.ensures
     c.separator.ensures c.number_at-read.ensures c.in-BadDigits.is
 
 pub returns-in-Outside : goal.returns-in-Outside
 returns-in-Outside c =
-    column_outside _ _ _ _ _ _ _ c.requires.0 (filled (goal.at.returns-in-Outside c).Else-column-count_of) c.requires.1 _ c.bounds_of-bounds.ensures
+    column_outside _ _ _ _ _ _ _ c.requires.0 (filled (goal.at.returns-in-Outside c).Else-column-count_of)
+    c.requires.1 _ c.bounds_of-bounds.ensures
     c.separator.ensures c.number_at-read.ensures c.in-Outside.is
 
 pub returns-in-Value : goal.returns-in-Value
 returns-in-Value c =
-    column_value _ _ _ _ _ _ _ c.requires.0 (filled (goal.at.returns-in-Value c).Else-column-count_of) c.requires.1 _ c.bounds_of-bounds.ensures
+    column_value _ _ _ _ _ _ _ c.requires.0 (filled (goal.at.returns-in-Value c).Else-column-count_of) c.requires.1 _
+    c.bounds_of-bounds.ensures
     c.separator.ensures c.number_at-read.ensures _ c.in-Value.is

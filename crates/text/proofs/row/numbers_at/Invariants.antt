@@ -7,7 +7,8 @@ use Rattle.text.proofs.row.numbers_at.Given as goal
 
 abbrev pub invariant-loop-column : goal.invariant-loop-column
 invariant-loop-column l =
-    (l.column ≤ columns) × (length l.out ≡ length l.initial.out) × ColumnsTo l.row l.text l.at l.outside l.out l.column l.end
+    (l.column ≤ columns) × (length l.out ≡ length l.initial.out) × ColumnsTo l.row l.text l.at l.outside l.out
+    l.column l.end
 
 abbrev pub decreases-loop-column : goal.decreases-loop-column
 decreases-loop-column l = columns - l.column

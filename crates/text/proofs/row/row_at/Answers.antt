@@ -21,7 +21,11 @@ row_fault-requires c =
 
 pub returns-then-outside : goal.returns-then-outside
 unfolding RowAt
-returns-then-outside c = (_, inr (row_range _ _ _ _ _ _ _ (scanned (goal.at.returns-then-outside c).In-To) (columns_all _) c.if-outside.true))
+returns-then-outside c = (
+  _,
+  inr (row_range _ _ _ _ _ _ _ (scanned (goal.at.returns-then-outside c).In-To)
+      (columns_all _) c.if-outside.true),
+)
 
 pub returns-in-Bad : goal.returns-in-Bad
 unfolding RowAt
@@ -29,4 +33,5 @@ returns-in-Bad c = c.row_fault.ensures
 
 pub returns-else-outside : goal.returns-else-outside
 unfolding RowAt
-returns-else-outside c = row_good _ _ _ _ _ _ _ (scanned (goal.at.returns-else-outside c).In-To) (columns_all _) c.if-outside.false
+returns-else-outside c = row_good _ _ _ _ _ _ _ (scanned (goal.at.returns-else-outside c).In-To) (columns_all _)
+    c.if-outside.false

@@ -34,7 +34,8 @@ unfolding StartAtRead checked
 returns-then-last-start c before last = (
   _,
   refl,
-  line_at_map (start_of_order _ before last (start_number_column _ _) (lt-ltb _ _ c.if-last-start.true)) (row (goal.at.returns-then-last-start c).In-Good),
+  line_at_map (start_of_order _ before last (start_number_column _ _) (lt-ltb _ _ c.if-last-start.true))
+      (row (goal.at.returns-then-last-start c).In-Good),
 )
 
 pub returns-in-Bad : goal.returns-in-Bad
@@ -46,5 +47,6 @@ pub returns-else-last-start : goal.returns-else-last-start
 unfolding StartAtRead checked
 returns-else-last-start c before last = (
   _,
-  inr (line_at_map (start_of_order _ before last (start_number_column _ _) (le-ltb _ _ c.if-last-start.false)) (row (goal.at.returns-else-last-start c).In-Good)),
+  inr (line_at_map (start_of_order _ before last (start_number_column _ _) (le-ltb _ _ c.if-last-start.false))
+      (row (goal.at.returns-else-last-start c).In-Good)),
 )

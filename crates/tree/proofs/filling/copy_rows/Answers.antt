@@ -10,7 +10,10 @@ loop-p-init c = (omega arith, refl, rows_copied-zero _)
 pub copy_row-requires : goal.copy_row-requires
 copy_row-requires c =
     let lt = c.requires.by_index c.loop-p.p (omega arith) in record {
-      table_length_in_bounds = (omega (arith, c.loop-p.invariant.1, c.requires.table_length_in_bounds.0), c.requires.table_length_in_bounds.1);
+      table_length_in_bounds = (
+        omega (arith, c.loop-p.invariant.1, c.requires.table_length_in_bounds.0),
+        c.requires.table_length_in_bounds.1,
+      );
       p_lt_state_limit = (omega arith, omega (arith, lt, c.class_at.ensures));
     }
 

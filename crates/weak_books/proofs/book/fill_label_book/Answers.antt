@@ -18,8 +18,12 @@ open_first-requires c =
 
 pub turn_rows-requires : goal.turn_rows-requires
 turn_rows-requires c =
-    let same = past_trans c.clear.ensures.past c.open_first.ensures.past in
-    (c.requires.label_list.states_le, c.requires.ranks.1, omega (arith, same.same_length, c.requires.book_length_in_bounds))
+    let same = past_trans c.clear.ensures.past c.open_first.ensures.past in (
+      c.requires.label_list.states_le,
+      c.requires.ranks.1,
+      omega
+          (arith, same.same_length, c.requires.book_length_in_bounds),
+    )
 
 pub returns : goal.returns
 returns c =

@@ -7,7 +7,8 @@ use Rattle.weak_books.proofs.book.open_action.Goals as goal
 pub returns-then-from-of : goal.returns-then-from-of
 returns-then-from-of c =
     record {
-      opened_to_2 = opened_to_none (label_move_none c.requires.a_lt_action_limit.0 (omega (arith, c.if-from-of.true))) c.requires.opened_to;
+      opened_to_2 = opened_to_none (label_move_none c.requires.a_lt_action_limit.0 (omega (arith, c.if-from-of.true)))
+          c.requires.opened_to;
       only_at = only_at_refl _;
     }
 
@@ -30,6 +31,7 @@ open_rows-requires c =
 pub returns : goal.returns
 returns c =
     record {
-      opened_to_2 = opened_to_suc c.requires.label_list.states_le c.low_targets.ensures c.requires.opened_to c.open_rows.ensures;
+      opened_to_2 = opened_to_suc c.requires.label_list.states_le c.low_targets.ensures c.requires.opened_to
+          c.open_rows.ensures;
       only_at = only_at_of_label c.open_rows.ensures;
     }

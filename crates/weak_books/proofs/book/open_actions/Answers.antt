@@ -20,8 +20,12 @@ open_action-requires c =
 
 pub loop-a-preserved : goal.loop-a-preserved
 loop-a-preserved c =
-    let inv = c.loop-a.invariant in
-    (omega (arith, c.loop-a-test.true), c.open_action.ensures.opened_to_2, only_at_trans inv.2 c.open_action.ensures.only_at)
+    let inv = c.loop-a.invariant in (
+      omega (arith, c.loop-a-test.true),
+      c.open_action.ensures.opened_to_2,
+      only_at_trans inv.2
+          c.open_action.ensures.only_at,
+    )
 
 pub shape_of-book : goal.shape_of-book
 shape_of-book c = c.loop-a.invariant.2.past.same_length

@@ -20,7 +20,11 @@ open_actions-requires c =
 pub open_rows-requires : goal.open_rows-requires
 open_rows-requires c =
     record {
-      n_le_state_limit = (c.requires.label_list.states_le, omega (arith, c.open_actions.ensures.only_at.past.same_length, c.requires.depth_nonzero.1));
+      n_le_state_limit = (
+        c.requires.label_list.states_le,
+        omega
+            (arith, c.open_actions.ensures.only_at.past.same_length, c.requires.depth_nonzero.1),
+      );
       irreflexive = lower_sets_apart c.requires.ranks.0 c.requires.lower_sets;
     }
 
@@ -28,10 +32,12 @@ pub returns : goal.returns
 returns c =
     let L = c.requires.label_list in
     let lower = c.requires.lower_sets in
-    let done = opened_to_suc L.states_le c.requires.targets (opened_to_skip (label_move_between L) c.open_actions.ensures.opened_to_2) c.open_rows.ensures in
+    let done = opened_to_suc L.states_le c.requires.targets (opened_to_skip (label_move_between L)
+    c.open_actions.ensures.opened_to_2) c.open_rows.ensures in
     let kept = only_at_trans c.open_actions.ensures.only_at (only_at_of_label c.open_rows.ensures) in record {
       lower_sets_2 = lower_sets_suc c.requires.depth_nonzero.0 lower c.sets_at_rank.ensures c.join_each.ensures;
-      opened_before_2 = opened_before_suc L.states_le (λ p a q m. label_move_target_lt L m) c.requires.ranks.0 c.requires.depth_nonzero.0 lower c.sets_at_rank.ensures
+      opened_before_2 = opened_before_suc L.states_le (λ p a q m. label_move_target_lt L m) c.requires.ranks.0
+          c.requires.depth_nonzero.0 lower c.sets_at_rank.ensures
           c.requires.opened_before done kept;
       past = kept.past;
     }

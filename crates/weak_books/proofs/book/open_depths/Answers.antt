@@ -23,8 +23,12 @@ open_depth-requires c =
 
 pub loop-depth-preserved : goal.loop-depth-preserved
 loop-depth-preserved c =
-    let inv = c.loop-depth.invariant in
-    (omega (arith, c.loop-depth-test.true), c.open_depth.ensures.lower_sets_2, c.open_depth.ensures.opened_before_2, past_trans inv.3 c.open_depth.ensures.past)
+    let inv = c.loop-depth.invariant in (
+      omega (arith, c.loop-depth-test.true),
+      c.open_depth.ensures.lower_sets_2,
+      c.open_depth.ensures.opened_before_2,
+      past_trans inv.3 c.open_depth.ensures.past,
+    )
 
 pub shape_of-book : goal.shape_of-book
 shape_of-book c = c.loop-depth.invariant.3.same_length

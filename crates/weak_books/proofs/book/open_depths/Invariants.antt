@@ -10,7 +10,8 @@ use Rattle.weak_books.proofs.book.open_depths.Given as goal
 abbrev pub invariant-loop-depth : goal.invariant-loop-depth
 invariant-loop-depth l =
     (l.depth ≤ l.top) × LowerSets l.n l.table (l.depth + 1) l.lower
-    × OpenedBefore (LabelMove l.n l.from l.sources l.targets) l.n l.table (l.depth + 1) l.book × Past book_length l.initial.book l.book
+    × OpenedBefore (LabelMove l.n l.from l.sources l.targets) l.n l.table (l.depth + 1) l.book × Past book_length
+    l.initial.book l.book
 
 abbrev pub decreases-loop-depth : goal.decreases-loop-depth
 decreases-loop-depth l = l.top - l.depth

@@ -10,7 +10,10 @@ first_bad_low-k-requires c =
       label_list = (c.requires.label_list, c.own_numbers.ensures.0);
       targets = c.silent_targets.ensures;
       used_to = used_to_le le c.note_actions-labelled.ensures.used_to;
-      limit_le_table_length = (omega (arith, le, c.note_actions-labelled.ensures.number_le), c.requires.book_length_in_bounds);
+      limit_le_table_length = (
+        omega (arith, le, c.note_actions-labelled.ensures.number_le),
+        c.requires.book_length_in_bounds,
+      );
     }
 
 pub returns : goal.returns

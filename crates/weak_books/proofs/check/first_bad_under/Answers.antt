@@ -17,7 +17,8 @@ pub returns-then-not-sound_if_under : goal.returns-then-not-sound_if_under
 returns-then-not-sound_if_under c =
     let a = c.args in
     first_under_bad (SetMove a.sets.now) (λ (b : ℕ). b ≡ a.a.0) a.book.now c.loop-k-test.true
-    (decides-refused c.sound_if_under.result _ c.sound_if_under.ensures c.if-not-sound_if_under.true-raw) c.loop-k.invariant.1
+    (decides-refused c.sound_if_under.result _ c.sound_if_under.ensures c.if-not-sound_if_under.true-raw)
+    c.loop-k.invariant.1
 
 pub loop-k-preserved : goal.loop-k-preserved
 loop-k-preserved c =

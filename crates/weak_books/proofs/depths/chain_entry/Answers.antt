@@ -28,5 +28,6 @@ put-requires-2 c =
 pub returns : goal.returns
 returns c =
     let byte = c.shared_slice_known-3-1.given (entry_size * c.args.k + 3) in
-    chained_next (record { present = c.if-book-at-eq0.false; depth_is = refl }) (omega (arith, byte)) (omega (arith, byte))
+    chained_next (record { present = c.if-book-at-eq0.false; depth_is = refl }) (omega (arith, byte))
+    (omega (arith, byte))
     (search rules) c.put-2.ensures c.put.ensures c.requires.2

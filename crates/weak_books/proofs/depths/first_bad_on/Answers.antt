@@ -23,7 +23,11 @@ pub sound_entry-requires : goal.sound_entry-requires
 sound_entry-requires c =
     let a = c.args in
     let here = c.loop-next.invariant.1 (c.loop-next.next - 1) (first (omega (arith, c.loop-next-test.true))) in record {
-      k_lt_table_length = (omega (arith, c.loop-next.invariant.0, c.loop-next-test.true), c.requires.from_le_table_length.1, here.present);
+      k_lt_table_length = (
+        omega (arith, c.loop-next.invariant.0, c.loop-next-test.true),
+        c.requires.from_le_table_length.1,
+        here.present,
+      );
       held_list = c.requires.held_list;
       lower_by = subst (λ (d : ℕ). LowerBy a.book.now d a.there.now a.back.now) (sym here.depth_is) c.requires.lower_by;
     }
@@ -41,8 +45,10 @@ loop-next-preserved c =
     let falls = c.requires.by_index k in
     let one : FirstOf (HeldMove a.labels.now a.count a.slots.now a.pool.now) (λ x. x ≡ k) a.book.now
     c.loop-next.bad c.if-k-bad.bad = ⊎_elim
-    (λ w. first_of_bad w.if-k-bad.true (decides-refused w.sound_entry.result _ w.sound_entry.ensures w.if-not-sound_entry.true-raw) w.bad-is)
-    (⊎_elim (λ w. first_of_sound (decides_passed w.sound_entry.result _ w.sound_entry.ensures w.if-not-sound_entry.false-raw) w.bad-is)
+    (λ w. first_of_bad w.if-k-bad.true (decides-refused w.sound_entry.result _ w.sound_entry.ensures
+    w.if-not-sound_entry.true-raw) w.bad-is)
+    (⊎_elim (λ w. first_of_sound (decides_passed w.sound_entry.result _ w.sound_entry.ensures
+    w.if-not-sound_entry.false-raw) w.bad-is)
     (λ w. first_of_past (λ l. omega (arith, l, w.if-k-bad.false)) w.bad-is)) c.if-k-bad.branch-raw in (
       omega (arith, c.wide-next-in-loop-next.ensures, falls, c.loop-next.invariant.0),
       λ x h. c.loop-next.invariant.1 x (later k e (subst (OnChain a.link.now x) c.wide-next-in-loop-next.ensures h)),

@@ -26,7 +26,8 @@ loop-i-preserved c =
     let a = c.args in (
       omega (arith, c.loop-i-test.true),
       below_more (λ j. ¬ (ManyMoves a.slots.now a.pool.now (get_or a.labels.now j 0))) c.loop-i.i
-          c.loop-i.invariant.1 (decides_false c.has_many_moves_with.result _ c.has_many_moves_with.ensures c.if-has_many_moves_with.false),
+          c.loop-i.invariant.1 (decides_false c.has_many_moves_with.result _ c.has_many_moves_with.ensures
+          c.if-has_many_moves_with.false),
     )
 
 pub returns : goal.returns

@@ -14,5 +14,9 @@ returns c =
     let there = decides_passed c.is_in.result _ c.is_in.ensures c.if-not-is_in.false-raw in
     let opening = c.held.ensures.only _ there in
     decides_iff c.is_empty.result
-    (λ none. record { opening = opening; answers = within_of_none c.held-answers.ensures c.set_at.ensures c.without.ensures none })
+    (λ none. record {
+      opening = opening;
+      answers = within_of_none c.held-answers.ensures c.set_at.ensures
+          c.without.ensures none;
+    })
     (λ o. none_of_within c.held-answers.ensures c.set_at.ensures c.without.ensures o.answers) c.is_empty.ensures

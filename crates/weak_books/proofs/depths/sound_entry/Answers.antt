@@ -27,7 +27,8 @@ returns-then-side-eq1 c =
     let a = c.args in
     entry_first a.labels.now a.count a.slots.now a.pool.now a.book.now a.k
     c.byte_value-a.ensures c.byte_value.ensures c.if-side-eq1.true c.requires.k_lt_table_length.0
-    (c.requires.held_list.1.only _ c.if-flags-a-eq0.false) c.target_row-row.ensures.0 c.requires.lower_by c.opens_in_row.result
+    (c.requires.held_list.1.only _ c.if-flags-a-eq0.false) c.target_row-row.ensures.0 c.requires.lower_by
+    c.opens_in_row.result
     c.opens_in_row.ensures
 
 pub returns-then-side-eq2 : goal.returns-then-side-eq2
@@ -35,7 +36,8 @@ returns-then-side-eq2 c =
     let a = c.args in
     entry_second a.labels.now a.count a.slots.now a.pool.now a.book.now a.k
     c.byte_value-a.ensures c.byte_value.ensures c.if-side-eq2.true c.requires.k_lt_table_length.0
-    (c.requires.held_list.1.only _ c.if-flags-a-eq0.false) c.target_row-row.ensures.0 c.requires.lower_by c.opens_in_row-then-side-eq2.result
+    (c.requires.held_list.1.only _ c.if-flags-a-eq0.false) c.target_row-row.ensures.0 c.requires.lower_by
+    c.opens_in_row-then-side-eq2.result
     c.opens_in_row-then-side-eq2.ensures
 
 pub returns : goal.returns

@@ -17,7 +17,12 @@ visited : (c : In-loop-q) → Beside c.args.p.0
 visited c =
     let q = c.loop-q.q in
     let inv = c.loop-q.invariant in
-    let small : q < state_limit = omega (arith, c.loop-q-test.true, c.requires.p_lt_n.0, c.requires.held_list.states_le) in
+    let small : q < state_limit = omega (
+      arith,
+      c.loop-q-test.true,
+      c.requires.p_lt_n.0,
+      c.requires.held_list.states_le,
+    ) in
     record { first_is = refl; lower = c.loop-q-test.true; other = inv.1 q (inv.0.member small) }
 
 pub loop-q-init : goal.loop-q-init
@@ -27,7 +32,12 @@ pub enter_pair-requires : goal.enter_pair-requires
 enter_pair-requires c =
     let b = visited (goal.at.enter_pair-requires c).In-loop-q in
     let room = c.loop-q.invariant.2.past.same_length in record {
-      p_lt_n = (c.requires.p_lt_n.0, omega (arith, b.lower, c.requires.p_lt_n.0), omega (arith, room, c.requires.p_lt_n.1));
+      p_lt_n = (
+        c.requires.p_lt_n.0,
+        omega (arith, b.lower, c.requires.p_lt_n.0),
+        omega
+            (arith, room, c.requires.p_lt_n.1),
+      );
       held_list = c.requires.held_list;
       class_sets = c.requires.class_sets;
       not_answers = c.requires.by_index _ b.other;

@@ -56,7 +56,8 @@ loop-p-preserved c =
     let rest = c.drop_least-left.ensures _ inv.0 in (
       c.least-p-in-loop-p.ensures,
       λ x i. inv.1 x (rest.only x i).0,
-      done_next (beside_or_not _ _) (separated_below_of_beside lp c.separated_from-others.ensures) (beside_of_separated_below lp c.separated_from-others.ensures) rest
+      done_next (beside_or_not _ _) (separated_below_of_beside lp c.separated_from-others.ensures)
+          (beside_of_separated_below lp c.separated_from-others.ensures) rest
           inv.2 c.enter_beside.ensures,
     )
 

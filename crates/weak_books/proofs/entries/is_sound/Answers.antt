@@ -55,7 +55,8 @@ returns-then-side-eq2 c =
     let a = c.args in
     entry_second_opens a.labels.now a.count a.slots.now a.pool.now a.book.now a.k
     c.byte_value-a.ensures c.byte_value.ensures c.requires.k_lt_table_length.0
-    (c.requires.held_list.1.only _ c.if-flags-a-eq0.false) c.target_row-row.ensures.0 c.opens_by_answers-then-side-eq2.result
+    (c.requires.held_list.1.only _ c.if-flags-a-eq0.false) c.target_row-row.ensures.0
+    c.opens_by_answers-then-side-eq2.result
     c.if-side-eq2.true c.opens_by_answers-then-side-eq2.ensures
 
 pub returns : goal.returns

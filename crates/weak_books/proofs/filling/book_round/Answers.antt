@@ -22,7 +22,12 @@ returns-then-next-parts c =
 
 pub overflow_add-k : goal.overflow_add-k
 overflow_add-k c =
-    omega (arith, c.requires.k_lt_classes.0, c.requires.k_lt_classes.1.partition.classes_le, c.requires.held_list.0.states_le)
+    omega (
+      arith,
+      c.requires.k_lt_classes.0,
+      c.requires.k_lt_classes.1.partition.classes_le,
+      c.requires.held_list.0.states_le,
+    )
 
 pub enter_round-requires : goal.enter_round-requires
 enter_round-requires c =
@@ -31,7 +36,11 @@ enter_round-requires c =
     record {
       book_length_in_bounds = c.requires.book_length_in_bounds;
       held_list = c.requires.held_list.0;
-      class_sets = (class_sets_of_partition limit old, class_sets_of_partition limit c.round-next.ensures.ready.partition);
+      class_sets = (
+        class_sets_of_partition limit old,
+        class_sets_of_partition limit
+            c.round-next.ensures.ready.partition,
+      );
       by_index = (old.together_lt, old.together_all);
       by_index_2 = separated_not_answers c.round-next.ensures.refined;
     }

@@ -34,7 +34,8 @@ loop-next-smaller c = omega (arith, more c, c.book_round-next.ensures.rounded.re
 pub loop-next-preserved : goal.loop-next-preserved
 loop-next-preserved c =
     let L = c.requires.held_list.0 in
-    booked_suc c.loop-next.invariant c.book_round-next.ensures.round_entered c.book_round-next.ensures.rounded (λ p a q _ m. held_move_target_lt L m) L.states_le (more c)
+    booked_suc c.loop-next.invariant c.book_round-next.ensures.round_entered c.book_round-next.ensures.rounded
+    (λ p a q _ m. held_move_target_lt L m) L.states_le (more c)
 
 pub shape_of-book : goal.shape_of-book
 shape_of-book c =
@@ -43,4 +44,5 @@ shape_of-book c =
 
 pub returns : goal.returns
 returns c =
-    book_ended_of_last c.loop-next.invariant c.book_round-next.ensures.round_entered c.book_round-next.ensures.rounded c.if-next-old.true
+    book_ended_of_last c.loop-next.invariant c.book_round-next.ensures.round_entered c.book_round-next.ensures.rounded
+    c.if-next-old.true

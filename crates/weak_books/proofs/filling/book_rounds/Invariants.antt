@@ -6,7 +6,8 @@ use Rattle.weak_books.proofs.filling.book_rounds.Given as goal
 
 abbrev pub invariant-loop-next : goal.invariant-loop-next
 invariant-loop-next l =
-    Booked (HeldMove l.labels l.count l.slots l.pool) l.n l.k l.first l.initial.book l.book l.class l.members l.origin l.under l.when l.parts.classes
+    Booked (HeldMove l.labels l.count l.slots l.pool) l.n l.k l.first l.initial.book l.book l.class l.members l.origin
+    l.under l.when l.parts.classes
     l.parts.together
 
 abbrev pub decreases-loop-next : goal.decreases-loop-next

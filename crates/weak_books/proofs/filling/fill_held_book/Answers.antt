@@ -26,7 +26,10 @@ book_rounds-done-requires c =
     let zeros = get_or-zeros state_limit in record {
       held_list = (c.requires.held_list, c.note_labels.ensures);
       rounds = rounds-zero c.one_class-parts.ensures.0 zeros zeros (c.one_class-parts.ensures.1 _ zeros);
-      book_length_in_bounds = (omega (arith, c.requires.table_length_in_bounds.1, c.clear-2.ensures.past.same_length), book_up_to-zero c.requires.held_list.states_le (empty_of_cleared c.clear-2.ensures));
+      book_length_in_bounds = (
+        omega (arith, c.requires.table_length_in_bounds.1, c.clear-2.ensures.past.same_length),
+        book_up_to-zero c.requires.held_list.states_le (empty_of_cleared c.clear-2.ensures),
+      );
     }
 
 pub fill_table-requires : goal.fill_table-requires
@@ -55,7 +58,9 @@ pub returns : goal.returns
 returns c =
     let L = c.requires.held_list in
     let same = c.fill_table.auto.table ∙ c.clear.ensures.past.same_length in
-    let finished = finished_of_last c.book_rounds-done.ensures.rounded.rounded refl c.book_rounds-done.ensures.rounded.separates c.fill_table.ensures.by_index c.fill_table.ensures.outside in record {
+    let finished = finished_of_last c.book_rounds-done.ensures.rounded.rounded refl
+    c.book_rounds-done.ensures.rounded.separates c.fill_table.ensures.by_index c.fill_table.ensures.outside in
+    record {
       ranked = ranked_of_finished (held_move_game L) L.some_state L.states_le c.clear.ensures finished same;
       book_filled = book_filled_of_settled (held_move_game L) finished.settled c.book_rounds-done.ensures.entries
           (past_trans c.clear-2.ensures.past c.book_rounds-done.ensures.past);

@@ -14,7 +14,8 @@ returns-then-book-at-ne0 c =
     (subst (λ (k : ℕ). ¬ (get_or book (entry_size * k) 0 ≡ 0)) c.pair_place-at.ensures c.if-book-at-ne0.true)
 
 pub returns-then-t-ge-STATE_LIMIT : goal.returns-then-t-ge-STATE_LIMIT
-returns-then-t-ge-STATE_LIMIT c = pair_opened_none (λ l. omega (arith, l, c.if-t-ge-STATE_LIMIT.true)) c.lowest_opening-t.ensures
+returns-then-t-ge-STATE_LIMIT c = pair_opened_none (λ l. omega (arith, l, c.if-t-ge-STATE_LIMIT.true))
+    c.lowest_opening-t.ensures
 
 pub returns : goal.returns
 returns c =

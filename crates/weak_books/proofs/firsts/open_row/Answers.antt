@@ -7,8 +7,12 @@ use Rattle.weak_books.specs.Laws.FirstsLaws.{label_opened_none, label_opened_to,
 use Rattle.weak_books.proofs.firsts.open_row.Goals as goal
 
 pub loop-q-init : goal.loop-q-init
-loop-q-init c =
-    (c.least-q.ensures, members_left_start c.set_at-left.ensures, label_opened_none _ (no_member_between c.least-q.ensures.least_le (none_at_start c.set_at-left.ensures c.least-q.ensures)))
+loop-q-init c = (
+  c.least-q.ensures,
+  members_left_start c.set_at-left.ensures,
+  label_opened_none _
+      (no_member_between c.least-q.ensures.least_le (none_at_start c.set_at-left.ensures c.least-q.ensures)),
+)
 
 pub open_pair-requires : goal.open_pair-requires
 open_pair-requires c =
@@ -34,7 +38,8 @@ loop-q-preserved c =
       c.least-q-in-loop-q.ensures,
       members_left_next inv.1 inv.0 l L c.least-q-in-loop-q.ensures,
       label_opened_next (inv.1.left_in _ (inv.0.member l)) inv.2 c.open_pair.ensures
-          (member_after inv.1 inv.0 l L c.least-q-in-loop-q.ensures) c.least-q-in-loop-q.ensures.least_le (none_after_member inv.1 inv.0 l L c.least-q-in-loop-q.ensures),
+          (member_after inv.1 inv.0 l L c.least-q-in-loop-q.ensures) c.least-q-in-loop-q.ensures.least_le
+          (none_after_member inv.1 inv.0 l L c.least-q-in-loop-q.ensures),
     )
 
 pub shape_of-book : goal.shape_of-book

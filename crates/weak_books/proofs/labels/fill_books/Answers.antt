@@ -36,7 +36,14 @@ pub fill_label_book-requires : goal.fill_label_book-requires
 fill_label_book-requires c =
     record {
       label_list = c.requires.label_list;
-      ranks = (c.rank_labels-top.ensures.table, omega (arith, c.rank_labels-top.ensures.past.same_length, c.requires.table_length_in_bounds.0));
+      ranks = (
+        c.rank_labels-top.ensures.table,
+        omega (
+          arith,
+          c.rank_labels-top.ensures.past.same_length,
+          c.requires.table_length_in_bounds.0,
+        ),
+      );
       by_index = ranked_entry_le c.rank_labels-top.ensures;
       book_length_in_bounds = c.requires.table_length_in_bounds.1;
     }

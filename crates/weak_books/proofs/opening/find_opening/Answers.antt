@@ -19,7 +19,14 @@ pub lowest_apart-target-requires : goal.lowest_apart-target-requires
 lowest_apart-target-requires c =
     let H = c.requires.held_list in
     record {
-      n_le_state_limit = (H.states_le, c.requires.p_lt_state_limit.0, c.requires.p_lt_state_limit.1, omega (arith, c.target_row-row.ensures.1), H.slot_lt);
+      n_le_state_limit = (
+        H.states_le,
+        c.requires.p_lt_state_limit.0,
+        c.requires.p_lt_state_limit.1,
+        omega
+            (arith, c.target_row-row.ensures.1),
+        H.slot_lt,
+      );
       by_index = row_target_lt H c.loop-i-test.true c.target_row-row.ensures.0;
       class_sets = c.requires.class_sets;
     }
@@ -32,7 +39,8 @@ returns-then-target-lt-STATE_LIMIT c =
     let low = lowest_to-row (HeldAt a.slots.now a.pool.now) c.target_row-row.ensures.0
     c.lowest_apart-target.ensures in record {
       label_lt_label_limit = (label_lt (H.label _ l), low.lowest_le);
-      first_apart = first_apart_of_lowest H c.requires.p_lt_state_limit.0 c.requires.p_lt_state_limit.1 l c.loop-i.invariant.1 refl low c.if-target-lt-STATE_LIMIT.true;
+      first_apart = first_apart_of_lowest H c.requires.p_lt_state_limit.0 c.requires.p_lt_state_limit.1 l
+          c.loop-i.invariant.1 refl low c.if-target-lt-STATE_LIMIT.true;
     }
 
 pub loop-i-preserved : goal.loop-i-preserved
@@ -49,5 +57,6 @@ returns c =
     let inv = c.loop-i.invariant in
     let e : c.loop-i.i ≡ c.args.count = omega (arith, inv.0, c.loop-i-test.false) in record {
       label_lt_label_limit = (omega arith, omega arith);
-      first_apart = first_apart_none c.requires.held_list c.requires.p_lt_state_limit.0 c.requires.p_lt_state_limit.1 (none_opens_at e inv.1) (λ l. omega (arith, l));
+      first_apart = first_apart_none c.requires.held_list c.requires.p_lt_state_limit.0 c.requires.p_lt_state_limit.1
+          (none_opens_at e inv.1) (λ l. omega (arith, l));
     }

@@ -21,7 +21,11 @@ loop-t-init c = (c.least-t.ensures, tried-start)
 
 pub set_at-alike-requires : goal.set_at-alike-requires
 set_at-alike-requires c =
-    omega (arith, c.requires.class_sets.class_lt _ (target_lt (goal.at.set_at-alike-requires c).In-loop-t), c.class_at-c.ensures)
+    omega (
+      arith,
+      c.requires.class_sets.class_lt _ (target_lt (goal.at.set_at-alike-requires c).In-loop-t),
+      c.class_at-c.ensures,
+    )
 
 pub returns-then-is_empty : goal.returns-then-is_empty
 returns-then-is_empty c =

@@ -8,7 +8,8 @@ use Rattle.weak_books.proofs.ranked.row_at_rank.Given as goal
 
 abbrev pub invariant-loop-q : goal.invariant-loop-q
 invariant-loop-q l =
-    (l.q ≤ l.n) × (length l.sets ≡ length l.initial.sets) × Joined l.p.0 (RowAtRank l.table l.r l.p.0 l.q) l.initial.sets l.sets
+    (l.q ≤ l.n) × (length l.sets ≡ length l.initial.sets) × Joined l.p.0 (RowAtRank l.table l.r l.p.0 l.q)
+    l.initial.sets l.sets
 
 abbrev pub decreases-loop-q : goal.decreases-loop-q
 decreases-loop-q l = l.n - l.q

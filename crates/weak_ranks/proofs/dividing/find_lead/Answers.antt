@@ -71,8 +71,16 @@ returns-then-s-eq0 c =
 
 pub loop-p-smaller : goal.loop-p-smaller
 loop-p-smaller c =
-    omega (arith, below (goal.at.loop-p-smaller c).At-loop-p, sought_gt c.loop-p.invariant.1 (dividing (goal.at.loop-p-smaller c).At-loop-p) (omega arith))
+    omega (
+      arith,
+      below (goal.at.loop-p-smaller c).At-loop-p,
+      sought_gt c.loop-p.invariant.1
+          (dividing (goal.at.loop-p-smaller c).At-loop-p) (omega arith),
+    )
 
 pub loop-p-preserved : goal.loop-p-preserved
-loop-p-preserved c =
-    (c.loop-p.invariant.0, sought_next c.loop-p.invariant.1 (other (goal.at.loop-p-preserved c).Else-is_equal) (omega arith))
+loop-p-preserved c = (
+  c.loop-p.invariant.0,
+  sought_next c.loop-p.invariant.1 (other (goal.at.loop-p-preserved c).Else-is_equal)
+      (omega arith),
+)

@@ -30,7 +30,8 @@ loop-a-preserved c =
     let inv = c.loop-a.invariant in
     elim c.if-from-of.branch [
       | then-from-of w ↦
-          let D = divided_under_action inv.2 c.requires.label_list.states_le w.low_keys.ensures w.divide_by_keys.ensures.divided_by in
+          let D = divided_under_action inv.2 c.requires.label_list.states_le w.low_keys.ensures
+          w.divide_by_keys.ensures.divided_by in
           rw w.next-is (omega arith, w.divide_by_keys.ensures.lead_classes, D)
       | else-from-of w ↦
           let D = divided_under_idle inv.2 (label_move_none (omega arith) (omega arith)) in

@@ -23,7 +23,12 @@ loop-p-preserved c =
             omega arith,
             changed_more inv.2 (λ e. w.if-c-d.true (c.class_at-c.ensures ∙ e ∙ sym c.class_at-d.ensures)) room,
           ))
-      | else-c-d w ↦ rw (w.list-is, w.count-is) (omega arith, omega arith, changed_skip inv.2 (sym c.class_at-c.ensures ∙ w.if-c-d.false ∙ c.class_at-d.ensures))
+      | else-c-d w ↦ rw (w.list-is, w.count-is) (
+        omega arith,
+        omega arith,
+        changed_skip inv.2
+            (sym c.class_at-c.ensures ∙ w.if-c-d.false ∙ c.class_at-d.ensures),
+      )
     ]
 
 pub returns : goal.returns

@@ -24,11 +24,13 @@ weak_rounds-requires c =
       targets = c.silent_targets.ensures;
       table_length_in_bounds = omega (arith, c.requires.table_length_in_bounds, c.clear.auto.list);
       ranks_up_to = ranks_up_to-zero _
-          (λ p q lp lq. c.clear.ensures.given (pair_place p q) (omega (arith, lp, lq, c.requires.label_list.states_le)));
+          (λ p q lp lq. c.clear.ensures.given (pair_place p q)
+          (omega (arith, lp, lq, c.requires.label_list.states_le)));
     }
 
 pub returns : goal.returns
 returns c =
     let same = c.weak_rounds.auto.table ∙ c.clear.auto.list in
-    ranked_of_finished (label_move_game c.requires.label_list) c.requires.label_list.some_state c.requires.label_list.states_le c.clear.ensures
+    ranked_of_finished (label_move_game c.requires.label_list) c.requires.label_list.some_state
+    c.requires.label_list.states_le c.clear.ensures
     c.weak_rounds.ensures same

@@ -13,7 +13,8 @@ silent_keys_along-requires c =
 
 pub divide_low-requires : goal.divide_low-requires
 divide_low-requires c =
-    let D = divided_under_silent c.requires.label_list.states_le c.silent_keys_along.ensures c.divide_by_keys.ensures.divided_by in
+    let D = divided_under_silent c.requires.label_list.states_le c.silent_keys_along.ensures
+    c.divide_by_keys.ensures.divided_by in
     record {
       label_list = c.requires.label_list;
       targets = c.requires.targets;

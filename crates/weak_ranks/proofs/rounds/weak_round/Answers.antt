@@ -12,7 +12,11 @@ write_rows-requires c =
     let limit = c.requires.label_list.states_le in
     record {
       table_length_in_bounds = c.requires.table_length_in_bounds;
-      n_le_state_limit = (limit, omega (arith, limit, changed-count_le c.list_changed-changed.ensures), c.list_changed-changed.ensures.listed_lt);
+      n_le_state_limit = (
+        limit,
+        omega (arith, limit, changed-count_le c.list_changed-changed.ensures),
+        c.list_changed-changed.ensures.listed_lt,
+      );
     }
 
 pub returns : goal.returns
@@ -21,9 +25,15 @@ returns c =
     let A = c.requires.k_lt_n.1 in
     let C = c.requires.k_lt_n.2 in
     record {
-      lead_classes = (c.refine_by_keys.ensures.lead_classes_2, round_classes (λ p a q _ m. label_move_target_lt L m) C c.refine_by_keys.ensures.refined);
+      lead_classes = (
+        c.refine_by_keys.ensures.lead_classes_2,
+        round_classes (λ p a q _ m. label_move_target_lt L m) C
+            c.refine_by_keys.ensures.refined,
+      );
       ranks_up_to_2 = round_ranks (λ p a q _ m. label_move_target_lt L m) C c.refine_by_keys.ensures.refined
-          (round_written_of_rows c.list_changed-changed.ensures c.write_rows.ensures.written c.write_rows.ensures.rows_written) c.requires.ranks_up_to;
+          (round_written_of_rows c.list_changed-changed.ensures c.write_rows.ensures.written
+          c.write_rows.ensures.rows_written) c.requires.ranks_up_to;
       outside = c.write_rows.ensures.written.outside;
-      round_separates = leads_separate (λ p a q _ m. label_move_target_lt L m) C c.refine_by_keys.ensures.refined A c.refine_by_keys.ensures.lead_classes_2 c.list_changed-changed.ensures;
+      round_separates = leads_separate (λ p a q _ m. label_move_target_lt L m) C c.refine_by_keys.ensures.refined A
+          c.refine_by_keys.ensures.lead_classes_2 c.list_changed-changed.ensures;
     }

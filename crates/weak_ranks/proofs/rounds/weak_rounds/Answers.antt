@@ -58,7 +58,8 @@ loop-class-preserved c =
       leads = c.weak_round-changed.ensures.lead_classes.0;
       are_classes = c.weak_round-changed.ensures.lead_classes.1;
       ranks = c.weak_round-changed.ensures.ranks_up_to_2;
-      separates = below_more _ c.loop-class.k inv.separates (c.weak_round-changed.ensures.round_separates.separates some);
+      separates = below_more _ c.loop-class.k inv.separates (c.weak_round-changed.ensures.round_separates.separates
+          some);
       outside = outside_trans inv.outside c.weak_round-changed.ensures.outside;
       table_length_is = c.weak_round-changed.auto.table ∙ inv.table_length_is;
     }

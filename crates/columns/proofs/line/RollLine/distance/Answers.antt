@@ -14,7 +14,8 @@ returns-then-is_unreachable c =
 
 pub number-requires : goal.number-requires
 number-requires c =
-    let l = c.requires.distance_fits.distance_lt (decides_false c.is_unreachable.result _ c.is_unreachable.ensures c.if-is_unreachable.false) in
+    let l = c.requires.distance_fits.distance_lt (decides_false c.is_unreachable.result _ c.is_unreachable.ensures
+    c.if-is_unreachable.false) in
     (omega (arith, l, c.distance_at.ensures), c.requires.number_width_in_bounds)
 
 pub returns : goal.returns

@@ -11,7 +11,15 @@ pub byte-requires : goal.byte-requires
 byte-requires c =
     let w = c.blanks-row.ensures.0 in
     let l = length-replicate (roll_width - (c.args.self.at.at - c.args.self.begin)) byte_blank in
-    omega (arith, c.requires.begin_le_at.0, c.requires.begin_le_at.1, c.requires.roll_width_in_bounds, w.place, wrote-length w, l)
+    omega (
+      arith,
+      c.requires.begin_le_at.0,
+      c.requires.begin_le_at.1,
+      c.requires.roll_width_in_bounds,
+      w.place,
+      wrote-length w,
+      l,
+    )
 
 pub returns : goal.returns
 returns c =

@@ -13,7 +13,8 @@ name_length-name_length-requires c =
 pub indented-requires : goal.indented-requires
 indented-requires c =
     let room = c.requires.name_room in
-    let n = c.name_length-name_length.ensures ∙ name_length_stored c.requires.writable c.args.a.0 c.requires.a_in_bounds in
+    let n = c.name_length-name_length.ensures ∙ name_length_stored c.requires.writable c.args.a.0
+    c.requires.a_in_bounds in
     record {
       writable = c.requires.writable;
       a_in_bounds = c.requires.a_in_bounds;
@@ -22,14 +23,17 @@ indented-requires c =
 
 pub returns-then-used-name_length-le-WIDTH : goal.returns-then-used-name_length-le-WIDTH
 returns-then-used-name_length-le-WIDTH c =
-    let n = c.name_length-name_length.ensures ∙ name_length_stored c.requires.writable c.args.a.0 c.requires.a_in_bounds in
-    filled_fits (name_length_le c.requires.writable c.args.a.0 c.requires.a_in_bounds) (omega (arith, n, c.if-used-name_length-le-WIDTH.true))
+    let n = c.name_length-name_length.ensures ∙ name_length_stored c.requires.writable c.args.a.0
+    c.requires.a_in_bounds in
+    filled_fits (name_length_le c.requires.writable c.args.a.0 c.requires.a_in_bounds)
+    (omega (arith, n, c.if-used-name_length-le-WIDTH.true))
     c.indented.ensures.1 c.indented.ensures.0
 
 pub indented-requires-2 : goal.indented-requires-2
 indented-requires-2 c =
     let room = c.requires.name_room in
-    let n = c.name_length-name_length.ensures ∙ name_length_stored c.requires.writable c.args.a.0 c.requires.a_in_bounds in
+    let n = c.name_length-name_length.ensures ∙ name_length_stored c.requires.writable c.args.a.0
+    c.requires.a_in_bounds in
     let l = name_length_le c.requires.writable c.args.a.0 c.requires.a_in_bounds in
     let place = ended_place room.begin_le room.at_le c.end-at.ensures in
     let next = room.next_lt (omega (arith, n, c.if-used-name_length-le-WIDTH.false)) in record {
@@ -40,6 +44,8 @@ indented-requires-2 c =
 
 pub returns : goal.returns
 returns c =
-    let n = c.name_length-name_length.ensures ∙ name_length_stored c.requires.writable c.args.a.0 c.requires.a_in_bounds in
-    filled_next (name_length_le c.requires.writable c.args.a.0 c.requires.a_in_bounds) (omega (arith, n, c.if-used-name_length-le-WIDTH.false))
+    let n = c.name_length-name_length.ensures ∙ name_length_stored c.requires.writable c.args.a.0
+    c.requires.a_in_bounds in
+    filled_next (name_length_le c.requires.writable c.args.a.0 c.requires.a_in_bounds)
+    (omega (arith, n, c.if-used-name_length-le-WIDTH.false))
     c.end-at.ensures c.start.ensures c.indented-2.ensures.1 c.indented-2.ensures.0

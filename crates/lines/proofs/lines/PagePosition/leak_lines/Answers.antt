@@ -56,8 +56,15 @@ fill_run-n-requires c =
     }
 
 pub run_lines-page-requires : goal.run_lines-page-requires
-run_lines-page-requires c =
-    (run_written_le c.fill_run-n.ensures, omega (arith, run_room c.requires.judged_lists.showable.lists.stored c.fill_run-n.ensures c.args.form, room (goal.at.run_lines-page-requires c).In-Refused))
+run_lines-page-requires c = (
+  run_written_le c.fill_run-n.ensures,
+  omega (
+    arith,
+    run_room c.requires.judged_lists.showable.lists.stored
+        c.fill_run-n.ensures c.args.form,
+    room (goal.at.run_lines-page-requires c).In-Refused,
+  ),
+)
 
 pub show-shown-requires : goal.show-shown-requires
 show-shown-requires c =
@@ -69,10 +76,13 @@ shown_lines-requires c =
     let st = J.showable.lists.stored in
     let form = c.args.form in
     let short = run_room st c.fill_run-n.ensures form in
-    let few = shown_room_le st (refused (goal.at.shown_lines-requires c).In-Refused) form c.show-shown.result c.show-shown.ensures in record {
+    let few = shown_room_le st (refused (goal.at.shown_lines-requires c).In-Refused) form c.show-shown.result
+    c.show-shown.ensures in record {
       writable = record { long = st.length_le; good = J.good };
-      spelled = spelled_of st (refused (goal.at.shown_lines-requires c).In-Refused) c.show-shown.result c.show-shown.ensures;
-      shown_in_bounds = written_rest (shown_room form c.show-shown.result) (omega (arith, short, few, room (goal.at.shown_lines-requires c).In-Refused))
+      spelled = spelled_of st (refused (goal.at.shown_lines-requires c).In-Refused) c.show-shown.result
+          c.show-shown.ensures;
+      shown_in_bounds = written_rest (shown_room form c.show-shown.result)
+          (omega (arith, short, few, room (goal.at.shown_lines-requires c).In-Refused))
           (c.run_lines-page.ensures (model_at c.args.store.now));
     }
 
@@ -84,5 +94,6 @@ returns c =
     (refused (goal.at.returns c).In-Refused).leak.high_step.number_lt
     in
     after-refused c.in-Refused.is
-    (leak_lines_written st (refused (goal.at.returns c).In-Refused) c.show-shown.result e c.fill_run-n.ensures c.show-shown.ensures
+    (leak_lines_written st (refused (goal.at.returns c).In-Refused) c.show-shown.result e c.fill_run-n.ensures
+    c.show-shown.ensures
     (c.run_lines-page.ensures (model_at c.args.store.now)) c.shown_lines.ensures)

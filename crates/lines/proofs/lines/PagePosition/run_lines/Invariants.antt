@@ -14,7 +14,8 @@ abbrev pub invariant-loop-i : goal.invariant-loop-i
 invariant-loop-i l =
     (l.i ≤ l.n) × (length l.out ≡ length l.initial.out)
     × ((m : Model)
-    → LinesWritten l.form m (◌≡◌ (map run_line (take l.i l.run))) (line_room l.form run_width * l.i) l.initial.out l.initial.page.at.at l.out
+    → LinesWritten l.form m (◌≡◌ (map run_line (take l.i l.run))) (line_room l.form run_width * l.i) l.initial.out
+    l.initial.page.at.at l.out
     l.page.at.at)
 
 abbrev pub decreases-loop-i : goal.decreases-loop-i

@@ -16,7 +16,10 @@ state_text-requires c =
     let p = c.args.p.0 in
     let line = state_line p (distance_of c.args.distances.now p) c.args.class.0 in
     let e = ap length (form_bytes_page m line c.in-Page.is) in record {
-      p_lt_distances_length = (omega (arith, c.requires.p_bound.0, c.requires.step_lists.stored.states_le), c.requires.distances_length_in_bounds.0);
+      p_lt_distances_length = (
+        omega (arith, c.requires.p_bound.0, c.requires.step_lists.stored.states_le),
+        c.requires.distances_length_in_bounds.0,
+      );
       class_in_bounds = omega (arith, e, line_bytes-length line, c.requires.class_in_bounds);
     }
 
@@ -26,7 +29,15 @@ line_end-requires c =
     let p = c.args.p.0 in
     let line = state_line p (distance_of c.args.distances.now p) c.args.class.0 in
     let e = ap length (form_bytes_page m line c.in-Page.is) in
-    omega (arith, e, line_bytes-length line, c.requires.class_in_bounds, c.state_text.ensures.place, wrote-length c.state_text.ensures)
+    omega (
+      arith,
+      e,
+      line_bytes-length line,
+      c.requires.class_in_bounds,
+      c.state_text.ensures.place,
+      wrote-length
+          c.state_text.ensures,
+    )
 
 pub state_rows-requires : goal.state_rows-requires
 state_rows-requires c =

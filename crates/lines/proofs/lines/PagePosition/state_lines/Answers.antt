@@ -24,7 +24,8 @@ loop-i-init c =
 pub class_of-class-requires : goal.class_of-class-requires
 class_of-class-requires c =
     let L = c.requires.model_lists in
-    let l : c.loop-i.i < (model_at c.args.store.now).head.states = omega (arith, c.loop-i.invariant.0, c.loop-i-test.true) in
+    let l : c.loop-i.i < (model_at c.args.store.now).head.states = omega
+    (arith, c.loop-i.invariant.0, c.loop-i-test.true) in
     record {
       p_lt_state_limit = (omega (arith, l, L.stored.states_le), L.table_length_is);
       p_value = diagonal_zero L c.loop-i.i l;
@@ -40,7 +41,8 @@ state_line-page-requires c =
     let fits = state_length_le L c.loop-i.i _ c.class_of-class.result.0 l distance c.class_of-class.ensures.le form
     (name_length_le c.requires.writable) in
     let room = written_rest (state_room form m c.loop-i.i)
-    (omega (arith, states_room_lt form m c.loop-i.i m.head.states l, c.requires.store_in_bounds)) c.loop-i.invariant.3 in record {
+    (omega (arith, states_room_lt form m c.loop-i.i m.head.states l, c.requires.store_in_bounds))
+    c.loop-i.invariant.3 in record {
       writable = c.requires.writable;
       step_lists = c.requires.step_lists;
       distances_length_in_bounds = (L.distances_length_is, L.distances_are);
@@ -57,11 +59,13 @@ loop-i-preserved c =
       c.loop-i.invariant.0,
       omega (arith, c.loop-i-test.true),
       search rules,
-      state_lines_next c.loop-i.invariant.3 distance (class_of_zero L c.loop-i.i c.class_of-class.result.0 l c.class_of-class.ensures)
+      state_lines_next c.loop-i.invariant.3 distance (class_of_zero L c.loop-i.i c.class_of-class.result.0 l
+          c.class_of-class.ensures)
           (state_length_le L c.loop-i.i _ c.class_of-class.result.0 l distance c.class_of-class.ensures.le c.args.form
           (name_length_le c.requires.writable)) c.state_line-page.ensures,
     )
 
 pub returns : goal.returns
 returns c =
-    state_lines_all (omega (arith, c.loop-i.invariant.0, c.loop-i.invariant.1, c.loop-i-test.false)) c.loop-i.invariant.3
+    state_lines_all (omega (arith, c.loop-i.invariant.0, c.loop-i.invariant.1, c.loop-i-test.false))
+    c.loop-i.invariant.3

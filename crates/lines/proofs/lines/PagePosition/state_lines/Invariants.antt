@@ -11,7 +11,8 @@ use Rattle.lines.proofs.lines.PagePosition.state_lines.Given as goal
 abbrev pub invariant-loop-i : goal.invariant-loop-i
 invariant-loop-i l =
     (l.n ≡ (model_at l.store).head.states) × (l.i ≤ l.n) × (length l.out ≡ length l.initial.out)
-    × LinesWritten l.form (model_at l.store) (StateLines (model_at l.store) l.i) (states_room l.form (model_at l.store) l.i) l.initial.out
+    × LinesWritten l.form (model_at l.store) (StateLines (model_at l.store) l.i)
+    (states_room l.form (model_at l.store) l.i) l.initial.out
     l.initial.page.at.at l.out l.page.at.at
 
 abbrev pub decreases-loop-i : goal.decreases-loop-i

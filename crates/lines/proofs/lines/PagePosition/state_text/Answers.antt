@@ -21,7 +21,12 @@ distance_field-requires c =
     let p = c.args.p.0 in
     record {
       p_lt_distances_length = c.requires.p_lt_distances_length;
-      p_in_bounds = omega (arith, c.requires.class_in_bounds, state-length p (distance_of c.args.distances.now p) c.args.class.0);
+      p_in_bounds = omega (
+        arith,
+        c.requires.class_in_bounds,
+        state-length p (distance_of c.args.distances.now p)
+            c.args.class.0,
+      );
     }
 
 pub field-at-requires-2 : goal.field-at-requires-2

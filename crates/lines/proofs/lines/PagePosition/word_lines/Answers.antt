@@ -21,7 +21,8 @@ name_text-requires c =
     let letter = c.requires.letters.actions c.loop-i.i l in record {
       writable = c.requires.writable;
       a_in_bounds = letter;
-      a_in_bounds_2 = text_room (name_line_fits c.requires.writable (get_or c.args.word.now c.loop-i.i 0) letter) form c.loop-i.page.at.at
+      a_in_bounds_2 = text_room (name_line_fits c.requires.writable (get_or c.args.word.now c.loop-i.i 0) letter) form
+          c.loop-i.page.at.at
           (written_room (line_room form name_width) l c.requires.n_in_bounds c.loop-i.invariant.2);
     }
 
@@ -40,8 +41,10 @@ loop-i-preserved c =
     let letter = c.requires.letters.actions c.loop-i.i l in (
       omega (arith, l),
       search rules,
-      written_next (name_line (model_at c.args.store.now)) word c.loop-i.i (omega (arith, l, c.requires.letters.list_le))
-          (name_line_fits c.requires.writable (get_or word c.loop-i.i 0) letter) c.loop-i.invariant.2 c.name_text.ensures
+      written_next (name_line (model_at c.args.store.now)) word c.loop-i.i
+          (omega (arith, l, c.requires.letters.list_le))
+          (name_line_fits c.requires.writable (get_or word c.loop-i.i 0) letter) c.loop-i.invariant.2
+          c.name_text.ensures
           c.line_end-page.ensures,
     )
 

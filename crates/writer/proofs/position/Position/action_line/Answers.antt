@@ -25,7 +25,8 @@ pub returns : goal.returns
 unfolding action_text
 returns c =
     let byte = rw c.level.ensures at (rw c.level_letter-letter.ensures at c.byte-at-3.ensures) in
-    let text = rw (← name_of_stored c.requires.writable c.args.a.0 c.requires.a_in_bounds) at c.action_name-at.ensures in
+    let text = rw (← name_of_stored c.requires.writable c.args.a.0 c.requires.a_in_bounds) at
+    c.action_name-at.ensures in
     wrote-append
     (wrote-append
     (wrote-append c.byte-at.ensures (wrote-append c.byte-at-2.ensures byte))

@@ -30,7 +30,14 @@ action_line-at-requires c =
     record {
       writable = c.requires.writable;
       a_in_bounds = l;
-      a_in_bounds_2 = omega (arith, c.requires.store_in_bounds, room, n, ap length (name_of_stored c.requires.writable i l));
+      a_in_bounds_2 = omega (
+        arith,
+        c.requires.store_in_bounds,
+        room,
+        n,
+        ap length
+            (name_of_stored c.requires.writable i l),
+      );
     }
 
 pub loop-i-preserved : goal.loop-i-preserved

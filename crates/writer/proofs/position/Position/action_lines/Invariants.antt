@@ -9,7 +9,8 @@ use Rattle.writer.proofs.position.Position.action_lines.Given as goal
 
 abbrev pub invariant-loop-i : goal.invariant-loop-i
 invariant-loop-i l =
-    (l.i ≤ l.n) × (length l.out ≡ length l.initial.out) × Wrote l.initial.out l.initial.at.at (actions_text (listed l.i (action_at l.store))) l.out l.at.at
+    (l.i ≤ l.n) × (length l.out ≡ length l.initial.out) × Wrote l.initial.out l.initial.at.at
+    (actions_text (listed l.i (action_at l.store))) l.out l.at.at
 
 abbrev pub decreases-loop-i : goal.decreases-loop-i
 decreases-loop-i l = l.n - l.i

@@ -21,7 +21,8 @@ name-requires c =
     let name = name_part c.requires.writable c.args.a.0 c.requires.a_in_bounds _ _ c.name_place-from.ensures
     c.name_length.ensures in record {
       name_in_bounds = omega (arith, ap length name, c.requires.a_in_bounds_2);
-      all = subst (All (λ (b : ℕ). b < 256)) (sym name) (name_bytes_lt c.requires.writable c.args.a.0 c.requires.a_in_bounds);
+      all = subst (All (λ (b : ℕ). b < 256)) (sym name) (name_bytes_lt c.requires.writable c.args.a.0
+          c.requires.a_in_bounds);
     }
 
 pub returns : goal.returns
