@@ -44,32 +44,32 @@ module _ {keys class next link : List ℕ} {p : ℕ} (D : DividedUpTo keys class
     lead_keys_more x l (inr d) = subst (λ (y : ℕ). SameSet keys y x) (sym (same x d)) (D.lead_keys x (omega arith))
 
   -- p follows a lead with its key.
-  module _ {r : ℕ} (here : get_or next' p 0 ≡ r) (L : Lead class next p (get_or class p 0) r) (K : SameSet keys r p)
-    where
-      not_lead : {c x : ℕ} → Lead class next' (p + 1) c x → ¬ (x ≡ p)
-      not_lead {c} {x} M e =
-          let o : get_or next' p 0 ≡ p = subst (λ (y : ℕ). get_or next' y 0 ≡ y) e M.own in
-          absurd (omega (arith, o, here, L.state_lt))
+  module _ {r : ℕ} (here : get_or next' p 0 ≡ r) (L : Lead class next p (get_or class p 0) r)
+      (K : SameSet keys r p) where
+    not_lead : {c x : ℕ} → Lead class next' (p + 1) c x → ¬ (x ≡ p)
+    not_lead {c} {x} M e =
+        let o : get_or next' p 0 ≡ p = subst (λ (y : ℕ). get_or next' y 0 ≡ y) e M.own in
+        absurd (omega (arith, o, here, L.state_lt))
 
-      next_lead_stays : {c x s : ℕ} → NextLead class next p c x s → NextLead class next' (p + 1) c x s
-      next_lead_stays N = record {
-        next_gt = N.next_gt;
-        is_lead = λ z. lead_stays (N.is_lead z);
-        none_between = λ y l M. N.none_between y l (lead_before (not_lead M) M);
-      }
+    next_lead_stays : {c x s : ℕ} → NextLead class next p c x s → NextLead class next' (p + 1) c x s
+    next_lead_stays N = record {
+      next_gt = N.next_gt;
+      is_lead = λ z. lead_stays (N.is_lead z);
+      none_between = λ y l M. N.none_between y l (lead_before (not_lead M) M);
+    }
 
-      pub divided_follows : DividedUpTo keys class next' link (p + 1)
-      divided_follows =
-          let le : r ≤ p = omega (arith, L.state_lt) in
-          record {
-            lead_le = λ x l. lead_le_more here le (lead_stays L) K x l (eq_or_not x p);
-            lead = λ x l. lead_more here le (lead_stays L) K x l (eq_or_not x p);
-            lead_keys = λ x l. lead_keys_more here le (lead_stays L) K x l (eq_or_not x p);
-            apart = λ c x y M N. D.apart c x y (lead_before (not_lead M) M) (lead_before (not_lead N) N);
-            links = λ c x M. next_lead_stays (D.links c x (lead_before (not_lead M) M));
-            rest = λ x l. same x (λ e. absurd (omega arith)) ∙ D.rest x (omega arith);
-            no_links = λ x l. D.no_links x (omega arith);
-          }
+    pub divided_follows : DividedUpTo keys class next' link (p + 1)
+    divided_follows =
+        let le : r ≤ p = omega (arith, L.state_lt) in
+        record {
+          lead_le = λ x l. lead_le_more here le (lead_stays L) K x l (eq_or_not x p);
+          lead = λ x l. lead_more here le (lead_stays L) K x l (eq_or_not x p);
+          lead_keys = λ x l. lead_keys_more here le (lead_stays L) K x l (eq_or_not x p);
+          apart = λ c x y M N. D.apart c x y (lead_before (not_lead M) M) (lead_before (not_lead N) N);
+          links = λ c x M. next_lead_stays (D.links c x (lead_before (not_lead M) M));
+          rest = λ x l. same x (λ e. absurd (omega arith)) ∙ D.rest x (omega arith);
+          no_links = λ x l. D.no_links x (omega arith);
+        }
 
   -- p becomes a lead, since no lead of its class has its key.
   module _ (here : get_or next' p 0 ≡ p) (fresh : (x : ℕ) → Lead class next p (get_or class p 0) x → ¬
