@@ -1,6 +1,6 @@
 -- What Check tells of a book.
 -- Document 02, (v) and (vii).
-use Rattle.std.specs.Prelude.{List, [], ◌≡◌, ℕ, ◌<◌}
+use Rattle.std.specs.Prelude.{List, [], ◌≡◌, ℕ, ◌<◌, Result, Ok, Err, ⊤}
 use Rattle.lts.specs.Alike.{Moves}
 use Rattle.lts.specs.Book.{SoundAt, Sound}
 use Rattle.lts.specs.Weak.{Weak}
@@ -8,13 +8,12 @@ use Rattle.text.specs.Faults.{Outcome, answers, refuses}
 use Rattle.text.specs.Limits.{state_limit, pair_place}
 use Rattle.by_state.specs.MoveList.{Listed}
 use Rattle.books.specs.Books.{book_of}
-use Rattle.books.specs.declared.check.Checked.{Checked}
-use Rattle.books.specs.declared.check.Checked.TheVariants as checked
+use Rattle.books.specs.declared.check.BadEntry.{BadEntry}
 
 -- "A book that is not sound is refused as 34, with the first bad pair's entry number 128p + q".
-unfoldable pub checked_outcome : Checked → Outcome
-checked_outcome checked.Sound = answers []
-checked_outcome (checked.Bad number) = refuses 34 number
+unfoldable pub checked_outcome : Result ⊤ BadEntry → Outcome
+checked_outcome (Ok _) = answers []
+checked_outcome (Err bad) = refuses 34 bad.0
 
 -- p and q are the first pair whose entry is bad.
 pub record FirstBad (Move : Moves) (book : List ℕ) (p q : ℕ) : Type 0 where

@@ -4,6 +4,7 @@ pub mod FillingLaws
 pub mod PairLaws
 pub mod RowsLaws
 pub mod InGroupLaws
+pub mod GroupTargetsLaws
 pub mod SidesLaws
 pub mod EntryLaws
 pub mod StillLaws

@@ -4,5 +4,7 @@
 
 pub mod book;
 pub mod check;
+pub mod entry;
 pub mod groups;
+pub mod listed;
 pub mod openings;

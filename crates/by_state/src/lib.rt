@@ -6,5 +6,5 @@ pub mod lists;
 pub mod stores;
 
 // The number of a class of states.
-#[derive(Clone, Copy)]
+#[derive(Clone, Copy, PartialEq, Eq)]
 pub struct Class(pub u16);

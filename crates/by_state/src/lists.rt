@@ -6,7 +6,7 @@ use crate::Class;
 use text::State;
 use text::limits::{INDEX_LENGTH, ROW};
 
-// A number of a list as a place.
+// A number of a list as a place, as a cast is too; the function stays, since it is public.
 pub fn wide(x: u16) -> usize
     ensures { result ≡ x }
 {

@@ -25,13 +25,11 @@ fn digit_count(n: u16) -> usize
     requires { n < 1000 }
     ensures { result ≡ length (digits n) }
 {
-    if n < 10 {
-        return 1;
+    match n {
+        0..=9 => 1,
+        10..=99 => 2,
+        _ => 3,
     }
-    if n < 100 {
-        return 2;
-    }
-    3
 }
 
 impl RollLine {
@@ -39,8 +37,7 @@ impl RollLine {
     pub fn start(at: Position) -> RollLine
         ensures { (result.at.at ≡ at.at) × (result.begin ≡ at.at) }
     {
-        let begin = at.at;
-        RollLine { at, begin }
+        RollLine { at, begin: at.at }
     }
 
     // n blanks.
@@ -49,15 +46,11 @@ impl RollLine {
         ensures { Wrote out.old self.at.at (blanks n) out.new result.at.at
             × (result.begin ≡ self.begin) }
     {
-        let mut at = self.at;
-        let mut i: usize = 0;
-        while i < n {
-            at = at.byte(out, b' ');
-            i += 1;
-        }
+        let end = self.at.at + n;
+        out[self.at.at..end].fill(b' ');
         RollLine {
-            at,
-            begin: self.begin,
+            at: Position { at: end },
+            ..self
         }
     }
 
@@ -68,10 +61,9 @@ impl RollLine {
             result.at.at × (result.begin ≡ self.begin) }
     {
         let row = self.blanks(out, NUMBER_WIDTH - digit_count(n));
-        let at = row.at.number(out, n);
         RollLine {
-            at,
-            begin: row.begin,
+            at: row.at.number(out, n),
+            ..row
         }
     }
 
@@ -82,10 +74,9 @@ impl RollLine {
             out.new result.at.at × (result.begin ≡ self.begin) }
     {
         let row = self.blanks(out, NUMBER_WIDTH - 1);
-        let at = row.at.byte(out, b'-');
         RollLine {
-            at,
-            begin: row.begin,
+            at: row.at.byte(out, b'-'),
+            ..row
         }
     }
 
@@ -97,8 +88,6 @@ impl RollLine {
             (blanks (roll_width - (self.at.at - self.begin)) ++ (byte_line_end ∷ [])) out.new result.at }
     {
         let used = self.at.at - self.begin;
-        let row = self.blanks(out, WIDTH - used);
-        let at = row.at;
-        at.byte(out, b'\n')
+        self.blanks(out, WIDTH - used).at.byte(out, b'\n')
     }
 }

@@ -26,18 +26,7 @@ fn first_of_low(store: &[u16], roles: &[u16], from: u16, j: Step) -> bool
     ensures { Decides result (FirstLow (model_at store.now) j.0) }
 {
     let a = model::store::action(store, j);
-    if !is_low(roles, a) {
-        return false;
-    }
-    if j.0 == from {
-        return true;
-    }
-    let before = j.0 - 1;
-    let b = model::store::action(store, Step(before));
-    if b.0 == a.0 {
-        return false;
-    }
-    true
+    is_low(roles, a) && (j.0 == from || model::store::action(store, Step(j.0 - 1)) != a)
 }
 
 impl RollLine {
@@ -51,10 +40,9 @@ impl RollLine {
             × (result.begin ≡ self.begin) }
     {
         let row = self.blanks(out, indent);
-        let at = row.at.action_name(out, store, a);
         RollLine {
-            at,
-            begin: row.begin,
+            at: row.at.action_name(out, store, a),
+            ..row
         }
     }
 
@@ -71,8 +59,7 @@ impl RollLine {
         if used + 1 + name_length <= WIDTH {
             return self.indented(out, 1, store, a);
         }
-        let at = self.end(out);
-        RollLine::start(at).indented(out, NAME_INDENT, store, a)
+        RollLine::start(self.end(out)).indented(out, NAME_INDENT, store, a)
     }
 
     // The name of step j's action, if it is low and no step of its state before it has named it.
@@ -92,9 +79,10 @@ impl RollLine {
         ensures { NamesFilled (name_added (model_at store.now) j.0) out.old self
             out.new result }
     {
-        if !first_of_low(store, roles, from, j) {
-            return self;
+        if first_of_low(store, roles, from, j) {
+            self.name(out, store, model::store::action(store, j))
+        } else {
+            self
         }
-        self.name(out, store, model::store::action(store, j))
     }
 }

@@ -26,9 +26,10 @@ impl RollLine {
             result.at.at × (result.begin ≡ self.begin) }
     {
         if distances::distances::is_unreachable(distances, p) {
-            return self.dash(out);
+            self.dash(out)
+        } else {
+            self.number(out, distances::distances::distance_at(distances, p))
         }
-        self.number(out, distances::distances::distance_at(distances, p))
     }
 
     // A state, its distance and its class, with a blank between two.
@@ -39,9 +40,11 @@ impl RollLine {
             (state_columns p.0 (distance_of distances.now p.0) class.0) out.new result.at.at
             × (result.begin ≡ self.begin) }
     {
-        let row = self.number(out, p.0).blanks(out, 1);
-        let row = row.distance(out, distances, p).blanks(out, 1);
-        row.number(out, class.0)
+        self.number(out, p.0)
+            .blanks(out, 1)
+            .distance(out, distances, p)
+            .blanks(out, 1)
+            .number(out, class.0)
     }
 }
 
@@ -58,21 +61,19 @@ pub fn state_rows(
 ) -> Position
     requires writable { Writable store.now }
     requires step_lists { StepLists (model_at store.now) store.now begins.now roles.now }
-    requires distances_length_in_bounds { (distances_length ≤ length distances.now) × DistanceList (model_at store.now) distances.now }
+    requires distances_length_in_bounds { (distances_length ≤ length distances.now)
+        × DistanceList (model_at store.now) distances.now }
     requires p_bound { (p.0 < (model_at store.now).head.states) × (class.0 ≤ p.0) }
-    requires class_in_bounds { at.at + length (rows_bytes (state_rows (model_at store.now) p.0 (distance_of distances.now p.0)
-        class.0)) ≤ length out.old }
+    requires class_in_bounds { at.at + length (rows_bytes (state_rows (model_at store.now) p.0
+        (distance_of distances.now p.0) class.0)) ≤ length out.old }
     ensures { Wrote out.old at.at (rows_bytes (state_rows (model_at store.now) p.0
         (distance_of distances.now p.0) class.0)) out.new result.at }
 {
     let of = p.0 as usize;
-    let end = begins[of + 1];
     let from = begins[of];
     let mut row = RollLine::start(at).columns(out, distances, p, class);
-    let mut j = from;
-    while j < end {
+    for j in from..begins[of + 1] {
         row = row.step_name(out, store, roles, from, Step(j));
-        j += 1;
     }
     row.end(out)
 }

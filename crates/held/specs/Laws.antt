@@ -3,6 +3,7 @@ pub mod AddingLaws
 pub mod HeldLaws
 pub mod HeldToLaws
 pub mod LabelRowsLaws
+pub mod ListedLaws
 pub mod OccupiedLaws
 pub mod PoolLaws
 pub mod RowsLaws

@@ -1,4 +1,5 @@
 pub mod Held
+pub mod Moves
 pub mod HeldTests
 pub mod Inner
 pub mod Laws

@@ -3,6 +3,8 @@
 #![tactic(auto)]
 
 pub mod labels;
+pub mod list;
+pub mod reading;
 pub mod slots;
 
 // The labels: the actions, and that of the silent moves.

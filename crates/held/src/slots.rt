@@ -1,5 +1,5 @@
 // The sets of a pool, found by their slots.
-ghost use Rattle.std.specs.Prelude.{◌⊎◌, ◌≡◌, ℕ, ◌+◌, ◌≤◌, ◌<◌, get_or};
+ghost use Rattle.std.specs.Prelude.{IfSome, ◌⊎◌, ◌≡◌, ℕ, ◌+◌, ◌≤◌, ◌<◌, get_or};
 ghost use Rattle.lts.specs.Weak.{silent_label};
 ghost use Rattle.text.specs.Decides.{Decides};
 ghost use Rattle.text.specs.Limits.{state_limit, action_limit};
@@ -10,10 +10,8 @@ ghost use Rattle.held.specs.Inner.Slots.{seen_length, Pooled, FreeFrom, Separate
 ghost use Rattle.held.specs.Inner.Slots.{RowsKept, RowHeld, SetHeld};
 
 use crate::{POOL_LENGTH, POOL_SETS, SEEN_LENGTH, SLOTS_LENGTH};
-use by_state::lists::wide;
-use by_state::stores::put;
 use sets::SETS_LENGTH;
-use sets::set::{Set, insert, is_empty, is_equal, put_set, set_at};
+use sets::set::{Set, insert, is_empty, put_set, set_at};
 use text::State;
 use text::limits::{ACTION_LIMIT, ROW, STATE_LIMIT};
 
@@ -37,12 +35,13 @@ fn slot_place(row: u16, p: State) -> usize
 }
 
 // The set of p in a row.
+#[inline]
 pub fn held(slots: &[u16; SLOTS_LENGTH], pool: &[u64; POOL_LENGTH], row: u16, p: State) -> Set
     requires { (row < slot_rows) × (p.0 < state_limit) × ((i : ℕ) → get_or slots.now i 0 < pool_sets) }
     ensures { SetOf (HeldAt slots.now pool.now row p.0) result }
 {
     let at = slot_place(row, p);
-    set_at(pool, wide(slots[at]))
+    set_at(pool, slots[at] as usize)
 }
 
 // The number, in the pool, of the set of a row's states.
@@ -54,11 +53,22 @@ fn row_set(row: u16) -> usize
 }
 
 // The states that have a set of their own in a row.
+#[inline]
 pub fn occupied(pool: &[u64; POOL_LENGTH], row: u16) -> Set
     requires { row < slot_rows }
     ensures { SetOf (Member pool.now (row_set row)) result }
 {
     set_at(pool, row_set(row))
+}
+
+// Whether p and q have the same slot in a row, and so the same set.
+#[inline]
+pub fn same_slot(slots: &[u16; SLOTS_LENGTH], row: u16, p: State, q: State) -> bool
+    requires { (row < slot_rows) × (p.0 < state_limit) × (q.0 < state_limit) }
+    ensures { Decides result (get_or slots.now (slot_place row p.0) 0
+        ≡ get_or slots.now (slot_place row q.0) 0) }
+{
+    slots[slot_place(row, p)] == slots[slot_place(row, q)]
 }
 
 // The place in `seen` of a set, by all its bits: the second word comes onto the first, turned by 3, and then higher
@@ -73,21 +83,20 @@ fn seen_place(s: Set) -> usize
     bits as usize % SEEN_LENGTH
 }
 
-// The number of a set that is s, or 0. What `seen` says is tested, so it may be anything.
-fn find_same(pool: &[u64; POOL_LENGTH], s: Set, used: u16, seen: &[u16; SEEN_LENGTH]) -> u16
+// The number of a set that is s, if it was seen. What `seen` says is tested, so it may be anything.
+fn find_same(pool: &[u64; POOL_LENGTH], s: Set, used: u16, seen: &[u16; SEEN_LENGTH]) -> Option<u16>
     requires { used ≤ pool_sets }
-    ensures { 0 < result → (result < used) × SetOf (Member pool.now result) s }
+    ensures { IfSome result (λ number. (number < used) × SetOf (Member pool.now number) s) }
 {
-    let at = seen_place(s);
-    let number = seen[at];
+    let number = seen[seen_place(s)];
     if used <= number {
-        return 0;
+        return None;
     }
-    let there = set_at(pool, wide(number));
-    if !is_equal(there, s) {
-        return 0;
+    let there = set_at(pool, number as usize);
+    if there != s {
+        return None;
     }
-    number
+    Some(number)
 }
 
 // Yields the number of a set that is s: one that was seen, or else the first free one, which becomes s.
@@ -95,11 +104,10 @@ fn share(s: Set, used: u16, pool: &mut [u64; POOL_LENGTH], seen: &mut [u16; SEEN
     requires { used < pool_sets }
     ensures { Shared used result s pool.old pool.new }
 {
-    let same = find_same(pool, s, used, seen);
-    if 0 < same {
-        return same;
+    if let Some(number) = find_same(pool, s, used, seen) {
+        return number;
     }
-    put(seen, seen_place(s), used);
+    seen[seen_place(s)] = used;
     put_set(pool, used as usize, s);
     used
 }
@@ -125,7 +133,7 @@ fn hold_set(
         return used;
     }
     let number = share(s, used, pool, seen);
-    put(slots, slot_place(row, p), number);
+    slots[slot_place(row, p)] = number;
     insert(pool, row_set(row), p.0);
     if number < used {
         return used;
@@ -173,24 +181,13 @@ pub fn add_held(
     ensures lower_bound { (used ≤ result) × (result ≤ used + 1) × Separate result slots.new pool.new }
 {
     let at = slot_place(row, p);
-    let slot = wide(slots[at]);
+    let slot = slots[at] as usize;
     if slot == 0 {
-        put(slots, at, used);
+        slots[at] = used;
         insert(pool, used as usize, x.0);
         insert(pool, row_set(row), p.0);
         return used + 1;
     }
     insert(pool, slot, x.0);
     used
-}
-
-// Whether p and q have the same slot in a row, and so the same set.
-pub fn same_slot(slots: &[u16; SLOTS_LENGTH], row: u16, p: State, q: State) -> bool
-    requires { (row < slot_rows) × (p.0 < state_limit) × (q.0 < state_limit) }
-    ensures { Decides result (get_or slots.now (slot_place row p.0) 0
-        ≡ get_or slots.now (slot_place row q.0) 0) }
-{
-    let one = slot_place(row, p);
-    let other = slot_place(row, q);
-    slots[one] == slots[other]
 }

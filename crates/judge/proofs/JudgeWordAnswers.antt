@@ -1,8 +1,6 @@
 -- Each answer on a store that is judged once for Judge and Word keeps Judge's promise and then Word's: a list is short,
 -- or all is done. Assumes nothing.
-use mathlib.Core.List.{List}
-use Prim.Native.Nat.{ℕ, ◌≤◌, ◌<◌}
-use lib.ListN.{length}
+use Rattle.std.proofs.Common.{Ok, Err, List, ℕ, ◌≤◌, ◌<◌, length}
 use Rattle.text.specs.Limits.{store_length, distances_length, table_length, word_length}
 use Rattle.text.specs.Laws.ListsLaws.{past_refl}
 use Rattle.text.specs.Model.{Model}
@@ -14,8 +12,7 @@ use Rattle.verdicts.specs.JudgeFilled.{JudgeFilled}
 use Rattle.letters.specs.declared.word.Shown.{Shown}
 use Rattle.letters.specs.WordDone.{shown_outcome, WordDone}
 use Rattle.letters.specs.Laws.ShowableLaws.{distances_long, table_long}
-use Rattle.judge.specs.declared.judge.JudgeAnswer.TheVariants as judge
-use Rattle.judge.specs.declared.word.WordAnswer.TheVariants as word-answer
+use Rattle.model.specs.declared.refusal.Refusal.TheVariants.{ShortList}
 use Rattle.judge.specs.JudgePromise.{judge_outcome}
 use Rattle.judge.specs.WordPromise.{word_outcome}
 use Rattle.judge.specs.JudgeWordPromise.{JudgeWordPromise}
@@ -34,8 +31,8 @@ filled_again f = record {
 
 module _ (store distances table word : List ℕ) (first-long : store_length ≤ length store) where
   pub short_distances_answered : length distances < distances_length
-      → JudgeWordPromise store distances table word (judge_outcome (judge.ShortList 2))
-      (word_outcome (word-answer.ShortList 2)) distances table word
+      → JudgeWordPromise store distances table word (judge_outcome (Err (ShortList 2)))
+      (word_outcome (Err (ShortList 2))) distances table word
   short_distances_answered h = record {
     judge_promise = judge_second_short store distances table first-long h;
     word_promise = short_distances_promised store distances table word first-long h;
@@ -43,8 +40,8 @@ module _ (store distances table word : List ℕ) (first-long : store_length ≤ 
 
   module _ (second-long : distances_length ≤ length distances) where
     pub short_table_answered : length table < table_length
-        → JudgeWordPromise store distances table word (judge_outcome (judge.ShortList 3))
-        (word_outcome (word-answer.ShortList 3)) distances table word
+        → JudgeWordPromise store distances table word (judge_outcome (Err (ShortList 3)))
+        (word_outcome (Err (ShortList 3))) distances table word
     short_table_answered h = record {
       judge_promise = judge_third_short store distances table first-long second-long h;
       word_promise = short_table_promised store distances table word first-long second-long h;
@@ -55,8 +52,8 @@ module _ (store distances table word : List ℕ) (first-long : store_length ≤ 
         {begins roles distances' table' : List ℕ}
         (x : Judging (model_at store) v distances table begins roles distances' table') where
       pub short_word_answered : length word < word_length
-          → JudgeWordPromise store distances table word (judge_outcome (judge.Judged v))
-          (word_outcome (word-answer.ShortList 4)) distances' table' word
+          → JudgeWordPromise store distances table word (judge_outcome (Ok v))
+          (word_outcome (Err (ShortList 4))) distances' table' word
       short_word_answered h = record {
         judge_promise =
             judge_done store distances table first-long second-long third-long good v begins roles distances' table' x;
@@ -66,8 +63,8 @@ module _ (store distances table word : List ℕ) (first-long : store_length ≤ 
 
       pub done_answered : word_length ≤ length word → (s : Shown) {word' : List ℕ}
           → WordDone (model_at store) (shown_outcome s) word word'
-          → JudgeWordPromise store distances table word (judge_outcome (judge.Judged v))
-          (word_outcome (word-answer.Shown s)) distances' table' word'
+          → JudgeWordPromise store distances table word (judge_outcome (Ok v))
+          (word_outcome (Ok s)) distances' table' word'
       done_answered fourth-long s {word'} w = record {
         judge_promise =
             judge_done store distances table first-long second-long third-long good v begins roles distances' table' x;

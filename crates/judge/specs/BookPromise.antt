@@ -1,9 +1,9 @@
 -- The promise of Book: store, table, book.
 -- Document 02, (v); document 01, "Refused because of the state".
-use Rattle.std.specs.Prelude.{List, [], ◌∷◌, ◌≡◌, ℕ, length}
+use Rattle.std.specs.Prelude.{Result, Ok, Err, List, [], ◌∷◌, ◌≡◌, ℕ, length}
 use Rattle.std.proofs.Math.Option.{Option}
 use Rattle.text.specs.Limits.{store_length, table_length, book_length}
-use Rattle.text.specs.Faults.{Outcome, answers, refuses, first_short}
+use Rattle.text.specs.Faults.{Outcome, answers, first_short}
 use Rattle.text.specs.Lists.{Past}
 use Rattle.text.specs.Model.{Model}
 use Rattle.model.specs.OnStore.{OnStore}
@@ -11,14 +11,13 @@ use Rattle.model.specs.System.{view}
 use Rattle.lts.specs.Weak.{WeakMove}
 use Rattle.ranking.specs.Table.{Ranks}
 use Rattle.books.specs.Books.{BookFilled}
-use Rattle.judge.specs.declared.book.BookAnswer.{BookAnswer}
-use Rattle.judge.specs.declared.book.BookAnswer.TheVariants as book
+use Rattle.model.specs.declared.refusal.Refusal.{Refusal}
+use Rattle.model.specs.Refusals.{refusal_outcome}
 
 -- Book answers only that it succeeded.
-unfoldable pub book_outcome : BookAnswer → Outcome
-book_outcome book.Done = answers []
-book_outcome (book.ShortList place) = refuses 21 place
-book_outcome book.NotGood = refuses 22 0
+unfoldable pub book_outcome : Result (Unit {0}) Refusal → Outcome
+book_outcome (Ok _) = answers []
+book_outcome (Err refusal) = refusal_outcome refusal
 
 abbrev pub book_lists : List ℕ → List ℕ → List ℕ → Option ℕ
 book_lists store table book =

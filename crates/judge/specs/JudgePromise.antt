@@ -1,15 +1,15 @@
 -- The promise of Judge: store, distances, table.
 -- Document 01, operation 4, and "Refused because of the state".
-use Rattle.std.specs.Prelude.{List, [], ◌∷◌, ◌≡◌, ℕ, length}
+use Rattle.std.specs.Prelude.{Result, Ok, Err, List, [], ◌∷◌, ◌≡◌, ℕ, length}
 use Rattle.std.proofs.Math.Option.{Option}
 use Rattle.text.specs.Limits.{store_length}
 use Rattle.text.specs.Limits.{distances_length, table_length}
-use Rattle.text.specs.Faults.{Outcome, answers, refuses, first_short}
+use Rattle.text.specs.Faults.{Outcome, answers, first_short}
 use Rattle.model.specs.OnStore.{OnStore}
 use Rattle.verdicts.specs.declared.judging.Verdict.{Verdict}
 use Rattle.verdicts.specs.declared.judging.Verdict.TheVariants.{Passed, Refused}
-use Rattle.judge.specs.declared.judge.JudgeAnswer.{JudgeAnswer}
-use Rattle.judge.specs.declared.judge.JudgeAnswer.TheVariants as judge
+use Rattle.model.specs.declared.refusal.Refusal.{Refusal}
+use Rattle.model.specs.Refusals.{refusal_outcome}
 use Rattle.verdicts.specs.Verdicts.{Judged}
 use Rattle.verdicts.specs.JudgeFilled.{JudgeFilled}
 
@@ -19,10 +19,9 @@ unfoldable pub verdict_outcome : Verdict → Outcome
 verdict_outcome (Passed top) = answers (top ∷ [])
 verdict_outcome (Refused j depth) = answers (j.0 ∷ depth ∷ [])
 
-unfoldable pub judge_outcome : JudgeAnswer → Outcome
-judge_outcome (judge.Judged v) = verdict_outcome v
-judge_outcome (judge.ShortList place) = refuses 21 place
-judge_outcome judge.NotGood = refuses 22 0
+unfoldable pub judge_outcome : Result Verdict Refusal → Outcome
+judge_outcome (Ok v) = verdict_outcome v
+judge_outcome (Err refusal) = refusal_outcome refusal
 
 abbrev pub judge_lists : List ℕ → List ℕ → List ℕ → Option ℕ
 judge_lists store distances table =

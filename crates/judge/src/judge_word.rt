@@ -6,15 +6,16 @@ ghost use Rattle.judge.specs.JudgePromise.{judge_outcome};
 ghost use Rattle.judge.specs.WordPromise.{word_outcome};
 ghost use Rattle.judge.specs.JudgeWordPromise.{JudgeWordPromise};
 
-use crate::judge::JudgeAnswer;
-use crate::word::WordAnswer;
+use letters::word::Shown;
+use model::refusal::Refusal;
 use text::limits::{DISTANCES_LENGTH, INDEX_LENGTH, ROLES_LENGTH, TABLE_LENGTH, WORD_LENGTH};
+use verdicts::judging::Verdict;
 
 // What the two answer.
 #[derive(Clone, Copy)]
 pub struct JudgeWordAnswer {
-    pub judge: JudgeAnswer,
-    pub word: WordAnswer,
+    pub judge: Result<Verdict, Refusal>,
+    pub word: Result<Shown, Refusal>,
 }
 
 // Judges a good store, and shows the word. Word's list is looked at once Judge has answered.
@@ -31,14 +32,14 @@ pub fn judge_word(
 {
     if distances.len() < DISTANCES_LENGTH {
         return JudgeWordAnswer {
-            judge: JudgeAnswer::ShortList(2),
-            word: WordAnswer::ShortList(2),
+            judge: Err(Refusal::ShortList(2)),
+            word: Err(Refusal::ShortList(2)),
         };
     }
     if table.len() < TABLE_LENGTH {
         return JudgeWordAnswer {
-            judge: JudgeAnswer::ShortList(3),
-            word: WordAnswer::ShortList(3),
+            judge: Err(Refusal::ShortList(3)),
+            word: Err(Refusal::ShortList(3)),
         };
     }
     let mut begins = [0u16; INDEX_LENGTH];
@@ -46,13 +47,13 @@ pub fn judge_word(
     let v = crate::judge::judge_good(store, &mut begins, &mut roles, distances, table);
     if word.len() < WORD_LENGTH {
         return JudgeWordAnswer {
-            judge: JudgeAnswer::Judged(v),
-            word: WordAnswer::ShortList(4),
+            judge: Ok(v),
+            word: Err(Refusal::ShortList(4)),
         };
     }
     let shown = letters::word::show(store, &begins, &roles, distances, table, v, word);
     JudgeWordAnswer {
-        judge: JudgeAnswer::Judged(v),
-        word: WordAnswer::Shown(shown),
+        judge: Ok(v),
+        word: Ok(shown),
     }
 }

@@ -10,13 +10,6 @@ ghost use Rattle.letters.specs.Inner.Letters.{FoundFirst};
 
 use text::Step;
 
-// A step, or none.
-#[derive(Clone, Copy)]
-pub enum Found {
-    At(Step),
-    Nothing,
-}
-
 // Whether step j, which is not the first, has a reachable source and shares source and action with the step before it.
 fn branches(store: &[u16], distances: &[u16], j: Step) -> bool
     requires stored { Stored store.now (model_at store.now) }
@@ -25,36 +18,20 @@ fn branches(store: &[u16], distances: &[u16], j: Step) -> bool
     ensures { Decides result (Branches (model_at store.now) j.0) }
 {
     let before = Step(j.0 - 1);
-    let p = model::store::source(store, before);
     let q = model::store::source(store, j);
-    if p.0 != q.0 {
-        return false;
-    }
-    let a = model::store::action(store, before);
-    let b = model::store::action(store, j);
-    if a.0 != b.0 {
-        return false;
-    }
-    if distances::distances::is_unreachable(distances, q) {
-        return false;
-    }
-    true
+    model::store::source(store, before) == q
+        && model::store::action(store, before) == model::store::action(store, j)
+        && !distances::distances::is_unreachable(distances, q)
 }
 
 // The first step with a reachable source that shares source and action with the step before it: none, just where the
 // model is deterministic.
-pub fn first_branch(store: &[u16], distances: &[u16]) -> Found
+pub fn first_branch(store: &[u16], distances: &[u16]) -> Option<Step>
     requires stored { Stored store.now (model_at store.now) }
     requires distances_length_in_bounds { (distances_length ≤ length distances.now) × DistanceList (model_at store.now) distances.now }
     ensures { FoundFirst (Branches (model_at store.now)) result }
 {
-    let n = model::store::steps(store);
-    let mut j = 1;
-    while j < n {
-        if branches(store, distances, Step(j)) {
-            return Found::At(Step(j));
-        }
-        j += 1;
-    }
-    Found::Nothing
+    (1..model::store::steps(store))
+        .find(|&j| branches(store, distances, Step(j)))
+        .map(Step)
 }

@@ -9,7 +9,8 @@ ghost use Rattle.model.specs.Inner.Stored.{Stored};
 ghost use Rattle.distances.specs.Distances.{DistanceList};
 ghost use Rattle.letters.specs.Inner.Letters.{FoundFirst};
 
-use crate::branch::Found;
+use model::good_store::GoodStore;
+use model::roled::Roled;
 use moves::labels::some_silent;
 use moves::moves::is_silent;
 use text::Step;
@@ -22,34 +23,25 @@ fn is_silent_step(store: &[u16], roles: &[u16], distances: &[u16], j: Step) -> b
     requires j_in_bounds { j.0 < length (model_at store.now).steps }
     ensures { Decides result (SilentStep (model_at store.now) j.0) }
 {
-    let a = model::store::action(store, j);
-    if !is_silent(roles, a) {
-        return false;
-    }
-    let p = model::store::source(store, j);
-    if distances::distances::is_unreachable(distances, p) {
-        return false;
-    }
-    true
+    is_silent(roles, model::store::action(store, j))
+        && !distances::distances::is_unreachable(distances, model::store::source(store, j))
 }
 
 // The first silent step that can be reached. Where no action is silent, no step is looked at.
-pub fn first_silent(store: &[u16], roles: &[u16], distances: &[u16]) -> Found
+pub fn first_silent(store: &[u16], roles: &[u16], distances: &[u16]) -> Option<Step>
     requires stored { Stored store.now (model_at store.now) }
     requires roles_of { RolesOf (model_at store.now) roles.now }
     requires distances_length_in_bounds { (distances_length ≤ length distances.now) × DistanceList (model_at store.now) distances.now }
     ensures { FoundFirst (SilentStep (model_at store.now)) result }
 {
-    if !some_silent(store, roles) {
-        return Found::Nothing;
+    let roled = Roled {
+        store: GoodStore { places: store },
+        roles,
+    };
+    if !some_silent(roled) {
+        return None;
     }
-    let n = model::store::steps(store);
-    let mut j = 0;
-    while j < n {
-        if is_silent_step(store, roles, distances, Step(j)) {
-            return Found::At(Step(j));
-        }
-        j += 1;
-    }
-    Found::Nothing
+    (0..model::store::steps(store))
+        .find(|&j| is_silent_step(store, roles, distances, Step(j)))
+        .map(Step)
 }

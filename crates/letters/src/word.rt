@@ -7,7 +7,6 @@ ghost use Rattle.letters.specs.WordDone.{shown_outcome, WordDone};
 ghost use Rattle.letters.specs.Inner.Letters.{Showable, StepLists, WordLists, SeparatedPair};
 ghost use Rattle.letters.specs.Inner.WordHead.{WordFrom, WordWritten};
 
-use crate::branch::Found;
 use text::{Action, State, Step};
 use verdicts::judging::Verdict;
 
@@ -41,37 +40,32 @@ fn last_letter(store: &[u16], begins: &[u16], roles: &[u16], p: State, q: State)
     requires separated_pair { SeparatedPair (model_at store.now) p.0 q.0 1 }
     ensures { WordFrom (model_at store.now) p.0 q.0 (result.action.0 ∷ []) result.end }
 {
-    let here = crate::letters::alone(store, begins, roles, p, q);
-    let there = crate::letters::alone(store, begins, roles, q, p);
-    match here {
-        Found::At(i) => {
-            let action = model::store::action(store, i);
-            let end = End::Source;
-            match there {
-                Found::At(j) => {
-                    let b = model::store::action(store, j);
-                    if b.0 < action.0 {
-                        return Last {
-                            action: b,
-                            end: End::Target,
-                        };
-                    }
-                    Last { action, end }
+    let here = crate::letters::lowest_alone(store, begins, roles, p, q);
+    let there = crate::letters::lowest_alone(store, begins, roles, q, p);
+    match (here, there) {
+        (Some(a), Some(b)) => {
+            if b < a {
+                Last {
+                    action: b,
+                    end: End::Target,
                 }
-                Found::Nothing => Last { action, end },
+            } else {
+                Last {
+                    action: a,
+                    end: End::Source,
+                }
             }
         }
-        Found::Nothing => match there {
-            Found::At(j) => Last {
-                action: model::store::action(store, j),
-                end: End::Target,
-            },
-            // Does not occur: round 1 separates p and q, so one of them has such an action.
-            Found::Nothing => Last {
-                action: Action(0),
-                end: End::Source,
-            },
+        (Some(action), None) => Last {
+            action,
+            end: End::Source,
         },
+        (None, Some(action)) => Last {
+            action,
+            end: End::Target,
+        },
+        // Round 1 separates p and q, so one of them has such an action.
+        (None, None) => unreachable!(),
     }
 }
 
@@ -152,10 +146,10 @@ pub fn show(
     ensures { WordDone (model_at store.now) (shown_outcome result) word.old word.new }
 {
     match crate::branch::first_branch(store, distances) {
-        Found::At(j) => Shown::NotDeterministic(j),
-        Found::Nothing => match crate::silent_steps::first_silent(store, roles, distances) {
-            Found::At(j) => Shown::Silent(j),
-            Found::Nothing => show_word(store, begins, roles, distances, table, verdict, word),
+        Some(j) => Shown::NotDeterministic(j),
+        None => match crate::silent_steps::first_silent(store, roles, distances) {
+            Some(j) => Shown::Silent(j),
+            None => show_word(store, begins, roles, distances, table, verdict, word),
         },
     }
 }

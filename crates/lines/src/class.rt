@@ -13,13 +13,6 @@ pub fn class_of(table: &[u8], p: State) -> State
     requires p_value { get_or table.now (pair_place p.0 p.0) 0 ≡ 0 }
     ensures { LowestZero table.now p.0 result.0 }
 {
-    let n = p.0;
-    let mut q: u16 = 0;
-    while q < n {
-        if rank_at(table, p, State(q)) == 0 {
-            return State(q);
-        }
-        q += 1;
-    }
-    p
+    let zero = (0..p.0).find(|&q| rank_at(table, p, State(q)) == 0);
+    State(zero.unwrap_or(p.0))
 }

@@ -11,6 +11,7 @@ ghost use Rattle.lines.specs.Inner.Leak.{Letters, Spelled, shown_lines, JudgedLi
 
 use crate::lines::{Form, PagePosition};
 use letters::word::Shown;
+use model::good_store::GoodStore;
 use text::{Action, Step};
 use verdicts::judging::Verdict;
 
@@ -22,12 +23,9 @@ impl PagePosition {
             (line_room form run_width * n) out.old self.at.at out.new result.at.at }
     {
         let mut page = self;
-        let mut i: usize = 0;
-        while i < n {
-            let j = run[i];
+        for &j in &run[..n] {
             let begin = page.at.at;
             page = page.run_text(out, Step(j)).line_end(out, begin, form);
-            i += 1;
         }
         page
     }
@@ -49,14 +47,11 @@ impl PagePosition {
             (line_room form name_width * n) out.old self.at.at out.new result.at.at }
     {
         let mut page = self;
-        let mut i: usize = 0;
-        while i < n {
-            let a = word[i];
+        for &a in &word[..n] {
             let begin = page.at.at;
             page = page
                 .name_text(out, store, Action(a))
                 .line_end(out, begin, form);
-            i += 1;
         }
         page
     }
@@ -113,7 +108,7 @@ impl PagePosition {
             return self;
         };
         let p = model::store::source(store, j);
-        let n = distances::run::fill_run(store, distances, run, p);
+        let n = distances::run::fill_run(GoodStore { places: store }, distances, run, p);
         let page = self.run_lines(out, run, n, form);
         let shown = letters::word::show(store, begins, roles, distances, table, v, word);
         page.shown_lines(out, store, word, shown, form)

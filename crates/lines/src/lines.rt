@@ -34,9 +34,10 @@ fn distance_field(at: Position, out: &mut [u8], distances: &[u16], p: State) -> 
         (field (distance_text (distance_of distances.now p.0))) out.new result.at }
 {
     if is_unreachable(distances, p) {
-        return at.text(out, b",-");
+        at.text(out, b",-")
+    } else {
+        at.field(out, distance_at(distances, p))
     }
-    at.field(out, distance_at(distances, p))
 }
 
 // How far the page is written, by value: each writer takes it and hands back where it ended. Each asks for room for
@@ -50,8 +51,9 @@ impl PagePosition {
     pub fn start() -> PagePosition
         ensures { result.at.at ≡ 0 }
     {
-        let at = Position::start();
-        PagePosition { at }
+        PagePosition {
+            at: Position::start(),
+        }
     }
 
     // What ends each line: on the roll the line that began at place `begin` is padded first.
@@ -61,14 +63,11 @@ impl PagePosition {
             out.new result.at.at }
     {
         let at = self.at;
-        match form {
-            Form::Page => PagePosition {
-                at: at.byte(out, b'\n'),
+        PagePosition {
+            at: match form {
+                Form::Page => at.byte(out, b'\n'),
+                Form::Roll => RollLine { at, begin }.end(out),
             },
-            Form::Roll => {
-                let row = RollLine { at, begin };
-                PagePosition { at: row.end(out) }
-            }
         }
     }
 
@@ -117,8 +116,8 @@ impl PagePosition {
         class: State,
     ) -> PagePosition
         requires p_lt_distances_length { (p.0 < distances_length) × (distances_length ≤ length distances.now) }
-        requires class_in_bounds { self.at.at + length (line_text (state_line p.0 (distance_of distances.now p.0) class.0))
-            ≤ length out.old }
+        requires class_in_bounds { self.at.at
+            + length (line_text (state_line p.0 (distance_of distances.now p.0) class.0)) ≤ length out.old }
         ensures { Wrote out.old self.at.at
             (line_text (state_line p.0 (distance_of distances.now p.0) class.0)) out.new
             result.at.at }
@@ -156,15 +155,11 @@ impl PagePosition {
         ensures { Wrote out.old self.at.at (line_text (allows_line end)) out.new
             result.at.at }
     {
-        let at = self.at;
-        match end {
-            End::Source => PagePosition {
-                at: at.text(out, b"B,source"),
-            },
-            End::Target => PagePosition {
-                at: at.text(out, b"B,target"),
-            },
-        }
+        let at = match end {
+            End::Source => self.at.text(out, b"B,source"),
+            End::Target => self.at.text(out, b"B,target"),
+        };
+        PagePosition { at }
     }
 
     // `N`

@@ -34,7 +34,8 @@ impl PagePosition {
     ) -> PagePosition
         requires writable { Writable store.now }
         requires step_lists { StepLists (model_at store.now) store.now begins.now roles.now }
-        requires distances_length_in_bounds { (distances_length ≤ length distances.now) × DistanceList (model_at store.now) distances.now }
+        requires distances_length_in_bounds { (distances_length ≤ length distances.now)
+            × DistanceList (model_at store.now) distances.now }
         requires p_bound { (p.0 < (model_at store.now).head.states) × (class.0 ≤ p.0) }
         requires class_in_bounds { self.at.at + length (form_bytes form (model_at store.now)
             (state_line p.0 (distance_of distances.now p.0) class.0 ∷ [])) ≤ length out.old }
@@ -42,13 +43,12 @@ impl PagePosition {
             (state_line p.0 (distance_of distances.now p.0) class.0 ∷ [])) out.new
             result.at.at }
     {
-        let at = self.at;
         match form {
             Form::Page => self
                 .state_text(out, p, distances, class)
                 .line_end(out, 0, Form::Page),
             Form::Roll => PagePosition {
-                at: state_rows(at, out, store, begins, roles, distances, p, class),
+                at: state_rows(self.at, out, store, begins, roles, distances, p, class),
             },
         }
     }
@@ -74,13 +74,10 @@ impl PagePosition {
             (states_room form (model_at store.now) (model_at store.now).head.states)
             out.old self.at.at out.new result.at.at }
     {
-        let n = model::store::states(store);
         let mut page = self;
-        let mut i: u16 = 0;
-        while i < n {
-            let class = class_of(table, State(i));
-            page = page.state_line(out, store, begins, roles, distances, State(i), class, form);
-            i += 1;
+        for p in 0..model::store::states(store) {
+            let class = class_of(table, State(p));
+            page = page.state_line(out, store, begins, roles, distances, State(p), class, form);
         }
         page
     }

@@ -1,5 +1,5 @@
 -- Each text of specs/HighCases is refused as it says, by evaluation.
-use Rattle.std.specs.Prelude.{refl}
+use Rattle.std.proofs.Common.{refl}
 use Rattle.text.specs.Bytes.{kind_of}
 use Rattle.text.specs.Numbers.{digits_value, number_shape?, number_of, in_bounds?, bounded, number_in}
 use Rattle.text.specs.Split.{cons_first, split, same?}

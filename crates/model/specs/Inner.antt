@@ -6,5 +6,6 @@ pub mod GoodPlaces
 pub mod Stored
 pub mod StoredActions
 pub mod Index
+pub mod ModelOf
 pub mod Roles
 pub mod StepTest

@@ -15,3 +15,4 @@ pub mod CornerCases
 pub mod StartCases
 pub mod HighCases
 pub mod OnStore
+pub mod Refusals

@@ -24,17 +24,10 @@ use text::{Action, Head, State, Step};
 
 // Whether the places from `from` on and below `to` hold 0.
 fn zeros(store: &[u16], from: usize, to: usize) -> bool
-    requires { to ≤ length store.now }
+    requires { (from ≤ to) × (to ≤ length store.now) }
     ensures { Decides result (EachFrom (ZeroAt store.now) from to) }
 {
-    let mut k = from;
-    while k < to {
-        if store[k] != 0 {
-            return false;
-        }
-        k += 1;
-    }
-    true
+    store[from..to].iter().all(|&x| x == 0)
 }
 
 // Whether the n places from p on hold what the n places from q on hold.
@@ -42,46 +35,27 @@ fn same(store: &[u16], p: usize, q: usize, n: usize) -> bool
     requires { (p + n ≤ length store.now) × (q + n ≤ length store.now) }
     ensures { Decides result (EachFrom (SameAt store.now p q) 0 n) }
 {
-    let mut k = 0;
-    while k < n {
-        if store[p + k] != store[q + k] {
-            return false;
-        }
-        k += 1;
-    }
-    true
+    store[p..p + n] == store[q..q + n]
 }
 
 // Whether a number is a digit or a small letter. A number of 256 or more is no byte.
 fn is_name_byte(x: u16) -> bool
     ensures { Decides result (T (name_byte? x)) }
 {
+    // An early return: only behind it is the number a byte.
     if 255 < x {
         return false;
     }
     let k = kind(x as u8);
-    if k == DIGIT {
-        return true;
-    }
-    if k == SMALL_LETTER {
-        return true;
-    }
-    false
+    k == DIGIT || k == SMALL_LETTER
 }
 
 // Whether the places from `from` on and below `to` hold digits and small letters.
 fn name_bytes(store: &[u16], from: usize, to: usize) -> bool
-    requires { to ≤ length store.now }
+    requires { (from ≤ to) × (to ≤ length store.now) }
     ensures { Decides result (EachFrom (NameByteAt store.now) from to) }
 {
-    let mut k = from;
-    while k < to {
-        if !is_name_byte(store[k]) {
-            return false;
-        }
-        k += 1;
-    }
-    true
+    store[from..to].iter().all(|&x| is_name_byte(x))
 }
 
 // Whether two actions have one name: the same length, and the same in its twelve places.
@@ -102,15 +76,7 @@ fn used_once(store: &[u16], a: Action) -> bool
     requires { (store_length ≤ length store.now) × (a.0 < action_limit) }
     ensures { Decides result (EachFrom (OtherName store.now a.0) 0 a.0) }
 {
-    let n = a.0;
-    let mut h = 0;
-    while h < n {
-        if same_name(store, Action(h), a) {
-            return false;
-        }
-        h += 1;
-    }
-    true
+    (0..a.0).all(|h| !same_name(store, Action(h), a))
 }
 
 // Whether an action's places are good.
@@ -118,25 +84,15 @@ fn action_good(store: &[u16], a: Action) -> bool
     requires { (store_length ≤ length store.now) × (a.0 < action_limit) }
     ensures { Decides result (GoodAction store.now a.0) }
 {
-    if LAST_LEVEL < level(store, a) {
-        return false;
-    }
     let n = name_length(store, a);
-    if n < 1 {
-        return false;
-    }
-    if NAME_LIMIT < n {
-        return false;
-    }
     let from = name_place(a);
-    let to = from + n as usize;
-    if !name_bytes(store, from, to) {
-        return false;
-    }
-    if !zeros(store, to, from + NAME_LIMIT as usize) {
-        return false;
-    }
-    used_once(store, a)
+    let to = from + usize::from(n);
+    level(store, a) <= LAST_LEVEL
+        && 1 <= n
+        && n <= NAME_LIMIT
+        && name_bytes(store, from, to)
+        && zeros(store, to, from + usize::from(NAME_LIMIT))
+        && used_once(store, a)
 }
 
 // Whether the places of the first n actions are good.
@@ -144,14 +100,7 @@ fn actions_good(store: &[u16], n: u16) -> bool
     requires { (store_length ≤ length store.now) × (n ≤ action_limit) }
     ensures { Decides result (EachFrom (GoodAction store.now) 0 n) }
 {
-    let mut i = 0;
-    while i < n {
-        if !action_good(store, Action(i)) {
-            return false;
-        }
-        i += 1;
-    }
-    true
+    (0..n).all(|i| action_good(store, Action(i)))
 }
 
 // Whether a step's places are good.
@@ -160,16 +109,7 @@ fn step_good(store: &[u16], h: Head, j: Step) -> bool
     ensures { Decides result (GoodStep h store.now j.0) }
 {
     let s = step_line(store, j);
-    if !step_fits(h, s) {
-        return false;
-    }
-    if j.0 == 0 {
-        return true;
-    }
-    if is_above(step_line(store, Step(j.0 - 1)), s) {
-        return true;
-    }
-    false
+    step_fits(h, s) && (j.0 == 0 || is_above(step_line(store, Step(j.0 - 1)), s))
 }
 
 // Whether the places of the first h.steps steps are good.
@@ -177,15 +117,7 @@ fn steps_good(store: &[u16], h: Head) -> bool
     requires { (store_length ≤ length store.now) × (h.steps ≤ step_limit) }
     ensures { Decides result (EachFrom (GoodStep h store.now) 0 h.steps) }
 {
-    let n = h.steps;
-    let mut j = 0;
-    while j < n {
-        if !step_good(store, h, Step(j)) {
-            return false;
-        }
-        j += 1;
-    }
-    true
+    (0..h.steps).all(|j| step_good(store, h, Step(j)))
 }
 
 // The start that extra start i must be above.
@@ -194,9 +126,10 @@ fn start_before(store: &[u16], h: Head, i: u16) -> State
     ensures { result.0 ≡ start_before h store.now i }
 {
     if i == 0 {
-        return h.start;
+        h.start
+    } else {
+        extra_start(store, i - 1)
     }
-    extra_start(store, i - 1)
 }
 
 // Whether the place of extra start i is good.
@@ -205,14 +138,7 @@ fn start_good(store: &[u16], h: Head, i: u16) -> bool
     ensures { Decides result (GoodStart h store.now i) }
 {
     let p = extra_start(store, i);
-    if !start_fits(h, p) {
-        return false;
-    }
-    let before = start_before(store, h, i);
-    if before.0 < p.0 {
-        return true;
-    }
-    false
+    start_fits(h, p) && start_before(store, h, i) < p
 }
 
 // Whether the places of the first n extra starts are good.
@@ -220,14 +146,7 @@ fn starts_good(store: &[u16], h: Head, n: u16) -> bool
     requires { (store_length ≤ length store.now) × (n ≤ extra_limit) }
     ensures { Decides result (EachFrom (GoodStart h store.now) 0 n) }
 {
-    let mut i = 0;
-    while i < n {
-        if !start_good(store, h, i) {
-            return false;
-        }
-        i += 1;
-    }
-    true
+    (0..n).all(|i| start_good(store, h, i))
 }
 
 // Whether the section of the extra starts is good.
@@ -236,13 +155,7 @@ fn extra_good(store: &[u16], h: Head) -> bool
     ensures { Decides result (GoodStarts h store.now) }
 {
     let n = extra_count(store);
-    if EXTRA_LIMIT < n {
-        return false;
-    }
-    if !starts_good(store, h, n) {
-        return false;
-    }
-    zeros(store, extra_place(n), EXTRA_END)
+    n <= EXTRA_LIMIT && starts_good(store, h, n) && zeros(store, extra_place(n), EXTRA_END)
 }
 
 // Whether all places of a store are good.
@@ -251,25 +164,16 @@ fn places_good(store: &[u16]) -> bool
     ensures { Decides result (GoodPlaces store.now) }
 {
     let h = head(store);
+    // An early return: the head that fits bounds what the tests behind it read.
     if !head_fits(h) {
         return false;
     }
-    if !actions_good(store, h.actions) {
-        return false;
-    }
-    if !some_high(store, h.actions) {
-        return false;
-    }
-    if !steps_good(store, h) {
-        return false;
-    }
-    if !zeros(store, action_place(Action(h.actions)), ACTIONS_END) {
-        return false;
-    }
-    if !zeros(store, step_place(Step(h.steps)), STEPS_END) {
-        return false;
-    }
-    extra_good(store, h)
+    actions_good(store, h.actions)
+        && some_high(store, h.actions)
+        && steps_good(store, h)
+        && zeros(store, action_place(Action(h.actions)), ACTIONS_END)
+        && zeros(store, step_place(Step(h.steps)), STEPS_END)
+        && extra_good(store, h)
 }
 
 // Whether a store is good: some text reads to it.

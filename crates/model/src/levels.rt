@@ -14,12 +14,5 @@ pub fn some_high(store: &[u16], n: u16) -> bool
     requires { (store_length ≤ length store.now) × (n ≤ action_limit) }
     ensures { Decides result (T (some_high? (listed n (action_at store.now)))) }
 {
-    let mut i = 0;
-    while i < n {
-        if level(store, Action(i)) == HIGH {
-            return true;
-        }
-        i += 1;
-    }
-    false
+    (0..n).any(|i| level(store, Action(i)) == HIGH)
 }

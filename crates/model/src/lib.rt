@@ -4,8 +4,12 @@
 #![tactic(auto)]
 
 pub mod good;
+pub mod good_store;
 pub mod index;
+pub mod indexed;
 pub mod levels;
 pub mod names;
 pub mod put;
+pub mod refusal;
+pub mod roled;
 pub mod store;

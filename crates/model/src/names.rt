@@ -15,18 +15,12 @@ fn named(store: &[u16], a: Action, name: &[u8]) -> bool
     ensures { (line : ActionLine) → ActionStored store.now (action_place a.0) line
         → result ≡ same? line.name name.now }
 {
-    if name_length(store, a) as usize != name.len() {
-        return false;
-    }
     let at = name_place(a);
-    let mut i = 0;
-    while i < name.len() {
-        if store[at + i] != name[i] as u16 {
-            return false;
-        }
-        i += 1;
-    }
-    true
+    usize::from(name_length(store, a)) == name.len()
+        && store[at..at + name.len()]
+            .iter()
+            .zip(name)
+            .all(|(&x, &b)| x == u16::from(b))
 }
 
 // Whether one of the first actions in the store has a name.
@@ -35,12 +29,5 @@ pub fn used(store: &[u16], count: u16, name: &[u8]) -> bool
     ensures { (before : List ActionLine) → ActionsStored store.now actions_begin before
         → length before ≡ count → result ≡ used? name.now before }
 {
-    let mut i = 0;
-    while i < count {
-        if named(store, Action(i), name) {
-            return true;
-        }
-        i += 1;
-    }
-    false
+    (0..count).any(|i| named(store, Action(i), name))
 }

@@ -28,10 +28,8 @@ fn put_name(out: &mut [u16], at: usize, name: &[u8])
     requires { at + length name.now ≤ length out.old }
     ensures { out.new ≡ sets out.old at name.now }
 {
-    let mut i = 0;
-    while i < name.len() {
-        out[at + i] = name[i] as u16;
-        i += 1;
+    for (i, &b) in name.iter().enumerate() {
+        out[at + i] = u16::from(b);
     }
 }
 
@@ -73,9 +71,5 @@ pub fn copy(from: &[u16], to: &mut [u16])
     requires { length from.now ≤ length to.old }
     ensures { to.new ≡ from.now ++ drop (length from.now) to.old }
 {
-    let mut i = 0;
-    while i < from.len() {
-        to[i] = from[i];
-        i += 1;
-    }
+    to[..from.len()].copy_from_slice(from);
 }

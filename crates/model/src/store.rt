@@ -1,6 +1,8 @@
-// The places of the model store, and what stands at them.
+// The places of the model store, and what stands at them. These take any long enough list, since whether a store is good
+// is tested by them; `GoodStore` has the same as methods.
 ghost use Rattle.std.specs.Prelude.{◌≡◌, ◌≤◌, ◌<◌, length, get_or};
-ghost use Rattle.text.specs.Limits.{action_limit, step_limit, store_length, action_place, name_length_place, name_place};
+ghost use Rattle.text.specs.Limits.{action_limit, step_limit, store_length, action_place, name_length_place};
+ghost use Rattle.text.specs.Limits.{name_place};
 ghost use Rattle.text.specs.Limits.{step_place, extra_limit, extra_place};
 ghost use Rattle.model.specs.StoredModel.{head_at, action_at, step_at, extra_count_at, extra_start_at};
 
@@ -44,10 +46,10 @@ pub fn head(store: &[u16]) -> Head
     ensures { result ≡ head_at store.now }
 {
     Head {
-        states: store[STATE_COUNT_PLACE],
-        actions: store[ACTION_COUNT_PLACE],
-        steps: store[STEP_COUNT_PLACE],
-        start: State(store[START_PLACE]),
+        states: states(store),
+        actions: actions(store),
+        steps: steps(store),
+        start: start(store),
     }
 }
 
@@ -55,7 +57,7 @@ pub fn head(store: &[u16]) -> Head
 pub fn action_place(a: Action) -> usize
     ensures { result ≡ action_place a.0 }
 {
-    ACTIONS_BEGIN + ACTION_SIZE * a.0 as usize
+    ACTIONS_BEGIN + ACTION_SIZE * usize::from(a.0)
 }
 
 // Where the bytes of an action's name begin.
@@ -69,42 +71,42 @@ pub fn level(store: &[u16], a: Action) -> u16
     requires { (store_length ≤ length store.now) × (a.0 < action_limit) }
     ensures { result ≡ (action_at store.now a.0).level }
 {
-    store[ACTIONS_BEGIN + ACTION_SIZE * a.0 as usize]
+    store[action_place(a)]
 }
 
 pub fn name_length(store: &[u16], a: Action) -> u16
     requires { (store_length ≤ length store.now) × (a.0 < action_limit) }
     ensures { result ≡ get_or store.now (name_length_place a.0) 0 }
 {
-    store[ACTIONS_BEGIN + ACTION_SIZE * a.0 as usize + NAME_LENGTH_COLUMN]
+    store[action_place(a) + NAME_LENGTH_COLUMN]
 }
 
 // Where a step begins: its source, then its action, then its target.
 pub fn step_place(j: Step) -> usize
     ensures { result ≡ step_place j.0 }
 {
-    STEPS_BEGIN + STEP_SIZE * j.0 as usize
+    STEPS_BEGIN + STEP_SIZE * usize::from(j.0)
 }
 
 pub fn source(store: &[u16], j: Step) -> State
     requires { (store_length ≤ length store.now) × (j.0 < step_limit) }
     ensures { result ≡ (step_at store.now j.0).source }
 {
-    State(store[STEPS_BEGIN + STEP_SIZE * j.0 as usize])
+    State(store[step_place(j)])
 }
 
 pub fn action(store: &[u16], j: Step) -> Action
     requires { (store_length ≤ length store.now) × (j.0 < step_limit) }
     ensures { result ≡ (step_at store.now j.0).action }
 {
-    Action(store[STEPS_BEGIN + STEP_SIZE * j.0 as usize + ACTION_COLUMN])
+    Action(store[step_place(j) + ACTION_COLUMN])
 }
 
 pub fn target(store: &[u16], j: Step) -> State
     requires { (store_length ≤ length store.now) × (j.0 < step_limit) }
     ensures { result ≡ (step_at store.now j.0).target }
 {
-    State(store[STEPS_BEGIN + STEP_SIZE * j.0 as usize + TARGET_COLUMN])
+    State(store[step_place(j) + TARGET_COLUMN])
 }
 
 // The whole of a step.
@@ -112,11 +114,10 @@ pub fn step_line(store: &[u16], j: Step) -> StepLine
     requires { (store_length ≤ length store.now) × (j.0 < step_limit) }
     ensures { result ≡ step_at store.now j.0 }
 {
-    let at = STEPS_BEGIN + STEP_SIZE * j.0 as usize;
     StepLine {
-        source: State(store[at]),
-        action: Action(store[at + ACTION_COLUMN]),
-        target: State(store[at + TARGET_COLUMN]),
+        source: source(store, j),
+        action: action(store, j),
+        target: target(store, j),
     }
 }
 
@@ -132,7 +133,7 @@ pub fn extra_count(store: &[u16]) -> u16
 pub fn extra_place(i: u16) -> usize
     ensures { result ≡ extra_place i }
 {
-    EXTRA_BEGIN + i as usize
+    EXTRA_BEGIN + usize::from(i)
 }
 
 // Extra start i.
@@ -140,5 +141,5 @@ pub fn extra_start(store: &[u16], i: u16) -> State
     requires { (store_length ≤ length store.now) × (i < extra_limit) }
     ensures { result.0 ≡ extra_start_at store.now i }
 {
-    State(store[EXTRA_BEGIN + i as usize])
+    State(store[extra_place(i)])
 }

@@ -1,9 +1,6 @@
 -- Each answer of Page and of Roll keeps its promise: the lists' lengths decide first, then goodness. Assumes nothing.
-use mathlib.Core.List.{List, [], ◌∷◌}
+use Rattle.std.proofs.Common.{Ok, Err, List, [], ◌∷◌, ◌≡◌, refl, ℕ, length}
 use mathlib.Core.Option.{none}
-use mathlib.Core.Path.{◌≡◌, refl}
-use Prim.Native.Nat.{ℕ, ◌<◌}
-use lib.ListN.{length}
 use Rattle.text.specs.Faults.{answers}
 use Rattle.model.specs.Store.{Good}
 use Rattle.model.specs.StoredModel.{model_at}
@@ -11,17 +8,17 @@ use Rattle.text.specs.Laws.FirstShortLaws.{none_short_six}
 use Rattle.model.proofs.Laws.OnStoreLaws.{on_store_short, on_store_not_good, on_store-model}
 use Rattle.verdicts.specs.JudgeFilled.{JudgeFilled}
 use Rattle.lines.specs.declared.lines.Form.{Form}
-use Rattle.page.specs.declared.page.PageAnswer.TheVariants.{Printed, ShortList, NotGood}
+use Rattle.model.specs.declared.refusal.Refusal.TheVariants.{ShortList, NotGood}
 use Rattle.page.specs.PagePromise.{page_outcome, page_lists, PagePrinted, FormPromise}
-use Rattle.page.specs.Inner.PageLists.{LongLists, FirstShort, PageMade}
+use Rattle.page.specs.Inner.PageLists.{LongLists, ShortAt, PageMade}
 
 module _ (form : Form) (store distances table run word out : List ℕ) where
-  pub short_promised : (r : ℕ)
-      → FirstShort form r (length store) (length distances) (length table) (length run) (length word) (length out)
-      → 0 < r
-      → FormPromise form store distances table run word out (page_outcome (ShortList r)) distances table run word out
+  pub short_promised : (k : ℕ)
+      → ShortAt form (length store) (length distances) (length table) (length run) (length word) (length out) k
+      → FormPromise form store distances table run word out (page_outcome (Err (ShortList k))) distances table run word
+      out
   unfolding page_outcome
-  short_promised r x l = on_store_short (x.some_short l) refl (refl, refl, refl, refl, refl)
+  short_promised k x = on_store_short x.short refl (refl, refl, refl, refl, refl)
 
   module _ (long : LongLists form store distances table run word out) where
     page_lists_none : page_lists form store distances table run word out ≡ none
@@ -30,13 +27,13 @@ module _ (form : Form) (store distances table run word out : List ℕ) where
         long.word-length long.out_length
 
     pub not_good_promised : ¬ (Good store) → FormPromise form store distances table run word out
-        (page_outcome NotGood) distances table run word out
+        (page_outcome (Err NotGood)) distances table run word out
     unfolding page_outcome
     not_good_promised n = on_store_not_good page_lists_none n refl (refl, refl, refl, refl, refl)
 
     pub printed_promised : Good store → (n : ℕ) (distances' table' run' word' out' : List ℕ)
         → PageMade form (model_at store) n distances table run word out distances' table' run' word' out'
-        → FormPromise form store distances table run word out (page_outcome (Printed n)) distances' table' run' word'
+        → FormPromise form store distances table run word out (page_outcome (Ok n)) distances' table' run' word'
         out'
     unfolding page_outcome
     printed_promised good n distances' table' run' word' out' made =

@@ -1,14 +1,9 @@
 -- Each answer of `print_in_form` keeps its promise and the claim: the lists' lengths decide first, then whether the
 -- text is read. Assumes nothing.
-use mathlib.Core.List.{List, [], ◌∷◌, ◌++◌}
+use Rattle.std.proofs.Common.{List, [], ◌∷◌, ◌++◌, ◌≡◌, refl, sym, ap, subst, ◌∙◌, ℕ, ◌+◌, ◌≤◌, ◌<◌, add-one, arith}
+use Rattle.std.proofs.Common.{length, drop, Result, Ok, Err}
 use mathlib.Core.Option.{none, some}
-use mathlib.Core.Path.{◌≡◌, refl, sym, ap, subst, ◌∙◌}
-use Prim.Native.Nat.{ℕ, ◌+◌, ◌≤◌, ◌<◌}
-use native.Mathlib.Numerals.{add-one}
-use native.Mathlib.Omega.{arith}
-use lib.ListN.{length, drop}
-use Rattle.read_write.specs.declared.read.ReadAnswer.{ReadAnswer}
-use Rattle.read_write.specs.declared.read.ReadAnswer.TheVariants.{Done}
+use Rattle.read_write.specs.declared.read.ReadRefusal.{ReadRefusal}
 use Rattle.text.specs.Faults.{Outcome, answers, refuses}
 use Rattle.text.specs.Laws.OutcomeLaws.{answers_not_refuses}
 use Rattle.text.specs.Limits.{store_length}
@@ -23,11 +18,10 @@ use Rattle.read_write.specs.Laws.ReadPromiseLaws.{read_lists_none}
 use Rattle.model.proofs.Laws.Store.StoredModelLaws.{model_at_store_of}
 use Rattle.model.proofs.Laws.Text.ReadingLaws.{read_text_well_formed}
 use Rattle.lines.specs.declared.lines.Form.{Form}
-use Rattle.page.specs.declared.print.PrintAnswer.{PrintAnswer}
-use Rattle.page.specs.declared.print.PrintAnswer.TheVariants.{Printed, ShortList}
+use Rattle.page.specs.declared.print.ShortList.{ShortList}
 use Rattle.page.specs.Claim.{PrintClaim}
 use Rattle.page.specs.PrintPromise.{print_outcome, print_lists, PrintPromise}
-use Rattle.page.specs.Inner.PageLists.{LongLists, FirstShort, PageMade}
+use Rattle.page.specs.Inner.PageLists.{LongLists, ShortAt, PageMade}
 use Rattle.page.specs.Inner.Refusals.{FaultWritten}
 use Rattle.page.specs.Laws.PrintClaimLaws.{print_claim}
 use Rattle.page.specs.Laws.PrintsLaws.{print_lists_none}
@@ -37,15 +31,14 @@ use Rattle.page.proofs.ReadRefusals.{refused_store, fault_printed}
 
 module _ (form : Form) (text store distances table run word out : List ℕ) where
   -- an answer that leaves all lists as they were
-  abbrev Refused : PrintAnswer → Type 0
+  abbrev Refused : Result ℕ ShortList → Type 0
   Refused r =
       PrintPromise form text store distances table run word out (print_outcome r) store distances table run word out
       × PrintClaim form text (print_outcome r) word out
 
   place_promised : (place : ℕ) → print_lists form text store distances table run word out ≡ some place
-      → PrintPromise form text store distances table run word out (print_outcome (ShortList place)) store distances
-      table
-      run word out
+      → PrintPromise form text store distances table run word out (print_outcome (Err (record { 0 = place }))) store
+      distances table run word out
   unfolding print_outcome
   place_promised place e = record {
     short = λ k h.
@@ -59,18 +52,17 @@ module _ (form : Form) (text store distances table run word out : List ℕ) wher
   }
 
   short_refused : (place : ℕ) → print_lists form text store distances table run word out ≡ some place
-      → Refused (ShortList place)
+      → Refused (Err (record { 0 = place }))
   short_refused place e = let promise = place_promised place e in (promise, print_claim promise)
 
   -- the text is list 1, and Page's lists follow it
-  pub short_promised : (r : ℕ)
-      → FirstShort form r (length store) (length distances) (length table) (length run) (length word) (length out)
-      → 0 < r
-      → Refused (ShortList (r + 1))
-  short_promised r x l =
+  pub short_promised : (k : ℕ)
+      → ShortAt form (length store) (length distances) (length table) (length run) (length word) (length out) k
+      → Refused (Err (record { 0 = k + 1 }))
+  short_promised k x =
       let any-text : 0 ≤ length text = omega arith in
-      short_refused (r + 1)
-      (first_short_le 1 _ _ any-text ∙ first_short-suc 1 _ _ (x.some_short l) ∙ ap some (sym (add-one r)))
+      short_refused (k + 1)
+      (first_short_le 1 _ _ any-text ∙ first_short-suc 1 _ _ x.short ∙ ap some (sym (add-one k)))
 
   -- ---- on long lists
 
@@ -78,8 +70,8 @@ module _ (form : Form) (text store distances table run word out : List ℕ) wher
   pub printed_claimed : (n : ℕ) (store' distances' table' run' word' out' : List ℕ)
       → PrintPromise form text store distances table run word out (answers (n ∷ [])) store' distances' table' run' word'
       out'
-      → PrintPromise form text store distances table run word out (print_outcome (Printed n)) store' distances' table'
-      run' word' out' × PrintClaim form text (print_outcome (Printed n)) word' out'
+      → PrintPromise form text store distances table run word out (print_outcome (Ok n)) store' distances' table'
+      run' word' out' × PrintClaim form text (print_outcome (Ok n)) word' out'
   unfolding print_outcome
   printed_claimed n store' distances' table' run' word' out' promise = (promise, print_claim promise)
 
@@ -90,7 +82,7 @@ module _ (form : Form) (text store distances table run word out : List ℕ) wher
         let z : ◌≡◌ {A = ℕ} 0 1 = cc in
         omega arith
 
-    module _ (r : ReadAnswer) {store' : List ℕ} (reads : ReadPromise text store (read_outcome r) store') where
+    module _ (r : Result (Unit {0}) ReadRefusal) {store' : List ℕ} (reads : ReadPromise text store (read_outcome r) store') where
       reading : read_outcome r ≡ reading_outcome (read_text text)
       reading = reads.answer (read_lists_none text store long.store_length_is)
 
@@ -115,7 +107,7 @@ module _ (form : Form) (text store distances table run word out : List ℕ) wher
         read = λ h m e. absurd (answers_not_refuses (ap reading_outcome (sym e) ∙ sym reading ∙ x.outcome_is));
       }
 
-      pub read_promised : r ≡ Done → (n : ℕ) (distances' table' run' word' out' : List ℕ)
+      pub read_promised : r ≡ Ok tt → (n : ℕ) (distances' table' run' word' out' : List ℕ)
           → PageMade form (model_at store') n distances table run word out distances' table' run' word' out'
           → PrintPromise form text store distances table run word out (answers (n ∷ [])) store' distances' table' run'
           word' out'

@@ -1,12 +1,8 @@
 -- What is printed of a text: the line of Read's refusal, or what is printed of the model that Read left in the store.
 -- Assumes nothing.
-use mathlib.Core.List.{List, ◌++◌}
-use mathlib.Core.Path.{◌≡◌, sym, ap, subst, ◌∙◌}
-use Prim.Native.Nat.{ℕ, ◌≤◌, min}
-use native.Mathlib.Omega.{arith}
-use lib.ListN.{length, take, drop, length-take}
-use Rattle.read_write.specs.declared.read.ReadAnswer.{ReadAnswer}
-use Rattle.read_write.specs.declared.read.ReadAnswer.TheVariants.{Done}
+use Rattle.std.proofs.Common.{List, ◌++◌, ◌≡◌, sym, ap, subst, ◌∙◌, ℕ, ◌≤◌, min, arith, length, take, drop, length-take}
+use Rattle.std.proofs.Common.{Result, Ok}
+use Rattle.read_write.specs.declared.read.ReadRefusal.{ReadRefusal}
 use Rattle.text.specs.Faults.{Outcome}
 use Rattle.text.specs.Laws.ListsLaws.{take-filled}
 use Rattle.text.specs.Laws.OutcomeLaws.{answers_not_refuses}
@@ -47,7 +43,7 @@ module _ (number place : ℕ) {n : ℕ} {out out' : List ℕ} (long : page_lengt
       let front = wrote-start w (omega (arith, fault-length_le number place, long)) in
       take-filled (fault_bytes number place) _ front.1 n front.0
 
-module _ (Of : Model → List ℕ → Type 0) {text store store' : List ℕ} (r : ReadAnswer)
+module _ (Of : Model → List ℕ → Type 0) {text store store' : List ℕ} (r : Result (Unit {0}) ReadRefusal)
     (reads : ReadPromise text store (read_outcome r) store') (long : store_length ≤ length store) where
   reading : read_outcome r ≡ reading_outcome (read_text text)
   reading = reads.answer (read_lists_none text store long)
@@ -62,7 +58,7 @@ module _ (Of : Model → List ℕ → Type 0) {text store store' : List ℕ} (r 
     read = λ m e. absurd (answers_not_refuses (ap reading_outcome (sym e) ∙ sym reading ∙ x.outcome_is));
   }
 
-  pub prints_text_read : r ≡ Done → {bytes : List ℕ} → Of (model_at store') bytes → PrintsText Of text bytes
+  pub prints_text_read : r ≡ Ok tt → {bytes : List ℕ} → Of (model_at store') bytes → PrintsText Of text bytes
   unfolding read_outcome reading_outcome reading_store
   prints_text_read e {bytes} x = record {
     unread = λ number place f. absurd (answers_not_refuses (ap read_outcome (sym e) ∙ reading ∙ f));

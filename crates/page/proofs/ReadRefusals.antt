@@ -1,11 +1,6 @@
 -- What a refusal of Read leaves, and the line that tells it. Assumes nothing.
-use mathlib.Core.List.{List, [], ◌∷◌}
-use mathlib.Core.Path.{◌≡◌, refl, sym, ap, subst, ◌∙◌}
-use Prim.Native.Nat.{ℕ, ◌≤◌}
-use native.Mathlib.Omega.{arith}
-use lib.ListN.{length}
-use Rattle.read_write.specs.declared.read.ReadAnswer.{ReadAnswer}
-use Rattle.read_write.specs.declared.read.ReadAnswer.TheVariants.{Done}
+use Rattle.std.proofs.Common.{List, [], ◌∷◌, ◌≡◌, refl, sym, ap, subst, ◌∙◌, ℕ, ◌≤◌, arith, length, Err}
+use Rattle.read_write.specs.declared.read.ReadRefusal.{ReadRefusal}
 use Rattle.text.specs.Faults.{answers, refuses}
 use Rattle.text.specs.Laws.OutcomeLaws.{answers_not_refuses}
 use Rattle.text.specs.Limits.{store_length}
@@ -19,14 +14,13 @@ use Rattle.lines.specs.declared.lines.Form.{Form}
 use Rattle.lines.specs.Roll.{form_length}
 use Rattle.lines.specs.Laws.PageLinesLaws.{fault-length_le}
 use Rattle.page.specs.PrintPromise.{FaultPrinted}
-use Rattle.page.specs.Inner.Refusals.{Refuses, FaultWritten}
+use Rattle.page.specs.Inner.Refusals.{PlaceFits, FaultWritten}
 use Rattle.page.specs.Laws.PageLaws.{page_length_le}
 
 -- the place of any refusal has 16 bits
-pub refuses_of : {text store exit : List ℕ} {r : ReadAnswer} → ReadPromise text store (read_outcome r) exit
-    → store_length ≤ length store → ¬ (r ≡ Done) → Refuses r
-refuses_of {text} {store} reads long n = record {
-  not_done = n;
+pub refuses_of : {text store exit : List ℕ} {r : ReadRefusal} → ReadPromise text store (read_outcome (Err r)) exit
+    → store_length ≤ length store → PlaceFits r
+refuses_of {text} {store} reads long = record {
   place_lt = λ number place e.
       reading_place_lt text number place (sym (reads.answer (read_lists_none text store long)) ∙ e);
 }

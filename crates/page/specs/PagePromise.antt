@@ -1,15 +1,15 @@
 -- The promises of Page and of Roll: one promise, which holds of lines in either form.
 -- Document 01, operation 7, "The page" and "Refused because of the state"; document 02, (ii).
-use Rattle.std.specs.Prelude.{List, [], ◌∷◌, ◌++◌, ◌≡◌, ℕ, length, drop}
+use Rattle.std.specs.Prelude.{Result, Ok, Err, List, [], ◌∷◌, ◌++◌, ◌≡◌, ℕ, length, drop}
 use Rattle.std.proofs.Math.Option.{Option}
 use Rattle.text.specs.Limits.{store_length}
 use Rattle.text.specs.Limits.{distances_length, table_length, run_length, word_length}
-use Rattle.text.specs.Faults.{Outcome, answers, refuses, first_short}
+use Rattle.text.specs.Faults.{Outcome, answers, first_short}
 use Rattle.text.specs.Model.{Model}
 use Rattle.model.specs.OnStore.{OnStore}
 use Rattle.verdicts.specs.JudgeFilled.{JudgeFilled}
-use Rattle.page.specs.declared.page.PageAnswer.{PageAnswer}
-use Rattle.page.specs.declared.page.PageAnswer.TheVariants.{Printed, ShortList, NotGood}
+use Rattle.model.specs.declared.refusal.Refusal.{Refusal}
+use Rattle.model.specs.Refusals.{refusal_outcome}
 use Rattle.lines.specs.declared.lines.Form.{Form}
 use Rattle.lines.specs.declared.lines.Form.TheVariants.{Page, Roll}
 use Rattle.lines.specs.PageLines.{PageLine}
@@ -17,10 +17,9 @@ use Rattle.lines.specs.Page.{PageOf}
 use Rattle.lines.specs.Roll.{form_bytes, form_length}
 
 -- "Answers the bytes written."
-unfoldable pub page_outcome : PageAnswer → Outcome
-page_outcome (Printed length) = answers (length ∷ [])
-page_outcome (ShortList place) = refuses 21 place
-page_outcome NotGood = refuses 22 0
+unfoldable pub page_outcome : Result ℕ Refusal → Outcome
+page_outcome (Ok length) = answers (length ∷ [])
+page_outcome (Err refusal) = refusal_outcome refusal
 
 -- The least lengths of the lists: `out` has that of the form.
 abbrev pub page_least : Form → List ℕ

@@ -1,7 +1,7 @@
 -- The promise of the path from a text to its page, or to its roll.
 -- Document 01, "The page": "The program reads standard input and prints the page, or `F,number,place` if Read refuses;
 -- each line ends in byte 10." Document 02, (ii): "Shop engineers print the page on the till's own roll."
-use Rattle.std.specs.Prelude.{List, [], ◌∷◌, ◌++◌, ◌≡◌, ℕ, length, drop}
+use Rattle.std.specs.Prelude.{Result, Ok, Err, List, [], ◌∷◌, ◌++◌, ◌≡◌, ℕ, length, drop}
 use Rattle.std.proofs.Math.Option.{Option, none, some}
 use Rattle.text.specs.Faults.{Outcome, answers, refuses, first_short}
 use Rattle.text.specs.Limits.{store_length}
@@ -10,16 +10,15 @@ use Rattle.read_write.specs.ReadPromise.{reading_outcome}
 use Rattle.model.specs.Reading.{done, read_text}
 use Rattle.model.specs.Store.{store_of}
 use Rattle.verdicts.specs.JudgeFilled.{JudgeFilled}
-use Rattle.page.specs.declared.print.PrintAnswer.{PrintAnswer}
-use Rattle.page.specs.declared.print.PrintAnswer.TheVariants.{Printed, ShortList}
+use Rattle.page.specs.declared.print.ShortList.{ShortList}
 use Rattle.lines.specs.declared.lines.Form.{Form}
 use Rattle.lines.specs.PageLines.{fault_bytes}
 use Rattle.page.specs.PagePromise.{page_least, PagePrinted}
 
 -- The bytes written, or 21: the lists are lent as to Read and Page.
-unfoldable pub print_outcome : PrintAnswer → Outcome
-print_outcome (Printed length) = answers (length ∷ [])
-print_outcome (ShortList place) = refuses 21 place
+unfoldable pub print_outcome : Result ℕ ShortList → Outcome
+print_outcome (Ok length) = answers (length ∷ [])
+print_outcome (Err short) = refuses 21 short.0
 
 abbrev pub print_lists : Form → List ℕ → List ℕ → List ℕ → List ℕ → List ℕ → List ℕ → List ℕ → Option ℕ
 print_lists form text store distances table run word out =

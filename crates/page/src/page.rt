@@ -6,18 +6,11 @@ ghost use Rattle.page.specs.PagePromise.{page_outcome, FormPromise, PagePromise,
 ghost use Rattle.page.specs.Inner.PageLists.{FirstShort, PageLists, PageMade};
 
 use lines::lines::{Form, PagePosition};
+use model::refusal::{Refusal, check_good};
 use text::limits::{
     DISTANCES_LENGTH, INDEX_LENGTH, PAGE_LENGTH, ROLES_LENGTH, ROLL_LENGTH, RUN_LENGTH,
     STORE_LENGTH, TABLE_LENGTH, WORD_LENGTH,
 };
-
-// What Page and Roll answer: the bytes written.
-#[derive(Clone, Copy)]
-pub enum PageAnswer {
-    Printed(usize),
-    ShortList(usize),
-    NotGood,
-}
 
 // The least length of the list of bytes.
 fn form_length(form: Form) -> usize
@@ -29,7 +22,7 @@ fn form_length(form: Form) -> usize
     }
 }
 
-// The first of the lists that is below its least length, by their lengths, counted from 1; 0 if none is.
+// The first of the lists that is below its least length, by their lengths, counted from 1.
 pub fn first_short(
     store: usize,
     distances: usize,
@@ -38,32 +31,32 @@ pub fn first_short(
     word: usize,
     out: usize,
     form: Form,
-) -> usize
+) -> Option<usize>
     ensures { FirstShort form result store distances table run word out }
 {
     if store < STORE_LENGTH {
-        return 1;
+        return Some(1);
     }
     if distances < DISTANCES_LENGTH {
-        return 2;
+        return Some(2);
     }
     if table < TABLE_LENGTH {
-        return 3;
+        return Some(3);
     }
     if run < RUN_LENGTH {
-        return 4;
+        return Some(4);
     }
     if word < WORD_LENGTH {
-        return 5;
+        return Some(5);
     }
-    let least = form_length(form);
-    if out < least {
-        return 6;
+    if out < form_length(form) {
+        return Some(6);
     }
-    0
+    None
 }
 
-// The page of a good store in a form: judged once.
+// The page of a good store in a form: judged once. The lists are lent one by one, as C lends them: a struct of them
+// would be made in each function that C or a program reaches, and taken apart again in the next.
 pub fn page_good(
     store: &[u16],
     distances: &mut [u16],
@@ -87,7 +80,7 @@ pub fn page_good(
 }
 
 // Fills the distances and the table, the run of a refused model, and the word where it prints one; puts the page in its
-// form at the front of `out`.
+// form at the front of `out`, and answers the bytes written.
 fn page_in_form(
     store: &[u16],
     distances: &mut [u16],
@@ -96,7 +89,7 @@ fn page_in_form(
     word: &mut [u16],
     out: &mut [u8],
     form: Form,
-) -> PageAnswer
+) -> Result<usize, Refusal>
     ensures { FormPromise form store.now distances.old table.old
         run.old word.old out.old (page_outcome result) distances.new
         table.new run.new word.new out.new }
@@ -110,15 +103,12 @@ fn page_in_form(
         out.len(),
         form,
     );
-    if 0 < short {
-        return PageAnswer::ShortList(short);
+    if let Some(place) = short {
+        return Err(Refusal::ShortList(place));
     }
-    if !model::good::good(store) {
-        return PageAnswer::NotGood;
-    }
-    let made = page_good(store, distances, table, run, word, out, form);
-    let at = made.at;
-    PageAnswer::Printed(at.at)
+    check_good(store)?;
+    let end = page_good(store, distances, table, run, word, out, form);
+    Ok(end.at.at)
 }
 
 // Page: in at least 5,000 bytes.
@@ -129,7 +119,7 @@ pub fn page(
     run: &mut [u16],
     word: &mut [u16],
     out: &mut [u8],
-) -> PageAnswer
+) -> Result<usize, Refusal>
     ensures { PagePromise store.now distances.old table.old run.old
         word.old out.old (page_outcome result) distances.new table.new
         run.new word.new out.new }
@@ -145,7 +135,7 @@ pub fn roll(
     run: &mut [u16],
     word: &mut [u16],
     out: &mut [u8],
-) -> PageAnswer
+) -> Result<usize, Refusal>
     ensures { RollPromise store.now distances.old table.old run.old
         word.old out.old (page_outcome result) distances.new table.new
         run.new word.new out.new }

@@ -10,18 +10,16 @@ ghost use Rattle.lines.specs.declared.lines.Form.TheVariants.{Page};
 ghost use Rattle.page.specs.Inner.PageLists.{LongLists};
 ghost use Rattle.page.specs.Claim.{PrintClaim};
 ghost use Rattle.page.specs.PrintPromise.{print_outcome, PrintPromise};
-ghost use Rattle.page.specs.Inner.Refusals.{Refuses, FaultWritten};
+ghost use Rattle.page.specs.Inner.Refusals.{PlaceFits, FaultWritten};
 
 use crate::page::{first_short, page_good};
 use lines::lines::{Form, PagePosition};
-use read_write::read::ReadAnswer;
+use read_write::read::{ReadRefusal, read};
+use text::fault_number;
 
-// What `print_in_form` answers: the bytes written.
-#[derive(Clone, Copy)]
-pub enum PrintAnswer {
-    Printed(usize),
-    ShortList(usize),
-}
+// A lent list is below its least length, told by its place among those lent, from 1.
+#[derive(Clone, Copy, PartialEq, Eq)]
+pub struct ShortList(pub usize);
 
 // The number and the place of a refusal.
 #[derive(Clone, Copy)]
@@ -30,30 +28,23 @@ struct Refusal {
     place: u16,
 }
 
-fn refusal_of(read: ReadAnswer) -> Refusal
-    requires { Refuses read }
-    ensures { read_outcome read ≡ refuses result.number result.place }
+fn refusal_of(read: ReadRefusal) -> Refusal
+    requires { PlaceFits read }
+    ensures { read_outcome (Err read) ≡ refuses result.number result.place }
 {
     match read {
-        ReadAnswer::Done => Refusal {
-            number: 0,
-            place: 0,
-        },
-        ReadAnswer::ShortList(k) => Refusal {
+        ReadRefusal::ShortList(place) => Refusal {
             number: 21,
-            place: k as u16,
+            place: place as u16,
         },
-        ReadAnswer::TooLong => Refusal {
+        ReadRefusal::TooLong => Refusal {
             number: 1,
             place: 0,
         },
-        ReadAnswer::Faulty { fault, line } => {
-            let n = text::fault_number(fault);
-            Refusal {
-                number: n,
-                place: line as u16,
-            }
-        }
+        ReadRefusal::Faulty(bad) => Refusal {
+            number: fault_number(bad.fault),
+            place: bad.line as u16,
+        },
     }
 }
 
@@ -69,9 +60,9 @@ pub fn refusal_line(number: u16, place: u16, out: &mut [u8]) -> PagePosition
 }
 
 // The line of a text that Read refuses.
-pub fn fault_line(read: ReadAnswer, out: &mut [u8]) -> PagePosition
-    requires { Refuses read × (page_length ≤ length out.old) }
-    ensures { FaultWritten (read_outcome read) out.old out.new result.at.at }
+pub fn fault_line(read: ReadRefusal, out: &mut [u8]) -> PagePosition
+    requires { PlaceFits read × (page_length ≤ length out.old) }
+    ensures { FaultWritten (read_outcome (Err read)) out.old out.new result.at.at }
 {
     let refusal = refusal_of(read);
     refusal_line(refusal.number, refusal.place, out)
@@ -94,15 +85,14 @@ fn print_text(
         store.new distances.new table.new run.new word.new
         out.new }
 {
-    let read = read_write::read::read(text, store);
-    match read {
-        ReadAnswer::Done => page_good(store, distances, table, run, word, out, form),
-        _ => fault_line(read, out),
+    match read(text, store) {
+        Ok(()) => page_good(store, distances, table, run, word, out, form),
+        Err(refusal) => fault_line(refusal, out),
     }
 }
 
 // The path from a text to its page or roll, which `print` and `printed` call: reads the text and prints its page in a
-// form, or why Read refuses it.
+// form, or why Read refuses it, and answers the bytes written.
 pub fn print_in_form(
     text: &[u8],
     store: &mut [u16],
@@ -112,7 +102,7 @@ pub fn print_in_form(
     word: &mut [u16],
     out: &mut [u8],
     form: Form,
-) -> PrintAnswer
+) -> Result<usize, ShortList>
     ensures print_promise { PrintPromise form text.now store.old distances.old
         table.old run.old word.old out.old (print_outcome result)
         store.new distances.new table.new run.new word.new
@@ -128,14 +118,12 @@ pub fn print_in_form(
         out.len(),
         form,
     );
-    if 0 < short {
+    if let Some(place) = short {
         // The text, of no least length, is list 1.
-        let place = short + 1;
-        return PrintAnswer::ShortList(place);
+        return Err(ShortList(place + 1));
     }
-    let printed = print_text(text, store, distances, table, run, word, out, form);
-    let at = printed.at;
-    PrintAnswer::Printed(at.at)
+    let end = print_text(text, store, distances, table, run, word, out, form);
+    Ok(end.at.at)
 }
 
 // The page of a text.
@@ -147,7 +135,7 @@ pub fn print(
     run: &mut [u16],
     word: &mut [u16],
     out: &mut [u8],
-) -> PrintAnswer
+) -> Result<usize, ShortList>
     ensures print_promise { PrintPromise Page text.now store.old distances.old
         table.old run.old word.old out.old (print_outcome result)
         store.new distances.new table.new run.new word.new

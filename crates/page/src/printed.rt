@@ -3,7 +3,7 @@ ghost use Rattle.std.specs.Prelude.{◌≡◌, ◌≤◌, length, take, drop};
 ghost use Rattle.lines.specs.Roll.{form_length};
 ghost use Rattle.page.specs.Prints.{Prints};
 
-use crate::print::{PrintAnswer, print_in_form};
+use crate::print::print_in_form;
 use lines::lines::Form;
 use text::limits::{DISTANCES_LENGTH, RUN_LENGTH, STORE_LENGTH, TABLE_LENGTH, WORD_LENGTH};
 
@@ -20,7 +20,7 @@ pub fn printed(text: &[u8], out: &mut [u8], form: Form) -> usize
     let mut table = [0u8; TABLE_LENGTH];
     let mut run = [0u16; RUN_LENGTH];
     let mut word = [0u16; WORD_LENGTH];
-    let answer = print_in_form(
+    let printed = print_in_form(
         text,
         &mut store,
         &mut distances,
@@ -30,9 +30,6 @@ pub fn printed(text: &[u8], out: &mut [u8], form: Form) -> usize
         out,
         form,
     );
-    match answer {
-        PrintAnswer::Printed(length) => length,
-        // Does not occur: each list has its least length.
-        PrintAnswer::ShortList(_) => 0,
-    }
+    // Each list has its least length.
+    printed.unwrap_or(0)
 }

@@ -31,7 +31,5 @@ pub fn clear(list: &mut [u8], n: usize)
     requires { n ≤ length list.old }
     ensures { Cleared 0 n list.old list.new }
 {
-    for i in 0..n {
-        list[i] = 0;
-    }
+    list[..n].fill(0);
 }

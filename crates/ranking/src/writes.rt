@@ -26,12 +26,12 @@ fn write_pair(
 {
     let a = class_at(class, p);
     let b = class_at(class, q);
-    if a.0 != b.0 {
+    if a != b {
         return;
     }
     let c = class_at(next, p);
     let d = class_at(next, q);
-    if c.0 == d.0 {
+    if c == d {
         return;
     }
     let at = pair_place(p, q);
@@ -48,10 +48,8 @@ fn write_row(table: &mut [u8], class: &[u16; ROW], next: &[u16; ROW], round: u8,
         table.new }
     ensures row_written { RowWritten class.now next.now round table.new p.0 n }
 {
-    let mut q = 0;
-    while q < n {
+    for q in 0..n {
         write_pair(table, class, next, round, p, State(q));
-        q += 1;
     }
 }
 
@@ -72,10 +70,7 @@ pub fn write_rows(
     ensures rows_written { RowsWritten class.now next.now round table.new
         list.now count n }
 {
-    let mut i = 0;
-    while i < count {
-        let place = i as usize;
-        write_row(table, class, next, round, n, State(list[place]));
-        i += 1;
+    for i in 0..count {
+        write_row(table, class, next, round, n, State(list[i as usize]));
     }
 }

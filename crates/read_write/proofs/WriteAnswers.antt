@@ -1,10 +1,6 @@
 -- Each answer of Write keeps its promise: the lists' lengths decide first, then goodness. Assumes nothing.
-use mathlib.Core.List.{List, [], ◌∷◌}
-use mathlib.Core.Path.{refl, ap}
-use Prim.Native.Nat.{ℕ, ◌≤◌, ◌<◌}
-use native.Mathlib.Omega.{arith}
-use lib.ListN.{length}
-use Rattle.read_write.specs.declared.write.WriteAnswer.TheVariants.{Written, ShortList, NotGood}
+use Rattle.std.proofs.Common.{Ok, Err, List, [], ◌∷◌, refl, ap, ℕ, ◌≤◌, ◌<◌, arith, length}
+use Rattle.model.specs.declared.refusal.Refusal.TheVariants.{ShortList, NotGood}
 use Rattle.text.specs.Faults.{answers}
 use Rattle.text.specs.Limits.{store_length, out_length}
 use Rattle.text.specs.Laws.FirstShortLaws.{first_short_is, second_short}
@@ -20,23 +16,24 @@ use Rattle.writer.specs.Wrote.{Wrote}
 use Rattle.writer.specs.Laws.WroteLaws.{wrote-start}
 
 module _ (store out : List ℕ) where
-  pub short_store_promised : length store < store_length → WritePromise store out (write_outcome (ShortList 1)) out
+  pub short_store_promised : length store < store_length
+      → WritePromise store out (write_outcome (Err (ShortList 1))) out
   unfolding write_outcome
   short_store_promised h = on_store_short (first_short_is _ _ h) refl refl
 
   pub short_out_promised : store_length ≤ length store → length out < out_length
-      → WritePromise store out (write_outcome (ShortList 2)) out
+      → WritePromise store out (write_outcome (Err (ShortList 2))) out
   unfolding write_outcome
   short_out_promised h l = on_store_short (second_short _ _ h l) refl refl
 
   pub not_good_promised : store_length ≤ length store → out_length ≤ length out → ¬ (Good store)
-      → WritePromise store out (write_outcome NotGood) out
+      → WritePromise store out (write_outcome (Err NotGood)) out
   unfolding write_outcome
   not_good_promised h l n = on_store_not_good (write_lists_none store out h l) n refl refl
 
   -- the text that was written is that of the model that the store holds
   pub written_promised : (exit : List ℕ) (next : ℕ) → Writable store → out_length ≤ length out
-      → Wrote out 0 (model_text (model_at store)) exit next → WritePromise store out (write_outcome (Written next)) exit
+      → Wrote out 0 (model_text (model_at store)) exit next → WritePromise store out (write_outcome (Ok next)) exit
   unfolding write_outcome
   written_promised exit next w l wrote =
       let fits = text_le store w in

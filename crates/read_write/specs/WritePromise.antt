@@ -1,19 +1,18 @@
 -- The promise of Write: store, out.
 -- Document 01, operation 8, and "Refused because of the state".
-use Rattle.std.specs.Prelude.{List, [], ◌∷◌, ◌++◌, ◌≡◌, ℕ, length, drop}
+use Rattle.std.specs.Prelude.{Result, Ok, Err, List, [], ◌∷◌, ◌++◌, ◌≡◌, ℕ, length, drop}
 use Rattle.std.proofs.Math.Option.{Option}
 use Rattle.text.specs.Limits.{store_length, out_length}
-use Rattle.text.specs.Faults.{Outcome, answers, refuses, first_short}
+use Rattle.text.specs.Faults.{Outcome, answers, first_short}
 use Rattle.model.specs.OnStore.{OnStore}
 use Rattle.model.specs.Text.{model_text}
-use Rattle.read_write.specs.declared.write.WriteAnswer.{WriteAnswer}
-use Rattle.read_write.specs.declared.write.WriteAnswer.TheVariants.{Written, ShortList, NotGood}
+use Rattle.model.specs.declared.refusal.Refusal.{Refusal}
+use Rattle.model.specs.Refusals.{refusal_outcome}
 
 -- "Answers its length"; else the document's number and place
-unfoldable pub write_outcome : WriteAnswer → Outcome
-write_outcome (Written length) = answers (length ∷ [])
-write_outcome (ShortList place) = refuses 21 place
-write_outcome NotGood = refuses 22 0
+unfoldable pub write_outcome : Result ℕ Refusal → Outcome
+write_outcome (Ok length) = answers (length ∷ [])
+write_outcome (Err refusal) = refusal_outcome refusal
 
 abbrev pub write_lists : List ℕ → List ℕ → Option ℕ
 write_lists store out = first_short 1 (length store ∷ length out ∷ []) (store_length ∷ out_length ∷ [])

@@ -4,3 +4,4 @@ pub mod ReadStartsLaws
 pub mod ReadStepsLaws
 pub mod TextReadLaws
 pub mod NameLaws
+pub mod FaultLaws

@@ -5,6 +5,7 @@
 mod actions;
 pub mod answers;
 mod body;
+mod end;
 pub mod reader;
 mod starts;
 mod steps;

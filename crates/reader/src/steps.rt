@@ -1,42 +1,29 @@
 // The lines of the steps.
 ghost use Rattle.reader.specs.Inner.ReadSoFar.{AfterStarts, AfterSteps, Further};
 
-use crate::answers::{LineStart, LinesRead};
+use crate::answers::{LineFault, LineStart};
 use model::put::put_step;
-use text::scan::{StepAt, step_at};
-use text::{Action, Head, State, Step, StepLine};
+use text::scan::step_at;
+use text::{Head, Step};
 
 // The lines of the steps, into a store that holds the first line, the actions and the extra starts.
-pub fn steps(text: &[u8], start: LineStart, head: Head, out: &mut [u16]) -> LinesRead
+pub fn steps(
+    text: &[u8],
+    start: LineStart,
+    head: Head,
+    out: &mut [u16],
+) -> Result<LineStart, LineFault>
     requires { AfterStarts head text.now start out.old }
     ensures { Further (λ next. AfterSteps text.now next out.new)
         text.now result }
 {
-    let count = head.steps as usize;
-    let mut last = StepLine {
-        source: State(0),
-        action: Action(0),
-        target: State(0),
-    };
     let mut from = start;
-    let mut j = 0;
-    while j < count {
-        let read = step_at(text, from.at, head, j, last);
-        let line = from.line;
-        match read {
-            StepAt::Bad(fault) => {
-                return LinesRead::Faulty { fault, line };
-            }
-            StepAt::Good { step, next } => {
-                put_step(out, Step(j as u16), step);
-                last = step;
-                from = LineStart {
-                    at: next,
-                    line: line + 1,
-                };
-            }
-        }
-        j += 1;
+    let mut last = None;
+    for j in 0..head.steps {
+        let step = step_at(text, from.at, head, last).map_err(|fault| from.faulty(fault))?;
+        put_step(out, Step(j), step.stated);
+        last = Some(step.stated);
+        from = from.next(step.next);
     }
-    LinesRead::Next(from)
+    Ok(from)
 }

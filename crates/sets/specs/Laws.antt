@@ -7,4 +7,5 @@ pub mod SearchLaws
 pub mod SetValuesLaws
 pub mod SetsLaws
 pub mod WalkLaws
+pub mod WithinLaws
 pub mod WordsLaws

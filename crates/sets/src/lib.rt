@@ -10,9 +10,9 @@ ghost use Rattle.text.specs.Limits.{state_limit};
 ghost use Rattle.sets.specs.Inner.Sets.{sets_length, Member, Empty, Joined};
 ghost use Rattle.sets.specs.Inner.SetValues.{SetOf, InSome};
 
-use crate::set::{Set, drop_least, either, insert, least, none, set_at};
+use crate::set::{Set, either, insert, none, set_at};
 use text::State;
-use text::limits::{ROW, STATE_LIMIT};
+use text::limits::ROW;
 
 // Two words for each set of a list that has one for each state.
 pub const SETS_LENGTH: usize = 2 * ROW;
@@ -81,12 +81,8 @@ pub fn union(sets: &[u64; SETS_LENGTH], of: Set) -> Set
     ensures { SetOf (InSome sets.now of) result }
 {
     let mut found = none();
-    let mut left = of;
-    let mut q = least(left);
-    while q < STATE_LIMIT {
+    for q in of {
         found = either(found, set_at(sets, q as usize));
-        left = drop_least(left);
-        q = least(left);
     }
     found
 }

@@ -1,10 +1,11 @@
 // Sets of numbers below 128 as values.
 ghost use Rattle.std.specs.Prelude.{◌⊎◌, ◌≡◌, ℕ, ◌+◌, ◌*◌, ◌≤◌, ◌<◌, length};
 ghost use Rattle.std.specs.Int.Count.{ones};
+ghost use Rattle.std.specs.Iterator.{at_most};
 ghost use Rattle.text.specs.Decides.{Decides};
 ghost use Rattle.text.specs.Limits.{state_limit};
 ghost use Rattle.sets.specs.Inner.Sets.{Member, Joined};
-ghost use Rattle.sets.specs.Inner.SetValues.{In, SetOf, LeastOf, GreatestOf, SetPut};
+ghost use Rattle.sets.specs.Inner.SetValues.{In, SetOf, LeastOf, GreatestOf, SetPut, Popped, words};
 
 use text::limits::STATE_LIMIT;
 
@@ -17,8 +18,60 @@ const LAST_BIT: u16 = WORD_BITS - 1;
 const LAST_NUMBER: u16 = STATE_LIMIT - 1;
 
 // The word of the numbers below 64, and that of the others.
-#[derive(Clone, Copy)]
+#[derive(Clone, Copy, PartialEq, Eq)]
 pub struct Set(pub u64, pub u64);
+
+impl Set {
+    // Takes the least member out, if there is one.
+    #[inline]
+    pub fn pop(&mut self) -> Option<u16>
+        ensures { Popped self.old result self.new }
+    {
+        if self.0 != 0 {
+            let x = u64::trailing_zeros(self.0) as u16;
+            self.0 &= self.0 - 1;
+            return Some(x);
+        }
+        if self.1 != 0 {
+            let x = WORD_BITS + u64::trailing_zeros(self.1) as u16;
+            self.1 &= self.1 - 1;
+            return Some(x);
+        }
+        None
+    }
+}
+
+// The members of a set, from the least up.
+#[derive(Drop)]
+pub struct Members {
+    left: Set,
+}
+
+impl Iterator for Members {
+    type Item = u16;
+
+    ghost next_gives = { λ s x t. Popped s.left x t.left };
+
+    ghost remaining = { λ s. at_most (words s.left) };
+
+    #[inline]
+    fn next(&mut self) -> Option<u16> {
+        self.left.pop()
+    }
+}
+
+impl IntoIterator for Set {
+    type Item = u16;
+
+    type IntoIter = Members;
+
+    #[inline]
+    fn into_iter(self) -> Members
+        ensures { result.left ≡ self }
+    {
+        Members { left: self }
+    }
+}
 
 // The set without members.
 pub fn none() -> Set
@@ -79,7 +132,7 @@ pub fn is_empty(a: Set) -> bool
     a.0 | a.1 == 0
 }
 
-// Whether two sets have the same members.
+// Whether two sets have the same members, as `==` says too; the function stays, since it is public.
 pub fn is_equal(a: Set, b: Set) -> bool
     ensures { Decides result (SetOf (In a) b) }
 {
@@ -89,7 +142,7 @@ pub fn is_equal(a: Set, b: Set) -> bool
     a.1 == b.1
 }
 
-// The least member, or 128.
+// The least member, or 128: a number, since what is said of it speaks of the numbers before it. `pop` yields an Option.
 pub fn least(a: Set) -> u16
     ensures { LeastOf a result }
 {
@@ -107,12 +160,12 @@ pub fn drop_least(a: Set) -> Set
         return Set(a.0 & (a.0 - 1), a.1);
     }
     if a.1 != 0 {
-        return Set(0, a.1 & (a.1 - 1));
+        return Set(a.0, a.1 & (a.1 - 1));
     }
     a
 }
 
-// The greatest member, or 128.
+// The greatest member, or 128: a number, as of `least`.
 pub fn greatest(a: Set) -> u16
     ensures { GreatestOf a result }
 {

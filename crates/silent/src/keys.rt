@@ -4,16 +4,16 @@ ghost use Rattle.lts.specs.Weak.{silent_label};
 ghost use Rattle.text.specs.Limits.{state_limit, action_limit};
 ghost use Rattle.by_state.specs.Inner.Numbered.{ClassNumbers};
 ghost use Rattle.sets.specs.Inner.Sets.{Member, Joined};
-ghost use Rattle.silent.specs.Labelled.{LabelStep, LabelList, TickLabel, LabelMove};
+ghost use Rattle.silent.specs.Labelled.{LabelStep};
+ghost use Rattle.silent.specs.Steps.{label_moves, label_ticks};
 ghost use Rattle.silent.specs.Inner.Keys.{turn_place, OfStates, OwnClasses, SpreadOnce, ClosedUnder, Closed};
 ghost use Rattle.silent.specs.Inner.Keys.{Gathered, Keys};
 ghost use Rattle.silent.specs.Inner.Targets.{Targets};
 
-use crate::LABELS_LENGTH;
-use by_state::lists::wide;
+use crate::steps::LabelSteps;
 use sets::set::{put_set, set_at};
 use sets::{SETS_LENGTH, add_member, clear_sets, join, spread, union};
-use text::limits::{ACTION_LIMIT, MOVES_LENGTH, ROW};
+use text::limits::{ACTION_LIMIT, ROW};
 use text::{Action, State};
 
 // The passes over the silent steps that are made before sets are closed by rows.
@@ -25,11 +25,8 @@ fn own_classes(n: u16, class: &[u16; ROW], sets: &mut [u64; SETS_LENGTH])
     ensures { OwnClasses n class.now sets.new }
 {
     clear_sets(sets);
-    let mut p = 0;
-    while p < n {
-        let at = p as usize;
-        add_member(sets, State(p), class[at]);
-        p += 1;
+    for p in 0..n {
+        add_member(sets, State(p), class[p as usize]);
     }
 }
 
@@ -63,61 +60,43 @@ fn turn(p: State, q: State, marks: &[u8; ROW], again: bool, sets: &mut [u64; SET
 
 // Adds to the set of the source of each silent step the members of that of its target, from the last step to the first
 // or the other way. Yields whether a further pass can change a set: one has grown after it was read. The sets that were
-// read are marked, a byte for each: a store is cheaper in this loop than a bit.
-fn pass(
-    n: u16,
-    from: &[u16; LABELS_LENGTH],
-    sources: &[u16; MOVES_LENGTH],
-    targets: &[u16; MOVES_LENGTH],
-    backward: bool,
-    sets: &mut [u64; SETS_LENGTH],
-) -> bool
-    requires label_list { LabelList n from.now sources.now targets.now }
-    requires of_states { OfStates n sets.old }
-    ensures spread_once { SpreadOnce (TickLabel from.now sources.now targets.now) n
+// read are marked, a byte for each: a store is cheaper in this loop than a bit. Which way it goes is a flag and no
+// closure: the callers turn it round with each pass.
+fn pass(steps: LabelSteps, backward: bool, sets: &mut [u64; SETS_LENGTH]) -> bool
+    requires of_states { OfStates steps.n sets.old }
+    ensures spread_once { SpreadOnce (label_ticks steps.entry) steps.entry.n
         sets.old sets.new }
     ensures closed_under { result ≡ false
-        → ClosedUnder (TickLabel from.now sources.now targets.now)
+        → ClosedUnder (label_ticks steps.entry)
         sets.new }
 {
-    let begin = wide(from[ACTION_LIMIT as usize]);
-    let end = wide(from[ACTION_LIMIT as usize + 1]);
+    let begin = steps.from[ACTION_LIMIT as usize] as usize;
+    let end = steps.from[ACTION_LIMIT as usize + 1] as usize;
     let mut marks = [0u8; ROW];
     let mut again = false;
-    let mut i = begin;
-    while i < end {
+    for i in begin..end {
         let at = turn_place(begin, end, backward, i);
-        let p = State(sources[at]);
-        let q = State(targets[at]);
+        let p = State(steps.sources[at]);
+        let q = State(steps.targets[at]);
         again = turn(p, q, &marks, again, sets);
         marks[q.0 as usize] = 1;
-        i += 1;
     }
     again
 }
 
 // Gives each set the members of the sets of all states that a silent move leads to. The passes go to and fro, so that
 // silent steps in the order of their sources, or against it, need few of them.
-fn close_sets(
-    n: u16,
-    from: &[u16; LABELS_LENGTH],
-    sources: &[u16; MOVES_LENGTH],
-    targets: &[u16; MOVES_LENGTH],
-    sets: &mut [u64; SETS_LENGTH],
-)
-    requires label_list { LabelList n from.now sources.now targets.now }
-    requires of_states { OfStates n sets.old }
-    ensures { Closed (TickLabel from.now sources.now targets.now) n
+fn close_sets(steps: LabelSteps, sets: &mut [u64; SETS_LENGTH])
+    requires of_states { OfStates steps.n sets.old }
+    ensures { Closed (label_ticks steps.entry) steps.entry.n
         sets.old sets.new }
 {
     let mut backward = true;
-    let mut passes = 0;
-    while passes < n {
-        if !pass(n, from, sources, targets, backward, sets) {
+    for _passes in 0..steps.n {
+        if !pass(steps, backward, sets) {
             return;
         }
         backward = !backward;
-        passes += 1;
     }
 }
 
@@ -128,125 +107,93 @@ fn close_by_rows(n: u16, rows: &[u64; SETS_LENGTH], sets: &mut [u64; SETS_LENGTH
         sets.new }
 {
     let before = *sets;
-    let mut k = 0;
-    while k < n {
-        let at = k as usize;
-        put_set(sets, at, union(&before, set_at(rows, at)));
-        k += 1;
+    for k in 0..n as usize {
+        put_set(sets, k, union(&before, set_at(rows, k)));
     }
 }
 
 // The same as close_sets, where the targets of silent moves are at hand. Where silent steps go to and fro between low
 // and high states, nearly as many passes as states can be needed: after a few of them the rows cost less.
-fn close_along(
-    n: u16,
-    from: &[u16; LABELS_LENGTH],
-    sources: &[u16; MOVES_LENGTH],
-    targets: &[u16; MOVES_LENGTH],
-    there: &[u64; SETS_LENGTH],
-    sets: &mut [u64; SETS_LENGTH],
-)
-    requires label_list { LabelList n from.now sources.now targets.now }
-    requires targets { Targets (LabelMove n from.now sources.now targets.now) silent_label there.now }
-    requires of_states { OfStates n sets.old }
-    ensures { Closed (TickLabel from.now sources.now targets.now) n
+fn close_along(steps: LabelSteps, there: &[u64; SETS_LENGTH], sets: &mut [u64; SETS_LENGTH])
+    requires targets { Targets (label_moves steps) silent_label there.now }
+    requires of_states { OfStates steps.n sets.old }
+    ensures { Closed (label_ticks steps.entry) steps.entry.n
         sets.old sets.new }
 {
     let mut backward = true;
-    let mut passes = 0;
-    while passes < FEW_PASSES {
-        if !pass(n, from, sources, targets, backward, sets) {
+    for _passes in 0..FEW_PASSES {
+        if !pass(steps, backward, sets) {
             return;
         }
         backward = !backward;
-        passes += 1;
     }
-    close_by_rows(n, there, sets);
+    close_by_rows(steps.n, there, sets);
 }
 
 // Gives set p the members of the sets of all states that a step with the action leads to from p.
 fn gather(
-    n: u16,
-    from: &[u16; LABELS_LENGTH],
-    sources: &[u16; MOVES_LENGTH],
-    targets: &[u16; MOVES_LENGTH],
+    steps: LabelSteps,
     a: Action,
     sets: &[u64; SETS_LENGTH],
     gathered: &mut [u64; SETS_LENGTH],
 )
-    requires label_list { LabelList n from.now sources.now targets.now }
     requires a_lt_action_limit { a.0 < action_limit }
-    ensures { Gathered (LabelStep from.now sources.now targets.now a.0)
+    ensures { Gathered (LabelStep steps.entry.from.now steps.entry.sources.now steps.entry.targets.now a.0)
         sets.now gathered.new }
 {
     clear_sets(gathered);
     let of = a.0 as usize;
-    let end = wide(from[of + 1]);
-    let mut i = wide(from[of]);
-    while i < end {
-        join(gathered, State(sources[i]), sets, State(targets[i]));
-        i += 1;
+    let begin = steps.from[of] as usize;
+    let end = steps.from[of + 1] as usize;
+    for i in begin..end {
+        let p = State(steps.sources[i]);
+        let q = State(steps.targets[i]);
+        join(gathered, p, sets, q);
     }
 }
 
 // The keys of the states under the silent label.
-pub fn silent_keys(
-    n: u16,
-    from: &[u16; LABELS_LENGTH],
-    sources: &[u16; MOVES_LENGTH],
-    targets: &[u16; MOVES_LENGTH],
-    class: &[u16; ROW],
-    keys: &mut [u64; SETS_LENGTH],
-)
-    requires label_list { LabelList n from.now sources.now targets.now }
-    requires class_numbers { ClassNumbers n class.now }
-    ensures { Keys (LabelMove n from.now sources.now targets.now) silent_label
+pub fn silent_keys(steps: LabelSteps, class: &[u16; ROW], keys: &mut [u64; SETS_LENGTH])
+    requires class_numbers { ClassNumbers steps.n class.now }
+    ensures { Keys (label_moves steps.entry) silent_label
         class.now keys.new }
 {
-    own_classes(n, class, keys);
-    close_sets(n, from, sources, targets, keys);
+    own_classes(steps.n, class, keys);
+    close_sets(steps, keys);
 }
 
 // The same, where the targets of silent moves are at hand.
 pub fn silent_keys_along(
-    n: u16,
-    from: &[u16; LABELS_LENGTH],
-    sources: &[u16; MOVES_LENGTH],
-    targets: &[u16; MOVES_LENGTH],
+    steps: LabelSteps,
     there: &[u64; SETS_LENGTH],
     class: &[u16; ROW],
     keys: &mut [u64; SETS_LENGTH],
 )
-    requires label_list { LabelList n from.now sources.now targets.now }
-    requires targets { Targets (LabelMove n from.now sources.now targets.now) silent_label there.now }
-    requires class_numbers { ClassNumbers n class.now }
-    ensures { Keys (LabelMove n from.now sources.now targets.now) silent_label
+    requires targets { Targets (label_moves steps) silent_label there.now }
+    requires class_numbers { ClassNumbers steps.n class.now }
+    ensures { Keys (label_moves steps.entry) silent_label
         class.now keys.new }
 {
-    own_classes(n, class, keys);
-    close_along(n, from, sources, targets, there, keys);
+    own_classes(steps.n, class, keys);
+    close_along(steps, there, keys);
 }
 
 // The keys of the states under an action, from the targets of silent moves and the keys under the silent label.
 pub fn low_keys(
-    n: u16,
-    from: &[u16; LABELS_LENGTH],
-    sources: &[u16; MOVES_LENGTH],
-    targets: &[u16; MOVES_LENGTH],
+    steps: LabelSteps,
     there: &[u64; SETS_LENGTH],
     class: &[u16; ROW],
     silent: &[u64; SETS_LENGTH],
     a: Action,
     keys: &mut [u64; SETS_LENGTH],
 )
-    requires label_list { LabelList n from.now sources.now targets.now }
-    requires targets { Targets (LabelMove n from.now sources.now targets.now) silent_label there.now }
-    requires class_numbers { ClassNumbers n class.now }
+    requires targets { Targets (label_moves steps) silent_label there.now }
+    requires class_numbers { ClassNumbers steps.n class.now }
     requires a_lt_action_limit { a.0 < action_limit }
-    requires keys { Keys (LabelMove n from.now sources.now targets.now) silent_label class.now silent.now }
-    ensures { Keys (LabelMove n from.now sources.now targets.now) a.0
+    requires keys { Keys (label_moves steps) silent_label class.now silent.now }
+    ensures { Keys (label_moves steps.entry) a.0
         class.now keys.new }
 {
-    gather(n, from, sources, targets, a, silent, keys);
-    close_along(n, from, sources, targets, there, keys);
+    gather(steps, a, silent, keys);
+    close_along(steps, there, keys);
 }

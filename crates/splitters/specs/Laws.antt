@@ -13,4 +13,5 @@ pub mod RoundLaws
 pub mod SplitLaws
 pub mod SplittingLaws
 pub mod StableLaws
+pub mod StatesLaws
 pub mod UnderLaws

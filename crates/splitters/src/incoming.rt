@@ -2,30 +2,26 @@
 ghost use Rattle.std.specs.Prelude.{ℕ, ◌≤◌, ◌<◌};
 ghost use Rattle.text.specs.Limits.{state_limit};
 ghost use Rattle.sets.specs.Inner.Sets.{Member};
-ghost use Rattle.held.specs.Held.{slot_rows, HeldList};
+ghost use Rattle.held.specs.Held.{slot_rows};
 ghost use Rattle.splitters.specs.Inner.Splitters.{Into, RowNoted};
 
-use held::slots::{occupied, target_row};
-use held::{LABEL_COUNT, POOL_LENGTH, SLOTS_LENGTH};
-use sets::set::{below, drop_least, least, put_set};
+use held::list::HeldMoves;
+use held::slots::target_row;
+use sets::set::{below, put_set};
 use sets::{SETS_LENGTH, add_member};
 use text::State;
-use text::limits::{ROW, STATE_LIMIT};
+use text::limits::ROW;
 
 // Up to so many labels are all noted.
 const FEW: u16 = 16;
 
 // Notes the label of number i, whose sources stand in this row, for each state that its moves lead to.
-fn note_label(pool: &[u64; POOL_LENGTH], row: u16, i: u16, into: &mut [u64; SETS_LENGTH])
+fn note_label(moves: HeldMoves, row: u16, i: u16, into: &mut [u64; SETS_LENGTH])
     requires { (row < slot_rows) × (i < state_limit) }
-    ensures { RowNoted pool.now row i into.old into.new }
+    ensures { RowNoted moves.entry.pool.now row i into.old into.new }
 {
-    let mut left = occupied(pool, row);
-    let mut q = least(left);
-    while q < STATE_LIMIT {
+    for q in moves.occupied(row) {
         add_member(into, State(q), i);
-        left = drop_least(left);
-        q = least(left);
     }
 }
 
@@ -41,40 +37,24 @@ fn note_all(count: u16, into: &mut [u64; SETS_LENGTH])
 }
 
 // Notes each label of the list for each state that its moves lead to.
-fn note_each(
-    n: u16,
-    labels: &[u16; LABEL_COUNT],
-    count: u16,
-    slots: &[u16; SLOTS_LENGTH],
-    pool: &[u64; POOL_LENGTH],
-    into: &mut [u64; SETS_LENGTH],
-)
-    requires { HeldList n labels.now count slots.now pool.now }
-    ensures { Into labels.now count slots.now into.new }
+fn note_each(moves: HeldMoves, into: &mut [u64; SETS_LENGTH])
+    ensures { Into moves.entry.labels.now moves.entry.count moves.entry.slots.now into.new }
 {
-    for i in 0..count {
+    for i in 0..moves.count {
         let at = i as usize;
-        let row = target_row(labels[at]) + 1;
-        note_label(pool, row, i, into);
+        let row = target_row(moves.labels[at]) + 1;
+        note_label(moves, row, i, into);
     }
 }
 
 // Notes, for each state, at least the labels that lead there: of few labels all, since it costs less to look at each
 // than to note which lead where.
-pub fn note_labels(
-    n: u16,
-    labels: &[u16; LABEL_COUNT],
-    count: u16,
-    slots: &[u16; SLOTS_LENGTH],
-    pool: &[u64; POOL_LENGTH],
-    into: &mut [u64; SETS_LENGTH],
-)
-    requires { HeldList n labels.now count slots.now pool.now }
-    ensures { Into labels.now count slots.now into.new }
+pub fn note_labels(moves: HeldMoves, into: &mut [u64; SETS_LENGTH])
+    ensures { Into moves.entry.labels.now moves.entry.count moves.entry.slots.now into.new }
 {
-    if count <= FEW {
-        note_all(count, into);
+    if moves.count <= FEW {
+        note_all(moves.count, into);
         return;
     }
-    note_each(n, labels, count, slots, pool, into);
+    note_each(moves, into);
 }

@@ -1,4 +1,5 @@
-// Which states have moves into a set of states.
+// Which states have moves into a set of states. Over slots and pool, since nothing is asked of labels here, as
+// `HeldMoves` would.
 ghost use Rattle.std.specs.Prelude.{◌+◌, ◌<◌};
 ghost use Rattle.sets.specs.Inner.SetValues.{In, SetOf};
 ghost use Rattle.held.specs.Held.{slot_rows, pool_sets, Turned};
@@ -7,7 +8,7 @@ ghost use Rattle.splitters.specs.Inner.Splitters.{LeadsInto, LedFrom};
 
 use held::slots::{held, occupied};
 use held::{POOL_LENGTH, SLOTS_LENGTH};
-use sets::set::{Set, both, drop_least, either, greatest, is_empty, least, none, without};
+use sets::set::{Set, both, either, greatest, is_empty, none, without};
 use text::State;
 use text::limits::STATE_LIMIT;
 
@@ -17,12 +18,8 @@ pub fn joint(slots: &[u16; SLOTS_LENGTH], pool: &[u64; POOL_LENGTH], row: u16, s
     ensures { SetOf (LedFrom slots.now pool.now row set) result }
 {
     let mut found = none();
-    let mut left = set;
-    let mut t = least(left);
-    while t < STATE_LIMIT {
+    for t in set {
         found = either(found, held(slots, pool, row, State(t)));
-        left = drop_least(left);
-        t = least(left);
     }
     found
 }
@@ -57,17 +54,13 @@ pub fn leading(
 {
     let mut found = none();
     let mut left = set;
-    let mut p = least(left);
-    while p < STATE_LIMIT {
+    while let Some(p) = left.pop() {
         let t = greatest(both(held(slots, pool, row, State(p)), goal));
         if t < STATE_LIMIT {
             let told = held(slots, pool, back, State(t));
             found = either(found, told);
             left = without(left, told);
-        } else {
-            left = drop_least(left);
         }
-        p = least(left);
     }
     both(found, set)
 }

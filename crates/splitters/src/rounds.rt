@@ -1,16 +1,14 @@
 // The rounds: each grows the splitting tree of the classes, and the table is filled from it after the last.
-ghost use Rattle.std.specs.Prelude.{List, ◌≡◌, ℕ, ◌+◌, ◌≤◌, ◌<◌, length, get_or};
+ghost use Rattle.held.specs.Moves.{held_moves};
+ghost use Rattle.std.specs.Prelude.{ℕ, ◌≡◌, ◌+◌, ◌≤◌, ◌<◌, length, get_or};
 ghost use Rattle.text.specs.Limits.{state_limit, table_length};
-ghost use Rattle.held.specs.Held.{HeldList, HeldMove};
-ghost use Rattle.held.specs.Inner.Slots.{OthersKept};
 ghost use Rattle.ranking.specs.Table.{Ranked};
-ghost use Rattle.splitters.specs.Inner.Partition.{Partition};
-ghost use Rattle.splitters.specs.Inner.Splitters.{Into, Ready, Rounded, Rounds, LastRounded};
+ghost use Rattle.splitters.specs.Inner.Splitters.{Into, Ready, Rounded, Rounds, LastRounded, Counted};
 
 use crate::incoming::note_labels;
+use crate::parts::Parts;
 use crate::refining::{note_fresh, refine};
-use crate::{Parts, RoundsDone};
-use held::{LABEL_COUNT, POOL_LENGTH, SLOTS_LENGTH};
+use held::list::HeldMoves;
 use ranking::table::clear;
 use sets::SETS_LENGTH;
 use sets::set::{below, put_set};
@@ -18,152 +16,122 @@ use text::limits::{ROW, TABLE_LENGTH};
 use tree::filling::fill_table;
 use tree::note_round;
 
-// One round after k of them: divides the classes by the moves to the classes from `first` on, which the round before
-// made, and notes its number for those that it makes itself. The list `rest` is for its own use.
-pub fn round(
-    n: u16,
-    labels: &[u16; LABEL_COUNT],
-    count: u16,
-    slots: &[u16; SLOTS_LENGTH],
-    pool: &[u64; POOL_LENGTH],
-    into: &[u64; SETS_LENGTH],
-    k: u8,
-    first: u16,
-    parts: Parts,
-    class: &mut [u16; ROW],
-    members: &mut [u64; SETS_LENGTH],
-    origin: &mut [u16; ROW],
-    under: &mut [u64; SETS_LENGTH],
-    rest: &mut [u64; SETS_LENGTH],
-    when: &mut [u8; ROW],
-) -> Parts
-    requires held_list { HeldList n labels.now count slots.now pool.now
-        × Into labels.now count slots.now into.now }
-    requires k_lt_classes { (k < parts.classes) × Ready (HeldMove labels.now count slots.now pool.now) n k first class.old
-        members.old origin.old under.old when.old parts.classes parts.together }
-    ensures { Rounded (HeldMove labels.now count slots.now pool.now) n k
-        class.old class.new members.new origin.new under.new
-        when.new parts.classes result.classes result.together }
-{
-    let old = parts.classes;
-    note_fresh(first, old, members, origin, under, rest);
-    let next = refine(
-        n, labels, count, slots, pool, into, first, old, under, rest, parts, class, members, origin,
-    );
-    note_round(when, old, next.classes, k + 1);
-    next
+// The splitting tree after k rounds: the classes that it has come to, of which those from `first` on are new, the
+// states under each of the others, and the round that made each class. The list `rest` is for a round's own use.
+#[derive(Drop)]
+pub struct SplittingTree {
+    pub parts: Parts,
+    pub k: u8,
+    pub first: u16,
+    pub under: [u64; SETS_LENGTH],
+    pub rest: [u64; SETS_LENGTH],
+    pub when: [u8; ROW],
 }
 
 // All states in one class, of number 0.
-pub fn one_class(n: u16, members: &mut [u64; SETS_LENGTH]) -> Parts
+pub fn one_class(n: u16) -> SplittingTree
     requires { (0 < n) × (n ≤ state_limit) }
-    ensures { (result.classes ≡ 1) × ((class : List ℕ) → ((p : ℕ) → get_or class p 0 ≡ 0)
-        → Partition n class members.new result.classes result.together)
-        × OthersKept 0 members.old members.new }
+    ensures states { result.parts.n ≡ n }
+    ensures no_round { (result.k ≡ 0) × (result.first ≡ 0) × (result.parts.classes ≡ 1) }
+    ensures zeros { (j : ℕ) → (get_or result.parts.class j 0 ≡ 0) × (get_or result.parts.origin j 0 ≡ 0) }
 {
     let all = below(n);
-    put_set(members, 0, all);
-    Parts {
+    let mut members = [0u64; SETS_LENGTH];
+    put_set(&mut members, 0, all);
+    let parts = Parts {
+        n,
         classes: 1,
         together: all,
+        class: [0u16; ROW],
+        members,
+        origin: [0u16; ROW],
+    };
+    SplittingTree {
+        parts,
+        k: 0,
+        first: 0,
+        under: [0u64; SETS_LENGTH],
+        rest: [0u64; SETS_LENGTH],
+        when: [0u8; ROW],
     }
 }
 
-// Goes round until a round separates no further pair, and yields the last round that did and the number of classes.
-fn rounds(
-    n: u16,
-    labels: &[u16; LABEL_COUNT],
-    count: u16,
-    slots: &[u16; SLOTS_LENGTH],
-    pool: &[u64; POOL_LENGTH],
-    into: &[u64; SETS_LENGTH],
-    parts: Parts,
-    class: &mut [u16; ROW],
-    members: &mut [u64; SETS_LENGTH],
-    origin: &mut [u16; ROW],
-    under: &mut [u64; SETS_LENGTH],
-    rest: &mut [u64; SETS_LENGTH],
-    when: &mut [u8; ROW],
-) -> RoundsDone
-    requires held_list { HeldList n labels.now count slots.now pool.now
-        × Into labels.now count slots.now into.now }
-    requires rounds { Rounds (HeldMove labels.now count slots.now pool.now) n 0 0 class.old members.old
-        origin.old under.old when.old parts.classes parts.together }
-    ensures { LastRounded (HeldMove labels.now count slots.now pool.now) n
-        result.last class.new members.new origin.new under.new
-        when.new result.classes }
+// One round more: divides the classes by the moves to the new classes, which the round before made, and notes its
+// number for those that it makes itself. Yields whether it made any, and only then counts as a round.
+pub fn round(moves: HeldMoves, into: &[u64; SETS_LENGTH], tree: &mut SplittingTree) -> bool
+    requires into { Into moves.labels.now moves.count moves.slots.now into.now }
+    requires k_lt_classes { (tree.old.parts.n ≡ moves.n) × (tree.old.k < tree.old.parts.classes)
+        × Ready (held_moves moves) moves.n tree.old.k tree.old.first tree.old.parts.class
+        tree.old.parts.members tree.old.parts.origin tree.old.under tree.old.when tree.old.parts.classes
+        tree.old.parts.together }
+    ensures states { tree.new.parts.n ≡ moves.entry.n }
+    ensures rounded { Rounded (held_moves moves.entry) moves.entry.n tree.old.k
+        tree.old.parts.class tree.new.parts.class tree.new.parts.members tree.new.parts.origin tree.new.under
+        tree.new.when tree.old.parts.classes tree.new.parts.classes tree.new.parts.together }
+    ensures counted { Counted result tree.old.k tree.old.parts.classes tree.new.k tree.new.first
+        tree.new.parts.classes }
 {
-    let mut parts = parts;
-    let mut first = 0;
-    let mut k = 0;
-    let last = loop {
-        let old = parts.classes;
-        let next = round(
-            n, labels, count, slots, pool, into, k, first, parts, class, members, origin, under,
-            rest, when,
-        );
-        if next.classes == old {
-            break k;
-        }
-        first = old;
-        parts = next;
-        k += 1;
-    };
-    RoundsDone {
-        last,
-        classes: parts.classes,
+    let parts = &mut tree.parts;
+    let old = parts.classes;
+    note_fresh(
+        tree.first,
+        old,
+        &parts.members,
+        &parts.origin,
+        &mut tree.under,
+        &mut tree.rest,
+    );
+    refine(moves, into, tree.first, old, &tree.under, &tree.rest, parts);
+    let classes = parts.classes;
+    note_round(&mut tree.when, old, classes, tree.k + 1);
+    if classes == old {
+        return false;
     }
+    tree.first = old;
+    tree.k += 1;
+    true
+}
+
+// Goes round until a round separates no further pair, and yields the last round that did.
+fn rounds(moves: HeldMoves, into: &[u64; SETS_LENGTH], tree: &mut SplittingTree) -> u8
+    requires into { Into moves.labels.now moves.count moves.slots.now into.now }
+    requires rounds { (tree.old.parts.n ≡ moves.n) × Rounds (held_moves moves) moves.n tree.old.k
+        tree.old.first tree.old.parts.class tree.old.parts.members tree.old.parts.origin tree.old.under tree.old.when
+        tree.old.parts.classes tree.old.parts.together }
+    ensures { LastRounded (held_moves moves.entry) moves.entry.n result tree.new.parts.class
+        tree.new.parts.members tree.new.parts.origin tree.new.under tree.new.when tree.new.parts.classes }
+{
+    // A loop that leaves with `break`, the form that is named for rounds: how many come is not known before.
+    let last = loop {
+        if !round(moves, into, tree) {
+            break tree.k;
+        }
+    };
+    last
 }
 
 // Fills the table with the ranks of n states by the moves that are held, and answers the last round that separated two
 // of them.
-pub fn rank_held(
-    n: u16,
-    labels: &[u16; LABEL_COUNT],
-    count: u16,
-    slots: &[u16; SLOTS_LENGTH],
-    pool: &[u64; POOL_LENGTH],
-    table: &mut [u8],
-) -> u8
-    requires held_list { HeldList n labels.now count slots.now pool.now }
+pub fn rank_held(moves: HeldMoves, table: &mut [u8]) -> u8
     requires table_length_in_bounds { table_length ≤ length table.old }
-    ensures { Ranked (HeldMove labels.now count slots.now pool.now) n
+    ensures { Ranked (held_moves moves.entry) moves.entry.n
         table.old table.new result }
 {
     clear(table, TABLE_LENGTH);
-    let mut class = [0u16; ROW];
-    let mut members = [0u64; SETS_LENGTH];
-    let mut origin = [0u16; ROW];
-    let mut under = [0u64; SETS_LENGTH];
-    let mut rest = [0u64; SETS_LENGTH];
     let mut into = [0u64; SETS_LENGTH];
-    let mut when = [0u8; ROW];
-    note_labels(n, labels, count, slots, pool, &mut into);
-    let parts = one_class(n, &mut members);
-    let done = rounds(
-        n,
-        labels,
-        count,
-        slots,
-        pool,
-        &into,
-        parts,
-        &mut class,
-        &mut members,
-        &mut origin,
-        &mut under,
-        &mut rest,
-        &mut when,
-    );
+    note_labels(moves, &mut into);
+    let mut tree = one_class(moves.n);
+    let last = rounds(moves, &into, &mut tree);
+    let parts = &tree.parts;
     fill_table(
-        n,
-        done.classes,
-        &class,
-        &members,
-        &origin,
-        &under,
-        &when,
+        moves.n,
+        parts.classes,
+        &parts.class,
+        &parts.members,
+        &parts.origin,
+        &tree.under,
+        &tree.when,
         table,
     );
-    done.last
+    last
 }

@@ -3,13 +3,14 @@
 -- then 2, then 31, then 3", each over the whole line, and then 4, 5 or 33. 32, a line that is absent or has no line
 -- end, is told before a line is looked at, and 35 after all of the last `A` line's tests (model/Reading).
 use Rattle.std.specs.Prelude.{Bool, true, false, cond, ◌&&◌, ◌||◌, List, [], ◌∷◌, ℕ, ltb, eqb, length, get_or}
+use Rattle.std.specs.Prelude.{Result, Ok, Err}
 use Rattle.text.specs.declared.Fault.{Fault}
 use Rattle.text.specs.declared.Fault.TheVariants.{Shape, Digits, Range, Repeated, Order, StartOrder}
 use Rattle.text.specs.declared.Head.{Head}
 use Rattle.text.specs.declared.StepLine.{StepLine}
 use Rattle.text.specs.declared.number.Bounds.{Bounds}
-use Rattle.text.specs.declared.number.Number.{Number}
-use Rattle.text.specs.declared.number.Number.TheVariants.{Value, BadDigits, Outside}
+use Rattle.text.specs.declared.number.NumberFault.{NumberFault}
+use Rattle.text.specs.declared.number.NumberFault.TheVariants.{BadDigits, Outside}
 use Rattle.text.specs.declared.row.Row.{Row}
 use Rattle.text.specs.declared.row.Row.TheVariants.{HeadRow, StartRow, StepRow}
 use Rattle.text.specs.Bytes.{byte_m, byte_a, byte_i, byte_s, byte_l, byte_d, byte_h, byte_t}
@@ -43,12 +44,12 @@ fields_of letter n line = fields_from letter n (split comma line)
 
 -- One number in front of the others of its line. A field with bad digits gets 31, a number outside its range 3, and 31
 -- is tested first, over all of them.
-unfoldable pub cons_number : Number → Line (List ℕ) → Line (List ℕ)
-cons_number (Value n) (good ns) = good (n ∷ ns)
-cons_number (Value n) (bad fault) = bad fault
-cons_number BadDigits line = bad Digits
-cons_number Outside (good ns) = bad Range
-cons_number Outside (bad fault) = bad fault
+unfoldable pub cons_number : Result ℕ NumberFault → Line (List ℕ) → Line (List ℕ)
+cons_number (Ok n) (good ns) = good (n ∷ ns)
+cons_number (Ok n) (bad fault) = bad fault
+cons_number (Err BadDigits) line = bad Digits
+cons_number (Err Outside) (good ns) = bad Range
+cons_number (Err Outside) (bad fault) = bad fault
 
 -- the numbers of fields, one to a field, each with its bounds; there are as many bounds as fields
 unfoldable pub numbers_of : List Bounds → List (List ℕ) → Line (List ℕ)
@@ -94,10 +95,9 @@ row_bounds (StartRow h) states = start_bounds h
 row_bounds (StepRow h) states = step_bounds h
 
 -- the number that a field holds within its bounds, else 0
-unfoldable pub value_or0 : Number → ℕ
-value_or0 (Value n) = n
-value_or0 BadDigits = 0
-value_or0 Outside = 0
+unfoldable pub value_or0 : Result ℕ NumberFault → ℕ
+value_or0 (Ok n) = n
+value_or0 (Err fault) = 0
 
 -- the states that line 1 gives; where its first field gives none, the line is refused whatever its start is
 unfoldable pub states_of : List (List ℕ) → ℕ

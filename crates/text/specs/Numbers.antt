@@ -2,11 +2,11 @@
 -- Document 01, "The text": "Numbers have 1 to 5 digits and no leading zero, except `0` itself."
 -- Document 02, (i): "Reading a number shall tell bad digits from a number that is too large".
 use Rattle.std.specs.Prelude.{Bool, true, false, cond, not, ◌&&◌, List, [], ◌∷◌, ◌++◌, ℕ, zero, suc, ◌+◌, ◌-◌, ◌*◌, ◌/◌}
-use Rattle.std.specs.Prelude.{◌%◌, leb, ltb, eqb, length}
+use Rattle.std.specs.Prelude.{◌%◌, leb, ltb, eqb, length, Result, Ok, Err}
 use Rattle.std.proofs.Math.Option.{Option, none, some}
 use Rattle.text.specs.declared.number.Bounds.{Bounds}
-use Rattle.text.specs.declared.number.Number.{Number}
-use Rattle.text.specs.declared.number.Number.TheVariants.{Value, BadDigits, Outside}
+use Rattle.text.specs.declared.number.NumberFault.{NumberFault}
+use Rattle.text.specs.declared.number.NumberFault.TheVariants.{BadDigits, Outside}
 use Rattle.text.specs.Limits.{digit_limit}
 use Rattle.text.specs.Bytes.{byte_zero, digit, kind_of}
 
@@ -39,12 +39,12 @@ unfoldable pub in_bounds? : Bounds → ℕ → Bool
 in_bounds? bounds n = leb bounds.least n && ltb n bounds.limit
 
 -- the number of a field, or none, by its bounds
-unfoldable pub bounded : Bounds → Option ℕ → Number
-bounded bounds none = BadDigits
-bounded bounds (some n) = cond (in_bounds? bounds n) (Value n) Outside
+unfoldable pub bounded : Bounds → Option ℕ → Result ℕ NumberFault
+bounded bounds none = Err BadDigits
+bounded bounds (some n) = cond (in_bounds? bounds n) (Ok n) (Err Outside)
 
 -- what a field holds, where its number has bounds
-unfoldable pub number_in : Bounds → List ℕ → Number
+unfoldable pub number_in : Bounds → List ℕ → Result ℕ NumberFault
 number_in bounds field = bounded bounds (number_of field)
 
 -- ---- the digits of a number

@@ -2,7 +2,7 @@
 ghost use Rattle.std.specs.Prelude.{◌≡◌};
 ghost use Rattle.text.specs.Bytes.{kind_of};
 
-// The kinds, by document 01's numbers.
+// The kinds, by document 01's numbers, and no enum: `number_at` and `find` take a kind, and an enum has fewer values.
 const OTHER: u8 = 0;
 
 pub const DIGIT: u8 = 1;

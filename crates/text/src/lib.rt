@@ -13,17 +13,17 @@ ghost use Rattle.std.specs.Prelude.{◌≡◌};
 ghost use Rattle.text.specs.Faults.{fault_number};
 
 // A state number never stands where an action number or a step number is meant.
-#[derive(Clone, Copy)]
+#[derive(Clone, Copy, PartialEq, Eq, PartialOrd, Ord)]
 pub struct State(pub u16);
 
-#[derive(Clone, Copy)]
+#[derive(Clone, Copy, PartialEq, Eq, PartialOrd, Ord)]
 pub struct Action(pub u16);
 
-#[derive(Clone, Copy)]
+#[derive(Clone, Copy, PartialEq, Eq, PartialOrd, Ord)]
 pub struct Step(pub u16);
 
 // What line 1 of a text states.
-#[derive(Clone, Copy)]
+#[derive(Clone, Copy, PartialEq, Eq)]
 pub struct Head {
     pub states: u16,
     pub actions: u16,
@@ -32,7 +32,7 @@ pub struct Head {
 }
 
 // What the line of a step states.
-#[derive(Clone, Copy)]
+#[derive(Clone, Copy, PartialEq, Eq, PartialOrd, Ord)]
 pub struct StepLine {
     pub source: State,
     pub action: Action,
@@ -43,7 +43,7 @@ pub struct StepLine {
 // or name is wrong; a number field is not 1 to 5 digits without a leading zero; a number is outside its range; a name
 // was used before; a step is not above the one before it; an extra start is not above the one before it, the first not
 // above the start in line 1; no action is high, which is told of the last action's line.
-#[derive(Clone, Copy)]
+#[derive(Clone, Copy, PartialEq, Eq)]
 pub enum Fault {
     Absent,
     Shape,
@@ -55,7 +55,7 @@ pub enum Fault {
     NoHigh,
 }
 
-// The document's number of a fault.
+// The document's number of a fault. It is asked for by this name, to which an `impl From` would be a second one.
 pub fn fault_number(fault: Fault) -> u16
     ensures { result ≡ fault_number fault }
 {

@@ -2,7 +2,7 @@
 ghost use Rattle.std.proofs.Math.Option.{some};
 ghost use Rattle.std.specs.Prelude.{◌≡◌, ◌≤◌, length};
 ghost use Rattle.text.specs.Decides.{Decides};
-ghost use Rattle.text.specs.Numbers.{in_bounds?, bounded};
+ghost use Rattle.text.specs.Numbers.{below, in_bounds?, bounded};
 ghost use Rattle.text.specs.Inner.NumberAt.{Separator, DigitsFound, FieldEnds, NumberShape, NumberRead};
 
 use crate::bytes::{DIGIT, kind};
@@ -15,11 +15,16 @@ pub struct Bounds {
     pub limit: u16,
 }
 
-// What a number field holds: a number within its bounds; no number, for its digits are bad; or a number outside its
-// bounds.
-#[derive(Clone, Copy)]
-pub enum Number {
-    Value(u16),
+// The numbers below a limit.
+pub(crate) fn below(limit: u16) -> Bounds
+    ensures { result ≡ below limit }
+{
+    Bounds { least: 0, limit }
+}
+
+// Why a number field holds no number within its bounds: its digits are bad, or the number is outside them.
+#[derive(Clone, Copy, PartialEq, Eq)]
+pub enum NumberFault {
     BadDigits,
     Outside,
 }
@@ -28,60 +33,54 @@ pub enum Number {
 // where its digits are not bad.
 #[derive(Clone, Copy)]
 pub struct NumberAt {
-    pub number: Number,
+    pub number: Result<u16, NumberFault>,
     pub end: usize,
 }
 
-// The value of the digits at a place, and the place after them; or the bytes up to the one that is due are no number.
+// The value of the digits at a place, and the place after them.
 #[derive(Clone, Copy)]
-pub enum DigitsRead {
-    To { value: u32, end: usize },
-    Bad,
+pub struct Digits {
+    pub value: u32,
+    pub end: usize,
 }
 
 // Whether a number is within its bounds.
 pub fn within(bounds: Bounds, n: u32) -> bool
     ensures { result ≡ in_bounds? bounds n }
 {
-    if n < bounds.least as u32 {
-        return false;
-    }
-    n < bounds.limit as u32
+    u32::from(bounds.least) <= n && n < u32::from(bounds.limit)
 }
 
 // What a field of good digits holds, by their value.
-fn bounded_number(bounds: Bounds, n: u32) -> Number
+fn bounded_number(bounds: Bounds, n: u32) -> Result<u16, NumberFault>
     ensures { result ≡ bounded bounds (some n) }
 {
-    if !within(bounds, n) {
-        return Number::Outside;
+    if within(bounds, n) {
+        Ok(n as u16)
+    } else {
+        Err(NumberFault::Outside)
     }
-    Number::Value(n as u16)
 }
 
-// The digits at a place, as many as a number has at most, which a byte of the kind `due` follows.
-fn digits_at(s: &[u8], at: usize, due: u8) -> DigitsRead
+// The digits at a place, as many as a number has at most, which a byte of the kind `due` follows; or the bytes up to
+// such a byte are no number.
+fn digits_at(s: &[u8], at: usize, due: u8) -> Option<Digits>
     requires { (at ≤ length s.now) × Separator due }
     ensures { DigitsFound due s.now at result }
 {
     let mut value: u32 = 0;
-    let mut i = at;
-    while i < s.len() {
+    for i in at..s.len() {
         let b = s[i];
         let k = kind(b);
         if k != DIGIT {
-            if k != due {
-                return DigitsRead::Bad;
-            }
-            return DigitsRead::To { value, end: i };
+            return (k == due).then_some(Digits { value, end: i });
         }
         if DIGIT_LIMIT <= i - at {
-            return DigitsRead::Bad;
+            return None;
         }
-        value = value * 10 + (b as u32 - b'0' as u32);
-        i += 1;
+        value = value * 10 + u32::from(b - b'0');
     }
-    DigitsRead::Bad
+    None
 }
 
 // Whether the digits from a place on and below `end`, where their field ends, are a number: at least one, and the first
@@ -90,16 +89,7 @@ fn is_number(s: &[u8], at: usize, end: usize) -> bool
     requires { (at ≤ end) × (end ≤ length s.now) × FieldEnds s.now end }
     ensures { Decides result (NumberShape s.now at end) }
 {
-    if end == at {
-        return false;
-    }
-    if end == at + 1 {
-        return true;
-    }
-    if s[at] == b'0' {
-        return false;
-    }
-    true
+    at < end && (end == at + 1 || s[at] != b'0')
 }
 
 // The number field at a place, up to the next byte of the kind `due`. Where that is not the byte which ends the field,
@@ -108,20 +98,14 @@ pub fn number_at(s: &[u8], at: usize, due: u8, bounds: Bounds) -> NumberAt
     requires { (at ≤ length s.now) × Separator due }
     ensures { NumberRead bounds due s.now at result.number result.end }
 {
-    let DigitsRead::To { value, end } = digits_at(s, at, due) else {
-        return NumberAt {
-            number: Number::BadDigits,
-            end: at,
-        };
-    };
-    if !is_number(s, at, end) {
-        return NumberAt {
-            number: Number::BadDigits,
+    match digits_at(s, at, due) {
+        Some(Digits { value, end }) if is_number(s, at, end) => NumberAt {
+            number: bounded_number(bounds, value),
             end,
-        };
-    }
-    NumberAt {
-        number: bounded_number(bounds, value),
-        end,
+        },
+        _ => NumberAt {
+            number: Err(NumberFault::BadDigits),
+            end: at,
+        },
     }
 }

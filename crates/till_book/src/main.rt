@@ -9,7 +9,7 @@ ghost use Rattle.till_book.specs.PrintsBook.{PrintsBook};
 
 use judge::book::book_good;
 use page::print::fault_line;
-use read_write::read::ReadAnswer;
+use read_write::read::read;
 use text::limits::{BOOK_LENGTH, INPUT_LENGTH, STORE_LENGTH, TABLE_LENGTH};
 
 // The file number of standard input.
@@ -27,18 +27,13 @@ fn book_of_input(input: &[u8], n: usize, out: &mut [u8]) -> usize
     ensures prints_book { PrintsBook (take n input.now) (take result out.new) }
 {
     let mut store = [0u16; STORE_LENGTH];
-    let read = read_write::read::read(&input[..n], &mut store);
-    match read {
-        ReadAnswer::Done => {
+    match read(&input[..n], &mut store) {
+        Ok(()) => {
             let mut table = [0u8; TABLE_LENGTH];
             book_good(&store, &mut table, out);
             BOOK_LENGTH
         }
-        _ => {
-            let line = fault_line(read, out);
-            let end = line.at;
-            end.at
-        }
+        Err(refusal) => fault_line(refusal, out).at.at,
     }
 }
 

@@ -1,10 +1,11 @@
 // Each operation's answer as numbers, for callers in C and Rust.
 ghost use Rattle.std.specs.Prelude.{[], ◌∷◌, ◌<◌};
 ghost use Rattle.text.specs.Faults.{answers, refuses, fault_number};
+ghost use Rattle.model.specs.Refusals.{refusal_outcome};
 ghost use Rattle.read_write.specs.ReadPromise.{read_outcome};
 ghost use Rattle.read_write.specs.WritePromise.{write_outcome};
 ghost use Rattle.judge.specs.ReachPromise.{reach_outcome};
-ghost use Rattle.judge.specs.RunPromise.{run_outcome};
+ghost use Rattle.judge.specs.RunPromise.{run_refusal_outcome, run_outcome};
 ghost use Rattle.judge.specs.RankPromise.{rank_outcome};
 ghost use Rattle.judge.specs.JudgePromise.{verdict_outcome, judge_outcome};
 ghost use Rattle.letters.specs.Words.{end_number};
@@ -13,24 +14,18 @@ ghost use Rattle.judge.specs.WordPromise.{word_outcome};
 ghost use Rattle.judge.specs.BookPromise.{book_outcome};
 ghost use Rattle.books.specs.Checks.{checked_outcome};
 ghost use Rattle.judge.specs.CheckPromise.{check_outcome};
+ghost use Rattle.model.specs.Refusals.{refusal_outcome};
 ghost use Rattle.page.specs.PagePromise.{page_outcome};
 ghost use Rattle.page.specs.PrintPromise.{print_outcome};
 ghost use Rattle.till_c.specs.Inner.Tells.{Tells, TellsThree, TellsText};
 
-use books::check::Checked;
-use judge::book::BookAnswer;
-use judge::check::CheckAnswer;
-use judge::judge::JudgeAnswer;
-use judge::rank::RankAnswer;
-use judge::reach::ReachAnswer;
-use judge::run::RunAnswer;
-use judge::word::WordAnswer;
+use books::check::BadEntry;
+use judge::judge_word::JudgeWordAnswer;
+use judge::run::RunRefusal;
 use letters::word::{End, Shown};
-use page::page::PageAnswer;
-use page::print::PrintAnswer;
-use read_write::read::ReadAnswer;
-use read_write::write::WriteAnswer;
-use tell::tell::TextAnswer;
+use model::refusal::Refusal;
+use page::print::ShortList;
+use read_write::read::ReadRefusal;
 use text::Fault;
 use verdicts::judging::Verdict;
 
@@ -63,10 +58,7 @@ fn refusal(number: u64, place: usize) -> TillAnswer
     TillAnswer {
         number,
         place: place as u64,
-        count: 0,
-        first: 0,
-        second: 0,
-        third: 0,
+        ..done()
     }
 }
 
@@ -89,12 +81,9 @@ fn value(first: usize) -> TillAnswer
     ensures { Tells result (answers (first ∷ [])) }
 {
     TillAnswer {
-        number: 0,
-        place: 0,
         count: 1,
         first: first as u64,
-        second: 0,
-        third: 0,
+        ..done()
     }
 }
 
@@ -103,12 +92,20 @@ fn two_values(first: usize, second: usize) -> TillAnswer
     ensures { Tells result (answers (first ∷ second ∷ [])) }
 {
     TillAnswer {
-        number: 0,
-        place: 0,
         count: 2,
         first: first as u64,
         second: second as u64,
-        third: 0,
+        ..done()
+    }
+}
+
+// The refusals that every operation on a store tests first.
+fn store_refusal(refused: Refusal) -> TillAnswer
+    ensures { Tells result (refusal_outcome refused) }
+{
+    match refused {
+        Refusal::ShortList(place) => refusal(21, place),
+        Refusal::NotGood => refusal(22, 0),
     }
 }
 
@@ -120,45 +117,51 @@ fn fault_answer(fault: Fault, line: usize) -> TillAnswer
     refusal(number as u64, line)
 }
 
+// A refusal of Read.
+fn unread(refused: ReadRefusal) -> TillAnswer
+    ensures { Tells result (read_outcome (Err refused)) }
+{
+    match refused {
+        ReadRefusal::ShortList(place) => refusal(21, place),
+        ReadRefusal::TooLong => refusal(1, 0),
+        ReadRefusal::Faulty(bad) => fault_answer(bad.fault, bad.line),
+    }
+}
+
 // What each operation answers, as numbers.
-pub fn read_answer(answer: ReadAnswer) -> TillAnswer
+pub fn read_answer(answer: Result<(), ReadRefusal>) -> TillAnswer
     ensures { Tells result (read_outcome answer) }
 {
     match answer {
-        ReadAnswer::Done => done(),
-        ReadAnswer::ShortList(place) => refusal(21, place),
-        ReadAnswer::TooLong => refusal(1, 0),
-        ReadAnswer::Faulty { fault, line } => fault_answer(fault, line),
+        Ok(()) => done(),
+        Err(refused) => unread(refused),
     }
 }
 
-pub fn write_answer(answer: WriteAnswer) -> TillAnswer
+pub fn write_answer(answer: Result<usize, Refusal>) -> TillAnswer
     ensures { Tells result (write_outcome answer) }
 {
     match answer {
-        WriteAnswer::Written(length) => value(length),
-        WriteAnswer::ShortList(place) => refusal(21, place),
-        WriteAnswer::NotGood => refusal(22, 0),
+        Ok(length) => value(length),
+        Err(refused) => store_refusal(refused),
     }
 }
 
-pub fn reach_answer(answer: ReachAnswer) -> TillAnswer
+pub fn reach_answer(answer: Result<(), Refusal>) -> TillAnswer
     ensures { Tells result (reach_outcome answer) }
 {
     match answer {
-        ReachAnswer::Done => done(),
-        ReachAnswer::ShortList(place) => refusal(21, place),
-        ReachAnswer::NotGood => refusal(22, 0),
+        Ok(()) => done(),
+        Err(refused) => store_refusal(refused),
     }
 }
 
-pub fn rank_answer(answer: RankAnswer) -> TillAnswer
+pub fn rank_answer(answer: Result<u8, Refusal>) -> TillAnswer
     ensures { Tells result (rank_outcome answer) }
 {
     match answer {
-        RankAnswer::Last(last) => value(last as usize),
-        RankAnswer::ShortList(place) => refusal(21, place),
-        RankAnswer::NotGood => refusal(22, 0),
+        Ok(last) => value(last as usize),
+        Err(refused) => store_refusal(refused),
     }
 }
 
@@ -172,25 +175,31 @@ fn verdict_answer(v: Verdict) -> TillAnswer
     }
 }
 
-pub fn judge_answer(answer: JudgeAnswer) -> TillAnswer
+pub fn judge_answer(answer: Result<Verdict, Refusal>) -> TillAnswer
     ensures { Tells result (judge_outcome answer) }
 {
     match answer {
-        JudgeAnswer::Judged(v) => verdict_answer(v),
-        JudgeAnswer::ShortList(place) => refusal(21, place),
-        JudgeAnswer::NotGood => refusal(22, 0),
+        Ok(v) => verdict_answer(v),
+        Err(refused) => store_refusal(refused),
     }
 }
 
-pub fn run_answer(answer: RunAnswer) -> TillAnswer
+fn run_refusal(refused: RunRefusal) -> TillAnswer
+    ensures { Tells result (run_refusal_outcome refused) }
+{
+    match refused {
+        RunRefusal::Before(refused) => store_refusal(refused),
+        RunRefusal::NoState(p) => refusal(25, usize::from(p.0)),
+        RunRefusal::Unreachable(p) => refusal(26, usize::from(p.0)),
+    }
+}
+
+pub fn run_answer(answer: Result<usize, RunRefusal>) -> TillAnswer
     ensures { Tells result (run_outcome answer) }
 {
     match answer {
-        RunAnswer::Length(length) => value(length),
-        RunAnswer::ShortList(place) => refusal(21, place),
-        RunAnswer::NotGood => refusal(22, 0),
-        RunAnswer::NoState(p) => refusal(25, p.0 as usize),
-        RunAnswer::Unreachable(p) => refusal(26, p.0 as usize),
+        Ok(length) => value(length),
+        Err(refused) => run_refusal(refused),
     }
 }
 
@@ -215,70 +224,66 @@ fn shown_answer(shown: Shown) -> TillAnswer
     }
 }
 
-pub fn word_answer(answer: WordAnswer) -> TillAnswer
+pub fn word_answer(answer: Result<Shown, Refusal>) -> TillAnswer
     ensures { Tells result (word_outcome answer) }
 {
     match answer {
-        WordAnswer::Shown(shown) => shown_answer(shown),
-        WordAnswer::ShortList(place) => refusal(21, place),
-        WordAnswer::NotGood => refusal(22, 0),
+        Ok(shown) => shown_answer(shown),
+        Err(refused) => store_refusal(refused),
     }
 }
 
-pub fn book_answer(answer: BookAnswer) -> TillAnswer
+pub fn book_answer(answer: Result<(), Refusal>) -> TillAnswer
     ensures { Tells result (book_outcome answer) }
 {
     match answer {
-        BookAnswer::Done => done(),
-        BookAnswer::ShortList(place) => refusal(21, place),
-        BookAnswer::NotGood => refusal(22, 0),
+        Ok(()) => done(),
+        Err(refused) => store_refusal(refused),
     }
 }
 
 // The place of a bad entry is its number.
-fn checked_answer(found: Checked) -> TillAnswer
+fn checked_answer(found: Result<(), BadEntry>) -> TillAnswer
     ensures { Tells result (checked_outcome found) }
 {
     match found {
-        Checked::Sound => done(),
-        Checked::Bad(entry) => refusal(34, entry),
+        Ok(()) => done(),
+        Err(bad) => refusal(34, bad.0),
     }
 }
 
-pub fn check_answer(answer: CheckAnswer) -> TillAnswer
+pub fn check_answer(answer: Result<Result<(), BadEntry>, Refusal>) -> TillAnswer
     ensures { Tells result (check_outcome answer) }
 {
     match answer {
-        CheckAnswer::Checked(found) => checked_answer(found),
-        CheckAnswer::ShortList(place) => refusal(21, place),
-        CheckAnswer::NotGood => refusal(22, 0),
+        Ok(found) => checked_answer(found),
+        Err(refused) => store_refusal(refused),
     }
 }
 
-pub fn page_answer(answer: PageAnswer) -> TillAnswer
+pub fn page_answer(answer: Result<usize, Refusal>) -> TillAnswer
     ensures { Tells result (page_outcome answer) }
 {
     match answer {
-        PageAnswer::Printed(length) => value(length),
-        PageAnswer::ShortList(place) => refusal(21, place),
-        PageAnswer::NotGood => refusal(22, 0),
+        Ok(length) => value(length),
+        Err(refused) => store_refusal(refused),
     }
 }
 
-pub fn print_answer(answer: PrintAnswer) -> TillAnswer
+pub fn print_answer(answer: Result<usize, ShortList>) -> TillAnswer
     ensures { Tells result (print_outcome answer) }
 {
     match answer {
-        PrintAnswer::Printed(length) => value(length),
-        PrintAnswer::ShortList(place) => refusal(21, place),
+        Ok(length) => value(length),
+        Err(short) => refusal(21, short.0),
     }
 }
 
 // Where Read refuses, Judge and Word are not called.
-fn unread_answer(answer: ReadAnswer) -> TillTold
-    ensures { TellsThree result (read_outcome answer) (answers []) (answers []) }
+fn unread_answer(refused: ReadRefusal) -> TillTold
+    ensures { TellsThree result (read_outcome (Err refused)) (answers []) (answers []) }
 {
-    let read = read_answer(answer);
+    let read = unread(refused);
     let none = done();
     TillTold {
         read,
@@ -287,7 +292,7 @@ fn unread_answer(answer: ReadAnswer) -> TillTold
     }
 }
 
-fn judged_answer(judge: JudgeAnswer, word: WordAnswer) -> TillTold
+fn judged_answer(judge: Result<Verdict, Refusal>, word: Result<Shown, Refusal>) -> TillTold
     ensures { TellsThree result (answers []) (judge_outcome judge) (word_outcome word) }
 {
     let read = done();
@@ -296,11 +301,11 @@ fn judged_answer(judge: JudgeAnswer, word: WordAnswer) -> TillTold
     TillTold { read, judge, word }
 }
 
-pub fn tell_answer(answer: TextAnswer) -> TillTold
+pub fn tell_answer(answer: Result<JudgeWordAnswer, ReadRefusal>) -> TillTold
     ensures { TellsText result answer }
 {
     match answer {
-        TextAnswer::Unread(read) => unread_answer(read),
-        TextAnswer::Judged(judge, word) => judged_answer(judge, word),
+        Ok(told) => judged_answer(told.judge, told.word),
+        Err(refused) => unread_answer(refused),
     }
 }

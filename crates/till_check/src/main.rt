@@ -10,10 +10,10 @@ ghost use Rattle.books.specs.Checks.{checked_outcome};
 ghost use Rattle.till_check.specs.PrintsCheck.{PrintsCheck};
 ghost use Rattle.till_check.specs.Inner.Found.{PlaceFits, FoundTold};
 
-use books::check::Checked;
+use books::check::BadEntry;
 use judge::check::check_good;
 use page::print::{fault_line, refusal_line};
-use read_write::read::ReadAnswer;
+use read_write::read::read;
 use text::limits::{BOOK_LENGTH, INPUT_LENGTH, PAGE_LENGTH, STORE_LENGTH};
 
 // The file number of standard input.
@@ -23,17 +23,13 @@ const STDIN: i32 = 0;
 const STDOUT: i32 = 1;
 
 // Puts the line of a bad entry at the front of `out`, or nothing, and answers how many bytes that is.
-fn found_line(found: Checked, out: &mut [u8]) -> usize
+fn found_line(found: Result<(), BadEntry>, out: &mut [u8]) -> usize
     requires { PlaceFits (checked_outcome found) × (page_length ≤ length out.old) }
     ensures { FoundTold (checked_outcome found) result out.new }
 {
     match found {
-        Checked::Sound => 0,
-        Checked::Bad(entry) => {
-            let line = refusal_line(34, entry as u16, out);
-            let end = line.at;
-            end.at
-        }
+        Ok(()) => 0,
+        Err(bad) => refusal_line(34, bad.0 as u16, out).at.at,
     }
 }
 
@@ -48,17 +44,9 @@ fn check_of_input(book: &[u8], input: &[u8], n: usize, out: &mut [u8]) -> usize
     ensures prints_check { PrintsCheck book.now (take n input.now) (take result out.new) }
 {
     let mut store = [0u16; STORE_LENGTH];
-    let read = read_write::read::read(&input[..n], &mut store);
-    match read {
-        ReadAnswer::Done => {
-            let found = check_good(&store, book);
-            found_line(found, out)
-        }
-        _ => {
-            let line = fault_line(read, out);
-            let end = line.at;
-            end.at
-        }
+    match read(&input[..n], &mut store) {
+        Ok(()) => found_line(check_good(&store, book), out),
+        Err(refusal) => fault_line(refusal, out).at.at,
     }
 }
 

@@ -21,9 +21,7 @@ fn copy_row(table: &mut [u8], n: usize, p: State, rows: &[u8; TABLE_LENGTH], c: 
 {
     let at = ROW * p.0 as usize;
     let from = ROW * c.0 as usize;
-    for x in 0..n {
-        table[at + x] = rows[from + x];
-    }
+    table[at..at + n].copy_from_slice(&rows[from..from + n]);
 }
 
 // Copies the row of its class for each of n states.

@@ -7,11 +7,10 @@ ghost use Rattle.ranking.specs.Inner.TableWrites.{entry_of};
 ghost use Rattle.tree.specs.Inner.Tree.{meet};
 ghost use Rattle.tree.specs.Inner.Rows.{EntriesWritten, PartsWritten, RowTaken, filled, RowsFilled};
 
-use crate::put;
 use by_state::Class;
 use sets::SETS_LENGTH;
-use sets::set::{Set, drop_least, least, set_at};
-use text::limits::{ROW, STATE_LIMIT, TABLE_LENGTH};
+use sets::set::{Set, set_at};
+use text::limits::{ROW, TABLE_LENGTH};
 
 // Writes v into the entries of class c and the states of a set.
 fn write_entries(rows: &mut [u8; TABLE_LENGTH], c: Class, s: Set, v: u8)
@@ -19,12 +18,8 @@ fn write_entries(rows: &mut [u8; TABLE_LENGTH], c: Class, s: Set, v: u8)
     ensures { EntriesWritten c.0 (In s) (λ _. v) rows.old rows.new }
 {
     let at = ROW * c.0 as usize;
-    let mut left = s;
-    let mut x = least(left);
-    while x < STATE_LIMIT {
-        put(rows, at + x as usize, v);
-        left = drop_least(left);
-        x = least(left);
+    for x in s {
+        rows[at + x as usize] = v;
     }
 }
 
@@ -53,9 +48,7 @@ fn take_row(rows: &[u8; TABLE_LENGTH], c: Class, row: &mut [u8; ROW])
     ensures { RowTaken c.0 state_limit rows.now row.new }
 {
     let from = ROW * c.0 as usize;
-    for x in 0..ROW {
-        put(row, x, rows[from + x]);
-    }
+    row.copy_from_slice(&rows[from..from + ROW]);
 }
 
 // The earlier of two rounds. 0 stands for never.
@@ -65,10 +58,7 @@ fn earlier(o: u8, w: u8) -> u8
     if o == 0 {
         return w;
     }
-    if o < w {
-        return o;
-    }
-    w
+    o.min(w)
 }
 
 // An entry that has a round keeps it; another one gets the earlier of two rounds.
@@ -91,8 +81,7 @@ fn fill_row(rows: &mut [u8; TABLE_LENGTH], c: Class, above: &[u8; ROW], w: u8)
 {
     let at = ROW * c.0 as usize;
     for x in 0..ROW {
-        let v = fill_entry(rows[at + x], above[x], w);
-        put(rows, at + x, v);
+        rows[at + x] = fill_entry(rows[at + x], above[x], w);
     }
 }
 

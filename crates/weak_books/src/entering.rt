@@ -1,54 +1,63 @@
 // The entries of the pairs that a round separates, by the classes before it.
-ghost use Rattle.std.specs.Prelude.{◌≡◌, ℕ, ◌≤◌, ◌<◌, length};
+ghost use Rattle.std.specs.Prelude.{◌≡◌, ℕ, ◌≤◌, ◌<◌, length, MatchOption, IsSome};
 ghost use Rattle.lts.specs.Alike.{Answers};
 ghost use Rattle.text.specs.Limits.{state_limit, pair_place, book_length};
 ghost use Rattle.by_state.specs.Inner.Numbered.{Same};
 ghost use Rattle.sets.specs.Inner.SetValues.{In, SetOf};
-ghost use Rattle.held.specs.Held.{HeldList, HeldMove};
+ghost use Rattle.held.specs.Moves.{held_moves};
 ghost use Rattle.ranking.specs.Inner.TableWrites.{SeparatedBy};
 ghost use Rattle.splitters.specs.Inner.Partition.{ClassSets};
 ghost use Rattle.books.specs.Inner.Filling.{EntryWritten};
-ghost use Rattle.held.specs.HeldTests.{label_limit};
-ghost use Rattle.weak_books.specs.Inner.Entering.{opening_entry, PairEntered, Entered, Beside, SeparatedBelow};
+ghost use Rattle.books.specs.Inner.Sides.{entry_of};
+ghost use Rattle.weak_books.specs.Inner.Entering.{side_entry, opening_entry, PairEntered, Entered};
+ghost use Rattle.weak_books.specs.Inner.Entering.{Beside, SeparatedBelow};
 
-use crate::opening::{Opening, find_opening};
-use books::book::put_entry;
+use crate::apart::find_opening;
+use crate::opening::Opening;
+use books::entry::{Entry, Side, put_entry};
 use by_state::lists::class_at;
-use held::{LABEL_COUNT, POOL_LENGTH, SLOTS_LENGTH};
+use held::list::HeldMoves;
 use sets::SETS_LENGTH;
-use sets::set::{Set, drop_least, least, set_at, without};
+use sets::set::{Set, set_at, without};
 use text::State;
-use text::limits::{ROW, STATE_LIMIT};
+use text::limits::ROW;
+
+// The entry of a side's opening.
+fn entry_by(side: Side, opening: Opening, depth: u8) -> Entry
+    ensures { entry_of result ≡ side_entry side opening depth }
+{
+    Entry {
+        side: side as u8,
+        action: opening.label.0 as u8,
+        target: opening.target.0 as u8,
+        depth,
+    }
+}
 
 // Writes the entry of p and q: the first side opens, or where it cannot, the second.
-fn put_opening(p: State, q: State, first: Opening, second: Opening, depth: u8, book: &mut [u8])
+fn put_opening(
+    p: State,
+    q: State,
+    first: Option<Opening>,
+    second: Option<Opening>,
+    depth: u8,
+    book: &mut [u8],
+)
     requires p_lt_state_limit { (p.0 < state_limit) × (q.0 < state_limit) × (book_length ≤ length book.old) }
-    requires label_lt_label_limit { (first.label < label_limit) × (second.label < label_limit) × (second.target ≤ state_limit) }
+    requires one_opens { MatchOption first (IsSome second) (λ x. Unit {0}) }
     ensures { EntryWritten (pair_place p.0 q.0) (opening_entry first second depth) book.old
         book.new }
 {
-    if first.target < STATE_LIMIT {
-        put_entry(p, q, 1, first.label as u8, first.target as u8, depth, book);
-        return;
-    }
-    put_entry(
-        p,
-        q,
-        2,
-        second.label as u8,
-        second.target as u8,
-        depth,
-        book,
-    );
+    let entry = match first {
+        Some(opening) => entry_by(Side::First, opening, depth),
+        None => entry_by(Side::Second, second.unwrap(), depth),
+    };
+    put_entry(p, q, entry, book);
 }
 
 // Writes the entries of p and q both ways, which do not answer each other.
 fn enter_pair(
-    n: u16,
-    labels: &[u16; LABEL_COUNT],
-    count: u16,
-    slots: &[u16; SLOTS_LENGTH],
-    pool: &[u64; POOL_LENGTH],
+    moves: HeldMoves,
     class: &[u16; ROW],
     members: &[u64; SETS_LENGTH],
     p: State,
@@ -56,27 +65,22 @@ fn enter_pair(
     depth: u8,
     book: &mut [u8],
 )
-    requires p_lt_n { (p.0 < n) × (q.0 < n) × (book_length ≤ length book.old) }
-    requires held_list { HeldList n labels.now count slots.now pool.now }
-    requires class_sets { ClassSets n class.now members.now }
-    requires not_answers { ¬ (Answers (HeldMove labels.now count slots.now pool.now) (Same class.now) p.0 q.0) }
+    requires p_lt_n { (p.0 < moves.n) × (q.0 < moves.n) × (book_length ≤ length book.old) }
+    requires class_sets { ClassSets moves.n class.now members.now }
+    requires not_answers { ¬ (Answers (held_moves moves) (Same class.now) p.0 q.0) }
     requires not_p_0 { ¬ (p.0 ≡ q.0) }
-    ensures { PairEntered (HeldMove labels.now count slots.now pool.now)
+    ensures { PairEntered (held_moves moves.entry)
         class.now depth p.0 q.0 book.old book.new }
 {
-    let one = find_opening(n, labels, count, slots, pool, class, members, p, q);
-    let other = find_opening(n, labels, count, slots, pool, class, members, q, p);
+    let one = find_opening(moves, class, members, p, q);
+    let other = find_opening(moves, class, members, q, p);
     put_opening(p, q, one, other, depth, book);
     put_opening(q, p, other, one, depth, book);
 }
 
 // Writes the entries of p and each of `others` below it.
 fn enter_beside(
-    n: u16,
-    labels: &[u16; LABEL_COUNT],
-    count: u16,
-    slots: &[u16; SLOTS_LENGTH],
-    pool: &[u64; POOL_LENGTH],
+    moves: HeldMoves,
     class: &[u16; ROW],
     members: &[u64; SETS_LENGTH],
     p: State,
@@ -84,32 +88,18 @@ fn enter_beside(
     depth: u8,
     book: &mut [u8],
 )
-    requires p_lt_n { (p.0 < n) × (book_length ≤ length book.old) }
-    requires held_list { HeldList n labels.now count slots.now pool.now }
-    requires class_sets { ClassSets n class.now members.now }
+    requires p_lt_n { (p.0 < moves.n) × (book_length ≤ length book.old) }
+    requires class_sets { ClassSets moves.n class.now members.now }
     requires by_index { (q : ℕ) → In others q
-        → ¬ (Answers (HeldMove labels.now count slots.now pool.now) (Same class.now) p.0 q) }
-    ensures { Entered (HeldMove labels.now count slots.now pool.now)
+        → ¬ (Answers (held_moves moves) (Same class.now) p.0 q) }
+    ensures { Entered (held_moves moves.entry)
         class.now depth (Beside p.0 others) book.old book.new }
 {
-    let mut left = others;
-    let mut q = least(left);
-    while q < p.0 {
-        enter_pair(
-            n,
-            labels,
-            count,
-            slots,
-            pool,
-            class,
-            members,
-            p,
-            State(q),
-            depth,
-            book,
-        );
-        left = drop_least(left);
-        q = least(left);
+    for q in others {
+        if p.0 <= q {
+            return;
+        }
+        enter_pair(moves, class, members, p, State(q), depth, book);
     }
 }
 
@@ -136,11 +126,7 @@ fn separated_from(
 
 // Writes the entries of the pairs that a round has separated: of the states whose class had another, `states`.
 pub fn enter_round(
-    n: u16,
-    labels: &[u16; LABEL_COUNT],
-    count: u16,
-    slots: &[u16; SLOTS_LENGTH],
-    pool: &[u64; POOL_LENGTH],
+    moves: HeldMoves,
     class: &[u16; ROW],
     members: &[u64; SETS_LENGTH],
     next: &[u16; ROW],
@@ -150,34 +136,17 @@ pub fn enter_round(
     book: &mut [u8],
 )
     requires book_length_in_bounds { book_length ≤ length book.old }
-    requires held_list { HeldList n labels.now count slots.now pool.now }
-    requires class_sets { ClassSets n class.now members.now × ClassSets n next.now next_members.now }
-    requires by_index { ((p : ℕ) → In states p → p < n)
-        × ((p q : ℕ) → p < n → q < n → Same class.now p q → ¬ (p ≡ q) → In states p) }
-    requires by_index_2 { (p q : ℕ) → p < n → q < n → SeparatedBy class.now next.now p q
-        → ¬ (Answers (HeldMove labels.now count slots.now pool.now) (Same class.now) p q) }
-    ensures { Entered (HeldMove labels.now count slots.now pool.now)
-        class.now depth (SeparatedBelow n class.now next.now) book.old
+    requires class_sets { ClassSets moves.n class.now members.now × ClassSets moves.n next.now next_members.now }
+    requires by_index { ((p : ℕ) → In states p → p < moves.n)
+        × ((p q : ℕ) → p < moves.n → q < moves.n → Same class.now p q → ¬ (p ≡ q) → In states p) }
+    requires by_index_2 { (p q : ℕ) → p < moves.n → q < moves.n → SeparatedBy class.now next.now p q
+        → ¬ (Answers (held_moves moves) (Same class.now) p q) }
+    ensures { Entered (held_moves moves.entry)
+        class.now depth (SeparatedBelow moves.entry.n class.now next.now) book.old
         book.new }
 {
-    let mut left = states;
-    let mut p = least(left);
-    while p < STATE_LIMIT {
-        let others = separated_from(n, class, members, next, next_members, State(p));
-        enter_beside(
-            n,
-            labels,
-            count,
-            slots,
-            pool,
-            class,
-            members,
-            State(p),
-            others,
-            depth,
-            book,
-        );
-        left = drop_least(left);
-        p = least(left);
+    for p in states {
+        let others = separated_from(moves.n, class, members, next, next_members, State(p));
+        enter_beside(moves, class, members, State(p), others, depth, book);
     }
 }

@@ -1,150 +1,104 @@
 // The test of a book, entry by entry: the answers to an opening are looked up one by one. It is for models where no
 // opening has many answers.
-ghost use Rattle.std.specs.Prelude.{ℕ, ◌/◌, ◌%◌, ◌≤◌, ◌<◌, length, get_or};
+ghost use Rattle.held.specs.Moves.{held_moves};
+ghost use Rattle.std.specs.Prelude.{ℕ, ◌/◌, ◌%◌, ◌≤◌, ◌<◌, length};
 ghost use Rattle.lts.specs.Book.{LowerEntry, SoundAt};
 ghost use Rattle.text.specs.Decides.{Decides};
 ghost use Rattle.text.specs.Limits.{state_limit, table_length, book_length};
 ghost use Rattle.books.specs.Books.{book_of};
 ghost use Rattle.books.specs.Checks.{checked_outcome, CheckDone};
-ghost use Rattle.books.specs.Inner.Sides.{BySide, SoundTo};
+ghost use Rattle.books.specs.Inner.Sides.{BySide};
 ghost use Rattle.sets.specs.Inner.SetValues.{In};
-ghost use Rattle.held.specs.Held.{slot_rows, pool_sets, HeldAt, HeldList, HeldMove};
 ghost use Rattle.weak_books.specs.Inner.Depths.{Flagged};
-ghost use Rattle.weak_books.specs.Inner.OpensTo.{OpensTo};
 
 use crate::BYTE_VALUES;
 use crate::depths::flag_labels;
-use books::check::{Checked, bad_or_sound, byte_value, is_lower};
-use held::slots::{held, target_row};
-use held::{LABEL_COUNT, POOL_LENGTH, SLOTS_LENGTH};
-use sets::set::{Set, drop_least, is_in, least};
+use books::check::{BadEntry, is_lower};
+use books::entry::{Side, entry_at, who_opens};
+use held::list::HeldMoves;
+use held::slots::target_row;
+use sets::set::{Set, is_in};
 use text::State;
-use text::limits::{ENTRY_SIZE, ROW, STATE_LIMIT, TABLE_LENGTH};
+use text::limits::{ROW, STATE_LIMIT, TABLE_LENGTH};
 
 // Whether each of these answers leads, beside t, to an entry of lower depth.
-pub fn answers_lower(answers: Set, book: &[u8], forward: bool, t: State, depth: u8) -> bool
+pub fn answers_lower(answers: Set, book: &[u8], side: Side, t: State, depth: u8) -> bool
     requires { (t.0 < state_limit) × (book_length ≤ length book.now) }
     ensures { Decides result ((u : ℕ) → In answers u
-        → BySide forward (LowerEntry (book_of book.now) depth) t.0 u) }
+        → BySide side (LowerEntry (book_of book.now) depth) t.0 u) }
 {
-    let mut left = answers;
-    let mut u = least(left);
-    while u < STATE_LIMIT {
-        if !is_lower(book, forward, t, State(u), depth) {
+    for u in answers {
+        if !is_lower(book, side, t, State(u), depth) {
             return false;
         }
-        left = drop_least(left);
-        u = least(left);
     }
     true
 }
 
-// Whether p opens to t against q in this row: each answer leads to an entry of lower depth.
-fn opens_by_answers(
-    slots: &[u16; SLOTS_LENGTH],
-    pool: &[u64; POOL_LENGTH],
-    row: u16,
+// Whether t is one of the targets, and each of the answers leads, beside t, to an entry of lower depth.
+pub fn opens_by_answers(
+    targets: Set,
+    answers: Set,
     book: &[u8],
-    forward: bool,
-    p: State,
-    q: State,
+    side: Side,
     t: State,
     depth: u8,
 ) -> bool
-    requires row_lt_slot_rows { (row < slot_rows) × ((i : ℕ) → get_or slots.now i 0 < pool_sets) }
-    requires p_lt_state_limit { (p.0 < state_limit) × (q.0 < state_limit) × (book_length ≤ length book.now) }
-    ensures { Decides result (OpensTo (HeldAt slots.now pool.now row)
-        (BySide forward (LowerEntry (book_of book.now) depth)) p.0 q.0 t.0) }
+    requires { book_length ≤ length book.now }
+    ensures { Decides result (In targets t.0
+        × ((u : ℕ) → In answers u → BySide side (LowerEntry (book_of book.now) depth) t.0 u)) }
 {
-    if t.0 >= STATE_LIMIT {
-        return false;
-    }
-    if !is_in(held(slots, pool, row, p), t.0) {
-        return false;
-    }
-    answers_lower(held(slots, pool, row, q), book, forward, t, depth)
+    t.0 < STATE_LIMIT && is_in(targets, t.0) && answers_lower(answers, book, side, t, depth)
 }
 
 // Whether entry k is absent or sound.
-fn is_sound(
-    n: u16,
-    labels: &[u16; LABEL_COUNT],
-    count: u16,
-    slots: &[u16; SLOTS_LENGTH],
-    pool: &[u64; POOL_LENGTH],
-    flags: &[u16; BYTE_VALUES],
-    book: &[u8],
-    k: usize,
-) -> bool
+fn is_sound(moves: HeldMoves, flags: &[u16; BYTE_VALUES], book: &[u8], k: usize) -> bool
     requires k_lt_table_length { (k < table_length) × (book_length ≤ length book.now) }
-    requires held_list { HeldList n labels.now count slots.now pool.now × Flagged labels.now count flags.now }
-    ensures { Decides result (SoundAt (HeldMove labels.now count slots.now pool.now)
+    requires flagged { Flagged moves.labels.now moves.count flags.now }
+    ensures { Decides result (SoundAt (held_moves moves.entry)
         (book_of book.now) (k / state_limit) (k % state_limit)) }
 {
-    let at = ENTRY_SIZE * k;
-    let side = book[at];
-    if side == 0 {
+    let entry = entry_at(book, k);
+    if entry.side == 0 {
         return true;
     }
-    let a = byte_value(book[at + 1]);
-    if flags[a as usize] == 0 {
+    if flags[entry.action as usize] == 0 {
         return false;
     }
-    let t = State(byte_value(book[at + 2]));
-    let depth = book[at + 3];
-    let row = target_row(a);
     let p = State((k / ROW) as u16);
     let q = State((k % ROW) as u16);
-    if side == 1 {
-        return opens_by_answers(slots, pool, row, book, true, p, q, t, depth);
-    }
-    if side == 2 {
-        return opens_by_answers(slots, pool, row, book, false, q, p, t, depth);
-    }
-    false
+    let Some(opener) = who_opens(entry.side, p, q) else {
+        return false;
+    };
+    let row = target_row(u16::from(entry.action));
+    let targets = moves.held(row, opener.state);
+    let answers = moves.held(row, opener.other);
+    let t = State(u16::from(entry.target));
+    opens_by_answers(targets, answers, book, opener.side, t, entry.depth)
 }
 
-// The number of the first bad entry, or of all entries if none is bad: in the order of their numbers.
-fn first_bad_in_order(
-    n: u16,
-    labels: &[u16; LABEL_COUNT],
-    count: u16,
-    slots: &[u16; SLOTS_LENGTH],
-    pool: &[u64; POOL_LENGTH],
-    flags: &[u16; BYTE_VALUES],
-    book: &[u8],
-) -> usize
+// Tests each entry, in the order of their numbers.
+fn test_in_order(moves: HeldMoves, flags: &[u16; BYTE_VALUES], book: &[u8]) -> Result<(), BadEntry>
     requires book_length_in_bounds { book_length ≤ length book.now }
-    requires held_list { HeldList n labels.now count slots.now pool.now × Flagged labels.now count flags.now }
-    ensures { SoundTo (HeldMove labels.now count slots.now pool.now)
-        book.now result }
+    requires flagged { Flagged moves.labels.now moves.count flags.now }
+    ensures { CheckDone (held_moves moves.entry)
+        book.now (checked_outcome result) }
 {
-    let mut k = 0;
-    while k < TABLE_LENGTH {
-        if !is_sound(n, labels, count, slots, pool, flags, book, k) {
-            return k;
+    for k in 0..TABLE_LENGTH {
+        if !is_sound(moves, flags, book, k) {
+            return Err(BadEntry(k));
         }
-        k += 1;
     }
-    k
+    Ok(())
 }
 
 // Tests a book of the moves that are held, entry by entry.
-pub fn check_entries(
-    n: u16,
-    labels: &[u16; LABEL_COUNT],
-    count: u16,
-    slots: &[u16; SLOTS_LENGTH],
-    pool: &[u64; POOL_LENGTH],
-    book: &[u8],
-) -> Checked
-    requires held_list { HeldList n labels.now count slots.now pool.now }
+pub fn check_entries(moves: HeldMoves, book: &[u8]) -> Result<(), BadEntry>
     requires book_length_in_bounds { book_length ≤ length book.now }
-    ensures { CheckDone (HeldMove labels.now count slots.now pool.now)
+    ensures { CheckDone (held_moves moves.entry)
         book.now (checked_outcome result) }
 {
     let mut flags = [0u16; BYTE_VALUES];
-    flag_labels(labels, count, &mut flags);
-    let k = first_bad_in_order(n, labels, count, slots, pool, &flags, book);
-    bad_or_sound(k)
+    flag_labels(moves.labels, moves.count, &mut flags);
+    test_in_order(moves, &flags, book)
 }

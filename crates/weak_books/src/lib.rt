@@ -3,6 +3,7 @@
 
 #![tactic(auto)]
 
+pub mod apart;
 pub mod book;
 pub mod check;
 pub mod depths;

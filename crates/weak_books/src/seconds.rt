@@ -3,10 +3,9 @@ ghost use Rattle.std.specs.Prelude.{◌≤◌, ◌<◌, length};
 ghost use Rattle.text.specs.Limits.{state_limit, table_length, pair_place, book_length};
 ghost use Rattle.weak_books.specs.Inner.Turned.{PairTurned, AllTurned};
 
-use books::book::put_entry;
+use books::entry::{Entry, Side, entry_at, put_entry};
 use ranking::table::{pair_place, rank_at};
 use text::State;
-use text::limits::ENTRY_SIZE;
 
 // Writes the entry of p and q, if their rank is above 0 and there is none.
 fn turn_pair(table: &[u8], p: State, q: State, book: &mut [u8])
@@ -18,14 +17,16 @@ fn turn_pair(table: &[u8], p: State, q: State, book: &mut [u8])
     if depth == 0 {
         return;
     }
-    let at = ENTRY_SIZE * pair_place(p, q);
-    if book[at] != 0 {
+    if entry_at(book, pair_place(p, q)).side != 0 {
         return;
     }
-    let back = ENTRY_SIZE * pair_place(q, p);
-    let a = book[back + 1];
-    let t = book[back + 2];
-    put_entry(p, q, 2, a, t, depth, book);
+    let back = entry_at(book, pair_place(q, p));
+    let entry = Entry {
+        side: Side::Second as u8,
+        depth,
+        ..back
+    };
+    put_entry(p, q, entry, book);
 }
 
 // The same of p and each state.

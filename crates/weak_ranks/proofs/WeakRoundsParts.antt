@@ -1,8 +1,5 @@
 -- What the rounds of `weak_rounds` keep.
-use mathlib.Core.List.{List}
-use mathlib.Core.Path.{◌≡◌}
-use Prim.Native.Nat.{ℕ, ◌<◌}
-use lib.ListN.{length}
+use Rattle.std.proofs.Common.{List, ◌≡◌, ℕ, ◌<◌, length}
 use Rattle.lts.specs.Alike.{Moves}
 use Rattle.lts.specs.Game.{Separates}
 use Rattle.ranking.specs.Inner.ClassList.{Classes}

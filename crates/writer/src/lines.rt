@@ -16,16 +16,12 @@ use text::{Action, Head, State, Step, StepLine};
 fn level_letter(level: u16) -> u8
     ensures { result ≡ level_byte level }
 {
-    if level == LOW {
-        return b'L';
+    match level {
+        LOW => b'L',
+        RELEASE => b'D',
+        HIGH => b'H',
+        _ => b'T',
     }
-    if level == RELEASE {
-        return b'D';
-    }
-    if level == HIGH {
-        return b'H';
-    }
-    b'T'
 }
 
 // Each line asks for room for just its own bytes, and each loop for room for all of its lines.
@@ -35,12 +31,12 @@ impl Position {
         requires { self.at + length (head_text h) ≤ length out.old }
         ensures { Wrote out.old self.at (head_text h) out.new result.at }
     {
-        let at = self.byte(out, b'M');
-        let at = at.field(out, h.states);
-        let at = at.field(out, h.actions);
-        let at = at.field(out, h.steps);
-        let at = at.field(out, h.start.0);
-        at.byte(out, b'\n')
+        self.byte(out, b'M')
+            .field(out, h.states)
+            .field(out, h.actions)
+            .field(out, h.steps)
+            .field(out, h.start.0)
+            .byte(out, b'\n')
     }
 
     // `I,state` and the line end.
@@ -48,9 +44,7 @@ impl Position {
         requires { self.at + length (start_text p.0) ≤ length out.old }
         ensures { Wrote out.old self.at (start_text p.0) out.new result.at }
     {
-        let at = self.byte(out, b'I');
-        let at = at.field(out, p.0);
-        at.byte(out, b'\n')
+        self.byte(out, b'I').field(out, p.0).byte(out, b'\n')
     }
 
     // `S,source,action,target` and the line end.
@@ -58,11 +52,11 @@ impl Position {
         requires { self.at + length (step_text s) ≤ length out.old }
         ensures { Wrote out.old self.at (step_text s) out.new result.at }
     {
-        let at = self.byte(out, b'S');
-        let at = at.field(out, s.source.0);
-        let at = at.field(out, s.action.0);
-        let at = at.field(out, s.target.0);
-        at.byte(out, b'\n')
+        self.byte(out, b'S')
+            .field(out, s.source.0)
+            .field(out, s.action.0)
+            .field(out, s.target.0)
+            .byte(out, b'\n')
     }
 
     // The name of an action that a store holds.
@@ -87,12 +81,12 @@ impl Position {
             out.new result.at }
     {
         let letter = level_letter(store::level(store, a));
-        let at = self.byte(out, b'A');
-        let at = at.byte(out, b',');
-        let at = at.byte(out, letter);
-        let at = at.byte(out, b',');
-        let at = at.action_name(out, store, a);
-        at.byte(out, b'\n')
+        self.byte(out, b'A')
+            .byte(out, b',')
+            .byte(out, letter)
+            .byte(out, b',')
+            .action_name(out, store, a)
+            .byte(out, b'\n')
     }
 
     // The lines of all actions that a store holds.
@@ -102,12 +96,9 @@ impl Position {
         ensures { Wrote out.old self.at (actions_text (model_at store.now).actions)
             out.new result.at }
     {
-        let n = store::actions(store);
         let mut at = self;
-        let mut i: u16 = 0;
-        while i < n {
+        for i in 0..store::actions(store) {
             at = at.action_line(out, store, Action(i));
-            i += 1;
         }
         at
     }
@@ -119,12 +110,9 @@ impl Position {
         ensures { Wrote out.old self.at (starts_text (model_at store.now).extra_starts)
             out.new result.at }
     {
-        let n = store::extra_count(store);
         let mut at = self;
-        let mut i: u16 = 0;
-        while i < n {
+        for i in 0..store::extra_count(store) {
             at = at.start_line(out, store::extra_start(store, i));
-            i += 1;
         }
         at
     }
@@ -136,12 +124,9 @@ impl Position {
         ensures { Wrote out.old self.at (steps_text (model_at store.now).steps)
             out.new result.at }
     {
-        let n = store::steps(store);
         let mut at = self;
-        let mut i: u16 = 0;
-        while i < n {
-            at = at.step_line(out, store::step_line(store, Step(i)));
-            i += 1;
+        for j in 0..store::steps(store) {
+            at = at.step_line(out, store::step_line(store, Step(j)));
         }
         at
     }
@@ -153,10 +138,10 @@ impl Position {
         ensures { Wrote out.old self.at (model_text (model_at store.now))
             out.new result.at }
     {
-        let at = self.head_line(out, store::head(store));
-        let at = at.action_lines(out, store);
-        let at = at.start_lines(out, store);
-        let at = at.step_lines(out, store);
-        at.text(out, b"E\n")
+        self.head_line(out, store::head(store))
+            .action_lines(out, store)
+            .start_lines(out, store)
+            .step_lines(out, store)
+            .text(out, b"E\n")
     }
 }

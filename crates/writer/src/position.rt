@@ -1,4 +1,5 @@
-// A place in an output list, by value: each writer takes it and hands back where it ended.
+// A place in an output list, by value: each writer takes it and hands back where it ended. Document 01 asks for this
+// form, so the list goes beside it and is no part of it.
 ghost use Rattle.std.specs.Prelude.{◌≡◌, [], ◌∷◌, ℕ, ◌+◌, ◌≤◌, ◌<◌, length};
 ghost use Rattle.text.specs.All.{All};
 ghost use Rattle.text.specs.Numbers.{digits};
@@ -21,12 +22,11 @@ impl Position {
         requires { self.at < length out.old }
         ensures { Wrote out.old self.at (b ∷ []) out.new result.at }
     {
-        let at = self.at;
-        out[at] = b;
-        Position { at: at + 1 }
+        out[self.at] = b;
+        Position { at: self.at + 1 }
     }
 
-    // The decimal digits of n.
+    // The decimal digits of n. By hand: with std's formatter there would be an error to handle that cannot occur.
     pub fn number(self, out: &mut [u8], n: u16) -> Position
         requires { self.at + length (digits n) ≤ length out.old }
         ensures { Wrote out.old self.at (digits n) out.new result.at }
@@ -34,8 +34,7 @@ impl Position {
         if n < 10 {
             return self.byte(out, b'0' + (n as u8));
         }
-        let at = self.number(out, n / 10);
-        at.byte(out, b'0' + ((n % 10) as u8))
+        self.number(out, n / 10).byte(out, b'0' + ((n % 10) as u8))
     }
 
     // A comma and the digits of n.
@@ -43,8 +42,7 @@ impl Position {
         requires { self.at + length (field (digits n)) ≤ length out.old }
         ensures { Wrote out.old self.at (field (digits n)) out.new result.at }
     {
-        let at = self.byte(out, b',');
-        at.number(out, n)
+        self.byte(out, b',').number(out, n)
     }
 
     // The bytes of a text.
@@ -52,26 +50,20 @@ impl Position {
         requires { self.at + length text.now ≤ length out.old }
         ensures { Wrote out.old self.at text.now out.new result.at }
     {
-        let mut at = self;
-        let mut i: usize = 0;
-        while i < text.len() {
-            at = at.byte(out, text[i]);
-            i += 1;
-        }
-        at
+        let end = self.at + text.len();
+        out[self.at..end].copy_from_slice(text);
+        Position { at: end }
     }
 
-    // The bytes of a name, which the store holds as numbers of 16 bits.
+    // The bytes of a name, which the store holds as numbers of 16 bits, so that they are copied one by one.
     pub fn name(self, out: &mut [u8], name: &[u16]) -> Position
         requires name_in_bounds { self.at + length name.now ≤ length out.old }
         requires all { All (λ (b : ℕ). b < 256) name.now }
         ensures { Wrote out.old self.at name.now out.new result.at }
     {
         let mut at = self;
-        let mut i: usize = 0;
-        while i < name.len() {
-            at = at.byte(out, name[i] as u8);
-            i += 1;
+        for &b in name {
+            at = at.byte(out, b as u8);
         }
         at
     }

@@ -1,5 +1,5 @@
 -- Moves by state and action. Only the contracts of inner functions cite it.
-use Rattle.std.specs.Prelude.{List, ◌≡◌, ℕ, ◌+◌, ◌≤◌, ◌<◌, get_or}
+use Rattle.std.specs.Prelude.{List, ◌≡◌, ℕ, ◌+◌, ◌≤◌, ◌<◌, length, get_or}
 use Rattle.text.specs.Limits.{state_limit, action_limit, step_limit, group_place, groups_length}
 use Rattle.by_state.specs.MoveList.{Listed}
 
@@ -15,6 +15,12 @@ pub record Indexed (groups targets : List ℕ) (p a q : ℕ) : Type 0 where
   pub place : ℕ
   pub in_group : InGroup groups p a place
   pub target_is : get_or targets place 0 ≡ q
+
+-- The list has just the targets of the moves of p with the action a.
+pub record GroupTargets (groups targets : List ℕ) (p a : ℕ) (xs : List ℕ) : Type 0 where
+  pub sound : (i : ℕ) → i < length xs → Indexed groups targets p a (get_or xs i 0)
+  pub complete : (q : ℕ) → Indexed groups targets p a q → (i : ℕ) × (i < length xs) × (get_or xs i 0 ≡ q)
+  pub target_lt : (i : ℕ) → i < length xs → get_or xs i 0 < state_limit
 
 -- Each place of a group has a state as its target.
 pub record Groups (groups targets : List ℕ) : Type 0 where
@@ -41,6 +47,10 @@ pub record GroupAt (n : ℕ) (first actions : List ℕ) (k at : ℕ) : Type 0 wh
   pub at_le : at ≤ get_or first n 0
   pub below : (p i : ℕ) → PlaceOf n first p i → i < at → group_place p (get_or actions i 0) < k
   pub above : (p i : ℕ) → PlaceOf n first p i → at ≤ i → k ≤ group_place p (get_or actions i 0)
+
+-- Each group is there.
+pub record GroupsAt (n : ℕ) (first actions groups : List ℕ) : Type 0 where
+  pub group_at : (j : ℕ) → j < groups_length → GroupAt n first actions j (get_or groups j 0)
 
 -- The groups before group k are there, and the moves before place i come before group k.
 pub record IndexedTo (n : ℕ) (first actions groups : List ℕ) (k i : ℕ) : Type 0 where

@@ -1,20 +1,42 @@
 -- The sides of an entry, and the entries that were tested. Only the contracts of inner functions cite it.
-use Rattle.std.specs.Prelude.{Bool, true, false, List, [], ◌≡◌, ℕ, ◌≤◌, ◌<◌}
+use Rattle.std.specs.Prelude.{List, [], ◌≡◌, ℕ, ◌≤◌, ◌<◌}
 use Rattle.lts.specs.Alike.{Moves, Relation}
-use Rattle.lts.specs.Book.{Present, SoundAt}
+use Rattle.lts.specs.Book.{Entry, Present, SoundAt}
 use Rattle.text.specs.Faults.{Outcome, answers, refuses}
 use Rattle.text.specs.Limits.{state_limit, table_length, pair_place}
 use Rattle.books.specs.Books.{entry_number, book_of}
+use Rattle.books.specs.declared.entry.Entry.{Entry as Bytes}
+use Rattle.books.specs.declared.entry.Side.{Side}
+use Rattle.books.specs.declared.entry.Side.TheVariants.{First, Second}
 
--- R of the opener's state and the other's, whether the opener is the first side or not.
-abbrev pub BySide : Bool → Relation → Relation
-BySide true R x y = R x y
-BySide false R x y = R y x
+-- The entry that the four bytes are.
+abbrev pub entry_of : Bytes → Entry
+entry_of e = record { side = e.side; action = e.action; target = e.target; depth = e.depth }
+
+-- "side (0 none, 1 first, 2 second)"
+abbrev pub side_number : Side → ℕ
+side_number First = 1
+side_number Second = 2
+
+-- The number is that of no side.
+pub record NoSide (number : ℕ) : Type 0 where
+  pub not_first : ¬ (number ≡ 1)
+  pub not_second : ¬ (number ≡ 2)
+
+-- By an entry of p and q with this side's number the side opens, at state x against state y.
+pub data Turn (number p q : ℕ) : Side → ℕ → ℕ → Type 0 where
+  first_turn : number ≡ 1 → Turn number p q First p q
+  second_turn : number ≡ 2 → Turn number p q Second q p
+
+-- R of the opener's state and the other's, by the opener's side.
+abbrev pub BySide : Side → Relation → Relation
+BySide First R x y = R x y
+BySide Second R x y = R y x
 
 -- The number of their entry.
-abbrev pub side_place : Bool → ℕ → ℕ → ℕ
-side_place true x y = pair_place x y
-side_place false x y = pair_place y x
+abbrev pub side_place : Side → ℕ → ℕ → ℕ
+side_place First x y = pair_place x y
+side_place Second x y = pair_place y x
 
 -- Entry k is there, of a depth below the one given.
 pub record LowerNumber (book : List ℕ) (depth k : ℕ) : Type 0 where

@@ -1,6 +1,6 @@
 -- The entries are tested one by one: the first bad one is told, or all are sound.
 -- Document 02, (v). Assumes nothing.
-use Rattle.std.specs.Prelude.{List, ◌≡◌, refl, ℕ, ◌+◌, ◌/◌, ◌%◌, ◌≤◌, ◌<◌}
+use Rattle.std.specs.Prelude.{List, ◌≡◌, refl, ℕ, ◌+◌, ◌/◌, ◌%◌, ◌≤◌, ◌<◌, Ok, Err}
 use Rattle.std.proofs.Common.{⊎_elim, sym, ap, ◌∙◌, subst, arith, below_more}
 use Rattle.lts.proofs.TestsLaws.{lt_or_le, eq_of_not_lt}
 use Rattle.lts.specs.Alike.{Moves}
@@ -9,7 +9,6 @@ use Rattle.lts.proofs.BookLaws.{sound_at_same}
 use Rattle.text.specs.Faults.{Outcome, refuses}
 use Rattle.text.specs.Limits.{state_limit, table_length, pair_place}
 use Rattle.books.specs.Books.{book_of}
-use Rattle.books.specs.declared.check.Checked.TheVariants as checked
 use Rattle.books.specs.Checks.{checked_outcome, FirstBad, CheckDone, accepted, refused}
 use Rattle.books.specs.Inner.Sides.{RowSoundTo, RowsSound, SoundTo, BadTold}
 
@@ -56,11 +55,11 @@ module _ (Move : Moves) (book : List ℕ) where
 
 -- ---- what is told
 
-pub bad_told_bad : {k : ℕ} → k < table_length → BadTold k (checked_outcome (checked.Bad k))
+pub bad_told_bad : {k : ℕ} → k < table_length → BadTold k (checked_outcome (Err (record { 0 = k })))
 unfolding checked_outcome
 bad_told_bad l = record { bad = λ _. refl; sound = λ m. absurd (omega (arith, l, m)) }
 
-pub bad_told_sound : {k : ℕ} → table_length ≤ k → BadTold k (checked_outcome checked.Sound)
+pub bad_told_sound : {k : ℕ} → table_length ≤ k → BadTold k (checked_outcome (Ok tt))
 unfolding checked_outcome
 bad_told_sound l = record { bad = λ m. absurd (omega (arith, l, m)); sound = λ _. refl }
 

@@ -6,7 +6,7 @@ use Rattle.lts.proofs.TestsLaws.{lt_or_le, eq_or_not, le_of_not_lt}
 use Rattle.text.specs.Limits.{state_limit, action_limit, group_place, groups_length}
 use Rattle.by_state.specs.MoveList.{Listed, MoveList, Ordered}
 use Rattle.by_state.specs.Laws.MoveListLaws.{rising_le, place_lt_last, listed_decided}
-use Rattle.books.specs.Inner.Groups.{Indexed, Groups, IndexOf, PlaceOf, GroupAt, IndexedTo, Given}
+use Rattle.books.specs.Inner.Groups.{Indexed, Groups, IndexOf, PlaceOf, GroupAt, GroupsAt, IndexedTo, Given}
 
 -- ---- giving places a value
 
@@ -218,11 +218,23 @@ module _ {n : ℕ} {first actions targets : List ℕ} (L : MoveList n first acti
     index_of_of_group_at : IndexOf n first actions targets groups
     index_of_of_group_at = record { groups_are = groups_are; forth = indexed_of_listed; back = listed_of_indexed }
 
+  -- Groups that are all there are those of the listed moves.
+  pub index_of_of_groups_at : {groups : List ℕ} → GroupsAt n first actions groups
+      → IndexOf n first actions targets groups
+  index_of_of_groups_at g = index_of_of_group_at g.group_at
+
   -- With those the groups are all there.
+  pub groups_at_of_indexed_to : {k last next : ℕ} {groups groups' : List ℕ} → last ≡ get_or first n 0
+      → IndexedTo n first actions groups k (get_or first n 0) → Given k groups_length last next groups groups'
+      → GroupsAt n first actions groups'
+  groups_at_of_indexed_to {k} e t g = record {
+    group_at = λ j l. ⊎_elim
+        (λ h. subst (GroupAt n first actions j) (sym (g.kept j h)) (t.group_at j h))
+        (λ h. subst (GroupAt n first actions j) (sym (g.value_is j h (omega (arith, g.to_le)))) (group_at_last e t h))
+        (lt_or_le j k);
+  }
+
   pub index_of_of_indexed_to : {k last next : ℕ} {groups groups' : List ℕ} → last ≡ get_or first n 0
       → IndexedTo n first actions groups k (get_or first n 0) → Given k groups_length last next groups groups'
       → IndexOf n first actions targets groups'
-  index_of_of_indexed_to {k} e t g = index_of_of_group_at (λ j l. ⊎_elim
-      (λ h. subst (GroupAt n first actions j) (sym (g.kept j h)) (t.group_at j h))
-      (λ h. subst (GroupAt n first actions j) (sym (g.value_is j h (omega (arith, g.to_le)))) (group_at_last e t h))
-      (lt_or_le j k))
+  index_of_of_indexed_to e t g = index_of_of_groups_at (groups_at_of_indexed_to e t g)

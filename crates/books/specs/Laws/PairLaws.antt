@@ -42,6 +42,9 @@ module _ {n : ℕ} {first actions targets table : List ℕ} (L : MoveList n firs
       pub second_place_lt : back < get_or first n 0
       second_place_lt = place_lt_last L lq (second_found L O R lp lq rank pos F left G)
 
+      pub second_place_lt_end : back < get_or first (q + 1) 0
+      second_place_lt_end = second_found L O R lp lq rank pos F left G
+
       pub pair_second : {book book' : List ℕ}
           → EntryWritten (pair_place p q)
           (record { side = 2; action = get_or actions back 0; target = get_or targets back 0; depth = d }) book book'

@@ -76,7 +76,7 @@ module _ (Move : Moves) (n : ℕ) (action_lt : (x a y : ℕ) → Move x a y → 
       no_answer (moves m) = omega (arith, e, action_lt _ _ _ m)
       no_answer (stays _ l _) = omega (arith, l, s.other_le)
 
-  opens_cases : {R : Relation} {p q a t : ℕ} → ¬ (R p q) → Opens (Still Move n) R p q a t
+  pub opens_cases : {R : Relation} {p q a t : ℕ} → ¬ (R p q) → Opens (Still Move n) R p q a t
       → Opens Move R p q a t ⊎ ((a ≡ silent_label) × StaysUnanswered n p q t)
   opens_cases {R} {p} {q} {a} {t} self o = go o.opening
     where
@@ -85,6 +85,12 @@ module _ (Move : Moves) (n : ℕ) (action_lt : (x a y : ℕ) → Move x a y → 
       go (stays e l s) =
           let none : ¬ (q < n) = λ k. self (subst (λ (x : ℕ). R x q) (sym s) (o.answers q (stays e k refl))) in
           inr (e, record { opener_lt = l; target_is = sym s; other_le = omega (arith, none) })
+
+  -- The two ways to open are all there are.
+  pub opens_of_cases : {R : Relation} {p q a t : ℕ}
+      → Opens Move R p q a t ⊎ ((a ≡ silent_label) × StaysUnanswered n p q t) → Opens (Still Move n) R p q a t
+  opens_of_cases (inl o) = opens_still o
+  opens_of_cases (inr s) = opens_of_unanswered s.0 s.1
 
   -- ---- an entry
 

@@ -1,6 +1,6 @@
 -- Judge keeps its promise in each of its ways, and the promise pins one answer and one content of each list.
 -- Document 01, operation 4 and "Refused because of the state". Assumes nothing.
-use Rattle.std.specs.Prelude.{List, ◌≡◌, ℕ, ◌≤◌, ◌<◌, length}
+use Rattle.std.specs.Prelude.{Ok, Err, List, ◌≡◌, ℕ, ◌≤◌, ◌<◌, length}
 use Rattle.std.proofs.Math.Option.{none}
 use Rattle.std.proofs.Math.Path.{refl}
 use Rattle.std.proofs.Common.{sym, ap, ◌∙◌}
@@ -10,7 +10,7 @@ use Rattle.model.specs.Store.{Good}
 use Rattle.model.specs.StoredModel.{model_at}
 use Rattle.model.proofs.Laws.OnStoreLaws.{on_store_short, on_store_not_good, on_store-model, on_store_unique}
 use Rattle.verdicts.specs.declared.judging.Verdict.{Verdict}
-use Rattle.judge.specs.declared.judge.JudgeAnswer.TheVariants as judge
+use Rattle.model.specs.declared.refusal.Refusal.TheVariants.{ShortList, NotGood}
 use Rattle.text.specs.Limits.{distances_length, table_length}
 use Rattle.text.specs.Laws.FirstShortLaws.{first_short_is, second_short, third_short, none_short_three}
 use Rattle.model.proofs.Laws.System.GoodStoredLaws.{good_stored}
@@ -25,19 +25,19 @@ module _ (store distances table : List ℕ) where
   -- ---- the ways of the promise: the lengths of the lists decide first, then goodness
 
   pub judge_first_short : length store < store_length
-      → JudgePromise store distances table (judge_outcome (judge.ShortList 1)) distances table
+      → JudgePromise store distances table (judge_outcome (Err (ShortList 1))) distances table
   unfolding judge_outcome
   judge_first_short h = on_store_short (first_short_is _ _ h) refl (refl, refl)
 
   module _ (first-long : store_length ≤ length store) where
     pub judge_second_short : length distances < distances_length
-        → JudgePromise store distances table (judge_outcome (judge.ShortList 2)) distances table
+        → JudgePromise store distances table (judge_outcome (Err (ShortList 2))) distances table
     unfolding judge_outcome
     judge_second_short h = on_store_short (second_short _ _ first-long h) refl (refl, refl)
 
     module _ (second-long : distances_length ≤ length distances) where
       pub judge_third_short : length table < table_length
-          → JudgePromise store distances table (judge_outcome (judge.ShortList 3)) distances table
+          → JudgePromise store distances table (judge_outcome (Err (ShortList 3))) distances table
       unfolding judge_outcome
       judge_third_short h = on_store_short (third_short _ _ first-long second-long h) refl (refl, refl)
 
@@ -46,13 +46,13 @@ module _ (store distances table : List ℕ) where
         judge_lists_none = none_short_three first-long second-long third-long
 
         pub judge_not_good : ¬ (Good store)
-            → JudgePromise store distances table (judge_outcome judge.NotGood) distances table
+            → JudgePromise store distances table (judge_outcome (Err NotGood)) distances table
         unfolding judge_outcome
         judge_not_good n = on_store_not_good judge_lists_none n refl (refl, refl)
 
         pub judge_done : Good store → (v : Verdict) (begins roles distances' table' : List ℕ)
             → Judging (model_at store) v distances table begins roles distances' table'
-            → JudgePromise store distances table (judge_outcome (judge.Judged v)) distances' table'
+            → JudgePromise store distances table (judge_outcome (Ok v)) distances' table'
         unfolding judge_outcome
         judge_done good v begins roles distances' table' j =
             on_store-model (λ m. (w : Verdict) × (verdict_outcome v ≡ verdict_outcome w) × Judged m w

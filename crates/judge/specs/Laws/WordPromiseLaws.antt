@@ -1,6 +1,6 @@
 -- Word's promise pins its answer and the content of each list. Equal outcomes are equal answers.
 -- Document 01, operation 6 and "Refused because of the state". Assumes nothing.
-use Rattle.std.specs.Prelude.{cond, List, ◌≡◌, refl, ℕ, eqb}
+use Rattle.std.specs.Prelude.{Result, Ok, Err, cond, List, ◌≡◌, refl, ℕ, eqb}
 use Rattle.std.proofs.Common.{sym, ap, ◌∙◌}
 use Rattle.text.specs.Faults.{Outcome, answers, refuses}
 use Rattle.text.specs.Laws.OutcomeLaws.{injective_of_inverse}
@@ -11,30 +11,30 @@ use Rattle.letters.specs.declared.word.Shown.{Shown}
 use Rattle.letters.specs.declared.word.Shown.TheVariants.{Word, NotDeterministic, Silent, NoLeak}
 use Rattle.letters.specs.WordDone.{shown_outcome}
 use Rattle.letters.specs.Laws.WordDoneLaws.{shown_back, shown_back_is, word_done_unique}
-use Rattle.judge.specs.declared.word.WordAnswer.{WordAnswer}
-use Rattle.judge.specs.declared.word.WordAnswer.TheVariants as word
+use Rattle.model.specs.declared.refusal.Refusal.{Refusal}
+use Rattle.model.specs.declared.refusal.Refusal.TheVariants.{ShortList, NotGood}
 use Rattle.judge.specs.WordPromise.{word_outcome, WordPromise}
 
-word_back : Outcome → WordAnswer
-word_back (answers values) = word.Shown (shown_back (answers values))
+word_back : Outcome → Result Shown Refusal
+word_back (answers values) = Ok (shown_back (answers values))
 word_back (refuses number place) =
-    cond (eqb number 21) (word.ShortList place)
-    (cond (eqb number 22) word.NotGood (word.Shown (shown_back (refuses number place))))
+    cond (eqb number 21) (Err (ShortList place))
+    (cond (eqb number 22) (Err NotGood) (Ok (shown_back (refuses number place))))
 
-word_back_shown : (s : Shown) → word_back (shown_outcome s) ≡ word.Shown (shown_back (shown_outcome s))
+word_back_shown : (s : Shown) → word_back (shown_outcome s) ≡ Ok (shown_back (shown_outcome s))
 unfolding shown_outcome word_back
 word_back_shown (Word length end) = refl
 word_back_shown (NotDeterministic j) = refl
 word_back_shown (Silent j) = refl
 word_back_shown NoLeak = refl
 
-word_back_is : (a : WordAnswer) → word_back (word_outcome a) ≡ a
+word_back_is : (a : Result Shown Refusal) → word_back (word_outcome a) ≡ a
 unfolding word_outcome word_back
-word_back_is (word.Shown s) = word_back_shown s ∙ ap word.Shown (shown_back_is s)
-word_back_is (word.ShortList place) = refl
-word_back_is word.NotGood = refl
+word_back_is (Ok s) = word_back_shown s ∙ ap Ok (shown_back_is s)
+word_back_is (Err (ShortList place)) = refl
+word_back_is (Err NotGood) = refl
 
-pub word_outcome_injective : (a b : WordAnswer) → word_outcome a ≡ word_outcome b → a ≡ b
+pub word_outcome_injective : (a b : Result Shown Refusal) → word_outcome a ≡ word_outcome b → a ≡ b
 word_outcome_injective = injective_of_inverse word_outcome word_back word_back_is
 
 pub word_promise_unique : (store distances table word : List ℕ) (t u : Outcome) (d' t' w' d'' t'' w'' : List ℕ)

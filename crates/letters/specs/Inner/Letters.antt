@@ -1,8 +1,10 @@
 -- What the inner functions of Word take and find. Only the contracts of inner functions cite it.
 -- Document 01, operation 6.
-use Rattle.std.specs.Prelude.{List, ◌≡◌, ℕ, ◌≤◌, ◌<◌, T, length, get_or}
+use Rattle.std.specs.Prelude.{Option, Some, None, List, ◌≡◌, ℕ, ◌≤◌, ◌<◌, T, length, get_or}
 use Rattle.lts.specs.Alike.{Separated, Rank}
 use Rattle.text.specs.Limits.{table_length, word_length, pair_place}
+use Rattle.text.specs.declared.Action.{Action}
+use Rattle.text.specs.declared.Step.{Step}
 use Rattle.text.specs.First.{First}
 use Rattle.text.specs.Model.{Model}
 use Rattle.model.specs.System.{source, action, target, ReachableIn, DeterministicModel, view}
@@ -13,16 +15,14 @@ use Rattle.model.specs.Inner.Index.{Index}
 use Rattle.verdicts.specs.Inner.ModelLists.{ModelLists}
 use Rattle.model.specs.Inner.Roles.{RolesOf}
 use Rattle.model.specs.Inner.Stored.{Stored}
-use Rattle.letters.specs.declared.branch.Found.{Found}
-use Rattle.letters.specs.declared.branch.Found.TheVariants.{At, Nothing}
 use Rattle.lts.specs.Weak.{LowStep}
 
 -- ---- what is found
 
 -- The step found is the first that P holds of; nothing is found where P holds of none.
-abbrev pub FoundFirst : (ℕ → Type 0) → Found → Type 0
-FoundFirst P (At j) = First P j.0
-FoundFirst P Nothing = (j : ℕ) → ¬ (P j)
+abbrev pub FoundFirst : (ℕ → Type 0) → Option Step → Type 0
+FoundFirst P (Some j) = First P j.0
+FoundFirst P None = (j : ℕ) → ¬ (P j)
 
 -- Step j is a step of p with the action a.
 pub record StepOf (m : Model) (p a j : ℕ) : Type 0 where
@@ -40,6 +40,18 @@ pub record Unanswered (m : Model) (q j : ℕ) : Type 0 where
 pub record Alone (m : Model) (p q j : ℕ) : Type 0 where
   pub source_is : source m j ≡ p
   pub unanswered : Unanswered m q j
+
+-- The lowest action of a low step of p that q has no step of.
+pub record LowestAlone (m : Model) (p q a : ℕ) : Type 0 where
+  pub by : ℕ
+  pub alone : Alone m p q by
+  pub action_is : a ≡ action m by
+  pub lowest : (i : ℕ) → Alone m p q i → a ≤ action m i
+
+-- It is found; nothing is found where there is none.
+abbrev pub FoundAlone : Model → ℕ → ℕ → Option Action → Type 0
+FoundAlone m p q (Some a) = LowestAlone m p q a.0
+FoundAlone m p q None = (j : ℕ) → ¬ (Alone m p q j)
 
 -- Step j is low, step i is the step of q with the same action, and the round k separates their targets.
 pub record Answer (m : Model) (q k j i : ℕ) : Type 0 where

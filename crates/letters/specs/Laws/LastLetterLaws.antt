@@ -1,18 +1,22 @@
 -- The last letter of the first word: the lowest low action that just one of two states has.
 -- Document 01, operation 6. Assumes nothing.
-use Rattle.std.specs.Prelude.{List, [], ◌∷◌, ◌≡◌, refl, ℕ, ◌≤◌, ◌<◌, T}
-use Rattle.std.proofs.Common.{inl, inr, sym, ◌∙◌, arith}
-use Rattle.std.proofs.Math.Path.{subst}
+use Rattle.std.specs.Prelude.{Option, Some, None, MatchOption, IsSomeAnd, get_or, List, [], ◌∷◌, ◌≡◌, refl, ℕ}
+use Rattle.std.specs.Prelude.{◌≤◌, ◌<◌, T}
+use Rattle.std.proofs.Common.{inl, inr, sym, subst, ◌∙◌, arith}
 use Rattle.lts.proofs.FirstWordLaws.{first_word_one, letter_of_separated_one}
 use Rattle.lts.specs.Run.{Run}
 use Rattle.lts.specs.Word.{OnlyFrom, JustOne, FirstWord}
+use Rattle.text.specs.declared.Action.{Action}
+use Rattle.text.specs.declared.Step.{Step}
 use Rattle.text.specs.First.{First}
+use Rattle.text.specs.Limits.{action_of_step_place}
 use Rattle.text.specs.Model.{Model}
 use Rattle.model.specs.System.{action, target, Steps, view}
 use Rattle.model.specs.Laws.Store.SystemLaws.{own_step, deterministic_model→Deterministic}
 use Rattle.model.specs.Inner.Stored.{Stored}
+use Rattle.model.specs.Laws.System.StoredLaws.{stored_action}
 use Rattle.letters.specs.declared.word.End.TheVariants.{Source, Target}
-use Rattle.letters.specs.Inner.Letters.{Alone, SeparatedPair}
+use Rattle.letters.specs.Inner.Letters.{Alone, FoundFirst, LowestAlone, FoundAlone, SeparatedPair}
 use Rattle.letters.specs.Inner.WordHead.{WordFrom}
 use Rattle.model.proofs.Laws.System.RankBoundLaws.{low_step_game}
 
@@ -71,6 +75,25 @@ module _ {m : Model} {p q : ℕ} where
   first_alone_le st {j} x i y = st.action_le j i (x.first i y) y.unanswered.number_lt
       (x.holds.source_is ∙ sym y.source_is)
 
+  lowest_of_first : {s : List ℕ} → Stored s m → {a j : ℕ} → a ≡ action m j → First (Alone m p q) j
+      → LowestAlone m p q a
+  lowest_of_first st {a} {j} e x = record {
+    by = j;
+    alone = x.holds;
+    action_is = e;
+    lowest = λ i y. omega (arith, e, first_alone_le st x i y);
+  }
+
+-- The action of the first such step.
+pub alone_found : {s : List ℕ} {m : Model} (p q : ℕ) → Stored s m → (r : Option Step) (o : Option Action)
+    (of : Step → Action → Type 0)
+    → ((j : Step) (a : Action) → of j a → a.0 ≡ get_or s (action_of_step_place j.0) 0)
+    → FoundFirst (Alone m p q) r → MatchOption r (o ≡ None) (λ j. IsSomeAnd o (of j)) → FoundAlone m p q o
+alone_found {m = m} p q st None o of is h e = subst (FoundAlone m p q) (sym e) h
+alone_found p q st (Some j) None of is h e = absurd e
+alone_found {m = m} p q st (Some j) (Some a) of is h e =
+    lowest_of_first st (is j a e ∙ stored_action st j.0 h.holds.unanswered.number_lt) h
+
 module _ {m : Model} {p q : ℕ} where
   first_word_of_alone : (a : ℕ) → T ((view m).levels.low? a) → JustOne (view m).Step p q (a ∷ [])
       → ((i : ℕ) → Alone m p q i → a ≤ action m i) → ((i : ℕ) → Alone m q p i → a ≤ action m i)
@@ -81,28 +104,36 @@ module _ {m : Model} {p q : ℕ} where
       least b l lb (inl x) = let y = OnlyFrom→alone lb x in omega (arith, f y.0 y.1, y.2)
       least b l lb (inr x) = let y = OnlyFrom→alone lb x in omega (arith, g y.0 y.1, y.2)
 
+  pub source_letter_of_lowest : {a : ℕ} → LowestAlone m p q a → ((i : ℕ) → Alone m q p i → a ≤ action m i)
+      → WordFrom m p q (a ∷ []) Source
+  source_letter_of_lowest {a} x f =
+      let o = subst (λ (b : ℕ). OnlyFrom (view m).Step p q (b ∷ [])) (sym x.action_is) (alone→OnlyFrom x.alone) in
+      record {
+        first_word = first_word_of_alone a
+            (subst (λ (b : ℕ). T ((view m).levels.low? b)) (sym x.action_is) x.alone.unanswered.is_low) (inl o)
+            x.lowest f;
+        only_from = o;
+      }
+
+  pub target_letter_of_lowest : {a : ℕ} → LowestAlone m q p a → ((i : ℕ) → Alone m p q i → a ≤ action m i)
+      → WordFrom m p q (a ∷ []) Target
+  target_letter_of_lowest {a} x f =
+      let o = subst (λ (b : ℕ). OnlyFrom (view m).Step q p (b ∷ [])) (sym x.action_is) (alone→OnlyFrom x.alone) in
+      record {
+        first_word = first_word_of_alone a
+            (subst (λ (b : ℕ). T ((view m).levels.low? b)) (sym x.action_is) x.alone.unanswered.is_low) (inr o)
+            f x.lowest;
+        only_from = o;
+      }
+
   module _ {s : List ℕ} (st : Stored s m) {a j : ℕ} (e : a ≡ action m j) where
     pub source_letter : First (Alone m p q) j → ((i : ℕ) → Alone m q p i → a ≤ action m i)
         → WordFrom m p q (a ∷ []) Source
-    source_letter x f =
-        let o = subst (λ (b : ℕ). OnlyFrom (view m).Step p q (b ∷ [])) (sym e) (alone→OnlyFrom x.holds) in
-        record {
-          first_word = first_word_of_alone a
-              (subst (λ (b : ℕ). T ((view m).levels.low? b)) (sym e) x.holds.unanswered.is_low) (inl o)
-              (λ i y. omega (arith, e, first_alone_le st x i y)) f;
-          only_from = o;
-        }
+    source_letter x f = source_letter_of_lowest (lowest_of_first st e x) f
 
     pub target_letter : First (Alone m q p) j → ((i : ℕ) → Alone m p q i → a ≤ action m i)
         → WordFrom m p q (a ∷ []) Target
-    target_letter x f =
-        let o = subst (λ (b : ℕ). OnlyFrom (view m).Step q p (b ∷ [])) (sym e) (alone→OnlyFrom x.holds) in
-        record {
-          first_word = first_word_of_alone a
-              (subst (λ (b : ℕ). T ((view m).levels.low? b)) (sym e) x.holds.unanswered.is_low) (inr o)
-              f (λ i y. omega (arith, e, first_alone_le st x i y));
-          only_from = o;
-        }
+    target_letter x f = target_letter_of_lowest (lowest_of_first st e x) f
 
 -- Of two states that the round 1 separates, one has a low step whose action the other has no step of.
 pub alone_some : {s : List ℕ} {m : Model} {p q : ℕ} → Stored s m → SeparatedPair m p q 1

@@ -1,6 +1,8 @@
 -- What is found among the steps of a state: the first step that a claim holds of, letters, and steps without an answer.
 -- Document 01, operation 6. Assumes nothing.
-use Rattle.std.specs.Prelude.{List, ◌≡◌, ℕ, zero, suc, ◌+◌, ◌≤◌, ◌<◌, T, length, get_or}
+use Rattle.std.specs.Prelude.{Option, Some, None, MatchOption, IsSomeAnd, Bool, true, false, not, List, ◌≡◌, refl, ℕ}
+use Rattle.std.specs.Prelude.{zero, suc, ◌+◌, ◌≤◌, ◌<◌, T, length, get_or}
+use Rattle.std.specs.Bool.{then_some}
 use Rattle.std.proofs.Common.{⊎_elim, sym, subst, ◌∙◌, add-one, arith}
 use Rattle.lts.specs.Alike.{Separated, Rank}
 use Rattle.lts.proofs.AlikeLaws.{rank_unique, rank_of_separated, separated_of_rank}
@@ -8,7 +10,9 @@ use Rattle.lts.proofs.FirstWordLaws.{letter_of_separated}
 use Rattle.lts.specs.Run.{onward}
 use Rattle.lts.proofs.TestsLaws.{lt_or_le}
 use Rattle.text.specs.declared.Step.{Step}
+use Rattle.text.specs.Decides.{Decides}
 use Rattle.text.specs.First.{First}
+use Rattle.text.specs.Laws.FirstLaws.{first_found}
 use Rattle.text.specs.Limits.{pair_place}
 use Rattle.text.specs.Model.{Model, low}
 use Rattle.model.specs.System.{source, action, target, ReachableIn, DeterministicModel, view}
@@ -18,19 +22,45 @@ use Rattle.model.specs.Inner.Stored.{Stored}
 use Rattle.model.specs.Laws.System.RolesLaws.{low_of_role, role_of_low}
 use Rattle.model.specs.Laws.System.IndexLaws.{begins-source}
 use Rattle.model.proofs.Laws.System.RankBoundLaws.{low_step_game}
-use Rattle.letters.specs.declared.branch.Found.{Found}
-use Rattle.letters.specs.declared.branch.Found.TheVariants.{At, Nothing}
 use Rattle.letters.specs.Inner.Letters.{FoundFirst, StepOf, Unanswered, Answer, HasAnswer}
 use Rattle.letters.specs.Inner.Letters.{FirstLetter, StepLists, WordLists, SeparatedPair}
 use Rattle.lts.specs.Weak.{LowStep}
 
 -- ---- the first step
 
-pub found_at : (P : ℕ → Type 0) {r : Found} {j : Step} → r ≡ At j → FoundFirst P r → First P j.0
-found_at P e x = subst (λ (y : Found). FoundFirst P y) e x
+pub found_at : (P : ℕ → Type 0) {r : Option Step} {j : Step} → r ≡ Some j → FoundFirst P r → First P j.0
+found_at P e x = subst (λ (y : Option Step). FoundFirst P y) e x
 
-pub found_nothing : (P : ℕ → Type 0) {r : Found} → r ≡ Nothing → FoundFirst P r → (j : ℕ) → ¬ (P j)
-found_nothing P e x = subst (λ (y : Found). FoundFirst P y) e x
+pub found_nothing : (P : ℕ → Type 0) {r : Option Step} → r ≡ None → FoundFirst P r → (j : ℕ) → ¬ (P j)
+found_nothing P e x = subst (λ (y : Option Step). FoundFirst P y) e x
+
+-- What is found among the numbers from a up to b is found of a claim that holds of none outside.
+pub number_found : (P : ℕ → Type 0) {a b : ℕ} (r : Option ℕ)
+    → MatchOption r ((k : ℕ) → a ≤ k → k < b → ¬ (P k))
+    (λ i. (a ≤ i) × (i < b) × P i × ((k : ℕ) → a ≤ k → k < i → ¬ (P k)))
+    → ((i : ℕ) → i < a → ¬ (P i)) → ((i : ℕ) → b ≤ i → ¬ (P i)) → MatchOption r ((j : ℕ) → ¬ (P j)) (First P)
+number_found P {a} {b} None h before after =
+    λ i. ⊎_elim (before i) (λ l. ⊎_elim (h i l) (after i) (lt_or_le i b)) (lt_or_le i a)
+number_found P {a} (Some n) h before after =
+    first_found (λ i l. ⊎_elim (before i) (λ k. h.3 i k l) (lt_or_le i a)) h.2
+
+-- The number found, as a step.
+pub step_found : (P : ℕ → Type 0) (r : Option ℕ) (o : Option Step) → MatchOption r ((j : ℕ) → ¬ (P j)) (First P)
+    → MatchOption r (o ≡ None) (λ i. IsSomeAnd o (λ j. j.0 ≡ i)) → FoundFirst P o
+step_found P None o h e = subst (FoundFirst P) (sym e) h
+step_found P (Some n) None h e = absurd e
+step_found P (Some n) (Some j) h e = subst (First P) (sym e) h
+
+-- A step, where a test holds.
+pub found_if : (P : ℕ → Type 0) (b : Bool) (i : Step) → (b ≡ true → First P i.0)
+    → (b ≡ false → (j : ℕ) → ¬ (P j)) → FoundFirst P (then_some b i)
+found_if P true i f g = f refl
+found_if P false i f g = g refl
+
+-- A function that answers the negation of a decision decides what is the negation of the claim.
+pub decides_not : {P Q : Type 0} (r : Bool) → (¬ P → Q) → (P → ¬ Q) → Decides r P → Decides (not r) Q
+decides_not true f g d = g d
+decides_not false f g d = f d
 
 -- The steps of p stand from where they begin up to where those of the next state begin.
 module _ {m : Model} {begins : List ℕ} (x : Index m m.head.states begins) {p : ℕ} (l : p < m.head.states) where
@@ -59,6 +89,26 @@ module _ {m : Model} {begins : List ℕ} (x : Index m m.head.states begins) {p :
     none_after e h none i y =
         let o = own i y in
         none i (omega (arith, e, (index_of_own i o.0 o.1).1)) y
+
+    -- What `find` tells of the steps of p, where it asks Q of each.
+    pub own_found : (Q : ℕ → Type 0) → ((j : ℕ) → j < length m.steps → source m j ≡ p → Q j → P j)
+        → ((j : ℕ) → P j → Q j) → {a b : ℕ} → (a ≡ get_or begins p 0) × (b ≡ get_or begins (p + 1) 0) → (r : Option ℕ)
+        → MatchOption r ((k : ℕ) → a ≤ k → k < b → ¬ (Q k))
+        (λ i. (a ≤ i) × (i < b) × Q i × ((k : ℕ) → a ≤ k → k < i → ¬ (Q k)))
+        → MatchOption r ((j : ℕ) → ¬ (P j)) (First P)
+    own_found Q of to {a} {b} e r h =
+        number_found P r (asks r h) (λ i l. none_before i (omega arith))
+        (λ i l y. let k = own i y in omega (arith, (index_of_own i k.0 k.1).1))
+      where
+        asks : (r : Option ℕ)
+            → MatchOption r ((k : ℕ) → a ≤ k → k < b → ¬ (Q k))
+            (λ i. (a ≤ i) × (i < b) × Q i × ((k : ℕ) → a ≤ k → k < i → ¬ (Q k)))
+            → MatchOption r ((k : ℕ) → a ≤ k → k < b → ¬ (P k))
+            (λ i. (a ≤ i) × (i < b) × P i × ((k : ℕ) → a ≤ k → k < i → ¬ (P k)))
+        asks None h = λ k l n y. h k l n (to k y)
+        asks (Some i) h =
+            let o = own_of_index i (omega arith) (omega arith) in
+            (h.0, h.1, of i o.0 o.1 h.2, λ k l n y. h.3 k l n (to k y))
 
 -- ---- the action a of step j
 

@@ -1,8 +1,8 @@
 -- The lines of a run and of a word, one more at a time.
 -- Document 01, "The page". Assumes nothing.
-use Rattle.std.specs.Prelude.{List, [], ◌∷◌, ◌++◌, map, ◌≡◌, refl, ℕ, ◌+◌, ◌*◌, ◌-◌, ◌<◌, length, get_or, take}
+use Rattle.std.specs.Prelude.{List, [], ◌∷◌, ◌++◌, map, ◌≡◌, refl, ℕ, ◌+◌, ◌*◌, ◌-◌, ◌<◌, ◌≤◌, length, get_or, take}
 use Rattle.std.proofs.lemmas.List.{map-append}
-use Rattle.std.proofs.Common.{sym, ap, ◌∙◌, arith}
+use Rattle.std.proofs.Common.{sym, ap, ◌∙◌, arith, length-take-le}
 use Rattle.text.specs.Model.{Model}
 use Rattle.model.specs.StoredModel.{model_at}
 use Rattle.model.specs.System.{name_of}
@@ -18,6 +18,10 @@ use Rattle.lines.specs.Inner.LinesWritten.{LinesWritten}
 use Rattle.lines.specs.Inner.Room.{name_width, line_room}
 use Rattle.lines.specs.Laws.PageLinesLaws.{word_fits}
 use Rattle.lines.specs.Laws.LinesWrittenLaws.{written_line, written_both, written_of}
+
+-- a place among the first n of a list is below n
+pub index_lt : (n : ℕ) (l : List ℕ) {i : ℕ} → n ≤ length l → i < length (take n l) → i < n
+index_lt n l h k = omega (arith, k, length-take-le n l h)
 
 -- a line for one element more of a list
 pub written_next : {form : Form} {m : Model} (line : ℕ → PageLine) (l : List ℕ) (i : ℕ) {width at mid mid' next : ℕ}

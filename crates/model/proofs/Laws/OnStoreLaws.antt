@@ -1,8 +1,7 @@
 -- An operation on a store keeps its promise in each of its ways: a list is short, the store is not good, all is done;
 -- and the promise pins one answer if each way does.
 -- Document 01, "Refused because of the state". Assumes nothing.
-use Rattle.std.specs.Prelude.{List, ◌⊎◌, ◌≡◌, refl, ℕ}
-use Rattle.std.proofs.Common.{inl, inr, sym, ap, ◌∙◌, subst, arith}
+use Rattle.std.proofs.Common.{List, ◌⊎◌, ◌≡◌, refl, ℕ, inl, inr, sym, ap, ◌∙◌, subst, arith}
 use Rattle.std.proofs.Math.Option.{Option, none, some}
 use Rattle.text.specs.Faults.{Outcome, answers, refuses}
 use Rattle.text.specs.Laws.OutcomeLaws.{answers_not_refuses}

@@ -1,3 +1,4 @@
+pub mod EachAllLaws
 pub mod GoodLaws
 pub mod GoodPlacesLaws
 pub mod GoodTestLaws

@@ -10,9 +10,13 @@ pub data HasLabel (IsLow IsSilent : Type 0) (label a : ℕ) : Type 0 where
   low_label : a ≡ label → label < action_limit → IsLow → HasLabel IsLow IsSilent label a
   tick_label : label ≡ action_limit → IsSilent → HasLabel IsLow IsSilent label a
 
--- It has by the role of its action.
+-- The same by the role of its action.
 abbrev pub RoleLabel : List ℕ → ℕ → ℕ → Type 0
 RoleLabel roles label a = HasLabel (get_or roles a 0 ≡ low) (get_or roles a 0 ≡ silent) label a
+
+-- A step with the action a of the model has it.
+abbrev pub ActionLabel : Model → ℕ → ℕ → Type 0
+ActionLabel m label a = HasLabel (T ((view m).levels.low? a)) (T ((view m).levels.silent? a)) label a
 
 -- This is the only label that Has holds of; Has holds of no label if it is the number behind all of them.
 pub record OnlyLabel (Has : ℕ → Type 0) (label : ℕ) : Type 0 where
@@ -22,8 +26,7 @@ pub record OnlyLabel (Has : ℕ → Type 0) (label : ℕ) : Type 0 where
 
 -- Step k of the model has this label.
 abbrev pub StepLabel : Model → ℕ → ℕ → Type 0
-StepLabel m label k =
-    HasLabel (T ((view m).levels.low? (action m k))) (T ((view m).levels.silent? (action m k))) label (action m k)
+StepLabel m label k = ActionLabel m label (action m k)
 
 -- It has, and leads from p to q.
 pub record LabelledAs (m : Model) (label k p q : ℕ) : Type 0 where

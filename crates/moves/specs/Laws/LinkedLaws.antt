@@ -35,6 +35,10 @@ module _ {IsLow IsSilent : Type 0} {a : ℕ} where
       only other (low_label _ _ y) = absurd (d y)
       only other (tick_label _ y) = absurd (e y)
 
+  pub no_label : ¬ IsLow → ¬ IsSilent → (label : ℕ) → ¬ (HasLabel IsLow IsSilent label a)
+  no_label d e label (low_label _ _ y) = d y
+  no_label d e label (tick_label _ y) = e y
+
   has_label_le : {label : ℕ} → HasLabel IsLow IsSilent label a → label ≤ action_limit
   has_label_le (low_label _ l _) = omega arith
   has_label_le (tick_label e _) = omega arith
@@ -113,6 +117,19 @@ module _ {m : Model} {j label : ℕ} {heads nexts : List ℕ} (lj : j < length m
     head = λ l k. head_of l k (eq_or_not l label);
     next = λ i l a b h. next_of i l a b h (eq_or_not i j);
   }
+
+-- a step that has no label is passed by
+pub linked_skip : {m : Model} {j : ℕ} {heads nexts : List ℕ} → ((label : ℕ) → ¬ (StepLabel m label j))
+    → Linked m (j + 1) heads nexts → Linked m j heads nexts
+linked_skip {m} {j} {nexts = nexts} none x = record {
+  head = λ l k. first_labelled_skip (none l) (x.head l k);
+  next = λ i l a b h. next i l a b h (eq_or_not i j);
+}
+  where
+    next : (i l : ℕ) → j ≤ i → i < length m.steps → StepLabel m l i → (i ≡ j) ⊎ ¬ (i ≡ j)
+        → FirstLabelled m l (i + 1) (get_or nexts i 0)
+    next i l a b h (inl e) = absurd (none l (subst (StepLabel m l) e h))
+    next i l a b h (inr d) = x.next i l (omega (arith, a, d)) b h
 
 -- ---- the steps of a label are listed along the links
 

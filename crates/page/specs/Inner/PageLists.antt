@@ -1,7 +1,7 @@
 -- The lists that Page or Roll is lent, and what it makes of them on a good store. Only the contracts of inner functions
 -- cite it.
 -- Document 01, operation 7; document 02, (ii).
-use Rattle.std.specs.Prelude.{List, [], ◌∷◌, ◌≡◌, ℕ, ◌≤◌, ◌<◌, length}
+use Rattle.std.specs.Prelude.{Option, MatchOption, List, [], ◌∷◌, ◌≡◌, ℕ, ◌≤◌, length}
 use Rattle.std.proofs.Math.Option.{some}
 use Rattle.text.specs.Faults.{answers, first_short}
 use Rattle.text.specs.Limits.{store_length}
@@ -26,12 +26,16 @@ abbrev pub LongLists : Form → List ℕ → List ℕ → List ℕ → List ℕ 
 LongLists form store distances table run word out =
     LongLengths form (length store) (length distances) (length table) (length run) (length word) (length out)
 
--- The first of the lists that is too short, by their lengths; 0 where none is.
-pub record FirstShort (form : Form) (r store distances table run word out : ℕ) : Type 0 where
-  pub place_le : r ≤ 6
-  pub some_short : 0 < r
-      → first_short 1 (store ∷ distances ∷ table ∷ run ∷ word ∷ out ∷ []) (page_least form) ≡ some r
-  pub none_short : r ≡ 0 → LongLengths form store distances table run word out
+-- List k is the first that is too short, by their lengths.
+pub record ShortAt (form : Form) (store distances table run word out k : ℕ) : Type 0 where
+  pub place_le : k ≤ 6
+  pub short : first_short 1 (store ∷ distances ∷ table ∷ run ∷ word ∷ out ∷ []) (page_least form) ≡ some k
+
+-- The first of the lists that is too short; none where none is.
+abbrev pub FirstShort : Form → Option ℕ → ℕ → ℕ → ℕ → ℕ → ℕ → ℕ → Type 0
+FirstShort form r store distances table run word out =
+    MatchOption r (LongLengths form store distances table run word out)
+    (ShortAt form store distances table run word out)
 
 -- A good store among them.
 pub record PageLists (form : Form) (store distances table run word out : List ℕ) : Type 0 where

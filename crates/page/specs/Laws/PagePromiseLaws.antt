@@ -1,5 +1,6 @@
 -- The promise of Page and Roll pins the answer and the content of each list: a model has one page, and one roll.
 -- Document 01, operation 7; document 02, (ii). Assumes nothing.
+use Rattle.std.specs.Prelude.{Result, Ok, Err}
 use Rattle.std.specs.Prelude.{cond, List, [], ◌∷◌, ◌++◌, map, ◌≡◌, refl, ℕ, zero, suc, eqb, length, get_or, drop}
 use Rattle.std.proofs.Math.Option.{Option, some}
 use Rattle.std.proofs.Common.{sym, ap, subst, ◌∙◌}
@@ -21,8 +22,8 @@ use Rattle.letters.specs.Laws.WordDoneLaws.{word_of_unique}
 use Rattle.lines.specs.PageLines.{PageLine, verdict_line, run_line, allows_line, last_line}
 use Rattle.lines.specs.Page.{DistanceField, unreached, reached, ClassOf, StateLines, no_state, next_state}
 use Rattle.lines.specs.Page.{name_line, LeakShown, by_word, by_branch, by_silent, AfterStates, PageOf}
-use Rattle.page.specs.declared.page.PageAnswer.{PageAnswer}
-use Rattle.page.specs.declared.page.PageAnswer.TheVariants.{Printed, ShortList, NotGood}
+use Rattle.model.specs.declared.refusal.Refusal.{Refusal}
+use Rattle.model.specs.declared.refusal.Refusal.TheVariants.{ShortList, NotGood}
 use Rattle.lines.specs.declared.lines.Form.{Form}
 use Rattle.lines.specs.declared.lines.Form.TheVariants.{Page, Roll}
 use Rattle.lines.specs.Roll.{form_bytes}
@@ -156,15 +157,15 @@ module _ (store distances table run word out : List ℕ) (t u : Outcome)
 
 -- ---- equal outcomes are equal answers
 
-page_back : Outcome → PageAnswer
-page_back (answers values) = Printed (get_or values 0 0)
-page_back (refuses number place) = cond (eqb number 21) (ShortList place) NotGood
+page_back : Outcome → Result ℕ Refusal
+page_back (answers values) = Ok (get_or values 0 0)
+page_back (refuses number place) = Err (cond (eqb number 21) (ShortList place) NotGood)
 
-page_back_is : (a : PageAnswer) → page_back (page_outcome a) ≡ a
+page_back_is : (a : Result ℕ Refusal) → page_back (page_outcome a) ≡ a
 unfolding page_outcome page_back
-page_back_is (Printed length) = refl
-page_back_is (ShortList place) = refl
-page_back_is NotGood = refl
+page_back_is (Ok length) = refl
+page_back_is (Err (ShortList place)) = refl
+page_back_is (Err NotGood) = refl
 
-pub page_outcome_injective : (a b : PageAnswer) → page_outcome a ≡ page_outcome b → a ≡ b
+pub page_outcome_injective : (a b : Result ℕ Refusal) → page_outcome a ≡ page_outcome b → a ≡ b
 page_outcome_injective = injective_of_inverse page_outcome page_back page_back_is

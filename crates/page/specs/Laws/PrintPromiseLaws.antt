@@ -1,6 +1,6 @@
 -- The promise of the path from a text to its page or roll pins the answer and the content of each list.
 -- Document 01, "The page"; document 02, (ii). Assumes nothing.
-use Rattle.std.specs.Prelude.{List, ◌⊎◌, ◌≡◌, refl, ℕ, get_or}
+use Rattle.std.specs.Prelude.{Result, Ok, Err, List, ◌⊎◌, ◌≡◌, refl, ℕ, get_or}
 use Rattle.std.proofs.Common.{inl, inr, ap, ◌∙◌}
 use Rattle.std.proofs.Math.Option.{none, some}
 use Rattle.std.proofs.Math.Path.{sym}
@@ -13,8 +13,7 @@ use Rattle.model.proofs.Laws.Text.ReadingLaws.{read_text_well_formed}
 use Rattle.model.proofs.Laws.System.GoodStoredLaws.{well_formed_stored}
 use Rattle.verdicts.specs.Laws.JudgeFilledLaws.{filled_unique}
 use Rattle.lines.specs.declared.lines.Form.{Form}
-use Rattle.page.specs.declared.print.PrintAnswer.{PrintAnswer}
-use Rattle.page.specs.declared.print.PrintAnswer.TheVariants.{Printed, ShortList}
+use Rattle.page.specs.declared.print.ShortList.{ShortList}
 use Rattle.page.specs.PrintPromise.{print_outcome, print_lists, Unchanged, FaultPrinted, PrintPromise}
 use Rattle.page.specs.Laws.PagePromiseLaws.{page_printed_unique}
 
@@ -76,14 +75,14 @@ module _ {form : Form} {text store distances table run word out : List ℕ} {t u
 
 -- ---- equal outcomes are equal answers
 
-print_back : Outcome → PrintAnswer
-print_back (answers values) = Printed (get_or values 0 0)
-print_back (refuses number place) = ShortList place
+print_back : Outcome → Result ℕ ShortList
+print_back (answers values) = Ok (get_or values 0 0)
+print_back (refuses number place) = Err (record { 0 = place })
 
-print_back_is : (a : PrintAnswer) → print_back (print_outcome a) ≡ a
+print_back_is : (a : Result ℕ ShortList) → print_back (print_outcome a) ≡ a
 unfolding print_outcome print_back
-print_back_is (Printed length) = refl
-print_back_is (ShortList place) = refl
+print_back_is (Ok length) = refl
+print_back_is (Err short) = refl
 
-pub print_outcome_injective : (a b : PrintAnswer) → print_outcome a ≡ print_outcome b → a ≡ b
+pub print_outcome_injective : (a b : Result ℕ ShortList) → print_outcome a ≡ print_outcome b → a ≡ b
 print_outcome_injective = injective_of_inverse print_outcome print_back print_back_is

@@ -1,6 +1,6 @@
 -- The promise of the path from a text and an answer give what is printed of the text.
 -- Document 01, "The page"; document 02, (ii). Assumes nothing.
-use Rattle.std.specs.Prelude.{List, [], ◌∷◌, ◌++◌, ◌≡◌, take, drop}
+use Rattle.std.specs.Prelude.{Result, Ok, Err, List, [], ◌∷◌, ◌++◌, ◌≡◌, take, drop}
 use Rattle.std.proofs.Math.Option.{none}
 use Rattle.std.proofs.Math.Path.{refl, subst}
 use Rattle.std.proofs.Common.{sym, ap, ◌∙◌, arith, length-append}
@@ -18,8 +18,7 @@ use Rattle.page.specs.Inner.PageLists.{LongLists}
 use Rattle.lines.specs.PageLines.{fault_bytes}
 use Rattle.lines.specs.declared.lines.Form.{Form}
 use Rattle.lines.specs.Roll.{form_bytes}
-use Rattle.page.specs.declared.print.PrintAnswer.{PrintAnswer}
-use Rattle.page.specs.declared.print.PrintAnswer.TheVariants.{Printed, ShortList}
+use Rattle.page.specs.declared.print.ShortList.{ShortList}
 use Rattle.page.specs.Prints.{PageBytesOf, Prints}
 use Rattle.text.specs.Model.{Model}
 use Rattle.page.specs.PagePromise.{PagePrinted}
@@ -108,20 +107,20 @@ module _ {form : Form} {text store distances table run word out : List ℕ} (n :
 
 -- ---- the answer
 
-module _ (form : Form) (text store distances table run word out : List ℕ) (answer : PrintAnswer)
+module _ (form : Form) (text store distances table run word out : List ℕ) (answer : Result ℕ ShortList)
     {store' distances' table' run' word' out' : List ℕ}
     (p : PrintPromise form text store distances table run word out (print_outcome answer) store' distances' table' run'
-    word' out') (k : ℕ) where
-  abbrev As : PrintAnswer → Type 0
+    word' out') where
+  abbrev As : Result ℕ ShortList → Type 0
   As x =
       PrintPromise form text store distances table run word out (print_outcome x) store' distances' table' run' word'
       out'
 
   -- so many bytes stand in the list, they are what is printed, and the list is kept past them
-  pub printed_prints : answer ≡ Printed k
+  pub printed_prints : (k : ℕ) → answer ≡ Ok k
       → (k ≤ length out') × (k ≡ length (take k out')) × Prints form text (take k out') × (drop k out' ≡ drop k out)
   unfolding print_outcome
-  printed_prints e =
+  printed_prints k e =
       let q = subst As e p in
       let front = printed_front k q in
       let le : k ≤ length out' = front_le front in
@@ -130,11 +129,12 @@ module _ (form : Form) (text store distances table run word out : List ℕ) (ans
       (le, all, prints_of_promise k q, front_kept front)
 
   -- lists that are long enough are not refused
-  pub short_list_not_long : answer ≡ ShortList k → ¬ (LongLists form store distances table run word out)
+  pub short_list_not_long : (short : ShortList) → answer ≡ Err short
+      → ¬ (LongLists form store distances table run word out)
   unfolding print_outcome reading_outcome
-  short_list_not_long e l = go (read_text text) refl
+  short_list_not_long short e l = go (read_text text) refl
     where
-      q : As (ShortList k)
+      q : As (Err short)
       q = subst As e p
 
       long : print_lists form text store distances table run word out ≡ none

@@ -1,10 +1,9 @@
 -- The first line of a text, and where the next one begins. Only the contracts of inner functions cite it.
 -- Document 01, "The text".
-use Rattle.std.specs.Prelude.{List, [], ◌∷◌, ◌≡◌, ℕ, ◌≤◌, length, drop}
+use Rattle.std.specs.Prelude.{List, [], ◌∷◌, ◌≡◌, ℕ, ◌≤◌, length, drop, Result, Ok, Err}
 use Rattle.text.specs.declared.Fault.TheVariants.{Absent}
 use Rattle.text.specs.declared.Head.{Head}
-use Rattle.text.specs.declared.line.HeadRead.{HeadRead}
-use Rattle.text.specs.declared.line.HeadRead.TheVariants as head_answer
+use Rattle.text.specs.declared.Fault.{Fault}
 use Rattle.text.specs.Bytes.{line_end}
 use Rattle.text.specs.Split.{split}
 use Rattle.text.specs.Lines.{Line, bad, head_of}
@@ -24,6 +23,6 @@ pub record AfterLine (text : List ℕ) (at next : ℕ) : Type 0 where
       → split line_end (drop next text) ≡ part ∷ parts
 
 -- after the first line, good or bad; the next is line 2
-unfoldable pub AfterFirst : HeadRead → List ℕ → ℕ → Type 0
-AfterFirst (head_answer.Good h) text at = AfterHead h text (record { at = at; line = 2 })
-AfterFirst (head_answer.Bad fault) text at = whole text ≡ faulty fault 1
+unfoldable pub AfterFirst : Result Head Fault → List ℕ → ℕ → Type 0
+AfterFirst (Ok h) text at = AfterHead h text (record { at = at; line = 2 })
+AfterFirst (Err fault) text at = whole text ≡ faulty fault 1

@@ -2,18 +2,15 @@
 -- whole does.
 -- Only the contracts of inner functions cite it. Document 01, "The text" and "The model store"; document 02, (iii) and
 -- (vi).
-use Rattle.std.specs.Prelude.{List, [], ◌≡◌, ℕ, ◌+◌, ◌-◌, ◌≤◌, ◌<◌, length, drop}
+use Rattle.std.specs.Prelude.{List, [], ◌≡◌, ℕ, ◌+◌, ◌-◌, ◌≤◌, ◌<◌, length, drop, Option, None, Result, Ok, Err}
 use Rattle.text.specs.declared.Head.{Head}
 use Rattle.text.specs.declared.StepLine.{StepLine}
 use Rattle.reader.specs.declared.answers.LineStart.{LineStart}
-use Rattle.reader.specs.declared.answers.LinesRead.{LinesRead}
-use Rattle.reader.specs.declared.answers.LinesRead.TheVariants as lines_read
-use Rattle.reader.specs.declared.answers.TextRead.{TextRead}
-use Rattle.reader.specs.declared.answers.TextRead.TheVariants as text-read
+use Rattle.reader.specs.declared.answers.LineFault.{LineFault}
 use Rattle.text.specs.Limits.{extra_limit, actions_length}
 use Rattle.text.specs.Bytes.{line_end}
 use Rattle.text.specs.Split.{split}
-use Rattle.text.specs.Model.{ActionLine, Model, no_step, last_start}
+use Rattle.text.specs.Model.{ActionLine, Model, last_start}
 use Rattle.text.specs.Inner.LineAnswers.{Last}
 use Rattle.text.specs.Inner.Ranges.{HeadRanges}
 use Rattle.model.specs.Reading.{Reading, faulty, done, head_model, read_model, read_actions, start_lines, read_starts}
@@ -79,7 +76,7 @@ abbrev pub AfterAllActions : Head → List ℕ → LineStart → List ℕ → Ty
 AfterAllActions h text from store = AfterStart h text from 0 h.start.0 store
 
 -- after all actions, all extra starts and j steps, of which `last` is the last
-pub record AfterStep (h : Head) (text : List ℕ) (from : LineStart) (j : ℕ) (last : StepLine) (store : List ℕ)
+pub record AfterStep (h : Head) (text : List ℕ) (from : LineStart) (j : ℕ) (last : Option StepLine) (store : List ℕ)
     : Type 0 where
   pub ranges : HeadRanges h
   pub inside : InText text from
@@ -89,15 +86,15 @@ pub record AfterStep (h : Head) (text : List ℕ) (from : LineStart) (j : ℕ) (
   pub extra_count_le : length extra_starts ≤ extra_limit
   pub steps : List StepLine
   pub count : length steps ≡ j
-  pub last_step : Last steps j last
+  pub last_step : Last steps last
   pub stored : store ≡ store_of (record { head = h; actions = actions; extra_starts = extra_starts; steps = steps })
   pub rest : whole text
       ≡ read_steps (h.steps - j) from.line
       (record { head = h; actions = actions; extra_starts = extra_starts; steps = steps }) (parts_from text from)
 
--- after all actions and extra starts; `no_step`, of zeros, is what `steps` has for the step before the first
+-- after all actions and extra starts, where no step was read
 abbrev pub AfterStarts : Head → List ℕ → LineStart → List ℕ → Type 0
-AfterStarts h text from store = AfterStep h text from 0 no_step store
+AfterStarts h text from store = AfterStep h text from 0 None store
 
 -- after all actions, extra starts and steps
 pub record AfterSteps (text : List ℕ) (from : LineStart) (store : List ℕ) : Type 0 where
@@ -113,17 +110,17 @@ pub record AfterEnd (text store : List ℕ) : Type 0 where
   pub reads : whole text ≡ done model
 
 -- what reading some lines comes to: P of the start of the line after them, or the text is refused
-unfoldable pub Further : (LineStart → Type 0) → List ℕ → LinesRead → Type 0
-Further P text (lines_read.Next from) = P from
-Further P text (lines_read.Faulty fault line) = whole text ≡ faulty fault line
+unfoldable pub Further : (LineStart → Type 0) → List ℕ → Result LineStart LineFault → Type 0
+Further P text (Ok from) = P from
+Further P text (Err b) = whole text ≡ faulty b.fault b.line
 
 -- what reading all lines comes to: the store holds the model, or the text is refused
-unfoldable pub Through : List ℕ → List ℕ → TextRead → Type 0
-Through text store text-read.Done = AfterEnd text store
-Through text store (text-read.Faulty fault line) = whole text ≡ faulty fault line
+unfoldable pub Through : List ℕ → List ℕ → Result (Unit {0}) LineFault → Type 0
+Through text store (Ok _) = AfterEnd text store
+Through text store (Err b) = whole text ≡ faulty b.fault b.line
 
 -- ---- what the lines of a text come to
 
-pub record ReadOut (text store : List ℕ) (r : TextRead) (exit : List ℕ) : Type 0 where
+pub record ReadOut (text store : List ℕ) (r : Result (Unit {0}) LineFault) (exit : List ℕ) : Type 0 where
   pub answer : ReadAs r (whole text)
   pub filled : exit ≡ reading_store (whole text) store

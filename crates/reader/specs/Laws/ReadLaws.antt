@@ -1,7 +1,7 @@
 -- The reading of a text goes on line by line: what a line that is absent, bad or good makes of what has been read
 -- so far. First of any kind of line, then of the actions.
 -- Document 01, "The text" and "Refused because of the input". Assumes nothing.
-use Rattle.std.specs.Prelude.{true, false, List, [], ◌∷◌, ◌++◌, ◌≡◌, refl, length, take, drop, get_or}
+use Rattle.std.specs.Prelude.{true, false, List, [], ◌∷◌, ◌++◌, ◌≡◌, refl, length, take, drop, get_or, Result, Ok, Err}
 use Rattle.std.proofs.Common.{inl, inr, sym, ap, ◌∙◌, length-append}
 use Prim.Native.Nat.{ℕ, suc, ◌+◌, ◌-◌, ◌≤◌, ◌<◌}
 use native.Mathlib.Omega.{arith}
@@ -10,8 +10,7 @@ use Rattle.text.specs.declared.Fault.{Fault}
 use Rattle.text.specs.declared.Fault.TheVariants.{Absent, Repeated}
 use Rattle.text.specs.declared.Head.{Head}
 use Rattle.reader.specs.declared.answers.LineStart.{LineStart}
-use Rattle.reader.specs.declared.answers.LinesRead.{LinesRead}
-use Rattle.reader.specs.declared.answers.LinesRead.TheVariants.{Next, Faulty}
+use Rattle.reader.specs.declared.answers.LineFault.{LineFault}
 use Rattle.text.specs.Limits.{name_limit, store_length, action_place}
 use Rattle.text.specs.Bytes.{byte_a, line_end}
 use Rattle.text.specs.Split.{split, index_of}
@@ -79,19 +78,19 @@ module _ {A : Type 0} (text : List ℕ) (start : LineStart) (le : start.at ≤ l
 
 -- ---- what some lines came to
 
-pub further_faulty : (P Q : LineStart → Type 0) (text : List ℕ) (r : LinesRead) (fault : Fault) (line : ℕ)
-    → r ≡ Faulty fault line → Further P text r → Further Q text r
+pub further_faulty : (P Q : LineStart → Type 0) (text : List ℕ) (r : Result LineStart LineFault) (b : LineFault)
+    → r ≡ Err b → Further P text r → Further Q text r
 unfolding Further
-further_faulty P Q text (Next start) fault line e h = let z : ◌≡◌ {A = ℕ} 0 1 = cc in absurd (omega arith)
-further_faulty P Q text (Faulty f k) fault line e h = h
+further_faulty P Q text (Ok start) b e h = let z : ◌≡◌ {A = ℕ} 0 1 = cc in absurd (omega arith)
+further_faulty P Q text (Err a) b e h = h
 
-pub further-refused : (P : LineStart → Type 0) (text : List ℕ) (r : LinesRead) (fault : Fault) (line : ℕ)
-    → r ≡ Faulty fault line → Further P text r → whole text ≡ faulty fault line
+pub further-refused : (P : LineStart → Type 0) (text : List ℕ) (r : Result LineStart LineFault)
+    (b : LineFault) → r ≡ Err b → Further P text r → whole text ≡ faulty b.fault b.line
 unfolding Further
-further-refused P text r fault line e h = rw e at h
+further-refused P text r b e h = rw e at h
 
-pub further_next : (P : LineStart → Type 0) (text : List ℕ) (r : LinesRead) (start : LineStart) → r ≡ Next start
-    → Further P text r → P start
+pub further_next : (P : LineStart → Type 0) (text : List ℕ) (r : Result LineStart LineFault) (start : LineStart)
+    → r ≡ Ok start → Further P text r → P start
 unfolding Further
 further_next P text r start e h = rw e at h
 

@@ -13,8 +13,9 @@ use Rattle.text.specs.Bytes.{byte_i, line_end, kind_of}
 use Rattle.text.specs.Split.{cons_first, split}
 use Rattle.text.specs.Laws.SplitLaws.{Is, same, other, is, split-nil, split-end, split-cons, split_first}
 use Rattle.text.specs.Laws.RangesLaws.{start_fits?→lt, above_starts?→lt}
-use Rattle.text.specs.Model.{Model, with_extra_start}
+use Rattle.text.specs.Model.{Model, with_extra_start, above_last?}
 use Rattle.text.specs.Lines.{start_of}
+use Rattle.text.specs.Inner.LineAnswers.{after?}
 use Rattle.text.specs.Inner.Row.{LineTaken, LineRefused}
 use Rattle.model.specs.Reading.{Reading, faulty, on_line, or_fault, start_line?, start_lines, read_starts}
 use Rattle.model.specs.Laws.Text.LineTextLaws.{line_of_start_of}
@@ -88,7 +89,7 @@ module _ (h : Head) (text : List ℕ) (from : LineStart) (i last : ℕ) (store :
 
   -- a line that does not begin with `I` ends them
   pub after_starts : (get_or text from.at 0 ≡ byte_i → ⊥) → AfterStarts h text from store
-  unfolding read_starts
+  unfolding read_starts above_last? after?
   after_starts n =
       let z = start_lines_none text from n in
       let y : h.steps - 0 ≡ h.steps = omega arith in
@@ -101,7 +102,7 @@ module _ (h : Head) (text : List ℕ) (from : LineStart) (i last : ℕ) (store :
         extra_count_le = after_start_count_le;
         steps = [];
         count = refl;
-        last_step = record { nil = λ e. refl; cons = λ p t. absurd (omega arith) };
+        last_step = record { above = λ t. refl };
         stored = b.stored;
         rest = b.rest ∙ rw (z, y);
       }

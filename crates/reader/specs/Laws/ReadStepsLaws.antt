@@ -1,6 +1,6 @@
 -- The reading of a text goes on through its steps to its end, and what it then comes to.
 -- Document 01, "The text" and "Refused because of the input". Assumes nothing.
-use Rattle.std.specs.Prelude.{Bool, true, false, cond, List, [], ◌∷◌, ◌++◌, ◌≡◌, refl, length, take, drop, get_or}
+use Rattle.std.specs.Prelude.{Bool, true, false, cond, List, [], ◌∷◌, ◌++◌, ◌≡◌, refl, length, take, drop, get_or, Option, Some}
 use Rattle.std.proofs.Common.{◌∙◌, length-append, length-drop, length-take-le, get_or-drop}
 use Prim.Native.Nat.{ℕ, suc, ◌+◌, ◌-◌, ◌≤◌, ◌<◌}
 use native.Mathlib.Omega.{arith}
@@ -17,7 +17,7 @@ use Rattle.text.specs.Laws.SameLaws.{same?-length}
 use Rattle.text.specs.Laws.FieldsLaws.{same?_byte, same?_other, take_one}
 use Rattle.text.specs.Model.{Model, with_step, above?, above_last?}
 use Rattle.text.specs.Lines.{step_of}
-use Rattle.text.specs.Inner.LineAnswers.{Last}
+use Rattle.text.specs.Inner.LineAnswers.{after?, Last}
 use Rattle.model.specs.Reading.{Reading, done, faulty, on_line, or_fault, read_nothing, read_end, read_steps}
 use Rattle.text.specs.Inner.Row.{LineTaken, LineRefused}
 use Rattle.reader.specs.declared.answers.LineStart.{LineStart}
@@ -35,10 +35,11 @@ above_last?-snoc [] s t = refl
 above_last?-snoc (r ∷ []) s t = refl
 above_last?-snoc (r ∷ q ∷ rest) s t = above_last?-snoc (q ∷ rest) s t
 
-last_snoc : (steps : List StepLine) (j : ℕ) (s : StepLine) → Last (steps ++ (s ∷ [])) (j + 1) s
-last_snoc steps j s = record { nil = λ e. absurd (omega arith); cons = λ p t. above_last?-snoc steps s t }
+last_snoc : (steps : List StepLine) (s : StepLine) → Last (steps ++ (s ∷ [])) (Some s)
+unfolding after?
+last_snoc steps s = record { above = λ t. above_last?-snoc steps s t }
 
-module _ (h : Head) (text : List ℕ) (start : LineStart) (j : ℕ) (last : StepLine) (store : List ℕ)
+module _ (h : Head) (text : List ℕ) (start : LineStart) (j : ℕ) (last : Option StepLine) (store : List ℕ)
     (b : AfterStep h text start j last store) (lt : j < h.steps) where
   abbrev read_on : ℕ → StepLine → List (List ℕ) → Reading
   read_on k s parts =
@@ -55,7 +56,7 @@ module _ (h : Head) (text : List ℕ) (start : LineStart) (j : ℕ) (last : Step
   step_refused = line_refused text start b.inside.place (step_of h b.steps) read_on ahead
 
   pub step_taken : (s : StepLine) (next : ℕ) → LineTaken (step_of h b.steps) text start.at s next
-      → AfterStep h text (record { at = next; line = start.line + 1 }) (j + 1) s
+      → AfterStep h text (record { at = next; line = start.line + 1 }) (j + 1) (Some s)
       (sets store (step_place j) (step_row s))
   step_taken s next (e, n, l) =
       let m = b.ranges.steps in
@@ -68,14 +69,14 @@ module _ (h : Head) (text : List ℕ) (start : LineStart) (j : ℕ) (last : Step
         extra_count_le = b.extra_count_le;
         steps = b.steps ++ (s ∷ []);
         count = length-append b.steps (s ∷ []) ∙ omega arith;
-        last_step = last_snoc b.steps j s;
+        last_step = last_snoc b.steps s;
         stored = rw b.stored
             (store_of-with_step h b.actions b.extra_starts b.steps s j b.action_places b.count
             (omega arith));
         rest = line_taken text start b.inside.place (step_of h b.steps) read_on ahead s e l;
       })
 
-pub after_step-length : (h : Head) (text : List ℕ) (start : LineStart) (j : ℕ) (last : StepLine) (store : List ℕ)
+pub after_step-length : (h : Head) (text : List ℕ) (start : LineStart) (j : ℕ) (last : Option StepLine) (store : List ℕ)
     → AfterStep h text start j last store → j ≤ h.steps → length store ≡ store_length
 after_step-length h text start j last store b l =
     let n = b.ranges.steps in
@@ -88,7 +89,7 @@ after_step-length h text start j last store b l =
     } in
     rw b.stored (store_of-length_of_places model b.action_places b.extra_count_le (omega arith))
 
-pub after_steps : (h : Head) (text : List ℕ) (start : LineStart) (j : ℕ) (last : StepLine) (store : List ℕ)
+pub after_steps : (h : Head) (text : List ℕ) (start : LineStart) (j : ℕ) (last : Option StepLine) (store : List ℕ)
     → AfterStep h text start j last store → j ≡ h.steps → AfterSteps text start store
 unfolding read_steps
 after_steps h text start j last store b c =

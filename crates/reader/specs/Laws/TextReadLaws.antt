@@ -1,14 +1,11 @@
 -- What the lines of a text answer and leave, by what the first line and the lines behind it came to.
 -- Document 01, operation 1, and "Refused because of the input". Assumes nothing.
-use Rattle.std.specs.Prelude.{List, [], ◌∷◌, ◌++◌, ◌≡◌, refl, ℕ, ◌+◌, ◌-◌, ◌≤◌, ◌<◌, length, take, drop}
+use Rattle.std.specs.Prelude.{List, [], ◌∷◌, ◌++◌, ◌≡◌, refl, ℕ, ◌+◌, ◌-◌, ◌≤◌, ◌<◌, length, take, drop, Result, Ok, Err}
 use Rattle.std.proofs.Common.{inl, inr, sym, ap, ◌∙◌, arith, drop_of_length-le}
 use Rattle.text.specs.declared.Fault.{Fault}
 use Rattle.text.specs.declared.Fault.TheVariants.{Absent}
 use Rattle.text.specs.declared.Head.{Head}
-use Rattle.text.specs.declared.line.HeadRead.{HeadRead}
-use Rattle.text.specs.declared.line.HeadRead.TheVariants as head_answer
-use Rattle.reader.specs.declared.answers.TextRead.{TextRead}
-use Rattle.reader.specs.declared.answers.TextRead.TheVariants.{Done, Faulty}
+use Rattle.reader.specs.declared.answers.LineFault.{LineFault}
 use Rattle.text.specs.Limits.{store_length}
 use Rattle.text.specs.Bytes.{line_end}
 use Rattle.text.specs.Split.{split, index_of}
@@ -70,47 +67,47 @@ module _ (text : List ℕ) (at e : ℕ) (le : at ≤ length text) (found : e ≡
       tail h = cc
 
 -- what was read of the line at a place is what it states as the first one
-pub first_line-head : (text : List ℕ) (at : ℕ) → at ≤ length text → (r : HeadRead) → HeadAt text at r
+pub first_line-head : (text : List ℕ) (at : ℕ) → at ≤ length text → (r : Result Head Fault) → HeadAt text at r
     → head_read r ≡ first_line (split line_end (drop at text))
 unfolding HeadAt head_read
-first_line-head text at le (head_answer.Good h) (e, l) =
+first_line-head text at le (Ok h) (e, l) =
     sym l.reads ∙ first_line_line text at e le l.found l.inside
-first_line-head text at le (head_answer.Bad fault) (e, inl n) =
+first_line-head text at le (Err fault) (e, inl n) =
     ap bad n.absent ∙ first_line_absent text at e le n.found n.outside
-first_line-head text at le (head_answer.Bad fault) (e, inr l) =
+first_line-head text at le (Err fault) (e, inr l) =
     sym l.reads ∙ first_line_line text at e le l.found l.inside
 
-head_read_bad : (r : HeadRead) (fault : Fault) → head_read r ≡ bad fault → r ≡ head_answer.Bad fault
+head_read_bad : (r : Result Head Fault) (fault : Fault) → head_read r ≡ bad fault → r ≡ Err fault
 unfolding head_read
-head_read_bad (head_answer.Good h) fault e = let z : ◌≡◌ {A = ℕ} 0 1 = cc in absurd (omega arith)
-head_read_bad (head_answer.Bad f) fault e = let d : f ≡ fault = cc in ap head_answer.Bad d
+head_read_bad (Ok h) fault e = let z : ◌≡◌ {A = ℕ} 0 1 = cc in absurd (omega arith)
+head_read_bad (Err f) fault e = let d : f ≡ fault = cc in ap Err d
 
 -- the first line of the text, and the place after it
-pub after_first : (r : HeadRead) (text : List ℕ) (at : ℕ) → head_read r ≡ first_line (split line_end text)
+pub after_first : (r : Result Head Fault) (text : List ℕ) (at : ℕ) → head_read r ≡ first_line (split line_end text)
     → AfterLine text 0 at → AfterFirst r text at
 unfolding first_line AfterFirst read_model on_line or_fault head_read
 after_first r text at e b = go (split line_end text) refl r e
   where
-    go : (parts : List (List ℕ)) → split line_end text ≡ parts → (r : HeadRead) → head_read r ≡ first_line parts
+    go : (parts : List (List ℕ)) → split line_end text ≡ parts → (r : Result Head Fault) → head_read r ≡ first_line parts
         → AfterFirst r text at
-    go [] s (head_answer.Good h) d = let z : ◌≡◌ {A = ℕ} 0 1 = cc in absurd (omega arith)
-    go [] s (head_answer.Bad f) d = let f' : f ≡ Absent = cc in rw (s, f')
-    go (line ∷ []) s (head_answer.Good h) d = let z : ◌≡◌ {A = ℕ} 0 1 = cc in absurd (omega arith)
-    go (line ∷ []) s (head_answer.Bad f) d = let f' : f ≡ Absent = cc in rw (s, f')
-    go (line ∷ part ∷ parts) s (head_answer.Good h) d =
+    go [] s (Ok h) d = let z : ◌≡◌ {A = ℕ} 0 1 = cc in absurd (omega arith)
+    go [] s (Err f) d = let f' : f ≡ Absent = cc in rw (s, f')
+    go (line ∷ []) s (Ok h) d = let z : ◌≡◌ {A = ℕ} 0 1 = cc in absurd (omega arith)
+    go (line ∷ []) s (Err f) d = let f' : f ≡ Absent = cc in rw (s, f')
+    go (line ∷ part ∷ parts) s (Ok h) d =
         record {
           ranges = head_of-ranges line h (sym d);
           inside = record { place = b.place; line_pos = omega arith; line_le = omega arith };
           rest = rw (s, ← d, b.rest line part parts s);
         }
-    go (line ∷ part ∷ parts) s (head_answer.Bad f) d = rw (s, ← d)
+    go (line ∷ part ∷ parts) s (Err f) d = rw (s, ← d)
 
-pub after_first_bad : (r : HeadRead) (text : List ℕ) (at : ℕ) (fault : Fault) → r ≡ head_answer.Bad fault
+pub after_first_bad : (r : Result Head Fault) (text : List ℕ) (at : ℕ) (fault : Fault) → r ≡ Err fault
     → AfterFirst r text at → whole text ≡ faulty fault 1
 unfolding AfterFirst
 after_first_bad r text at fault e b = rw e at b
 
-pub after_first_good : (r : HeadRead) (text : List ℕ) (at : ℕ) (h : Head) → r ≡ head_answer.Good h → AfterFirst r text
+pub after_first_good : (r : Result Head Fault) (text : List ℕ) (at : ℕ) (h : Head) → r ≡ Ok h → AfterFirst r text
     at
     → AfterHead h text (record { at = at; line = 2 })
 unfolding AfterFirst
@@ -118,24 +115,24 @@ after_first_good r text at h e b = rw e at b
 
 -- ---- the answer
 
-pub read_out_faulty : (text store : List ℕ) (fault : Fault) (line : ℕ) → whole text ≡ faulty fault line
-    → ReadOut text store (Faulty fault line) store
+pub read_out_faulty : (text store : List ℕ) (b : LineFault) → whole text ≡ faulty b.fault b.line
+    → ReadOut text store (Err b) store
 unfolding ReadAs reading_store
-read_out_faulty text store fault line e = record { answer = e; filled = rw e }
+read_out_faulty text store b e = record { answer = e; filled = rw e }
 
 pub read_out-done : (text store local exit : List ℕ) → AfterEnd text local → length local ≡ store_length
-    → exit ≡ local ++ drop (length local) store → ReadOut text store Done exit
+    → exit ≡ local ++ drop (length local) store → ReadOut text store (Ok tt) exit
 unfolding ReadAs reading_store
 read_out-done text store local exit b n c =
     record { answer = (b.model, b.reads); filled = c ∙ rw (b.reads, n, b.stored) }
 
 -- by what the lines behind the first came to
-pub through-done : (text local : List ℕ) (r : TextRead) → r ≡ Done → Through text local r → AfterEnd text local
+pub through-done : (text local : List ℕ) (r : Result (Unit {0}) LineFault) → r ≡ Ok tt → Through text local r → AfterEnd text local
 unfolding Through
 through-done text local r e h = rw e at h
 
-pub through_faulty : (text store local : List ℕ) (r : TextRead) (fault : Fault) (line : ℕ) → r ≡ Faulty fault line
+pub through_faulty : (text store local : List ℕ) (r : Result (Unit {0}) LineFault) (b : LineFault) → r ≡ Err b
     → Through text local r → ReadOut text store r store
 unfolding Through
-through_faulty text store local Done fault line e h = let z : ◌≡◌ {A = ℕ} 0 1 = cc in absurd (omega arith)
-through_faulty text store local (Faulty f k) fault line e h = read_out_faulty text store f k h
+through_faulty text store local (Ok _) b e h = let z : ◌≡◌ {A = ℕ} 0 1 = cc in absurd (omega arith)
+through_faulty text store local (Err a) b e h = read_out_faulty text store a h

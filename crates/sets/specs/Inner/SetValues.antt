@@ -1,6 +1,6 @@
 -- Sets of numbers below 128 as values: two words of 64 bits, that of the lower numbers first. Only the contracts of
 -- inner functions cite it.
-use Rattle.std.specs.Prelude.{List, ◌≡◌, ℕ, zero, suc, ◌/◌, ◌%◌, ◌^◌, ◌≤◌, ◌<◌}
+use Rattle.std.specs.Prelude.{List, Option, Some, None, ◌≡◌, ℕ, zero, suc, ◌+◌, ◌/◌, ◌%◌, ◌^◌, ◌≤◌, ◌<◌}
 use Rattle.lts.specs.Alike.{Relation}
 use Rattle.text.specs.Limits.{state_limit}
 use Rattle.sets.specs.declared.set.Set.{Set}
@@ -32,6 +32,27 @@ pub record GreatestOf (s : Set) (x : ℕ) : Type 0 where
   pub greatest_le : x ≤ state_limit
   pub none_after : (y : ℕ) → In s y → (x < state_limit) × (y ≤ x)
   pub member : x < state_limit → In s x
+
+-- The sum of both words, which falls with each member that is taken out.
+abbrev pub words : Set → ℕ
+words s = s.0 + s.1
+
+-- The least member x of s has been taken out, and t is left.
+pub record TakenOut (s : Set) (x : ℕ) (t : Set) : Type 0 where
+  pub taken : In s x
+  pub least : LeastOf s x
+  pub left : SetOf (λ y. In s y × ¬ (y ≡ x)) t
+  pub fewer : words t < words s
+
+-- s has no member, and stays as it was.
+pub record NoneLeft (s t : Set) : Type 0 where
+  pub none : (x : ℕ) → ¬ (In s x)
+  pub same : t ≡ s
+
+-- What taking the least member out of s yields, and the set that is left.
+abbrev pub Popped : Set → Option ℕ → Set → Type 0
+Popped s (Some x) t = TakenOut s x t
+Popped s None t = NoneLeft s t
 
 -- Set k of a list has become s, and no other set has changed.
 pub record SetPut (k : ℕ) (s : Set) (entry exit : List ℕ) : Type 0 where

@@ -5,12 +5,12 @@ use Rattle.std.specs.Prelude.{◌≡◌, refl, ◌⊎◌, ℕ, zero, suc, ◌+�
 use Rattle.std.proofs.Common.{sym, ap, ap₂, ◌∙◌, subst, inl, inr, eq-zero-or-pos, arith}
 use Rattle.std.specs.Int.Bits.{bit_and, bit_or}
 use Rattle.std.specs.Int.Count.{count_trailing_zeros, trailing_of_zero, count_leading_zeros}
-use Rattle.std.proofs.lemmas.Nat.{trailing_le, leading_top}
+use Rattle.std.proofs.lemmas.Nat.{trailing_le, leading_top, and_le_r}
 use Rattle.text.specs.Limits.{state_limit}
 use Rattle.lts.proofs.TestsLaws.{eq_of_not_lt, eq_or_not, lt_or_le}
 use Rattle.sets.specs.declared.set.Set.{Set}
 use Rattle.sets.specs.Inner.Sets.{word_bits, FirstBit}
-use Rattle.sets.specs.Inner.SetValues.{word_of, In, SetOf, LeastOf, GreatestOf}
+use Rattle.sets.specs.Inner.SetValues.{word_of, In, SetOf, LeastOf, GreatestOf, TakenOut, NoneLeft}
 use Rattle.sets.specs.Laws.BitsLaws.{bit-zero, bit_place_lt, trailing-bit, trailing_none}
 use Rattle.sets.specs.Laws.MasksLaws.{bit-and_left, bit_top, zero_of_bits, dropped_bit, dropped_other}
 use Rattle.sets.specs.Laws.SetValuesLaws.{in_of_bit, bit_of_in, in_of_word, word_of_in, none_of_or}
@@ -113,24 +113,60 @@ module _ {s : Set} (p : ℕ) (m : LeastOf s p) where
       other zero k d = absurd (d refl)
       other (suc z) k d = refl
 
-  pub dropped_high : s.0 ≡ 0 → s.1 < 2 ^ word_bits → ¬ (s.1 ≡ 0)
-      → SetOf (λ x. In s x × ¬ (x ≡ p)) (0, bit_and s.1 (s.1 - 1))
-  dropped_high first fits some =
+  pub dropped_second : s.0 ≡ 0 → s.1 < 2 ^ word_bits → ¬ (s.1 ≡ 0)
+      → SetOf (λ x. In s x × ¬ (x ≡ p)) (s.0, bit_and s.1 (s.1 - 1))
+  dropped_second first fits some =
       let n = first_bit_trailing s.1 fits in
       let l = first_bit_lt fits some n in
       let e = least_unique m (least-high first n) in
       dropped 1 (omega (arith, e)) l n refl other
     where
-      other : (z : ℕ) → z < 2 → ¬ (z ≡ 1) → word_of (0, bit_and s.1 (s.1 - 1)) z ≡ word_of s z
-      other zero k d = sym first
+      other : (z : ℕ) → z < 2 → ¬ (z ≡ 1) → word_of (s.0, bit_and s.1 (s.1 - 1)) z ≡ word_of s z
+      other zero k d = refl
       other (suc zero) k d = absurd (d refl)
       other (suc (suc z)) k d = absurd (omega (arith, k))
+
+  -- The same with the 0 of the first word written out.
+  pub dropped_high : s.0 ≡ 0 → s.1 < 2 ^ word_bits → ¬ (s.1 ≡ 0)
+      → SetOf (λ x. In s x × ¬ (x ≡ p)) (0, bit_and s.1 (s.1 - 1))
+  dropped_high first fits some =
+      subst (λ (w : ℕ). SetOf (λ x. In s x × ¬ (x ≡ p)) (w, bit_and s.1 (s.1 - 1))) first
+      (dropped_second first fits some)
 
   pub dropped_none : s.0 ≡ 0 → s.1 ≡ 0 → SetOf (λ x. In s x × ¬ (x ≡ p)) s
   dropped_none first second = record {
     all = λ x i. i.0;
     only = λ x i. absurd (none_of_or (ap₂ bit_or first second) x i);
   }
+
+pub taken_low : {s : Set} → s.0 < 2 ^ word_bits → ¬ (s.0 ≡ 0)
+    → TakenOut s (count_trailing_zeros word_bits s.0) (bit_and s.0 (s.0 - 1), s.1)
+taken_low {s} fits some =
+    let n = first_bit_trailing s.0 fits in
+    let l = first_bit_lt fits some n in
+    let m = least-low n l in
+    record {
+      taken = m.member (omega (arith, l));
+      least = m;
+      left = dropped_low _ m fits some;
+      fewer = omega (arith, and_le_r s.0 (s.0 - 1), some);
+    }
+
+pub taken_high : {s : Set} → s.0 ≡ 0 → s.1 < 2 ^ word_bits → ¬ (s.1 ≡ 0)
+    → TakenOut s (word_bits + count_trailing_zeros word_bits s.1) (s.0, bit_and s.1 (s.1 - 1))
+taken_high {s} first fits some =
+    let n = first_bit_trailing s.1 fits in
+    let l = first_bit_lt fits some n in
+    let m = least-high first n in
+    record {
+      taken = m.member (omega (arith, l));
+      least = m;
+      left = dropped_second _ m first fits some;
+      fewer = omega (arith, and_le_r s.1 (s.1 - 1), some);
+    }
+
+pub none_left : {s : Set} → s.0 ≡ 0 → s.1 ≡ 0 → NoneLeft s s
+none_left first second = record { none = none_of_or (ap₂ bit_or first second); same = refl }
 
 -- ---- the greatest member
 

@@ -1,11 +1,13 @@
 -- A walk over the members of a set, from the least up: what has been visited is taken out.
 -- Assumes nothing.
-use Rattle.std.specs.Prelude.{◌⊎◌, ◌≡◌, ℕ, ◌-◌, ◌≤◌, ◌<◌}
+use Rattle.std.specs.Prelude.{Option, Some, None, ◌⊎◌, ◌≡◌, ℕ, ◌-◌, ◌≤◌, ◌<◌}
+use Rattle.std.specs.Iterator.{MakesProgress, at_most}
 use Rattle.std.proofs.Common.{inl, inr, sym, subst, arith}
 use Rattle.text.specs.Limits.{state_limit}
 use Rattle.lts.specs.Alike.{Relation}
 use Rattle.lts.proofs.TestsLaws.{eq_or_not, lt_or_le}
-use Rattle.sets.specs.Inner.SetValues.{In, SetOf, LeastOf, SomeMember}
+use Rattle.sets.specs.Inner.SetValues.{In, SetOf, LeastOf, SomeMember, Popped, words}
+use Rattle.sets.specs.declared.set.Members.{Members}
 use Rattle.sets.specs.declared.set.Set.{Set}
 
 -- The least member of what is left comes later,
@@ -35,6 +37,12 @@ walk_nearer h l s k = omega (arith, least_after h l s.only k, l)
 -- and is there.
 pub none_of_least : {s : Set} {x : ℕ} → LeastOf s x → state_limit ≤ x → (y : ℕ) → ¬ (In s y)
 none_of_least h l y m = h.none_before y (omega (arith, l, m.member_lt)) m
+
+-- Taking members out comes to an end.
+pub pop_goes : {s t : Members} (r : Option ℕ) → Popped s.left r t.left
+    → MakesProgress (λ (z : Members). Unit {0}) (λ z. at_most (words z.left)) s r t
+pop_goes (Some x) p = record { on = λ b. (tt, tt, p.fewer); keeps = tt; rests = λ b. tt }
+pop_goes None p = record { on = λ b. tt; keeps = tt; rests = λ b. tt }
 
 -- ---- all that members of a set have
 
@@ -70,13 +78,13 @@ module _ {Of : Relation} {set : Set} where
       only x (inl m) = j.only x m
       only x (inr m) = record { member = t; in_set = j.left_in t i; related = o.only x m }
 
-  pub union_to_end : {left found : Set} {t : ℕ} → UnionTo Of set left found → LeastOf left t → state_limit ≤ t
+  pub union_to_end : {left found : Set} → UnionTo Of set left found → ((t : ℕ) → ¬ (In left t))
       → SetOf (SomeMember Of set) found
-  union_to_end {left} {found} j l h = record {
+  union_to_end {left} {found} j none = record {
     all = λ x m. all x (j.all m.member x m.in_set m.related);
     only = j.only;
   }
     where
       all : {t : ℕ} (x : ℕ) → In found x ⊎ In left t → In found x
       all x (inl i) = i
-      all {t} x (inr i) = absurd (none_of_least l h t i)
+      all {t} x (inr i) = absurd (none t i)

@@ -1,10 +1,13 @@
 -- Steps and moves turn round with the lists: where the lists of sources and targets change places, each move leads from
 -- its target to its source. Document 02, (vii). Assumes nothing.
 use Rattle.std.specs.Prelude.{List, ℕ}
-use Rattle.std.proofs.Common.{arith}
+use Rattle.std.proofs.Common.{arith, sym, subst}
+use Rattle.lts.specs.Alike.{Moves}
 use Rattle.lts.specs.Weak.{Silent, stay, tick, low, silent}
 use Rattle.lts.proofs.WeakLaws.{silent_trans, silent_one}
+use Rattle.silent.specs.declared.steps.LabelSteps.{LabelSteps}
 use Rattle.silent.specs.Labelled.{LabelStep, LabelList, TickLabel, LabelMove}
+use Rattle.silent.specs.Steps.{label_moves, turned_moves, TurnedSteps}
 use Rattle.silent.specs.Laws.LabelledLaws.{label_step_source_lt}
 
 module _ {from sources targets : List ℕ} where
@@ -44,3 +47,19 @@ module _ {n : ℕ} {from sources targets : List ℕ} (L : LabelList n from sourc
     after = silent_turned m.before;
   })
   label_move_turned (silent e s) = silent e (silent_turned s)
+
+-- The moves of steps turned round are the turned moves: what holds of the ones holds of the others.
+module _ {s t : LabelSteps} (P : Moves → Type 0) (e : TurnedSteps s t) where
+  pub of_turned : P (label_moves t) → P (turned_moves s)
+  of_turned h =
+      subst (λ n. P (LabelMove n s.from.now s.targets.now s.sources.now)) e.n_is
+      (subst (λ f. P (LabelMove t.n f s.targets.now s.sources.now)) e.from_is
+      (subst (λ x. P (LabelMove t.n t.from.now x s.sources.now)) e.sources_are
+      (subst (λ y. P (LabelMove t.n t.from.now t.sources.now y)) e.targets_are h)))
+
+  pub to_turned : P (turned_moves s) → P (label_moves t)
+  to_turned h =
+      subst (λ y. P (LabelMove t.n t.from.now t.sources.now y)) (sym e.targets_are)
+      (subst (λ x. P (LabelMove t.n t.from.now x s.sources.now)) (sym e.sources_are)
+      (subst (λ f. P (LabelMove t.n f s.targets.now s.sources.now)) (sym e.from_is)
+      (subst (λ n. P (LabelMove n s.from.now s.targets.now s.sources.now)) (sym e.n_is) h)))

@@ -3,7 +3,7 @@
 -- and a state has a move to that part or to a new one if the states of its class have one to the whole; so the part
 -- that kept the number matters only to states that have a move to a new one. Only the contracts of inner functions cite
 -- it.
-use Rattle.std.specs.Prelude.{List, ◌≡◌, ℕ, ◌+◌, ◌-◌, ◌≤◌, ◌<◌, get_or}
+use Rattle.std.specs.Prelude.{Bool, true, false, List, ◌≡◌, ℕ, ◌+◌, ◌-◌, ◌≤◌, ◌<◌, get_or}
 use Rattle.lts.specs.Alike.{Moves, Relation}
 use Rattle.lts.specs.Game.{Separates}
 use Rattle.text.specs.Limits.{state_limit}
@@ -109,3 +109,8 @@ pub record LastRounded (Move : Moves) (n last : ℕ) (class members origin under
     pub together : Set
     pub rounded : Rounded Move n last before class members origin under when classes classes together
     pub separates : (j : ℕ) → j < last → Separates Move n j
+
+-- What a round tells of itself: it made further classes, which are the new ones, and is counted, or it made none.
+pub record Counted (told : Bool) (k classes k' first' classes' : ℕ) : Type 0 where
+  pub more : told ≡ true → (classes < classes') × (k' ≡ k + 1) × (first' ≡ classes)
+  pub none : told ≡ false → (classes' ≡ classes) × (k' ≡ k)

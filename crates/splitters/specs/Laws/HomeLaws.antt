@@ -5,6 +5,7 @@ use Rattle.std.proofs.Common.{sym, ap, ◌∙◌, arith, lt-ltb, le-ltb}
 use Rattle.sets.specs.declared.set.Set.{Set}
 use Rattle.held.specs.Held.{chosen}
 use Rattle.splitters.specs.Inner.Partition.{Partition, home, HomesKept}
+use Rattle.splitters.specs.Laws.PartitionLaws.{state_of_class}
 
 pub home_lt : {old c : ℕ} (origin : List ℕ) → c < old → home old origin c ≡ c
 home_lt {old} {c} origin l = ap (λ b. chosen b c (get_or origin c 0)) (lt-ltb c old l)
@@ -23,7 +24,7 @@ module _ {n old : ℕ} {class origin next origin' : List ℕ} (class_lt : (p : �
   pub origin_lt : {members : List ℕ} {classes : ℕ} {together : Set} → Partition n next members classes together
       → (j : ℕ) → old ≤ j → j < classes → get_or origin' j 0 < old
   origin_lt Q j l k =
-      let x = Q.some j k in
+      let x = state_of_class Q j k in
       let e : get_or origin' j 0 ≡ get_or class x.0 0 = sym (home_le origin' l)
       ∙ ap (home old origin') (sym x.2) ∙ home_before x.0 x.1 in
       omega (arith, e, class_lt x.0 x.1)

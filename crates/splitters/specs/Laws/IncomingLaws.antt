@@ -4,11 +4,10 @@ use Rattle.std.proofs.Common.{inl, inr, sym, subst, arith}
 use Rattle.lts.proofs.TestsLaws.{eq_or_not}
 use Rattle.text.specs.Limits.{state_limit}
 use Rattle.sets.specs.Inner.Sets.{Member, Joined}
-use Rattle.sets.specs.Inner.SetValues.{In, SetOf, LeastOf}
+use Rattle.sets.specs.Inner.SetValues.{In, SetOf}
 use Rattle.sets.specs.declared.set.Set.{Set}
 use Rattle.held.specs.Held.{row_set, slot_place, source_row, Occupied}
 use Rattle.splitters.specs.Inner.Splitters.{Into, RowNoted}
-use Rattle.sets.specs.Laws.WalkLaws.{none_of_least}
 
 -- ---- one label
 
@@ -39,13 +38,13 @@ module _ {pool : List ℕ} {row i : ℕ} {left : Set} {entry : List ℕ} where
       noted x (inr k) (inr d) = inr (w.all x (k, d))
 
   -- None is left.
-  pub row_noted_end : {q : ℕ} {exit : List ℕ} → NotedBut pool row i left entry exit → LeastOf left q → state_limit ≤ q
+  pub row_noted_end : {exit : List ℕ} → NotedBut pool row i left entry exit → ((q : ℕ) → ¬ (In left q))
       → RowNoted pool row i entry exit
-  row_noted_end {q} {exit} f h l = record { noted = λ x m. noted x (f.noted x m); kept = f.kept }
+  row_noted_end {exit} f none = record { noted = λ x m. noted x (f.noted x m); kept = f.kept }
     where
       noted : (x : ℕ) → Member exit x i ⊎ In left x → Member exit x i
       noted x (inl m) = m
-      noted x (inr k) = absurd (none_of_least h l x k)
+      noted x (inr k) = absurd (none x k)
 
 -- ---- one label after another
 

@@ -5,13 +5,13 @@ use Rattle.std.proofs.Common.{inl, inr, sym, subst, arith}
 use Rattle.lts.proofs.TestsLaws.{eq_or_not}
 use Rattle.text.specs.Limits.{state_limit}
 use Rattle.sets.specs.Inner.Sets.{Member}
-use Rattle.sets.specs.Inner.SetValues.{In, SetOf, LeastOf, GreatestOf}
+use Rattle.sets.specs.Inner.SetValues.{In, SetOf, GreatestOf}
 use Rattle.sets.specs.Laws.SetValuesLaws.{set_of-map, in_or_not}
 use Rattle.sets.specs.declared.set.Set.{Set}
 use Rattle.held.specs.Held.{row_set, HeldAt, Turned, Occupied}
 use Rattle.held.specs.Laws.OccupiedLaws.{occupied_held}
+use Rattle.splitters.specs.Laws.SplittingLaws.{left_without}
 use Rattle.splitters.specs.Inner.Splitters.{LeadsInto, LedFrom}
-use Rattle.sets.specs.Laws.WalkLaws.{none_of_least}
 
 -- ---- all that members of a set have
 
@@ -107,6 +107,17 @@ module _ {slots pool : List ℕ} {row : ℕ} {goal : Set} where
         in_set = (b.only t (g.member h)).1;
       })
 
+  -- p itself is taken out before those that are told.
+  pub leading_turn_told : {p t back : ℕ} {own common told found left others found' left' : Set}
+      → Turned slots pool row back → p < state_limit → SetOf (HeldAt slots pool row p) own
+      → SetOf (λ x. In own x × In goal x) common → GreatestOf common t → t < state_limit
+      → SetOf (HeldAt slots pool back t) told → SetOf (λ x. In left x × ¬ (x ≡ p)) others
+      → SetOf (λ x. In found x ⊎ In told x) found' → SetOf (λ x. In others x × ¬ (In told x)) left'
+      → LeadingTurn slots pool row goal p found left found' left'
+  leading_turn_told {p} {t} turned k o b g h s v u w =
+      let p_told = s.all p (turned.there p t k (o.only t (b.only t (g.member h)).0)) in
+      leading_turn_some turned k o b g h s u (left_without p_told v w)
+
   -- The same of equal sets.
   pub leading_turn_eq : {p : ℕ} {found left found' left' found'' left'' : Set} → found'' ≡ found' → left'' ≡ left'
       → LeadingTurn slots pool row goal p found left found' left'
@@ -135,14 +146,14 @@ module _ {slots pool : List ℕ} {row : ℕ} {goal : Set} where
         only x (inl i) = a.only x i
         only x (inr l) = l
 
-    pub leading_to_end : {left found r : Set} {p : ℕ} → LeadingTo slots pool row set goal left found → LeastOf left p
-        → state_limit ≤ p → SetOf (λ x. In found x × In set x) r
+    pub leading_to_end : {left found r : Set} → LeadingTo slots pool row set goal left found
+        → ((x : ℕ) → ¬ (In left x)) → SetOf (λ x. In found x × In set x) r
         → SetOf (λ x. In set x × LeadsInto slots pool row goal x) r
-    leading_to_end {left} {found} a l h b = record {
+    leading_to_end {left} {found} a none b = record {
       all = λ x m. b.all x (found_in x (a.all x m.0 m.1), m.0);
       only = λ x m. ((b.only x m).1, a.only x (b.only x m).0);
     }
       where
         found_in : (x : ℕ) → In found x ⊎ In left x → In found x
         found_in x (inl i) = i
-        found_in x (inr i) = absurd (none_of_least l h x i)
+        found_in x (inr i) = absurd (none x i)

@@ -1,16 +1,44 @@
 -- A class that falls into two parts: the states of the one get the next number, and what is left is a partition.
 -- Assumes nothing.
-use Rattle.std.specs.Prelude.{List, ◌⊎◌, ◌≡◌, refl, get_or}
+use Rattle.std.specs.Prelude.{List, ◌⊎◌, ◌≡◌, refl, ℕ, zero, suc, ◌+◌, ◌≤◌, ◌<◌, get_or}
 use Rattle.std.proofs.Common.{inl, inr, sym, ◌∙◌, subst, arith}
-use Prim.Native.Nat.{ℕ, ◌+◌, ◌≤◌, ◌<◌}
 use Rattle.lts.proofs.PigeonholeLaws.{injective_le}
-use Rattle.lts.proofs.TestsLaws.{eq_or_not, lt_or_le}
+use Rattle.lts.proofs.TestsLaws.{eq_or_not, lt_or_le, lt-suc_cases}
 use Rattle.by_state.specs.Inner.Numbered.{Same}
 use Rattle.sets.specs.Inner.Sets.{Member}
 use Rattle.sets.specs.Inner.SetValues.{In, SetOf}
 use Rattle.sets.specs.Laws.SetValuesLaws.{in_or_not}
 use Rattle.sets.specs.declared.set.Set.{Set}
 use Rattle.splitters.specs.Inner.Partition.{Partition, SplitBy, TwoParts, Moved}
+
+-- ---- each class has a state
+
+-- One of the first m states is in class c, or none.
+search_class : (class : List ℕ) (c m : ℕ) → ((p : ℕ) × (p < m) × (get_or class p 0 ≡ c))
+    ⊎ ((p : ℕ) → p < m → ¬ (get_or class p 0 ≡ c))
+search_class class c zero = inr (λ p l. absurd (omega (arith, l)))
+search_class class c (suc m) = go (search_class class c m) (eq_or_not (get_or class m 0) c)
+  where
+    go : ((p : ℕ) × (p < m) × (get_or class p 0 ≡ c)) ⊎ ((p : ℕ) → p < m → ¬ (get_or class p 0 ≡ c))
+        → (get_or class m 0 ≡ c) ⊎ ¬ (get_or class m 0 ≡ c) → ((p : ℕ) × (p < suc m) × (get_or class p 0 ≡ c))
+        ⊎ ((p : ℕ) → p < suc m → ¬ (get_or class p 0 ≡ c))
+    go (inl h) _ = inl (h.0, omega (arith, h.1), h.2)
+    go (inr h) (inl e) = inl (m, omega arith, e)
+    go (inr h) (inr d) = inr (λ p l. below p (lt-suc_cases l))
+      where
+        below : (p : ℕ) → (p ≡ m) ⊎ (p < m) → ¬ (get_or class p 0 ≡ c)
+        below p (inl e) f = d (subst (λ (q : ℕ). get_or class q 0 ≡ c) e f)
+        below p (inr l) f = h p l f
+
+pub state_of_class : {n classes : ℕ} {class members : List ℕ} {together : Set}
+    → Partition n class members classes together → (c : ℕ) → c < classes
+    → (p : ℕ) × (p < n) × (get_or class p 0 ≡ c)
+state_of_class {n} {class = class} P c l = go (search_class class c n)
+  where
+    go : ((p : ℕ) × (p < n) × (get_or class p 0 ≡ c)) ⊎ ((p : ℕ) → p < n → ¬ (get_or class p 0 ≡ c))
+        → (p : ℕ) × (p < n) × (get_or class p 0 ≡ c)
+    go (inl h) = h
+    go (inr f) = absurd (P.some c l f)
 
 -- ---- no more classes than states
 
@@ -92,7 +120,7 @@ module _ {n c classes : ℕ} {class members : List ℕ} {together moved kept : S
           let h = kept_in q T.some_rest.1 in
           (q, h.0, same q (λ m. T.apart q m T.some_rest.1) ∙ h.1 ∙ sym e)
       go (inr d) (inr e) =
-          let h = P.some i (omega (arith, k, d)) in
+          let h = state_of_class P i (omega (arith, k, d)) in
           (h.0, h.1, same h.0 (λ m. e (sym h.2 ∙ (moved_in h.0 m).1)) ∙ h.2)
 
   -- There is a number for the new class.

@@ -1,11 +1,12 @@
 -- A round's splits one after another: by moves with one label to one new class, with all labels, to all new classes.
 -- Assumes nothing.
 use Rattle.std.specs.Prelude.{List, ◌⊎◌, ◌≡◌, refl, ℕ, ◌+◌, ◌≤◌, ◌<◌, get_or}
+use Rattle.text.specs.Limits.{state_limit}
 use Rattle.std.proofs.Common.{inl, inr, sym, ap, ◌∙◌, subst, arith}
 use Rattle.lts.proofs.TestsLaws.{eq_or_not, lt_or_le}
 use Rattle.by_state.specs.Inner.Numbered.{Same}
 use Rattle.sets.specs.Inner.Sets.{Member}
-use Rattle.sets.specs.Inner.SetValues.{In, SetOf, LeastOf, InSome}
+use Rattle.sets.specs.Inner.SetValues.{In, SetOf, InSome}
 use Rattle.sets.specs.declared.set.Set.{Set}
 use Rattle.held.specs.Held.{slot_place, target_row, source_row, HeldAt, Turned, HeldList}
 use Rattle.splitters.specs.Inner.Partition.{Partition, SplitTwice}
@@ -157,22 +158,23 @@ UsedBut j labels count left k b = (k ≡ j) × ((l : ℕ) × (l < count) × ¬ (
 
 module _ (labels : List ℕ) {n count : ℕ} {slots pool : List ℕ} {old : ℕ} {fresh rest c o : List ℕ} where
   -- Labels that do not lead into the new class need not be used.
-  pub used_but_start : {into : List ℕ} {j : ℕ} {new all : Set} → HeldList n labels count slots pool
-      → Into labels count slots into → SetOf (Member fresh j) new → SetOf (InSome into new) all
+  pub used_but_start : {m : ℕ} {into : List ℕ} {j : ℕ} {new all : Set} → n ≤ state_limit
+      → HeldList m labels count slots pool → Into labels count slots into → SetOf (Member fresh j) new
+      → SetOf (InSome into new) all
       → UsedSplit n old slots pool (UsedBut j labels count all) fresh rest c o c o
-  used_but_start {into} {j} {new} {all} L I m u = used_split_none (λ k b p d lp h. none b p d lp
-      h.0 h.1 (subst (λ (x : ℕ). Member fresh x h.0) d.0 h.2))
+  used_but_start {into = into} {j = j} {new = new} {all = all} le L I own u =
+      used_split_none (λ k b p d lp h. none b p d lp h.0 h.1 (subst (λ (x : ℕ). Member fresh x h.0) d.0 h.2))
     where
       none : {k : ℕ} (b p : ℕ) → UsedBut j labels count all k b → p < n → (q : ℕ)
           → HeldAt slots pool (target_row b) p q → Member fresh j q → ⊥
       none b p (e, (l, h, d, a)) lp q i f =
-          let back = (L.turned l h).there p q (omega (arith, lp, L.states_le))
+          let back = (L.turned l h).there p q (omega (arith, lp, le))
           (subst (λ (x : ℕ). HeldAt slots pool (target_row x) p q) (sym a) i) in
           let held : ¬ (get_or slots (slot_place (source_row (get_or labels l 0)) q) 0 ≡ 0) =
           λ z. L.none p (subst (λ (x : ℕ). Member pool x p) z back) in
           d (u.all l (record {
             member = q;
-            in_set = m.all q f;
+            in_set = own.all q f;
             related = I.noted l q h f.member_lt held;
           }))
 
@@ -195,11 +197,11 @@ module _ (labels : List ℕ) {n count : ℕ} {slots pool : List ℕ} {old : ℕ}
         cases k b (e, (x, h, d, a)) (inr y) = inl (e, (x, h, λ z. d (w.all x (z, y)), a))
 
     -- All are used.
-    pub used_but_end : {i j : ℕ} {left : Set} → LeastOf left i → count ≤ i
+    pub used_but_end : {j : ℕ} {left : Set} → ((i : ℕ) → i < count → ¬ (In left i))
         → UsedSplit n old slots pool (UsedBut j labels count left) fresh rest c o c' o'
         → UsedSplit n old slots pool (UsedClass j labels count) fresh rest c o c' o'
-    used_but_end h l = used_split_same (λ k b u. (u.0, (u.1.0, u.1.1, u.1.3)))
-        (λ k b u. (u.0, (u.1.0, u.1.1, h.none_before u.1.0 (omega (arith, l, u.1.1)), u.1.2)))
+    used_but_end none = used_split_same (λ k b u. (u.0, (u.1.0, u.1.1, u.1.3)))
+        (λ k b u. (u.0, (u.1.0, u.1.1, none u.1.0 u.1.1, u.1.2)))
 
     -- One more new class is used.
     pub used_labels_next : {c'' o'' : List ℕ} {first j : ℕ} → first ≤ j

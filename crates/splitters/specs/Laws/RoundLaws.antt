@@ -1,7 +1,7 @@
 -- A round finds all that it needs: the first one all states in one class, which is new, each later one what the round
 -- before it left. It separates two states exactly if there is a further class. After the last one the table is filled.
 -- Document 01, operation 3. Assumes nothing.
-use Rattle.std.specs.Prelude.{◌≡◌, refl, List, ℕ, suc, ◌+◌, ◌-◌, ◌≤◌, ◌<◌, get_or}
+use Rattle.std.specs.Prelude.{◌≡◌, refl, Bool, true, false, List, ℕ, suc, ◌+◌, ◌-◌, ◌≤◌, ◌<◌, get_or}
 use Rattle.std.proofs.Common.{sym, ◌∙◌, subst, inl, ⊎_elim, arith, below_more}
 use Rattle.lts.specs.Alike.{Moves}
 use Rattle.lts.specs.Game.{Separates}
@@ -18,10 +18,11 @@ use Rattle.ranking.specs.Laws.RoundsLaws.{ranks_up_to-zero, ranks_up_to_same, ro
 use Rattle.tree.specs.Inner.Rows.{RoundNoted}
 use Rattle.tree.specs.Inner.Tree.{Tree, Apart, MemberSets}
 use Rattle.splitters.specs.Inner.Partition.{Partition, home, HomesKept}
-use Rattle.splitters.specs.Inner.Splitters.{Fresh, SetsKept, Grown, Ready, Rounded, Rounds, LastRounded}
+use Rattle.splitters.specs.Inner.Splitters.{Fresh, SetsKept, Grown, Ready, Rounded, Rounds, LastRounded, Counted}
 use Rattle.splitters.specs.Inner.MoveSplits.{UsedLabels, UsedSplit}
 use Rattle.splitters.specs.Laws.ApartLaws.{apart_after, apart_after_is, tree_after, apart_after_holds}
 use Rattle.splitters.specs.Laws.ApartLaws.{round_written_after}
+use Rattle.splitters.specs.Laws.PartitionLaws.{state_of_class}
 use Rattle.splitters.specs.Laws.HomeLaws.{home_lt, home_before, origin_lt}
 use Rattle.splitters.specs.Laws.StableLaws.{refined_of_split_under, stable_of_refined}
 use Rattle.splitters.specs.Laws.UnderLaws.{under_sets_noted, under_sets_divided}
@@ -45,10 +46,10 @@ module _ {Move : Moves} {n k : ℕ} {class next : List ℕ} (C : Classes Move n 
 
         apart : classes < classes' → Separates Move n k
         apart l =
-            let x = Q.some classes l in
+            let x = state_of_class Q classes l in
             let c = get_or class x.0 0 in
             let lc : c < classes = P.class_lt x.0 x.1 in
-            let y = Q.some c (omega (arith, l, lc)) in
+            let y = state_of_class Q c (omega (arith, l, lc)) in
             let e : get_or class y.0 0 ≡ c = stays y.0 y.1 (omega (arith, y.2, lc)) ∙ y.2 in
             separates_of_separated_by C D x.1 y.1 (record {
               same_before = sym e;
@@ -66,7 +67,7 @@ partition_one {n} {class} {members' = members'} some A M z = record {
   member_only = λ c p l m.
       let e : c ≡ 0 = omega (arith, l) in
       (A.only p (M.put.all p (subst (λ (d : ℕ). Member members' d p) e m)), z p ∙ sym e);
-  some = λ c l. let e : c ≡ 0 = omega (arith, l) in (0, some, z 0 ∙ sym e);
+  some = λ c l none. let e : c ≡ 0 = omega (arith, l) in none 0 some (z 0 ∙ sym e);
   together_all = λ p q lp lq e d. A.all p lp;
   together_lt = λ p i. A.only p i;
 }
@@ -175,15 +176,15 @@ module _ {n : ℕ} {labels : List ℕ} {count : ℕ} {slots pool : List ℕ} (L 
 
 -- ---- one round after another
 
-pub rounds-zero : {Move : Moves} {n : ℕ} {class members origin under when : List ℕ} {classes : ℕ} {together : Set}
-    → classes ≡ 1 → ((p : ℕ) → get_or class p 0 ≡ 0) → ((j : ℕ) → get_or origin j 0 ≡ 0)
-    → Partition n class members classes together
-    → Rounds Move n 0 0 class members origin under when classes together
-rounds-zero e z o P = record {
-  ready = ready-zero e z o P;
-  rounds_lt = omega (arith, e);
+pub rounds-zero : {Move : Moves} {n k first : ℕ} {class members origin under when : List ℕ} {classes : ℕ}
+    {together : Set} → (k ≡ 0) × (first ≡ 0) × (classes ≡ 1)
+    → ((j : ℕ) → (get_or class j 0 ≡ 0) × (get_or origin j 0 ≡ 0)) → Partition n class members classes together
+    → Rounds Move n k first class members origin under when classes together
+rounds-zero e z P = rw (e.0, e.1) (record {
+  ready = ready-zero e.2 (λ p. (z p).0) (λ j. (z j).1) P;
+  rounds_lt = omega (arith, e.2);
   separates = λ j l. absurd (omega (arith, l));
-}
+})
 
 pub rounds-suc : {Move : Moves} {n k first : ℕ} {class members origin under when : List ℕ} {classes : ℕ}
     {together : Set} → Rounds Move n k first class members origin under when classes together
@@ -209,6 +210,22 @@ last_rounded_of_rounds {Move} {n} {k} {class = class} {classes = classes} Z {nex
       rounded = subst (λ (c : ℕ). Rounded Move n k class next members' origin' under' when' classes c together') e R;
       separates = Z.separates;
     }
+
+-- Where a round is counted, a further one finds what it needs, and where it is not, it was the last.
+module _ {Move : Moves} {n k first : ℕ} {class members origin under when : List ℕ} {classes : ℕ} {together : Set}
+    (Z : Rounds Move n k first class members origin under when classes together)
+    {next members' origin' under' when' : List ℕ} {classes' : ℕ} {together' : Set}
+    (R : Rounded Move n k class next members' origin' under' when' classes classes' together') {told : Bool}
+    {k' first' : ℕ} (C : Counted told k classes k' first' classes') where
+  pub rounds_counted : told ≡ true → Rounds Move n k' first' next members' origin' under' when' classes' together'
+  rounds_counted e = let m = C.more e in rw (m.1, m.2) (rounds-suc Z R m.0)
+
+  pub last_rounded_counted : told ≡ false → LastRounded Move n k' next members' origin' under' when' classes'
+  unfolding last_rounded_of_rounds
+  last_rounded_counted e =
+      let m = C.none e in
+      rw m.1 (subst (λ (c : ℕ). LastRounded Move n k next members' origin' under' when' c) (sym m.0)
+      (last_rounded_of_rounds Z R m.0))
 
 -- ---- after the last round
 

@@ -14,6 +14,14 @@ use Rattle.splitters.specs.Laws.SplitLaws.{SidesKept, split_refl, split_empty, s
 use Rattle.splitters.specs.Laws.SplitLaws.{split-map, split_iff}
 use Rattle.sets.specs.Laws.SearchLaws.{some_of_not_none}
 
+-- What is left without x, and then without a set that has x, is left without the set.
+pub left_without : {x : ℕ} {left others gone less : Set} → In gone x → SetOf (λ y. In left y × ¬ (y ≡ x)) others
+    → SetOf (λ y. In others y × ¬ (In gone y)) less → SetOf (λ y. In left y × ¬ (In gone y)) less
+left_without {gone = gone} g V D = record {
+  all = λ y i. D.all y (V.all y (i.0, λ e. i.1 (subst (In gone) (sym e) g)), i.1);
+  only = λ y j. ((V.only y (D.only y j).0).0, (D.only y j).1);
+}
+
 -- The states of a class are in its set.
 in_whole : {n c classes : ℕ} {class members : List ℕ} {together whole : Set}
     → Partition n class members classes together → SetOf (Member members c) whole → (p : ℕ) → p < n
@@ -129,15 +137,15 @@ class_of_left_lt {classes = classes} {x = x} P L i e =
     subst (λ (k : ℕ). k < classes) (sym e) (P.class_lt x (L.state_lt x i))
 
 -- The class of x is split, and taken out of what is left.
-module _ {n classes c x : ℕ} {class members : List ℕ} {together set left whole less : Set}
+module _ {n classes c x : ℕ} {class members : List ℕ} {together set left whole : Set}
     (P : Partition n class members classes together) (L : LeftOf n class set left) (i : In left x)
-    (e : c ≡ get_or class x 0) (W : SetOf (Member members c) whole) (D : SetOf (λ y. In left y × ¬ (In whole y)) less)
-  where
+    (e : c ≡ get_or class x 0) (W : SetOf (Member members c) whole) where
+  pub whole_has : In whole x
+  whole_has = in_whole P W x (L.state_lt x i) (sym e)
+
+  module _ {less : Set} (D : SetOf (λ y. In left y × ¬ (In whole y)) less) where
     untaken : (p : ℕ) → In left p → ¬ (get_or class p 0 ≡ c) → In less p
     untaken p j d = D.all p (j, λ w. d (P.member_only c p (class_of_left_lt P L i e) (W.only p w)).1)
-
-    pub whole_has : In whole x
-    whole_has = in_whole P W x (L.state_lt x i) (sym e)
 
     pub left_of_less : {next : List ℕ} → ((p q : ℕ) → p < n → q < n → Same next p q → Same class p q)
         → LeftOf n next set less

@@ -1,6 +1,6 @@
 -- The columns that a row is read into: its numbers stand in the last ones. Only the contracts of inner functions cite
 -- it.
-use Rattle.std.specs.Prelude.{Bool, List, ◌≡◌, ℕ, ◌-◌, length, drop}
+use Rattle.std.specs.Prelude.{Bool, List, ◌≡◌, ℕ, ◌-◌, length, drop, Option}
 use Rattle.text.specs.declared.row.Row.{Row}
 use Rattle.text.specs.declared.row.RowScan.{RowScan}
 use Rattle.text.specs.Lines.{row_count}
@@ -23,5 +23,5 @@ pub record ColumnsTo (row : Row) (text : List ℕ) (at : ℕ) (outside : Bool) (
   pub row_to : RowTo row text at outside (numbers_in row out) (column - first_column row) e
 
 -- what reading them came to
-abbrev pub ColumnsScanned : Row → List ℕ → ℕ → List ℕ → ℕ → RowScan → Type 0
+abbrev pub ColumnsScanned : Row → List ℕ → ℕ → List ℕ → ℕ → Option RowScan → Type 0
 ColumnsScanned row text at out column r = RowScanned row text at (numbers_in row out) (column - first_column row) r

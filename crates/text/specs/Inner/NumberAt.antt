@@ -2,12 +2,12 @@
 -- cite it.
 -- Document 01, "The text"; document 02, (i).
 use Rattle.std.specs.Prelude.{cond, ◌||◌, List, [], ◌∷◌, ◌++◌, ◌⊎◌, ◌≡◌, ℕ, ◌+◌, ◌≤◌, ◌<◌, eqb, length, drop, get_or}
+use Rattle.std.specs.Prelude.{Option, Some, None, Result, Err}
 use Rattle.std.proofs.Math.Option.{none, some}
 use Rattle.text.specs.declared.number.Bounds.{Bounds}
-use Rattle.text.specs.declared.number.DigitsRead.{DigitsRead}
-use Rattle.text.specs.declared.number.DigitsRead.TheVariants as digits-read
-use Rattle.text.specs.declared.number.Number.{Number}
-use Rattle.text.specs.declared.number.Number.TheVariants.{BadDigits}
+use Rattle.text.specs.declared.number.Digits.{Digits}
+use Rattle.text.specs.declared.number.NumberFault.{NumberFault}
+use Rattle.text.specs.declared.number.NumberFault.TheVariants.{BadDigits}
 use Rattle.text.specs.All.{All}
 use Rattle.text.specs.Limits.{digit_limit}
 use Rattle.text.specs.Bytes.{byte_zero, digit, comma, line_end, kind_of}
@@ -59,14 +59,15 @@ Followed due s at = kind_of (get_or s (at + length (field_of (drop at s))) 0) �
 
 -- what the digits at a place come to: they stand before a byte of the kind `due`; or the bytes up to such a byte, if
 -- the field ends there, are no number
-unfoldable pub DigitsFound : ℕ → List ℕ → ℕ → DigitsRead → Type 0
-DigitsFound due s at (digits-read.To value end) = DigitsAt s at value end due
-DigitsFound due s at digits-read.Bad = Followed due s at → number_of (field_of (drop at s)) ≡ none
+unfoldable pub DigitsFound : ℕ → List ℕ → ℕ → Option Digits → Type 0
+DigitsFound due s at (Some digits) = DigitsAt s at digits.value digits.end due
+DigitsFound due s at None = Followed due s at → number_of (field_of (drop at s)) ≡ none
 
 -- The bytes from a place on, up to the next byte of the kind `due`, hold this number, and, if it is one, that byte
 -- stands at place e. If it ends the field, this is what the field holds; else there are other bytes than digits before
 -- it.
-pub record NumberRead (bounds : Bounds) (due : ℕ) (s : List ℕ) (at : ℕ) (number : Number) (e : ℕ) : Type 0 where
+pub record NumberRead (bounds : Bounds) (due : ℕ) (s : List ℕ) (at : ℕ) (number : Result ℕ NumberFault) (e : ℕ)
+    : Type 0 where
   pub read : Followed due s at → number_in bounds (field_of (drop at s)) ≡ number
-  pub other : ¬ (Followed due s at) → number ≡ BadDigits
-  pub place : (number ≡ BadDigits → ⊥) → e ≡ at + length (field_of (drop at s))
+  pub other : ¬ (Followed due s at) → number ≡ Err BadDigits
+  pub place : (number ≡ Err BadDigits → ⊥) → e ≡ at + length (field_of (drop at s))

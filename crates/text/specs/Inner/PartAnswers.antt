@@ -1,9 +1,7 @@
 -- What the functions that read parts of a line answer, in the terms of `Lines`. Only the contracts of inner functions
 -- cite it.
-use Rattle.std.specs.Prelude.{Bool, true, false, List, ◌≡◌, ℕ, ◌≤◌, length, drop}
+use Rattle.std.specs.Prelude.{Bool, true, false, List, ◌≡◌, ℕ, ◌≤◌, length, drop, Option, Some, None}
 use Rattle.text.specs.declared.Fault.TheVariants.{Shape}
-use Rattle.text.specs.declared.line.LevelRead.{LevelRead}
-use Rattle.text.specs.declared.line.LevelRead.TheVariants.{Level, NoLevel}
 use Rattle.text.specs.Bytes.{comma}
 use Rattle.text.specs.Split.{split}
 use Rattle.text.specs.Lines.{Line, good, bad, fields_of}
@@ -15,6 +13,6 @@ pub record Fields (letter n : ℕ) (line : List ℕ) (r : Bool) : Type 0 where
   pub yes_count : r ≡ true → length (split comma (drop 2 line)) ≡ n
   pub no_fields : r ≡ false → fields_of letter n line ≡ bad Shape
 
-unfoldable pub level_read : LevelRead → Line ℕ
-level_read (Level n) = good n
-level_read NoLevel = bad Shape
+unfoldable pub level_read : Option ℕ → Line ℕ
+level_read (Some n) = good n
+level_read None = bad Shape

@@ -2,15 +2,12 @@
 -- functions cite it.
 -- Document 01, "The text"; document 02, (i).
 use Rattle.std.specs.Prelude.{Bool, true, false, cond, List, [], ◌∷◌, ◌++◌, ◌⊎◌, ◌≡◌, ℕ, ◌+◌, ◌-◌, ◌≤◌, ◌<◌, eqb}
-use Rattle.std.specs.Prelude.{length, take, drop, get_or}
+use Rattle.std.specs.Prelude.{length, take, drop, get_or, Option, Some, None, Result, Ok, Err}
 use Rattle.text.specs.declared.Fault.{Fault}
 use Rattle.text.specs.declared.Fault.TheVariants.{Absent, Digits, Range}
 use Rattle.text.specs.declared.number.Bounds.{Bounds}
 use Rattle.text.specs.declared.row.Row.{Row}
 use Rattle.text.specs.declared.row.RowScan.{RowScan}
-use Rattle.text.specs.declared.row.RowScan.TheVariants as row-scan
-use Rattle.text.specs.declared.row.RowRead.{RowRead}
-use Rattle.text.specs.declared.row.RowRead.TheVariants as row_read
 use Rattle.text.specs.Bytes.{comma, line_end, kind_of}
 use Rattle.text.specs.Split.{split, index_of}
 use Rattle.text.specs.Lines.{Line, good, bad, fields_of, numbers_of, row_letter, row_count, row_bounds, states_of}
@@ -100,15 +97,15 @@ pub record BadNumbers (row : Row) (text : List ℕ) (at : ℕ) : Type 0 where
       → numbers_of (row_bounds row (states_of fs)) fs ≡ bad Digits
 
 -- what reading i numbers of the row at a place came to
-unfoldable pub RowScanned : Row → List ℕ → ℕ → List ℕ → ℕ → RowScan → Type 0
-RowScanned row text at out i (row-scan.To end outside) = RowTo row text at outside out i end
-RowScanned row text at out i row-scan.Bad = BadNumbers row text at
+unfoldable pub RowScanned : Row → List ℕ → ℕ → List ℕ → ℕ → Option RowScan → Type 0
+RowScanned row text at out i (Some scan) = RowTo row text at scan.outside out i scan.end
+RowScanned row text at out i None = BadNumbers row text at
 
 -- the row at a place is refused
 abbrev pub RowRefused : Row → List ℕ → ℕ → Fault → Type 0
 RowRefused row = LineRefused (row_of row)
 
 -- what the row at a place comes to
-unfoldable pub RowAt : Row → List ℕ → ℕ → List ℕ → RowRead → Type 0
-RowAt row text at ns (row_read.Good e) = LineAt (row_of row) text at (good ns) e
-RowAt row text at ns (row_read.Bad fault) = RowRefused row text at fault
+unfoldable pub RowAt : Row → List ℕ → ℕ → List ℕ → Result ℕ Fault → Type 0
+RowAt row text at ns (Ok e) = LineAt (row_of row) text at (good ns) e
+RowAt row text at ns (Err fault) = RowRefused row text at fault

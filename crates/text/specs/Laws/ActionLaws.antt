@@ -8,6 +8,7 @@ use Rattle.std.proofs.Math.Path.{ap}
 use native.Mathlib.Omega.{arith}
 use Rattle.std.proofs.Math.ListN.{length}
 use Rattle.std.proofs.lemmas.Bool.{lt-leb}
+use Rattle.std.specs.List.{list_all}
 use Rattle.text.specs.declared.Fault.TheVariants.{Shape}
 use Rattle.text.specs.Bytes.{byte_a, byte_l, byte_d, byte_h, byte_t, digit, small_letter, capital, comma, kind_of}
 use Rattle.text.specs.Split.{split, index_of, same?}
@@ -71,6 +72,12 @@ pub all_name_bad : (b : ℕ) (bs : List ℕ) → (kind_of b ≡ digit → ⊥) �
     → all_of name_byte? (b ∷ bs) ≡ false
 unfolding all_of name_byte?
 all_name_bad b bs h l = rw (ne_eqb (kind_of b) digit h, ne_eqb (kind_of b) small_letter l)
+
+-- `all_of` is the library's test of each element
+pub all_of_list : (test : ℕ → Bool) (f : List ℕ) → all_of test f ≡ list_all test f
+unfolding all_of
+all_of_list test [] = refl
+all_of_list test (b ∷ bs) = ap (λ t. test b && t) (all_of_list test bs)
 
 name-tests : (f : List ℕ) {l m : Bool} → leb 1 (length f) ≡ l → leb (length f) name_limit ≡ m
     → name? f ≡ l && m && all_of name_byte? f

@@ -1,18 +1,17 @@
 -- A row, column by column: the columns that it leaves free are passed, and the others hold its numbers.
 -- Assumes nothing. Only functions that read a row cite it.
 use Rattle.std.specs.Prelude.{Bool, true, false, List, [], ◌∷◌, ◌≡◌, refl, ℕ, zero, suc, ◌+◌, ◌-◌, ◌≤◌, ◌<◌, length}
-use Rattle.std.specs.Prelude.{get_or}
+use Rattle.std.specs.Prelude.{get_or, Some, Result, Ok, Err}
 use Rattle.std.proofs.Common.{sym, ◌∙◌, length-drop, get_or-drop}
 use Rattle.std.proofs.Math.Path.{ap}
 use native.Mathlib.Omega.{arith}
 use Rattle.std.proofs.Math.ListN.{drop, set}
 use Rattle.text.specs.declared.Head.{Head}
 use Rattle.text.specs.declared.number.Bounds.{Bounds}
-use Rattle.text.specs.declared.number.Number.{Number}
-use Rattle.text.specs.declared.number.Number.TheVariants.{Value, BadDigits, Outside}
+use Rattle.text.specs.declared.number.NumberFault.{NumberFault}
+use Rattle.text.specs.declared.number.NumberFault.TheVariants.{BadDigits, Outside}
 use Rattle.text.specs.declared.row.Row.{Row}
 use Rattle.text.specs.declared.row.Row.TheVariants.{HeadRow, StartRow, StepRow}
-use Rattle.text.specs.declared.row.RowScan.TheVariants as row-scan
 use Rattle.text.specs.Numbers.{below}
 use Rattle.text.specs.Lines.{row_letter, row_count, row_bounds, step_numbers}
 use Rattle.text.specs.Inner.NumberAt.{field_of, Followed, NumberRead}
@@ -71,7 +70,7 @@ step_numbers-columns h out = rw (get_or-drop 1 out 0 0, get_or-drop 1 out 1 0, g
 module _ (row : Row) (text : List ℕ) (at : ℕ) (outside : Bool) (out : List ℕ) (column e : ℕ)
     (t : ColumnsTo row text at outside out column e) where
   -- a column that the row leaves free
-  pub column_free : column < first_column row → ColumnsScanned row text at out (column + 1) (row-scan.To e outside)
+  pub column_free : column < first_column row → ColumnsScanned row text at out (column + 1) (Some (record { end = e; outside = outside }))
   unfolding RowScanned
   column_free lt =
       let z : column + 1 - first_column row ≡ column - first_column row = omega arith in
@@ -80,7 +79,7 @@ module _ (row : Row) (text : List ℕ) (at : ℕ) (outside : Bool) (out : List �
   module _ (filled : first_column row ≤ column) (lt : column < columns) (b : Bounds)
       (given : b ≡ get_or (row_bounds row (get_or out 0 0)) (column - first_column row) (below 0))
       {due : ℕ} (separated : due ≡ separator_kind (column + 1) columns)
-      {number : Number} {e' : ℕ} (n : NumberRead b due text (e + 1) number e') where
+      {number : Result ℕ NumberFault} {e' : ℕ} (n : NumberRead b due text (e + 1) number e') where
     abbrev i : ℕ
     i = column - first_column row
 
@@ -111,13 +110,13 @@ module _ (row : Row) (text : List ℕ) (at : ℕ) (outside : Bool) (out : List �
     due_is : due ≡ separator_kind (i + 1) (row_count row)
     due_is = separated ∙ separator
 
-    pub column_bad : number ≡ BadDigits → BadNumbers row text at
+    pub column_bad : number ≡ Err BadDigits → BadNumbers row text at
     column_bad h =
         row_bad row text at outside (numbers_in row out) i e t.row_to i_lt b bounds
         (λ follows. n.read (follows ∙ sym due_is) ∙ h)
 
     -- a number is followed by what is due
-    module _ (some : number ≡ BadDigits → ⊥) where
+    module _ (some : number ≡ Err BadDigits → ⊥) where
       followed : Followed due text (e + 1)
       followed = by_kind (is _ due)
         where
@@ -129,15 +128,15 @@ module _ (row : Row) (text : List ℕ) (at : ℕ) (outside : Bool) (out : List �
       place : e' ≡ e + 1 + length (field_of (drop (e + 1) text))
       place = n.place some
 
-    pub column_outside : number ≡ Outside → ColumnsScanned row text at out (column + 1) (row-scan.To e' true)
+    pub column_outside : number ≡ Err Outside → ColumnsScanned row text at out (column + 1) (Some (record { end = e'; outside = true }))
     unfolding RowScanned
     column_outside h =
         let some = not_bad_outside h in
         rw (i_suc, place some) (row_outside row text at outside (numbers_in row out) i e t.row_to i_lt b bounds
         (followed some ∙ due_is) (n.read (followed some) ∙ h))
 
-    pub column_value : (v : ℕ) → number ≡ Value v
-        → ColumnsScanned row text at (set out column v) (column + 1) (row-scan.To e' outside)
+    pub column_value : (v : ℕ) → number ≡ Ok v
+        → ColumnsScanned row text at (set out column v) (column + 1) (Some (record { end = e'; outside = outside }))
     unfolding RowScanned
     column_value v h =
         let some = not_bad_value h in

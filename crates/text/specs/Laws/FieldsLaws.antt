@@ -1,18 +1,21 @@
 -- The fields of a line: how many there are, a field of one byte, and those after a letter.
 -- Document 01, "The text": "Fields in fixed order parted by commas". Assumes nothing.
-use Rattle.std.specs.Prelude.{Bool, ◌&&◌, List, [], ◌∷◌, ◌≡◌, refl, ℕ, suc, ◌+◌, ◌-◌, ◌≤◌, ◌<◌, T, ltb, length, take}
+use Rattle.std.specs.Prelude.{Bool, cond, ◌&&◌, List, [], ◌∷◌, ◌≡◌, refl, ℕ, suc, ◌+◌, ◌-◌, ◌≤◌, ◌<◌, T, ltb, length, take}
 use Rattle.std.specs.Prelude.{drop, get_or}
 use Rattle.std.proofs.Math.Bool.{true, false}
 use Rattle.std.proofs.Common.{sym, ◌∙◌, arith, eqb→eq, length-drop, get_or-drop, length-take-le}
 use Rattle.std.proofs.Math.Path.{ap}
 use Rattle.std.proofs.Math.Dec.{eqb}
+use Rattle.std.specs.List.{count_by}
+use Rattle.std.proofs.lemmas.Bool.{eqb-true, eqb-false}
+use Rattle.std.proofs.lemmas.List.Sums.{sum_by-cons}
 use borrow.Author.Tests.{ltb-true, ltb-false, eq-eqb, ne_eqb}
 use Rattle.text.specs.declared.Fault.{Fault}
 use Rattle.text.specs.declared.Fault.TheVariants.{Shape}
 use Rattle.text.specs.Bytes.{comma, kind_of}
 use Rattle.text.specs.Split.{cons_first, split, index_of, same?}
 use Rattle.text.specs.Laws.SplitLaws.{split-end, split-cons, split_first, split_part, split_last, split_none}
-use Rattle.text.specs.Laws.SplitLaws.{split-found, found_le}
+use Rattle.text.specs.Laws.SplitLaws.{split-nil, split-found, found_le}
 use Rattle.lts.proofs.TestsLaws.{and_left, and_right}
 use Rattle.text.specs.Laws.SameLaws.{and-false, same?→eq, same?-length}
 use Rattle.text.specs.Lines.{good, bad, checked, fields_from, fields_of}
@@ -30,6 +33,21 @@ unfolding cons_first
 count-cons kind b bs h =
     let w = split_first kind bs in
     ap length (split-cons kind b bs h ∙ ap (cons_first b) w.2) ∙ sym (ap length w.2)
+
+-- the bytes of a kind, and one more in front
+count_by-cons : (kind b : ℕ) (bs : List ℕ) {t : Bool} → eqb (kind_of b) kind ≡ t
+    → count_by (λ x. eqb (kind_of x) kind) (b ∷ bs) ≡ cond t 1 0 + count_by (λ x. eqb (kind_of x) kind) bs
+count_by-cons kind b bs e = sum_by-cons (λ x. cond (eqb (kind_of x) kind) 1 0) b bs ∙ rw e
+
+-- there is one more part than there are bytes that end one
+pub count_parts : (kind : ℕ) (s : List ℕ) → length (split kind s) ≡ count_by (λ b. eqb (kind_of b) kind) s + 1
+count_parts kind [] = ap length (split-nil kind)
+count_parts kind (b ∷ bs) = go (eqb (kind_of b) kind) refl (count_parts kind bs)
+  where
+    go : (t : Bool) → eqb (kind_of b) kind ≡ t → length (split kind bs) ≡ count_by (λ x. eqb (kind_of x) kind) bs + 1
+        → length (split kind (b ∷ bs)) ≡ count_by (λ x. eqb (kind_of x) kind) (b ∷ bs) + 1
+    go true t e = count-end kind b bs (eqb-true _ _ t) ∙ omega (arith, e, count_by-cons kind b bs t)
+    go false t e = count-cons kind b bs (eqb-false _ _ t) ∙ omega (arith, e, count_by-cons kind b bs t)
 
 -- ---- the first part, and the only part
 
@@ -196,3 +214,12 @@ module _ (letter n : ℕ) (line : List ℕ) (parts : split comma line ≡ (get_o
           yes_count = λ z. l;
           no_fields = λ z. absurd (clash (sym z));
         }
+
+    -- by the test of the first byte
+    pub fields_letter_test : 2 ≤ length line → length (split comma line) ≡ n + 1
+        → Fields letter n line (eqb (get_or line 0 0) letter)
+    fields_letter_test le counted = go (eqb (get_or line 0 0) letter) refl
+      where
+        go : (t : Bool) → eqb (get_or line 0 0) letter ≡ t → Fields letter n line t
+        go true t = fields_yes le counted (eqb-true _ _ t)
+        go false t = fields_other_letter (eqb-false _ _ t)

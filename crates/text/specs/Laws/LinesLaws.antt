@@ -1,6 +1,6 @@
 -- The order of steps, part by part, and what line 1 and the lines of extra starts and of steps state by their rows.
 -- Document 01, "The text"; document 02, (iii). Assumes nothing.
-use Rattle.std.specs.Prelude.{Bool, true, false, ◌&&◌, ◌||◌, List, ◌≡◌, refl, ℕ, ◌≤◌, ◌<◌, ltb, eqb, get_or}
+use Rattle.std.specs.Prelude.{Bool, true, false, ◌&&◌, ◌||◌, List, ◌≡◌, refl, ℕ, ◌≤◌, ◌<◌, ltb, eqb, get_or, Some, None}
 use Rattle.std.proofs.Math.Path.{ap}
 use Rattle.std.proofs.Common.{◌∙◌, arith, lt-ltb, le-ltb, eq-eqb, ne_eqb}
 use Rattle.text.specs.declared.Fault.{Fault}
@@ -12,7 +12,7 @@ use Rattle.text.specs.Model.{last_start, above?, above_last?}
 use Rattle.text.specs.Lines.{good, bad, checked, row_of, head_numbers, head_from, head_of}
 use Rattle.text.specs.Lines.{above_starts?, start_from, start_of}
 use Rattle.text.specs.Lines.{step_numbers, step_from, step_of}
-use Rattle.text.specs.Inner.LineAnswers.{Last}
+use Rattle.text.specs.Inner.LineAnswers.{after?, Last}
 
 -- ---- the order of steps
 
@@ -89,11 +89,11 @@ module _ (h : Head) (before : List StepLine) where
   step_of_order n o line e = ap (step_from before) e ∙ rw (n, o)
 
 -- the first step stands above those before it
-pub last-nil : {before : List StepLine} {j : ℕ} {last : StepLine} (s : StepLine) → Last before j last → j ≡ 0
-    → above_last? before s ≡ true
-unfolding above_last?
-last-nil s l z = ap (λ (x : List StepLine). above_last? x s) (l.nil z)
+pub last-nil : {before : List StepLine} (s : StepLine) → Last before None → above_last? before s ≡ true
+unfolding after?
+last-nil s l = l.above s
 
-pub last_cons : {before : List StepLine} {j : ℕ} {last : StepLine} (s : StepLine) → Last before j last → (j ≡ 0 → ⊥)
+pub last_cons : {before : List StepLine} {last : StepLine} (s : StepLine) → Last before (Some last)
     → above_last? before s ≡ above? last s
-last_cons s l z = l.cons (omega arith) s
+unfolding after?
+last_cons s l = l.above s

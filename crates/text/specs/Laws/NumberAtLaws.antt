@@ -2,7 +2,7 @@
 -- Document 01, "The text": "Numbers have 1 to 5 digits and no leading zero, except `0` itself." Assumes nothing.
 use Rattle.std.proofs.Math.Bool.{or-true}
 use Rattle.std.specs.Prelude.{List, [], ◌∷◌, ◌++◌, ◌⊎◌, ◌≡◌, refl, ℕ, ◌+◌, ◌-◌, ◌*◌, ◌≤◌, ◌<◌, eqb, length, drop}
-use Rattle.std.specs.Prelude.{get_or}
+use Rattle.std.specs.Prelude.{get_or, Option, Some, None}
 use Rattle.std.proofs.Common.{append_assoc, append-nil, inl, inr, sym, ap, ◌∙◌, subst, arith, length-append}
 use Rattle.std.proofs.Common.{drop_of_length-le, get_or-drop, eq-eqb, ne_eqb}
 use Rattle.std.proofs.Math.Option.{none, some}
@@ -13,8 +13,7 @@ use Rattle.text.specs.Bytes as bytes
 use Rattle.text.specs.Numbers.{digits_value, number_of}
 use Rattle.text.specs.Inner.NumberAt.{AllDigits, DigitsTo, DigitsAt, Separator, FieldEnds, NumberShape}
 use Rattle.text.specs.Inner.NumberAt.{field_of, Followed, DigitsFound}
-use Rattle.text.specs.declared.number.DigitsRead.{DigitsRead}
-use Rattle.text.specs.declared.number.DigitsRead.TheVariants as digits-read
+use Rattle.text.specs.declared.number.Digits.{Digits}
 use Rattle.text.specs.Laws.AllLaws.{all_append}
 use Rattle.text.specs.Laws.DigitsLaws.{value-append}
 use Rattle.text.specs.Laws.ListLaws.{drop_next}
@@ -206,12 +205,12 @@ separator-digit due (inl c) h = omega (arith, c, h)
 separator-digit due (inr c) h = omega (arith, c, h)
 
 -- what was found, by the answer
-pub digits-found : (due : ℕ) (s : List ℕ) (at : ℕ) (r : DigitsRead) {v e : ℕ} → r ≡ digits-read.To v e
-    → DigitsFound due s at r → DigitsAt s at v e due
+pub digits-found : (due : ℕ) (s : List ℕ) (at : ℕ) (r : Option Digits) {d : Digits} → r ≡ Some d
+    → DigitsFound due s at r → DigitsAt s at d.value d.end due
 unfolding DigitsFound
 digits-found due s at r h f = subst (DigitsFound due s at) h f
 
-pub digits_bad : (due : ℕ) (s : List ℕ) (at : ℕ) (r : DigitsRead) → r ≡ digits-read.Bad → DigitsFound due s at r
+pub digits_bad : (due : ℕ) (s : List ℕ) (at : ℕ) (r : Option Digits) → r ≡ None → DigitsFound due s at r
     → Followed due s at → number_of (field_of (drop at s)) ≡ none
 unfolding DigitsFound
 digits_bad due s at r h f = subst (DigitsFound due s at) h f

@@ -1,6 +1,6 @@
 -- The tests of bounds decide them.
 -- Document 01, "The text"; document 02, (iii). Assumes nothing.
-use Rattle.std.specs.Prelude.{Bool, true, false, not, List, [], ◌∷◌, ◌≡◌, refl, T, leb, ltb}
+use Rattle.std.specs.Prelude.{Bool, true, false, ◌&&◌, not, List, [], ◌∷◌, ◌≡◌, refl, T, leb, ltb}
 use Rattle.std.proofs.Common.{sym, ◌∙◌, arith, le→leb}
 use Prim.Native.Nat.{ℕ, suc, ◌≤◌, ◌<◌}
 use Rattle.std.proofs.Math.Dec.{leb→le, ltb→lt, lt→ltb}
@@ -10,7 +10,7 @@ use Rattle.text.specs.declared.Head.{Head}
 use Rattle.text.specs.declared.StepLine.{StepLine}
 use Rattle.text.specs.declared.number.Bounds.{Bounds}
 use Rattle.text.specs.Limits.{state_limit, action_limit, step_limit}
-use Rattle.text.specs.Numbers.{in_bounds?}
+use Rattle.text.specs.Numbers.{from_to, below, in_bounds?}
 use Rattle.text.specs.Model.{last_start}
 use Rattle.text.specs.Lines.{fits?, head_bounds, start_bounds, step_bounds}
 use Rattle.text.specs.Lines.{head_fits?, start_fits?, above_starts?, step_fits?}
@@ -63,6 +63,17 @@ module _ (bs : List Bounds) (n : ℕ) (ns : List ℕ) {b c : Bounds} {t : Bool} 
   unfolding fits?
   fits_passed h = rw (first_test ∙ not-false t h)
 
+-- a test of a number within bounds, both given by equal ones
+pub tested : {b c : Bounds} {m n : ℕ} {t : Bool} → c ≡ b → m ≡ n → t ≡ in_bounds? c m → t ≡ in_bounds? b n
+tested e f g = rw (← e, ← f) g
+
+-- a test behind `&&`, made where those before it passed
+pub and_tested : {a t v : Bool} → a ≡ true → v ≡ t → v ≡ (a && t)
+and_tested e f = rw e f
+
+pub and_failed : {a v : Bool} (t : Bool) → a ≡ false → v ≡ a → v ≡ (a && t)
+and_failed t e f = rw e (f ∙ e)
+
 -- the last number is tested
 pub fits_last : (n : ℕ) {b c : Bounds} {t : Bool} → c ≡ b → t ≡ in_bounds? c n → fits? (b ∷ []) (n ∷ []) ≡ t
 fits_last n {b} {c} {t} e f = by_test t f
@@ -76,7 +87,31 @@ fits_last n {b} {c} {t} e f = by_test t f
 zero_le : (n : ℕ) → 0 ≤ n
 zero_le n = omega arith
 
+-- as `&&` groups the tests
+fits_three : (a b c : Bool) → (a && b && c) ≡ (a && (b && (c && true)))
+fits_three true b true = refl
+fits_three true true false = refl
+fits_three true false false = refl
+fits_three false b c = refl
+
+fits_four : (a b c d : Bool) → (a && b && c && d) ≡ (a && (b && (c && (d && true))))
+fits_four true b c d = fits_three b c d
+fits_four false b c d = refl
+
 module _ (h : Head) where
+  pub head_fits?-tests : (in_bounds? (from_to 1 state_limit) h.states && in_bounds? (from_to 1 action_limit) h.actions
+      && in_bounds? (from_to 0 step_limit) h.steps && in_bounds? (below h.states) h.start.0) ≡ head_fits? h
+  unfolding head_fits? fits? head_bounds
+  head_fits?-tests = fits_four (in_bounds? (from_to 1 state_limit) h.states)
+      (in_bounds? (from_to 1 action_limit) h.actions) (in_bounds? (from_to 0 step_limit) h.steps)
+      (in_bounds? (below h.states) h.start.0)
+
+  pub step_fits?-tests : (s : StepLine) → (in_bounds? (below h.states) s.source.0
+      && in_bounds? (below h.actions) s.action.0 && in_bounds? (below h.states) s.target.0) ≡ step_fits? h s
+  unfolding step_fits? fits? step_bounds
+  step_fits?-tests s = fits_three (in_bounds? (below h.states) s.source.0)
+      (in_bounds? (below h.actions) s.action.0) (in_bounds? (below h.states) s.target.0)
+
   pub head_fits?→HeadRanges : T (head_fits? h) → HeadRanges h
   unfolding head_fits? head_bounds
   head_fits?→HeadRanges t =

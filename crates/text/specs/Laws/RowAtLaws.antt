@@ -1,6 +1,7 @@
 -- What the row at a place comes to: its faults in their order, and by the answer.
 -- Document 02, (i). Assumes nothing. Only functions that read a row cite it.
 use Rattle.std.specs.Prelude.{Bool, List, ◌≡◌, refl, ℕ, ◌+◌, ◌-◌, ◌≤◌, ◌<◌, take, drop}
+use Rattle.std.specs.Prelude.{Option, Some, None, Result, Ok, Err}
 use Rattle.std.proofs.Common.{inl, inr, sym, ap, ◌∙◌}
 use Rattle.std.proofs.Math.Path.{subst}
 use native.Mathlib.Omega.{arith}
@@ -8,10 +9,7 @@ use Rattle.std.proofs.Math.ListN.{length}
 use Rattle.text.specs.declared.Fault.{Fault}
 use Rattle.text.specs.declared.Fault.TheVariants.{Absent, Shape, Digits}
 use Rattle.text.specs.declared.row.Row.{Row}
-use Rattle.text.specs.declared.row.RowRead.{RowRead}
-use Rattle.text.specs.declared.row.RowRead.TheVariants as row_read
 use Rattle.text.specs.declared.row.RowScan.{RowScan}
-use Rattle.text.specs.declared.row.RowScan.TheVariants as row-scan
 use Rattle.text.specs.Bytes.{line_end}
 use Rattle.text.specs.Split.{index_of}
 use Rattle.text.specs.Lines.{good, bad, fields_of}
@@ -22,20 +20,20 @@ use Rattle.text.specs.Inner.Row.{RowTo, BadNumbers, RowScanned, RowRefused, RowA
 
 -- ---- what reading some numbers came to
 
-module _ (row : Row) (text : List ℕ) (at : ℕ) (out : List ℕ) (i : ℕ) (r : RowScan) (s : RowScanned row text at out i r)
-  where
-    pub scanned_to : {e : ℕ} {outside : Bool} → r ≡ row-scan.To e outside → RowTo row text at outside out i e
-    unfolding RowScanned
-    scanned_to h = subst (RowScanned row text at out i) h s
+module _ (row : Row) (text : List ℕ) (at : ℕ) (out : List ℕ) (i : ℕ) (r : Option RowScan)
+    (s : RowScanned row text at out i r) where
+  pub scanned_to : {scan : RowScan} → r ≡ Some scan → RowTo row text at scan.outside out i scan.end
+  unfolding RowScanned
+  scanned_to h = subst (RowScanned row text at out i) h s
 
-    -- however many numbers are asked for
-    pub scanned_bad : (out' : List ℕ) (j : ℕ) → r ≡ row-scan.Bad → RowScanned row text at out' j r
-    unfolding RowScanned
-    scanned_bad out' j h = subst (RowScanned row text at out' j) (sym h) (subst (RowScanned row text at out i) h s)
+  -- however many numbers are asked for
+  pub scanned_bad : (out' : List ℕ) (j : ℕ) → r ≡ None → RowScanned row text at out' j r
+  unfolding RowScanned
+  scanned_bad out' j h = subst (RowScanned row text at out' j) (sym h) (subst (RowScanned row text at out i) h s)
 
-    pub scanned_bad_numbers : r ≡ row-scan.Bad → BadNumbers row text at
-    unfolding RowScanned
-    scanned_bad_numbers h = subst (RowScanned row text at out i) h s
+  pub scanned_bad_numbers : r ≡ None → BadNumbers row text at
+  unfolding RowScanned
+  scanned_bad_numbers h = subst (RowScanned row text at out i) h s
 
 -- ---- rows that are refused
 
@@ -72,11 +70,11 @@ module _ (row : Row) (text : List ℕ) (at : ℕ) where
 
 -- ---- what a row came to, by the answer
 
-module _ (row : Row) (text : List ℕ) (at : ℕ) (ns : List ℕ) (r : RowRead) (a : RowAt row text at ns r) where
-  pub row_at_good : {e : ℕ} → r ≡ row_read.Good e → LineAt (row_of row) text at (good ns) e
+module _ (row : Row) (text : List ℕ) (at : ℕ) (ns : List ℕ) (r : Result ℕ Fault) (a : RowAt row text at ns r) where
+  pub row_at_good : {e : ℕ} → r ≡ Ok e → LineAt (row_of row) text at (good ns) e
   unfolding RowAt
   row_at_good h = subst (RowAt row text at ns) h a
 
-  pub row_at_bad : {fault : Fault} → r ≡ row_read.Bad fault → RowRefused row text at fault
+  pub row_at_bad : {fault : Fault} → r ≡ Err fault → RowRefused row text at fault
   unfolding RowAt
   row_at_bad h = subst (RowAt row text at ns) h a

@@ -1,11 +1,12 @@
 -- The kinds of rows, and numbers in front of others.
 -- Document 01, "The text"; document 02, (i). Assumes nothing.
 use Rattle.std.specs.Prelude.{Bool, true, false, List, [], ◌∷◌, ◌++◌, ◌≡◌, refl, ℕ, ◌+◌, ◌≤◌, ◌<◌, length, drop, get_or}
+use Rattle.std.specs.Prelude.{Result, Ok, Err}
 use Rattle.std.proofs.Common.{append_assoc, inl, inr, sym, ap, add-one, arith, drop-cons, eq-eqb, ne_eqb}
 use Rattle.text.specs.declared.Fault.{Fault}
 use Rattle.text.specs.declared.number.Bounds.{Bounds}
-use Rattle.text.specs.declared.number.Number.{Number}
-use Rattle.text.specs.declared.number.Number.TheVariants.{Value, BadDigits, Outside}
+use Rattle.text.specs.declared.number.NumberFault.{NumberFault}
+use Rattle.text.specs.declared.number.NumberFault.TheVariants.{BadDigits, Outside}
 use Rattle.text.specs.declared.row.Row.{Row}
 use Rattle.text.specs.declared.row.Row.TheVariants.{HeadRow, StartRow, StepRow}
 use Rattle.text.specs.Bytes.{capital, comma, line_end, kind_of}
@@ -46,11 +47,11 @@ row_bounds_first (StartRow h) a b d = refl
 row_bounds_first (StepRow h) a b d = refl
 
 -- the others may depend on the first, by its own bounds
-pub row_bounds_states : (row : Row) (f : List ℕ) (fs : List (List ℕ)) (a : ℕ) (d : Bounds) (number : Number)
+pub row_bounds_states : (row : Row) (f : List ℕ) (fs : List (List ℕ)) (a : ℕ) (d : Bounds) (number : Result ℕ NumberFault)
     → number_in (get_or (row_bounds row a) 0 d) f ≡ number
     → row_bounds row (value_or0 number) ≡ row_bounds row (states_of (f ∷ fs))
 unfolding row_bounds head_bounds states_of
-row_bounds_states HeadRow f fs a d number e = ap (λ (n : Number). row_bounds HeadRow (value_or0 n)) (sym e)
+row_bounds_states HeadRow f fs a d number e = ap (λ (n : Result ℕ NumberFault). row_bounds HeadRow (value_or0 n)) (sym e)
 row_bounds_states (StartRow h) f fs a d number e = refl
 row_bounds_states (StepRow h) f fs a d number e = refl
 
@@ -76,10 +77,10 @@ separator_kind_separator i n = go (is i n)
     go (other e) = inl (separator_kind_other i n e)
 
 -- a field with a number in or outside its bounds has no bad digits
-pub not_bad_value : {number : Number} {v : ℕ} → number ≡ Value v → number ≡ BadDigits → ⊥
+pub not_bad_value : {number : Result ℕ NumberFault} {v : ℕ} → number ≡ Ok v → number ≡ Err BadDigits → ⊥
 not_bad_value h e = let z : ◌≡◌ {A = ℕ} 0 1 = cc in omega arith
 
-pub not_bad_outside : {number : Number} → number ≡ Outside → number ≡ BadDigits → ⊥
+pub not_bad_outside : {number : Result ℕ NumberFault} → number ≡ Err Outside → number ≡ Err BadDigits → ⊥
 not_bad_outside h e = let z : ◌≡◌ {A = ℕ} 0 1 = cc in omega arith
 
 -- ---- numbers in front of others
@@ -93,7 +94,7 @@ prepend_bad true ns fault = refl
 prepend_bad false ns fault = refl
 
 pub prepend_value : (outside : Bool) (ns : List ℕ) (v : ℕ) (l : Line (List ℕ))
-    → prepend outside ns (cons_number (Value v) l) ≡ prepend outside (ns ++ (v ∷ [])) l
+    → prepend outside ns (cons_number (Ok v) l) ≡ prepend outside (ns ++ (v ∷ [])) l
 unfolding cons_number
 prepend_value false ns v (good ms) = ap good (sym (append_assoc ns (v ∷ []) ms))
 prepend_value true ns v (good ms) = refl
@@ -101,7 +102,7 @@ prepend_value false ns v (bad fault) = refl
 prepend_value true ns v (bad fault) = refl
 
 pub prepend_outside : (outside : Bool) (ns ms : List ℕ) (l : Line (List ℕ))
-    → prepend outside ns (cons_number Outside l) ≡ prepend true ms l
+    → prepend outside ns (cons_number (Err Outside) l) ≡ prepend true ms l
 unfolding cons_number
 prepend_outside false ns ms (good l) = refl
 prepend_outside true ns ms (good l) = refl

@@ -1,6 +1,6 @@
 -- A row, number by number: those read and the fields that are left make up what all its fields hold.
 -- Document 01, "The text"; document 02, (i). Assumes nothing. Only functions that read a row cite it.
-use Rattle.std.specs.Prelude.{Bool, false, ◌⊎◌, ◌≡◌, ℕ, ◌+◌, ◌-◌, ◌≤◌, ◌<◌, take, drop, set}
+use Rattle.std.specs.Prelude.{Bool, false, ◌⊎◌, ◌≡◌, ℕ, ◌+◌, ◌-◌, ◌≤◌, ◌<◌, take, drop, set, Result, Ok, Err}
 use Rattle.std.proofs.Math.Bool.{true}
 use mathlib.Core.List.{List, [], ◌∷◌, append-nil}
 use Rattle.std.proofs.Common.{inl, inr, sym, ◌∙◌, length-set, length-drop, drop-drop, get_or-drop, take-suc-set}
@@ -12,8 +12,8 @@ use Rattle.std.proofs.Math.ListN.{length, get_or}
 use Rattle.std.proofs.Math.Seq.{get_or-set_same, get_or-set_other}
 use Rattle.text.specs.declared.Fault.TheVariants.{Digits, Range}
 use Rattle.text.specs.declared.number.Bounds.{Bounds}
-use Rattle.text.specs.declared.number.Number.{Number}
-use Rattle.text.specs.declared.number.Number.TheVariants.{Value, BadDigits, Outside}
+use Rattle.text.specs.declared.number.NumberFault.{NumberFault}
+use Rattle.text.specs.declared.number.NumberFault.TheVariants.{BadDigits, Outside}
 use Rattle.text.specs.declared.row.Row.{Row}
 use Rattle.text.specs.Bytes.{comma, line_end, kind_of}
 use Rattle.text.specs.Split.{index_of}
@@ -143,7 +143,7 @@ module _ (row : Row) (text : List ℕ) (at : ℕ) where
       abbrev rest : Line (List ℕ)
       rest = numbers_of (drop (i + 1) bs) (fields_after (drop end text))
 
-      left_numbers : {number : Number} → number_in b f ≡ number
+      left_numbers : {number : Result ℕ NumberFault} → number_in b f ≡ number
           → numbers_of bs F ≡ prepend outside (take i out) (cons_number number rest)
       left_numbers {number} read =
           let l = row_bounds-length row (states_of F) in
@@ -152,7 +152,7 @@ module _ (row : Row) (text : List ℕ) (at : ℕ) where
           t.numbers
           ∙ ap (λ (fs : List (List ℕ)). prepend outside (take i out) (numbers_of (drop i bs) fs)) left
           ∙ ap (prepend outside (take i out)) (numbers_of-cons bs i (below 0) f (fields_after (drop end text)) k
-          ∙ ap (λ (n : Number). cons_number n rest) (ap (λ (x : Bounds). number_in x f) (sym q) ∙ read))
+          ∙ ap (λ (n : Result ℕ NumberFault). cons_number n rest) (ap (λ (x : Bounds). number_in x f) (sym q) ∙ read))
 
       -- in a line with the row's fields the right byte follows
       in_line : at + index_of line_end (drop at text) < length text → length F ≡ row_count row
@@ -185,7 +185,7 @@ module _ (row : Row) (text : List ℕ) (at : ℕ) where
               absurd (q (omega arith))
 
       -- bad digits, if the right byte follows
-      pub row_bad : (kind_of (get_or text end 0) ≡ separator_kind (i + 1) (row_count row) → number_in b f ≡ BadDigits)
+      pub row_bad : (kind_of (get_or text end 0) ≡ separator_kind (i + 1) (row_count row) → number_in b f ≡ Err BadDigits)
           → BadNumbers row text at
       unfolding cons_number
       row_bad bad-digits = record {
@@ -196,7 +196,7 @@ module _ (row : Row) (text : List ℕ) (at : ℕ) where
       }
 
       -- the number is read, and the right byte follows
-      module _ (number : Number) (read : number_in b f ≡ number)
+      module _ (number : Result ℕ NumberFault) (read : number_in b f ≡ number)
           (follows : kind_of (get_or text end 0) ≡ separator_kind (i + 1) (row_count row))
           (outside' : Bool) (out' : List ℕ) (same_length : length out' ≡ length out)
           (kept : 0 < i → get_or out' 0 0 ≡ get_or out 0 0) (stored : i ≡ 0 → get_or out' 0 0 ≡ value_or0 number)
@@ -231,20 +231,20 @@ module _ (row : Row) (text : List ℕ) (at : ℕ) where
         }
 
       module _ (follows : kind_of (get_or text end 0) ≡ separator_kind (i + 1) (row_count row)) where
-        pub row_value : (v : ℕ) → number_in b f ≡ Value v → RowTo row text at outside (set out i v) (i + 1) end
+        pub row_value : (v : ℕ) → number_in b f ≡ Ok v → RowTo row text at outside (set out i v) (i + 1) end
         unfolding value_or0
         row_value v read =
             let n = t.out_length in
             let k : i < length out = omega arith in
             let one = add-one i in
-            row_next (Value v) read follows outside (set out i v) (length-set out i v)
+            row_next (Ok v) read follows outside (set out i v) (length-set out i v)
             (λ p. get_or-set_other out i 0 v 0 (λ z. omega (arith, z)))
             (λ z. ap (λ (j : ℕ). get_or (set out j v) 0 0) z ∙ get_or-set_same out 0 v 0 (omega (arith, z)))
             (λ l. prepend_value outside (take i out) v l
             ∙ ap (λ (ns : List ℕ). prepend outside ns l) (sym (rw one (take-suc-set out i v k))))
 
-        pub row_outside : number_in b f ≡ Outside → RowTo row text at true out (i + 1) end
+        pub row_outside : number_in b f ≡ Err Outside → RowTo row text at true out (i + 1) end
         unfolding value_or0
         row_outside read =
-            row_next Outside read follows true out refl (λ p. refl) (λ z. (t.none z).1)
+            row_next (Err Outside) read follows true out refl (λ p. refl) (λ z. (t.none z).1)
             (λ l. prepend_outside outside (take i out) (take (i + 1) out) l)

@@ -1,16 +1,13 @@
 -- What a line at a place comes to by another reading of it, and what the lines of extra starts and of steps come to by
 -- the answer.
 -- Document 01, "The text"; document 02, (iii). Assumes nothing.
-use Rattle.std.specs.Prelude.{List, ◌≡◌, ℕ}
+use Rattle.std.specs.Prelude.{List, ◌≡◌, ℕ, Result, Ok, Err}
 use Rattle.std.proofs.Common.{inl, inr}
 use Rattle.std.proofs.Math.Path.{subst}
 use Rattle.text.specs.declared.Fault.{Fault}
 use Rattle.text.specs.declared.State.{State}
 use Rattle.text.specs.declared.StepLine.{StepLine}
-use Rattle.text.specs.declared.scan.StartAt.{StartAt}
-use Rattle.text.specs.declared.scan.StartAt.TheVariants as start-at
-use Rattle.text.specs.declared.scan.StepAt.{StepAt}
-use Rattle.text.specs.declared.scan.StepAt.TheVariants as step_at_lem
+use Rattle.text.specs.declared.scan.Taken.{Taken}
 use Rattle.text.specs.Lines.{Line, bad}
 use Rattle.text.specs.Inner.Row.{LineAt, LineTaken, LineRefused}
 use Rattle.text.specs.Inner.Scan.{StartAtRead, StepAtRead}
@@ -29,21 +26,22 @@ module _ {A B : Type 0} {read : List ℕ → Line A} {other : List ℕ → Line 
 
 -- ---- by the answer
 
-module _ (read : List ℕ → Line ℕ) (text : List ℕ) (at : ℕ) (r : StartAt) (a : StartAtRead read text at r) where
-  pub start_at_good : (start : State) (next : ℕ) → r ≡ start-at.Good start next
-      → LineTaken read text at start.0 next
+module _ (read : List ℕ → Line ℕ) (text : List ℕ) (at : ℕ) (r : Result (Taken State) Fault)
+    (a : StartAtRead read text at r) where
+  pub start_at_good : {start : Taken State} → r ≡ Ok start → LineTaken read text at start.stated.0 start.next
   unfolding StartAtRead
-  start_at_good start next h = subst (StartAtRead read text at) h a
+  start_at_good h = subst (StartAtRead read text at) h a
 
-  pub start_at_bad : (fault : Fault) → r ≡ start-at.Bad fault → LineRefused read text at fault
+  pub start_at_bad : {fault : Fault} → r ≡ Err fault → LineRefused read text at fault
   unfolding StartAtRead
-  start_at_bad fault h = subst (StartAtRead read text at) h a
+  start_at_bad h = subst (StartAtRead read text at) h a
 
-module _ (read : List ℕ → Line StepLine) (text : List ℕ) (at : ℕ) (r : StepAt) (a : StepAtRead read text at r) where
-  pub step_at_good : (s : StepLine) (next : ℕ) → r ≡ step_at_lem.Good s next → LineTaken read text at s next
+module _ (read : List ℕ → Line StepLine) (text : List ℕ) (at : ℕ) (r : Result (Taken StepLine) Fault)
+    (a : StepAtRead read text at r) where
+  pub step_at_good : {step : Taken StepLine} → r ≡ Ok step → LineTaken read text at step.stated step.next
   unfolding StepAtRead
-  step_at_good s next h = subst (StepAtRead read text at) h a
+  step_at_good h = subst (StepAtRead read text at) h a
 
-  pub step_at_bad : (fault : Fault) → r ≡ step_at_lem.Bad fault → LineRefused read text at fault
+  pub step_at_bad : {fault : Fault} → r ≡ Err fault → LineRefused read text at fault
   unfolding StepAtRead
-  step_at_bad fault h = subst (StepAtRead read text at) h a
+  step_at_bad h = subst (StepAtRead read text at) h a

@@ -1,12 +1,12 @@
 -- What an answer was made to tell. Only the contracts of inner functions cite it.
 -- Document 01, last paragraph: number and values for each case.
-use Rattle.std.specs.Prelude.{[], ◌≡◌}
+use Rattle.std.specs.Prelude.{[], ◌≡◌, Result, Ok, Err}
 use Rattle.text.specs.Faults.{Outcome, answers}
 use Rattle.read_write.specs.ReadPromise.{read_outcome}
 use Rattle.judge.specs.JudgePromise.{judge_outcome}
 use Rattle.judge.specs.WordPromise.{word_outcome}
-use Rattle.tell.specs.declared.tell.TextAnswer.{TextAnswer}
-use Rattle.tell.specs.declared.tell.TextAnswer.TheVariants.{Unread, Judged}
+use Rattle.judge.specs.declared.judge_word.JudgeWordAnswer.{JudgeWordAnswer}
+use Rattle.read_write.specs.declared.read.ReadRefusal.{ReadRefusal}
 use Rattle.till_c.specs.declared.answer.TillAnswer.{TillAnswer}
 use Rattle.till_c.specs.declared.answer.TillTold.{TillTold}
 use Rattle.till_c.specs.Answer.{answer_outcome, answer_for}
@@ -23,6 +23,6 @@ pub record TellsThree (r : TillTold) (read judge word : Outcome) : Type 0 where
   pub word_tells : Tells r.word word
 
 -- What is not called tells no value.
-abbrev pub TellsText : TillTold → TextAnswer → Type 0
-TellsText r (Unread read) = TellsThree r (read_outcome read) (answers []) (answers [])
-TellsText r (Judged judge word) = TellsThree r (answers []) (judge_outcome judge) (word_outcome word)
+abbrev pub TellsText : TillTold → Result JudgeWordAnswer ReadRefusal → Type 0
+TellsText r (Err read) = TellsThree r (read_outcome (Err read)) (answers []) (answers [])
+TellsText r (Ok told) = TellsThree r (answers []) (judge_outcome told.judge) (word_outcome told.word)

@@ -1,5 +1,5 @@
 -- The entries of a round: of the pairs that it separates. Only the contracts of inner functions cite it.
-use Rattle.std.specs.Prelude.{Bool, true, false, List, ◌⊎◌, ◌≡◌, ℕ, ◌+◌, ◌≤◌, ◌<◌, ltb, get_or}
+use Rattle.std.specs.Prelude.{List, ◌⊎◌, ◌≡◌, ℕ, ◌+◌, ◌≤◌, ◌<◌, get_or, Option, Some, None}
 use Rattle.lts.specs.Alike.{Moves, Alike, Separated}
 use Rattle.lts.specs.Book.{Entry, Opens, FirstPlay, OwnEntry, no_entry}
 use Rattle.text.specs.Limits.{state_limit, pair_place, book_length}
@@ -10,6 +10,9 @@ use Rattle.sets.specs.declared.set.Set.{Set}
 use Rattle.held.specs.Held.{target_row, HeldAt}
 use Rattle.ranking.specs.Inner.TableWrites.{SeparatedBy}
 use Rattle.splitters.specs.Inner.Splitters.{Rounds, LastRounded}
+use Rattle.books.specs.declared.entry.Side.{Side}
+use Rattle.books.specs.declared.entry.Side.TheVariants.{First, Second}
+use Rattle.books.specs.Inner.Sides.{side_number}
 use Rattle.books.specs.Books.{entry_number}
 use Rattle.weak_books.specs.Inner.OpensTo.{OpensTo}
 use Rattle.weak_books.specs.declared.opening.Opening.{Opening}
@@ -23,21 +26,31 @@ pub record NoneOpens (labels : List ℕ) (i : ℕ) (slots pool class : List ℕ)
   pub none : (j t : ℕ) → j < i → ¬ (OpensTo (HeldAt slots pool (target_row (get_or labels j 0))) (OtherClass class) p
       q t)
 
--- The first opening of p against q all of whose answers are of other classes, by label and then by target; its target
--- is 128 if there is none.
-pub record FirstApart (Move : Moves) (class : List ℕ) (p q : ℕ) (o : Opening) : Type 0 where
-  pub opens : o.target < state_limit → Opens Move (OtherClass class) p q o.label o.target
+-- p opens so against q, all answers are of other classes, and no opening comes before it, by label and then by target.
+pub record FirstIs (Move : Moves) (class : List ℕ) (p q : ℕ) (o : Opening) : Type 0 where
+  pub opens : Opens Move (OtherClass class) p q o.label.0 o.target.0
   pub first : (b u : ℕ) → Opens Move (OtherClass class) p q b u
-      → (o.target < state_limit) × ((o.label < b) ⊎ ((o.label ≡ b) × (o.target ≤ u)))
+      → (o.label.0 < b) ⊎ ((o.label.0 ≡ b) × (o.target.0 ≤ u))
 
--- The entry of the one side's opening, or of the other's.
-abbrev pub side_entry : Bool → Opening → Opening → ℕ → Entry
-side_entry true one other depth = record { side = 1; action = one.label; target = one.target; depth = depth }
-side_entry false one other depth = record { side = 2; action = other.label; target = other.target; depth = depth }
+-- The first opening of p against q all of whose answers are of other classes, if there is one.
+abbrev pub FirstApart : Moves → List ℕ → ℕ → ℕ → Option Opening → Type 0
+FirstApart Move class p q None = (b u : ℕ) → ¬ (Opens Move (OtherClass class) p q b u)
+FirstApart Move class p q (Some o) = FirstIs Move class p q o
+
+-- The entry of a side's opening.
+abbrev pub side_entry : Side → Opening → ℕ → Entry
+side_entry side opening depth = record {
+  side = side_number side;
+  action = opening.label.0;
+  target = opening.target.0;
+  depth = depth;
+}
 
 -- The entry of the first side's opening, or where it has none, of the second's.
-abbrev pub opening_entry : Opening → Opening → ℕ → Entry
-opening_entry first second depth = side_entry (ltb first.target state_limit) first second depth
+abbrev pub opening_entry : Option Opening → Option Opening → ℕ → Entry
+opening_entry (Some one) _ depth = side_entry First one depth
+opening_entry None (Some other) depth = side_entry Second other depth
+opening_entry None None depth = no_entry
 
 -- The entry of p and q, of this depth, where the answers lead to two classes.
 pub record EntryApart (Move : Moves) (class : List ℕ) (depth p q : ℕ) (e : Entry) : Type 0 where

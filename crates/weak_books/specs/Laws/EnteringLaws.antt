@@ -12,8 +12,15 @@ use Rattle.sets.specs.Laws.SetValuesLaws.{in_or_not}
 use Rattle.sets.specs.declared.set.Set.{Set}
 use Rattle.ranking.specs.Inner.TableWrites.{SeparatedBy}
 use Rattle.splitters.specs.Inner.Partition.{ClassSets}
+use Rattle.lts.specs.Book.{Entry}
 use Rattle.books.specs.Books.{entry_number}
+use Rattle.books.specs.Inner.Filling.{EntryWritten}
 use Rattle.weak_books.specs.Inner.Entering.{EntryApart, PairEntered, Entered, Beside, SeparatedBelow, Done}
+
+-- The same entry, said in another way.
+pub entry_written_as : {k : ℕ} {e f : Entry} {book book' : List ℕ} → e ≡ f → EntryWritten k e book book'
+    → EntryWritten k f book book'
+entry_written_as {k} {book = book} {book'} z = subst (λ (x : Entry). EntryWritten k x book book') z
 
 -- ---- one after another
 

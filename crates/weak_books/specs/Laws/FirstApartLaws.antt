@@ -1,6 +1,6 @@
 -- The lowest target that opens in a row, and the first opening of all. Where an answer is of the class of a target, no
 -- target of that class opens. Assumes nothing.
-use Rattle.std.specs.Prelude.{List, ◌⊎◌, ◌≡◌, refl, ℕ, ◌+◌, ◌≤◌, ◌<◌, get_or}
+use Rattle.std.specs.Prelude.{List, ◌⊎◌, ◌≡◌, refl, ℕ, ◌+◌, ◌≤◌, ◌<◌, get_or, Some, None}
 use Rattle.std.proofs.Common.{inl, inr, ⊎_elim, sym, ◌∙◌, subst, arith}
 use Rattle.lts.specs.Alike.{Relation}
 use Rattle.lts.specs.Book.{Opens}
@@ -128,27 +128,24 @@ module _ {n : ℕ} {labels : List ℕ} {count : ℕ} {slots pool : List ℕ} {p 
         });
       })
 
-  pub first_apart_none : {class : List ℕ} {o : Opening} → NoneOpens labels count slots pool class p q
-      → ¬ (o.target < state_limit) → FirstApart (HeldMove labels count slots pool) class p q o
-  first_apart_none N d = record {
-    opens = λ l. absurd (d l);
-    first = λ b u x. absurd (N.none x.opening.number u x.opening.number_lt (row_of_opens x));
-  }
+  pub first_apart_none : {class : List ℕ} → NoneOpens labels count slots pool class p q
+      → FirstApart (HeldMove labels count slots pool) class p q None
+  first_apart_none N b u x = N.none x.opening.number u x.opening.number_lt (row_of_opens x)
 
   pub first_apart_of_lowest : {class : List ℕ} {i : ℕ} {o : Opening} → i < count
-      → NoneOpens labels i slots pool class p q → o.label ≡ get_or labels i 0
-      → LowestTo (HeldAt slots pool (target_row (get_or labels i 0))) (OtherClass class) p q o.target
-      → o.target < state_limit → FirstApart (HeldMove labels count slots pool) class p q o
-  first_apart_of_lowest {class} {i} {o} l N e low small = record {
-    opens = λ _.
-        subst (λ (a : ℕ). Opens (HeldMove labels count slots pool) (OtherClass class) p q a o.target) (sym e)
-        (opens_of_row l (low.opens small));
-    first = λ b u x. (small, go b u x (lt_or_le x.opening.number i) (lt_or_le i x.opening.number));
+      → NoneOpens labels i slots pool class p q → o.label.0 ≡ get_or labels i 0
+      → LowestTo (HeldAt slots pool (target_row (get_or labels i 0))) (OtherClass class) p q o.target.0
+      → FirstApart (HeldMove labels count slots pool) class p q (Some o)
+  first_apart_of_lowest {class} {i} {o} l N e low = record {
+    opens =
+        subst (λ (a : ℕ). Opens (HeldMove labels count slots pool) (OtherClass class) p q a o.target.0) (sym e)
+        (opens_of_row l (low.opens o.target_lt));
+    first = λ b u x. go b u x (lt_or_le x.opening.number i) (lt_or_le i x.opening.number);
   }
     where
       go : (b u : ℕ) (x : Opens (HeldMove labels count slots pool) (OtherClass class) p q b u)
           → (x.opening.number < i) ⊎ (i ≤ x.opening.number) → (i < x.opening.number) ⊎ (x.opening.number ≤ i)
-          → (o.label < b) ⊎ ((o.label ≡ b) × (o.target ≤ u))
+          → (o.label.0 < b) ⊎ ((o.label.0 ≡ b) × (o.target.0 ≤ u))
       go b u x (inl k) _ = absurd (N.none x.opening.number u k (row_of_opens x))
       go b u x (inr k) (inl j) =
           let m = x.opening in
@@ -160,4 +157,4 @@ module _ {n : ℕ} {labels : List ℕ} {count : ℕ} {slots pool : List ℕ} {p 
           let r = subst (λ (y : ℕ). OpensTo (HeldAt slots pool (target_row (get_or labels y 0))) (OtherClass class) p
           q u)
           same (row_of_opens x) in
-          inr (e ∙ f, ⊎_elim (λ h. absurd (low.none_before u h r)) (λ h. h) (lt_or_le u o.target))
+          inr (e ∙ f, ⊎_elim (λ h. absurd (low.none_before u h r)) (λ h. h) (lt_or_le u o.target.0))

@@ -47,6 +47,14 @@ module _ {targets lower : List ℕ} {d a p q : ℕ} where
 
 -- ---- many entries
 
+-- Where no member is left, the least is that of none.
+pub least_of_none : {s : Set} → ((x : ℕ) → ¬ (In s x)) → LeastOf s state_limit
+least_of_none none = record {
+  least_le = omega arith;
+  none_before = λ x _. none x;
+  member = λ l. absurd (omega (arith, l));
+}
+
 -- The walk over set p is at q.
 module _ {at : List ℕ} {p q : ℕ} {left : Set} where
   pub members_left_start : SetOf (Member at p) left → MembersLeft at p q left

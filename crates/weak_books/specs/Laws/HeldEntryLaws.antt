@@ -1,7 +1,7 @@
 -- An entry is tested by the moves as sets: its action is a listed label, and each answer to its opening leads to an
 -- entry of lower depth.
 -- Document 02, (v) and (vii). Assumes nothing.
-use Rattle.std.specs.Prelude.{Bool, true, false, List, ◌⊎◌, ◌≡◌, ℕ, ◌+◌, ◌/◌, ◌%◌, ◌<◌, length, get_or, set}
+use Rattle.std.specs.Prelude.{Bool, List, ◌⊎◌, ◌≡◌, ℕ, ◌+◌, ◌/◌, ◌%◌, ◌<◌, length, get_or, set}
 use Rattle.std.proofs.Common.{inl, inr, sym, ap, ◌∙◌, subst, arith, get_or-set_same, get_or-set_other}
 use Rattle.lts.proofs.TestsLaws.{eq_or_not}
 use Rattle.lts.specs.Alike.{Moves, Relation}
@@ -11,8 +11,10 @@ use Rattle.text.specs.Decides.{Decides}
 use Rattle.text.specs.Limits.{state_limit, action_limit, table_length}
 use Rattle.text.specs.Laws.DecidesLaws.{decides_iff}
 use Rattle.books.specs.Books.{entry_number, book_of}
-use Rattle.books.specs.Inner.Sides.{BySide}
-use Rattle.books.specs.Laws.EntryLaws.{book_of_number, sound_absent, bad_side, sound_first, sound_second}
+use Rattle.books.specs.declared.entry.Side.{Side}
+use Rattle.books.specs.declared.entry.Side.TheVariants.{First, Second}
+use Rattle.books.specs.Inner.Sides.{BySide, NoSide, Turn, first_turn, second_turn}
+use Rattle.books.specs.Laws.EntryLaws.{turn_lt, book_of_at, sound_absent, bad_without_side, sound_opener}
 use Rattle.sets.specs.declared.set.Set.{Set}
 use Rattle.sets.specs.Inner.Sets.{Member}
 use Rattle.sets.specs.Inner.SetValues.{In, SetOf}
@@ -78,6 +80,14 @@ module _ (slots pool : List ℕ) (row : ℕ) {lower : List ℕ} {Leads : Relatio
     answers = λ u m. L.all t u o.opening.member_lt m.member_lt (o.answers u m);
   }
 
+-- What is decided of the targets and the answers, as sets.
+pub opens_of_sets : (Target Leads : Relation) (p q t : ℕ) {targets answers : Set} → SetOf (Target p) targets
+    → SetOf (Target q) answers → (r : Bool) → Decides r (In targets t × ((u : ℕ) → In answers u → Leads t u))
+    → Decides r (OpensTo Target Leads p q t)
+opens_of_sets Target Leads p q t x y r = decides_iff r
+    (λ h. record { opening = x.only _ h.0; answers = λ u m. h.1 u (y.all u m) })
+    (λ o. (x.all _ o.opening, λ u i. o.answers u (y.only u i)))
+
 -- ---- flags
 
 pub flagged-zero : {labels flags : List ℕ} → ((a : ℕ) → get_or flags a 0 ≡ 0) → Flagged labels 0 flags
@@ -135,10 +145,10 @@ unflagged_bad {labels} {slots} {pool} {flags} {count} book p q e F entry_is pres
     go (first_opens _ o) = none o.opening
     go (second_opens _ o) = none o.opening
 
--- ---- entry k, its action and target as they were read
+-- ---- entry k, as it was read
 
-module _ (labels : List ℕ) (count : ℕ) (slots pool book : List ℕ) (k : ℕ) {a t : ℕ}
-    (a-is : a ≡ (entry_number book k).action) (t-is : t ≡ (entry_number book k).target) where
+module _ (labels : List ℕ) (count : ℕ) (slots pool book : List ℕ) (k : ℕ) (e : Entry)
+    (e-is : e ≡ entry_number book k) where
   abbrev p : ℕ
   p = k / state_limit
 
@@ -148,57 +158,56 @@ module _ (labels : List ℕ) (count : ℕ) (slots pool book : List ℕ) (k : ℕ
   abbrev Move : Moves
   Move = HeldMove labels count slots pool
 
-  abbrev read : Entry
-  read = record {
-    side = (entry_number book k).side;
-    action = a;
-    target = t;
-    depth = (entry_number book k).depth;
-  }
+  entry_is : book_of book p q ≡ e
+  entry_is = book_of_at book k e-is
 
-  entry_is : book_of book p q ≡ read
-  entry_is = book_of_number book p q (omega arith) a-is t-is
-
-  pub entry_unflagged : {flags : List ℕ} → Flagged labels count flags → Present (entry_number book k)
-      → get_or flags a 0 ≡ 0 → ¬ (SoundAt Move (book_of book) p q)
-  entry_unflagged F = unflagged_bad (book_of book) p q read F entry_is
-
-  pub entry_absent : (entry_number book k).side ≡ 0 → SoundAt Move (book_of book) p q
-  entry_absent = sound_absent Move (book_of book) p q read entry_is
-
-  -- The first side opens, or the second: whether it does was decided by the entries of lower depth,
-  module _ {row : ℕ} (l : k < table_length) (listed : LabelIn labels count a)
-      (row_is : row ≡ target_row a) (r : Bool) where
-    pub entry_first_opens : (entry_number book k).side ≡ 1
-        → Decides r (OpensTo (HeldAt slots pool row)
-        (BySide true (LowerEntry (book_of book) (entry_number book k).depth)) p q t)
-        → Decides r (SoundAt Move (book_of book) p q)
-    entry_first_opens s d = sound_first Move (book_of book) p q read entry_is s r
-        (decides_iff r (opens_of_held listed row_is (omega (arith, l))) (held_of_opens listed row_is (omega arith)) d)
-
-    pub entry_second_opens : (entry_number book k).side ≡ 2
-        → Decides r (OpensTo (HeldAt slots pool row)
-        (BySide false (LowerEntry (book_of book) (entry_number book k).depth)) q p t)
-        → Decides r (SoundAt Move (book_of book) p q)
-    entry_second_opens s d = sound_second Move (book_of book) p q read entry_is s r
-        (decides_iff r (opens_of_held listed row_is (omega arith)) (held_of_opens listed row_is (omega (arith, l))) d)
-
-  -- or by their sets.
-  pub entry_first : {there back : List ℕ} {row : ℕ} → (entry_number book k).side ≡ 1 → k < table_length
-      → LabelIn labels count a → row ≡ target_row a
-      → LowerBy book (entry_number book k).depth there back → (r : Bool)
-      → Decides r (OpensTo (HeldAt slots pool row) (Member there) p q t) → Decides r (SoundAt Move (book_of book) p q)
-  entry_first {row = row} s l listed row_is L r d = entry_first_opens l listed row_is r s
-      (decides_iff r (leads_of_lower slots pool row L.firsts) (lower_of_leads slots pool row L.firsts) d)
-
-  pub entry_second : {there back : List ℕ} {row : ℕ} → (entry_number book k).side ≡ 2 → k < table_length
-      → LabelIn labels count a → row ≡ target_row a
-      → LowerBy book (entry_number book k).depth there back → (r : Bool)
-      → Decides r (OpensTo (HeldAt slots pool row) (Member back) q p t) → Decides r (SoundAt Move (book_of book) p q)
-  entry_second {row = row} s l listed row_is L r d = entry_second_opens l listed row_is r s
-      (decides_iff r (leads_of_lower slots pool row L.seconds) (lower_of_leads slots pool row L.seconds) d)
-
-  pub entry_other : Present (entry_number book k) → ¬ ((entry_number book k).side ≡ 1) → ¬
-      ((entry_number book k).side ≡ 2)
+  pub entry_unflagged : {flags : List ℕ} → Flagged labels count flags → Present e → get_or flags e.action 0 ≡ 0
       → ¬ (SoundAt Move (book_of book) p q)
-  entry_other = bad_side Move (book_of book) p q read entry_is
+  entry_unflagged F = unflagged_bad (book_of book) p q e F entry_is
+
+  pub entry_absent : e.side ≡ 0 → SoundAt Move (book_of book) p q
+  entry_absent = sound_absent Move (book_of book) p q e entry_is
+
+  pub entry_other : Present e → NoSide e.side → ¬ (SoundAt Move (book_of book) p q)
+  entry_other = bad_without_side Move (book_of book) p q e entry_is
+
+  -- A side opens: whether it does was decided by the entries of lower depth,
+  module _ {row : ℕ} (l : k < table_length) (listed : LabelIn labels count e.action)
+      (row_is : row ≡ target_row e.action) (r : Bool) {side : Side} {x y : ℕ} (turn : Turn e.side p q side x y) where
+    pub entry_opens : Decides r (OpensTo (HeldAt slots pool row) (BySide side (LowerEntry (book_of book) e.depth)) x y
+        e.target)
+        → Decides r (SoundAt Move (book_of book) p q)
+    entry_opens d =
+        let lt = turn_lt (omega (arith, l)) (omega arith) turn in
+        sound_opener Move (book_of book) p q e entry_is turn r
+        (decides_iff r (opens_of_held listed row_is lt.0) (held_of_opens listed row_is lt.1) d)
+
+    -- or by their sets.
+    pub entry_opens_by_sets : {lower : List ℕ} → Pairs (BySide side (LowerEntry (book_of book) e.depth)) lower
+        → Decides r (OpensTo (HeldAt slots pool row) (Member lower) x y e.target)
+        → Decides r (SoundAt Move (book_of book) p q)
+    entry_opens_by_sets L d =
+        entry_opens (decides_iff r (leads_of_lower slots pool row L) (lower_of_leads slots pool row L) d)
+
+  -- The same of each side.
+  module _ {row : ℕ} (l : k < table_length) (listed : LabelIn labels count e.action)
+      (row_is : row ≡ target_row e.action) (r : Bool) where
+    pub entry_first_opens : e.side ≡ 1
+        → Decides r (OpensTo (HeldAt slots pool row) (BySide First (LowerEntry (book_of book) e.depth)) p q e.target)
+        → Decides r (SoundAt Move (book_of book) p q)
+    entry_first_opens s = entry_opens l listed row_is r (first_turn s)
+
+    pub entry_second_opens : e.side ≡ 2
+        → Decides r (OpensTo (HeldAt slots pool row) (BySide Second (LowerEntry (book_of book) e.depth)) q p e.target)
+        → Decides r (SoundAt Move (book_of book) p q)
+    entry_second_opens s = entry_opens l listed row_is r (second_turn s)
+
+    pub entry_first : {there back : List ℕ} → e.side ≡ 1 → LowerBy book e.depth there back
+        → Decides r (OpensTo (HeldAt slots pool row) (Member there) p q e.target)
+        → Decides r (SoundAt Move (book_of book) p q)
+    entry_first s L = entry_opens_by_sets l listed row_is r (first_turn s) L.firsts
+
+    pub entry_second : {there back : List ℕ} → e.side ≡ 2 → LowerBy book e.depth there back
+        → Decides r (OpensTo (HeldAt slots pool row) (Member back) q p e.target)
+        → Decides r (SoundAt Move (book_of book) p q)
+    entry_second s L = entry_opens_by_sets l listed row_is r (second_turn s) L.seconds

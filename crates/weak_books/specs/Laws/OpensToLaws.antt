@@ -59,3 +59,6 @@ module _ {Target Leads : Relation} {p q : ℕ} {targets answers all : Set} (P : 
   -- No target is left.
   pub lowest_to_none : ¬ (t < state_limit) → LowestTo Target Leads p q t
   lowest_to_none d = lowest_to_of_tried (λ l. absurd (d l))
+
+  pub lowest_to_end : t ≡ state_limit → LowestTo Target Leads p q state_limit
+  lowest_to_end e = subst (λ (x : ℕ). LowestTo Target Leads p q x) e (lowest_to_none (λ l. omega (arith, e, l)))

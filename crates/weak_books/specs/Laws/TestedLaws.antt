@@ -1,14 +1,19 @@
 -- The entries with one label are tested by the targets under it; tests under several labels, one after the other, find
 -- the first bad entry of all. Document 02, (v) and (vii). Assumes nothing.
-use Rattle.std.specs.Prelude.{List, ◌⊎◌, ◌≡◌, ℕ, ◌+◌, ◌/◌, ◌%◌, ◌<◌}
-use Rattle.std.proofs.Common.{inl, inr, sym, ap, subst, arith}
+use Rattle.std.specs.Prelude.{Bool, List, ◌⊎◌, ◌≡◌, ℕ, ◌+◌, ◌/◌, ◌%◌, ◌<◌}
+use Rattle.std.proofs.Common.{inl, inr, sym, ap, ◌∙◌, subst, arith}
 use Rattle.lts.proofs.TestsLaws.{eq_or_not}
 use Rattle.lts.specs.Alike.{Moves, Relation}
-use Rattle.lts.specs.Book.{Entry, Present, Opens, Plays, first_opens, second_opens, SoundAt}
+use Rattle.lts.specs.Book.{Entry, Present, Opens, Plays, first_opens, second_opens, LowerEntry, SoundAt}
 use Rattle.lts.proofs.BookLaws.{opens-map}
+use Rattle.text.specs.Decides.{Decides}
 use Rattle.text.specs.Limits.{state_limit, table_length, pair_place}
+use Rattle.text.specs.Laws.DecidesLaws.{decides_iff}
 use Rattle.books.specs.Books.{entry_number, book_of}
+use Rattle.books.specs.declared.entry.Side.{Side}
+use Rattle.books.specs.Inner.Sides.{BySide, NoSide, Turn}
 use Rattle.books.specs.Laws.ChecksLaws.{at_number}
+use Rattle.books.specs.Laws.EntryLaws.{book_of_at, bad_without_side, sound_opener}
 use Rattle.sets.specs.Inner.Sets.{Member}
 use Rattle.silent.specs.Inner.Targets.{Targets}
 use Rattle.weak_books.specs.Inner.OpensTo.{OpensTo}
@@ -84,6 +89,28 @@ module _ (book : List ℕ) (k : ℕ) where
       present = present_at_number present;
       label = subst (λ (x : Entry). Label x.action) (sym at_number_is) h;
     })
+
+-- ---- an entry as it was read
+
+module _ (book : List ℕ) {k : ℕ} (l : k < table_length) (e : Entry) (e-is : e ≡ entry_number book k)
+    (present : Present e) {a : ℕ} (a-is : e.action ≡ a) (sets : List ℕ) where
+  sound_at_of_sound_if : SoundIf (SetMove sets) (λ b. b ≡ a) book (k / state_limit) (k % state_limit)
+      → SoundAt (SetMove sets) (book_of book) (k / state_limit) (k % state_limit)
+  sound_at_of_sound_if = sound_if_at_number book k (SetMove sets) (λ b. b ≡ a) l (subst Present e-is present)
+      (sym (ap (λ (x : Entry). x.action) e-is) ∙ a-is)
+
+  pub sound_if_opens : {side : Side} {x y : ℕ} → Turn e.side (k / state_limit) (k % state_limit) side x y → (r : Bool)
+      → Decides r (OpensTo (Member sets) (BySide side (LowerEntry (book_of book) e.depth)) x y e.target)
+      → Decides r (SoundIf (SetMove sets) (λ b. b ≡ a) book (k / state_limit) (k % state_limit))
+  sound_if_opens turn r d = decides_iff r (λ s _. s) sound_at_of_sound_if
+      (sound_opener (SetMove sets) (book_of book) _ _ e (book_of_at book k e-is) turn r
+      (decides_iff r opens_of-sets sets_of_opens d))
+
+  pub bad_if_no_side : NoSide e.side
+      → ¬ (SoundIf (SetMove sets) (λ b. b ≡ a) book (k / state_limit) (k % state_limit))
+  bad_if_no_side none s =
+      bad_without_side (SetMove sets) (book_of book) _ _ e (book_of_at book k e-is) present none
+      (sound_at_of_sound_if s)
 
 -- ---- one entry after the other
 

@@ -32,29 +32,40 @@ module _ {table : List ℕ} {p q d : ℕ} (known : d ≡ get_or table (pair_plac
     past = past_refl book;
   }
 
-  pub pair_turned_entry : {back : ℕ} {book book' : List ℕ} → ¬ (d ≡ 0) → (entry_number book (pair_place p q)).side ≡ 0
-      → back ≡ entry_size * pair_place q p
-      → EntryWritten (pair_place p q)
-      (record { side = 2; action = get_or book (back + 1) 0; target = get_or book (back + 2) 0; depth = d }) book book'
+  pub pair_turned_of_entry : {o : Entry} {book book' : List ℕ} → ¬ (d ≡ 0)
+      → (entry_number book (pair_place p q)).side ≡ 0 → o ≡ entry_number book (pair_place q p)
+      → EntryWritten (pair_place p q) (record { side = 2; action = o.action; target = o.target; depth = d }) book book'
       → PairTurned table p q book book'
-  pair_turned_entry {back} {book} {book'} apart z e w = record {
+  pair_turned_of_entry {o} {book} {book'} apart z e w = record {
     turned = record {
       stays = λ h. absurd (h z);
       together = λ h. absurd (apart (known ∙ h));
       turned = λ _ _ _.
           w.written
           ∙ entry_ext
-          (record { side = 2; action = get_or book (back + 1) 0; target = get_or book (back + 2) 0; depth = d })
+          (record { side = 2; action = o.action; target = o.target; depth = d })
           (record {
             side = 2;
-            action = get_or book (entry_size * pair_place q p + 1) 0;
-            target = get_or book (entry_size * pair_place q p + 2) 0;
+            action = (entry_number book (pair_place q p)).action;
+            target = (entry_number book (pair_place q p)).target;
             depth = get_or table (pair_place p q) 0;
-          }) refl (ap (λ (x : ℕ). get_or book (x + 1) 0) e) (ap (λ (x : ℕ). get_or book (x + 2) 0) e) known;
+          }) refl (ap (λ (x : Entry). x.action) e) (ap (λ (x : Entry). x.target) e) known;
     };
     kept = w.kept;
     past = w.past;
   }
+
+  pub pair_turned_entry : {back : ℕ} {book book' : List ℕ} → ¬ (d ≡ 0) → (entry_number book (pair_place p q)).side ≡ 0
+      → back ≡ entry_size * pair_place q p
+      → EntryWritten (pair_place p q)
+      (record { side = 2; action = get_or book (back + 1) 0; target = get_or book (back + 2) 0; depth = d }) book book'
+      → PairTurned table p q book book'
+  pair_turned_entry {back} {book} {book'} apart z e w = pair_turned_of_entry apart z refl (subst Written e w)
+    where
+      Written : ℕ → Type 0
+      Written at =
+          EntryWritten (pair_place p q)
+          (record { side = 2; action = get_or book (at + 1) 0; target = get_or book (at + 2) 0; depth = d }) book book'
 
 -- The other entry is read when its own turn may have come: it is as it was at first, if it was there.
 turned-later : {r : ℕ} {e e₁ o o₁ e' : Entry} → e₁ ≡ e → (Present o → o₁ ≡ o) → EntryTurned r e₁ o₁ e'

@@ -2,9 +2,9 @@
 -- Document 01, "The page": "Writing a line goes on from where the last one ended." Assumes nothing.
 use Rattle.std.specs.Prelude.{◌≡◌, refl, List, [], ◌∷◌, ◌++◌, ℕ, suc, ◌+◌, ◌≤◌, ◌<◌, length, set, take, drop, get_or}
 use Rattle.std.proofs.Common.{sym, ap, ◌∙◌, arith, add-zero, zero-add, add-suc, suc-add, add-one, length-append}
-use Rattle.std.proofs.Common.{take-suc}
-use Rattle.std.proofs.lemmas.List.Edits.{sets, sets-eq}
-use Rattle.std.proofs.Math.Seq.{length-sets}
+use Rattle.std.proofs.Common.{append_assoc, take-suc}
+use Rattle.std.proofs.lemmas.List.Edits.{sets, sets-eq, paste_all}
+use Rattle.std.proofs.Math.Seq.{length-sets, paste}
 use Rattle.writer.specs.Wrote.{Wrote}
 
 sets-append : (l : List ℕ) (i : ℕ) (a b : List ℕ) → sets (sets l i a) (i + length a) b ≡ sets l i (a ++ b)
@@ -35,6 +35,18 @@ wrote-length {l} {m} {i} {j} {a} p = ap length p.list ∙ length-sets l i a
 pub wrote-start : {l m bytes : List ℕ} {next : ℕ} → Wrote l 0 bytes m next → length bytes ≤ length l
     → (next ≡ length bytes) × (m ≡ bytes ++ drop (length bytes) l)
 wrote-start {l} {m} {bytes} w h = (omega arith, w.list ∙ sets-eq bytes l 0 (omega arith) ∙ rw zero-add)
+
+-- a list of bytes written at once
+pub wrote-paste : (l : List ℕ) (i : ℕ) (bytes : List ℕ) (n : ℕ) → n ≡ length bytes → i + n ≤ length l
+    → Wrote l i bytes (paste l i bytes n) (i + n)
+wrote-paste l i bytes n e h = record {
+  list =
+      paste_all l i bytes n e
+      ∙ sym (append_assoc (take i l) bytes (drop (i + n) l))
+      ∙ ap (λ (k : ℕ). take i l ++ bytes ++ drop (i + k) l) e
+      ∙ sym (sets-eq bytes l i (omega arith));
+  place = omega arith;
+}
 
 -- a writer that goes through a list has one element more behind it
 pub take_next : (l : List ℕ) (i : ℕ) → i < length l → take i l ++ (get_or l i 0 ∷ []) ≡ take (i + 1) l

@@ -1,27 +1,26 @@
--- The move stands in the lists, and its action and target fit into a byte.
-use native.Mathlib.Omega.{arith}
+-- The side as a byte is its number.
+use Rattle.std.proofs.Common.{◌≡◌, refl, subst, ℕ, ◌+◌, get_or}
+use denote.Enum.Declared.{tag_of}
+use Rattle.text.specs.Limits.{pair_place}
+use Rattle.books.specs.contracts.entry.Side.{the_type}
+use Rattle.books.specs.declared.entry.Side.{Side}
+use Rattle.books.specs.declared.entry.Side.TheVariants.{First, Second}
+use Rattle.books.specs.Inner.Filling.{EntryWritten}
+use Rattle.books.specs.Inner.Sides.{side_number}
 use Rattle.books.proofs.book.write_entry.Goals as goal
 
-pub offset_bounds-actions-i : goal.offset_bounds-actions-i
-offset_bounds-actions-i c =
-    omega (arith, c.requires.p_lt_n.2, c.requires.move_list.last_le c.args.n (omega arith))
+side_is : (s : Side) → tag_of the_type s + 1 ≡ side_number s
+side_is First = refl
+side_is Second = refl
 
-pub bounds-actions-i : goal.bounds-actions-i
-bounds-actions-i c =
-    omega (arith, c.requires.p_lt_n.2, c.requires.move_list.last_le c.args.n (omega arith))
-
-pub overflow_cast-a : goal.overflow_cast-a
-overflow_cast-a c =
-    omega (arith, c.requires.move_list.action_lt c.args.i c.requires.p_lt_n.2)
-
-pub offset_bounds-targets-i : goal.offset_bounds-targets-i
-offset_bounds-targets-i c =
-    omega (arith, c.requires.p_lt_n.2, c.requires.move_list.last_le c.args.n (omega arith))
-
-pub bounds-targets-i : goal.bounds-targets-i
-bounds-targets-i c =
-    omega (arith, c.requires.p_lt_n.2, c.requires.move_list.last_le c.args.n (omega arith))
-
-pub overflow_cast-t : goal.overflow_cast-t
-overflow_cast-t c =
-    omega (arith, c.requires.move_list.target_lt c.args.i c.requires.p_lt_n.2, c.requires.move_list.states_le)
+pub returns : goal.returns
+returns c =
+    let a = c.args in
+    subst (λ (number : ℕ). EntryWritten (pair_place a.p.0 a.q.0)
+    (record {
+      side = number;
+      action = get_or a.indexed.actions.now a.i 0;
+      target = get_or a.indexed.targets.now a.i 0;
+      depth = a.depth;
+    })
+    a.book.now c.put_entry.new.book) (side_is a.side) c.put_entry.ensures

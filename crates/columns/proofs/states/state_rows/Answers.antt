@@ -1,11 +1,6 @@
 -- The names of the first j steps are filled in behind the columns, whatever those are; at the end these are all names,
 -- and the last line is ended. Assumes nothing.
-use mathlib.Core.List.{[]}
-use mathlib.Core.Path.{◌≡◌, refl, sym, ap, ◌∙◌}
-use Prim.Native.Nat.{◌+◌}
-use native.Mathlib.Omega.{arith}
-use lib.ListN.{get_or}
-use borrow.Author.Rules.{rules}
+use Rattle.std.proofs.Common.{[], ◌≡◌, refl, sym, ap, ◌∙◌, ◌+◌, arith, get_or, rules}
 use Rattle.model.specs.StoredModel.{model_at}
 use Rattle.model.specs.Laws.System.IndexLaws.{begins_at}
 use Rattle.letters.specs.Laws.LettersLaws.{own_of_index}
@@ -30,7 +25,7 @@ filling_at : (c : At-loop-j)
 filling_at c =
     let fits = list_fits c.requires.step_lists.stored c.requires.distances_length_in_bounds c.requires.p_bound.0 in
     let n = state_columns_length _ _ _ (columns_short fits c.requires.p_bound.1) in
-    c.loop-j.invariant.3.filling _ [] _ _
+    c.loop-j.invariant.1.filling _ [] _ _
     (filling-start (omega (arith, n)) c.start.ensures c.columns-row.ensures.0 c.columns-row.ensures.1)
 
 -- when it ends, these are all names
@@ -38,8 +33,9 @@ all_names : (c : After-loop-j)
     → low_names (model_at c.args.store.now) c.args.p.0
     ≡ low_names_to (model_at c.args.store.now) c.args.p.0 c.loop-j.j
 all_names c =
+    let le = steps_begin_le c.requires.writable c.requires.step_lists c.requires.p_bound.0 in
     let j : get_or c.args.begins.now (c.args.p.0 + 1) 0 ≡ c.loop-j.j =
-    omega (arith, c.loop-j.invariant.1, c.loop-j-test.false) in
+    omega (arith, c.loop-j.auto.j-end le, c.loop-j-test.false) in
     sym (low_names_end c.requires.writable c.requires.step_lists c.requires.p_bound.0)
     ∙ ap (low_names_to (model_at c.args.store.now) c.args.p.0) j
 
@@ -53,8 +49,6 @@ columns-row-requires c =
 pub loop-j-init : goal.loop-j-init
 loop-j-init c =
     let l = c.requires.p_bound.0 in (
-      omega arith,
-      steps_begin_le c.requires.writable c.requires.step_lists l,
       refl,
       rw (low_names_begin c.requires.writable c.requires.step_lists l) filled-nil,
     )
@@ -65,33 +59,25 @@ step_name-row-requires c =
     let k = c.loop-j-test.true in
     let L = c.requires.step_lists in
     let l = c.requires.p_bound.0 in
-    let own = own_of_index L.index l c.loop-j.j inv.0 k in
+    let own = own_of_index L.index l c.loop-j.j c.loop-j.auto.j k in
     let b = L.index.at c.args.p.0 (omega (arith, l)) in record {
       writable = (c.requires.writable, L.stored);
       roles_of = L.roles_of;
-      step_from = record { from_le = inv.0; number_lt = own.0; begins = begins_at (sym own.1) b };
+      step_from = record { from_le = c.loop-j.auto.j; number_lt = own.0; begins = begins_at (sym own.1) b };
       name_room = λ x.
-          let split = low_names_split c.requires.writable L l c.loop-j.j inv.0 k x in
+          let split = low_names_split c.requires.writable L l c.loop-j.j c.loop-j.auto.j k x in
           filling_room (filling_at (goal.at.step_name-row-requires c).At-loop-j) _ split.0 split.1
           c.requires.class_in_bounds;
     }
-
-pub overflow_add-j : goal.overflow_add-j
-overflow_add-j c =
-    let L = c.requires.step_lists in
-    let own = own_of_index L.index c.requires.p_bound.0 c.loop-j.j c.loop-j.invariant.0
-    c.loop-j-test.true in
-    omega (arith, own.0, L.stored.steps_le)
 
 pub loop-j-preserved : goal.loop-j-preserved
 loop-j-preserved c =
     let inv = c.loop-j.invariant in
     let k = c.loop-j-test.true in
-    let next = low_names_next c.requires.writable c.requires.step_lists c.requires.p_bound.0 c.loop-j.j inv.0 k in (
-      omega (arith, inv.0),
-      omega (arith, k),
+    let l = c.requires.p_bound.0 in
+    let next = low_names_next c.requires.writable c.requires.step_lists l c.loop-j.j c.loop-j.auto.j k in (
       search rules,
-      rw next (filled-append inv.3 c.step_name-row.ensures),
+      rw next (filled-append inv.1 c.step_name-row.ensures),
     )
 
 pub end-requires : goal.end-requires

@@ -5,7 +5,7 @@ use Prim.Native.Nat.{ℕ, ◌<◌}
 use native.Mathlib.Omega.{arith}
 use lib.ListN.{length}
 use Rattle.text.specs.Limits.{action_limit}
-use Rattle.silent.specs.Labelled.{LabelMove}
+use Rattle.silent.specs.Steps.{label_moves}
 use Rattle.silent.specs.Laws.LabelledLaws.{label_move_none}
 use Rattle.held.specs.Inner.Slots.{HeldTo}
 use Rattle.held.specs.Laws.PoolLaws.{put_of-set, free_from_le}
@@ -18,13 +18,9 @@ loop-a-init c =
     let P = c.requires.pooled in
     (omega arith, held_to-zero, P, record { free = λ i l. omega (arith, P.slot_lt i) })
 
-pub returns-then-used-gt-ROOM : goal.returns-then-used-gt-ROOM
-returns-then-used-gt-ROOM c = λ l. absurd (omega (arith, l))
-
 pub hold_label-used-requires : goal.hold_label-used-requires
 hold_label-used-requires c =
     let inv = c.loop-a.invariant in record {
-      label_list = c.requires.label_list;
       own_numbers = c.requires.own_numbers;
       targets = c.requires.targets;
       targets_2 = c.requires.targets_2;
@@ -39,26 +35,25 @@ loop-a-preserved c =
     (λ w.
     let made = w.hold_label-used.ensures in
     let fits : c.loop-a.count < length c.loop-a.labels = omega (arith, inv.1.count_le, l) in
-    let P = put_of-set refl fits w.put.ensures in
-    let h = held_to_suc inv.1 (label_move_among c.requires.label_list) inv.0 (omega arith)
+    let P = put_of-set refl fits refl in
+    let h = held_to_suc inv.1 (label_move_among c.args.steps.listed) inv.0 (omega arith)
     (λ p b q i j m. omega (arith, i, j)) P
     made.held_label made.labels_kept in
     rw (w.labels-is, w.slots-is, w.pool-is, w.used-is, w.count-is) (omega (arith, l), h, made.pooled.0, made.pooled.1))
     (λ w. rw (w.labels-is, w.slots-is, w.pool-is, w.used-is, w.count-is) (
       omega (arith, l),
-      held_to_none inv.1 (label_move_none l w.if-from-of.false),
+      held_to_none inv.1 (label_move_none l w.if-steps-of.false),
       inv.2,
       free_from_le (omega arith) inv.3,
     ))
-    c.if-from-of.branch-raw
+    c.if-steps-of.branch-raw
 
 pub returns : goal.returns
 returns c =
     let a = c.args in
     let inv = c.loop-a.invariant in
-    let Move = LabelMove a.n a.from.now a.sources.now a.targets.now in
-    let e : c.loop-a.a ≡ action_limit = omega (arith, inv.0, c.loop-a-test.false) in
-    λ l. (
+    let Move = label_moves a.steps in
+    let e : c.loop-a.a ≡ action_limit = omega (arith, inv.0, c.loop-a-test.false) in (
       subst (λ (x : ℕ). HeldTo Move x c.loop-a.labels c.loop-a.count c.loop-a.slots
           c.loop-a.pool) e inv.1,
       inv.2,

@@ -5,60 +5,39 @@ use Prim.Native.Nat.{◌<◌}
 use native.Mathlib.Omega.{arith}
 use lib.ListN.{length}
 use Rattle.lts.specs.Weak.{silent_label}
-use Rattle.silent.specs.Laws.TurnedLaws.{label_list_turned}
+use Rattle.silent.specs.Inner.Targets.{Targets}
+use Rattle.silent.specs.Laws.TurnedLaws.{of_turned}
 use Rattle.held.specs.Laws.PoolLaws.{put_of-set, free_from_le}
 use Rattle.held.specs.Laws.RowsLaws.{target_row-silent}
 use Rattle.held.specs.Laws.LabelRowsLaws.{held_label_of_rows, labels_kept_of_rows}
 use Rattle.held.specs.Laws.HeldToLaws.{held_as_of_silent, held_list_of_silent}
 use Rattle.held.proofs.labels.hold_labels.Goals as goal
-use Rattle.held.proofs.labels.hold_labels.Goals.{After-target_row-row}
-
--- There was room for all actions.
-some : (c : After-target_row-row) → 0 < c.hold_actions-held.result.used
-some c = omega (arith, c.if-held-eq0.false)
 
 pub silent_targets-requires : goal.silent_targets-requires
 silent_targets-requires c =
     record {
-      label_list = c.requires.label_list;
       own_numbers = c.own_numbers.ensures.0;
     }
 
 pub silent_targets-requires-2 : goal.silent_targets-requires-2
-silent_targets-requires-2 c =
-    record {
-      label_list = label_list_turned c.requires.label_list;
-      own_numbers = c.own_numbers.ensures.0;
-    }
+silent_targets-requires-2 c = record { own_numbers = rw c.turned.ensures.n_is c.own_numbers.ensures.0 }
 
-pub hold_actions-held-requires : goal.hold_actions-held-requires
-hold_actions-held-requires c =
+pub hold_actions-requires : goal.hold_actions-requires
+hold_actions-requires c =
     record {
-      label_list = c.requires.label_list;
       own_numbers = c.own_numbers.ensures.0;
       targets = c.silent_targets.ensures;
-      targets_2 = c.silent_targets-2.ensures;
+      targets_2 = of_turned (λ M. Targets M silent_label c.silent_targets-2.new.sets) c.turned.ensures
+          c.silent_targets-2.ensures;
       pooled = c.requires.pooled;
     }
-
-pub returns-then-held-eq0 : goal.returns-then-held-eq0
-returns-then-held-eq0 c = record {
-  held_list = λ l. absurd (omega (arith, l));
-  held_as = λ l. absurd (omega (arith, l));
-}
-
-pub returns-then-held-gt-ROOM : goal.returns-then-held-gt-ROOM
-returns-then-held-gt-ROOM c = record {
-  held_list = λ l. absurd (omega (arith, l));
-  held_as = λ l. absurd (omega (arith, l));
-}
 
 pub target_row-row-requires : goal.target_row-row-requires
 target_row-row-requires c = inr refl
 
 pub hold_row-next-requires : goal.hold_row-next-requires
 hold_row-next-requires c =
-    let held = c.hold_actions-held.ensures (some (goal.at.hold_row-next-requires c).After-target_row-row) in
+    let held = c.in_ok-held.ensures in
     let e = target_row-silent silent_label (omega arith) in
     let room = c.if-held-gt-ROOM.false in (
       omega (arith, c.target_row-row.ensures.1),
@@ -73,28 +52,24 @@ hold_row-requires c =
     let made = c.hold_row-next.ensures.lower_bound in
     (c.target_row-row.ensures.1, omega (arith, c.if-held-gt-ROOM.false, made.1), made.2, made.3)
 
-pub put-requires : goal.put-requires
-put-requires c =
-    let held = c.hold_actions-held.ensures (some (goal.at.put-requires c).After-target_row-row) in
-    omega (arith, held.0.count_le)
-
 pub overflow_add-result : goal.overflow_add-result
 overflow_add-result c =
-    let held = c.hold_actions-held.ensures (some (goal.at.overflow_add-result c).After-target_row-row) in
+    let held = c.in_ok-held.ensures in
     omega (arith, held.0.count_le)
 
 pub returns : goal.returns
 returns c =
-    let L = c.requires.label_list in
+    let L = c.args.steps.listed in
     let e = c.target_row-row.ensures in
-    let held = c.hold_actions-held.ensures (some (goal.at.returns c).After-target_row-row) in
-    let fits : c.hold_actions-held.result.count < length c.hold_actions-held.new.labels = omega
+    let held = c.in_ok-held.ensures in
+    let fits : c.in_ok-held.held.count < length c.hold_actions.new.labels = omega
     (arith, held.0.count_le) in
-    let P = put_of-set refl fits c.put.ensures in
-    let H = held_label_of_rows L e.0 e.1 c.silent_targets.ensures c.silent_targets-2.ensures
+    let P = put_of-set refl fits refl in
+    let H = held_label_of_rows L e.0 e.1 c.silent_targets.ensures
+    (of_turned (λ M. Targets M silent_label c.silent_targets-2.new.sets) c.turned.ensures c.silent_targets-2.ensures)
     c.hold_row-next.ensures.row_held c.hold_row.ensures.rows_kept c.hold_row.ensures.row_held in
     let K = labels_kept_of_rows e.0 c.hold_row-next.ensures.rows_kept c.hold_row.ensures.rows_kept in
     record {
-      held_list = λ _. held_list_of_silent L held.0 P H K c.hold_row.ensures.lower_bound.2;
-      held_as = λ _. held_as_of_silent L held.0 P H K;
+      held_list = held_list_of_silent L held.0 P H K c.hold_row.ensures.lower_bound.2;
+      held_as = held_as_of_silent L held.0 P H K;
     }

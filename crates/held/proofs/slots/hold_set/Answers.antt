@@ -1,8 +1,5 @@
 -- No members: the slot stays without a set. Members: it gets a set that is s, and p comes into the set of the row.
-use mathlib.Core.List.{List}
-use Prim.Native.Nat.{ℕ, ◌+◌, ◌≤◌, ◌<◌}
-use native.Mathlib.Omega.{arith}
-use lib.ListN.{length}
+use Rattle.std.proofs.Common.{List, ℕ, ◌+◌, ◌≤◌, ◌<◌, length, set, refl, arith}
 use Rattle.text.specs.Laws.DecidesLaws.{decides_true, decides_false}
 use Rattle.sets.specs.Laws.SearchLaws.{some_of_not_none}
 use Rattle.held.specs.Held.{slot_place}
@@ -14,7 +11,7 @@ use Rattle.held.proofs.slots.hold_set.Goals.{After-insert}
 
 -- The slots and the pool at the end.
 abbrev slots : After-insert → List ℕ
-slots c = c.put.new.list
+slots c = set c.args.slots.now c.slot_place.result c.share-number.result
 
 abbrev pool : After-insert → List ℕ
 pool c = c.insert.new.sets
@@ -29,7 +26,7 @@ given : (c : After-insert) {next : ℕ} → c.args.used ≤ next → next ≤ c.
 given c from to lt =
     let a = c.args in
     let fits : c.slot_place.result < length a.slots.now = omega arith in
-    let S = put_of-set c.slot_place.ensures fits c.put.ensures in
+    let S = put_of-set c.slot_place.ensures fits refl in
     let J = joined_number c.row_set.ensures c.insert.ensures in
     let some = some_of_not_none a.s
     (decides_false c.is_empty.result _ c.is_empty.ensures c.if-is_empty.false) in

@@ -8,7 +8,7 @@ use Rattle.held.proofs.slots.same_slot.Goals as goal
 pub returns : goal.returns
 returns c =
     let slots = c.args.slots.now in
-    let e = ap (λ (i : ℕ). get_or slots i 0) c.slot_place-one.ensures in
-    let f = ap (λ (i : ℕ). get_or slots i 0) c.slot_place-other.ensures in
-    decides_eqb (get_or slots c.slot_place-one.result 0) (get_or slots c.slot_place-other.result 0)
+    let e = ap (λ (i : ℕ). get_or slots i 0) c.slot_place.ensures in
+    let f = ap (λ (i : ℕ). get_or slots i 0) c.slot_place-2.ensures in
+    decides_eqb (get_or slots c.slot_place.result 0) (get_or slots c.slot_place-2.result 0)
     (λ d. sym e ∙ d ∙ f) (λ d. e ∙ d ∙ sym f)

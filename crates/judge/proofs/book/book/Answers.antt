@@ -1,49 +1,57 @@
--- Tested in the order of the refusals; on a good store the promise is what `book_good` leaves.
-use mathlib.Core.List.{[]}
-use mathlib.Core.Path.{◌≡◌, refl}
+-- Tested in the order of the refusals; the rest is Book on a good store.
+use Rattle.std.proofs.Common.{[], ◌≡◌, refl}
+use Rattle.std.proofs.lemmas.Result.{err_from_is_err_and}
 use Rattle.text.specs.Faults.{Outcome, answers}
-use Rattle.text.specs.Laws.FirstShortLaws.{first_short_is, second_short, third_short, none_short_three}
-use Rattle.text.specs.Laws.DecidesLaws.{decides_passed, decides-refused}
-use Rattle.model.proofs.Laws.OnStoreLaws.{on_store_short, on_store_not_good, on_store-model}
-use Rattle.model.proofs.Laws.System.GoodStoredLaws.{passed→Stored}
 use Rattle.judge.specs.BookPromise.{book_outcome, BookDone}
+use Rattle.text.specs.Laws.FirstShortLaws.{first_short_is, second_short, third_short, none_short_three}
+use Rattle.model.proofs.Laws.OnStoreLaws.{on_store_short, on_store_not_good, on_store-model}
 use Rattle.judge.proofs.book.book.Goals as goal
 
-pub returns-then-store-lt-STORE_LENGTH : goal.returns-then-store-lt-STORE_LENGTH
+pub returns-in_err-long_enough : goal.returns-in_err-long_enough
 unfolding book_outcome
-returns-then-store-lt-STORE_LENGTH c = on_store_short (first_short_is _ _ c.if-store-lt-STORE_LENGTH.true) refl
-    (refl, refl)
+returns-in_err-long_enough c =
+    let e = c.in_err-long_enough.ensures in
+    let t = c.from_residual in
+    let r = err_from_is_err_and t.result t.ensures.1 in
+    on_store_short (first_short_is _ _ e.0) (rw (r.1, r.2, e.1) refl) (refl, refl)
 
-pub returns-then-table-lt-TABLE_LENGTH : goal.returns-then-table-lt-TABLE_LENGTH
+pub returns-in_err-long_enough-2 : goal.returns-in_err-long_enough-2
 unfolding book_outcome
-returns-then-table-lt-TABLE_LENGTH c = on_store_short (second_short _ _ c.if-store-lt-STORE_LENGTH.false
-    c.if-table-lt-TABLE_LENGTH.true) refl (refl, refl)
+returns-in_err-long_enough-2 c =
+    let a = c.in_ok-long_enough.ensures in
+    let e = c.in_err-long_enough-2.ensures in
+    let t = c.from_residual-in_err-long_enough-2 in
+    let r = err_from_is_err_and t.result t.ensures.1 in
+    on_store_short (second_short _ _ a e.0) (rw (r.1, r.2, e.1) refl) (refl, refl)
 
-pub returns-then-book-lt-BOOK_LENGTH : goal.returns-then-book-lt-BOOK_LENGTH
+pub returns-in_err-long_enough-3 : goal.returns-in_err-long_enough-3
 unfolding book_outcome
-returns-then-book-lt-BOOK_LENGTH c =
-    on_store_short (third_short _ _ c.if-store-lt-STORE_LENGTH.false c.if-table-lt-TABLE_LENGTH.false
-    c.if-book-lt-BOOK_LENGTH.true) refl
-    (refl, refl)
+returns-in_err-long_enough-3 c =
+    let a = c.in_ok-long_enough.ensures in
+    let b = c.in_ok-long_enough-2.ensures in
+    let e = c.in_err-long_enough-3.ensures in
+    let t = c.from_residual-in_err-long_enough-3 in
+    let r = err_from_is_err_and t.result t.ensures.1 in
+    on_store_short (third_short _ _ a b e.0) (rw (r.1, r.2, e.1) refl) (refl, refl)
 
-pub returns-then-not-good : goal.returns-then-not-good
+pub returns-in_err-check_good : goal.returns-in_err-check_good
 unfolding book_outcome
-returns-then-not-good c =
-    on_store_not_good (none_short_three c.if-store-lt-STORE_LENGTH.false c.if-table-lt-TABLE_LENGTH.false
-    c.if-book-lt-BOOK_LENGTH.false)
-    (decides-refused c.good.result _ c.good.ensures c.if-not-good.true-raw) refl (refl, refl)
-
-pub book_good-requires : goal.book_good-requires
-book_good-requires c =
-    record {
-      stored = passed→Stored _ c.good.result c.if-store-lt-STORE_LENGTH.false c.good.ensures c.if-not-good.false-raw;
-      table_length_in_bounds = (c.if-table-lt-TABLE_LENGTH.false, c.if-book-lt-BOOK_LENGTH.false);
-    }
+returns-in_err-check_good c =
+    let a = c.in_ok-long_enough.ensures in
+    let b = c.in_ok-long_enough-2.ensures in
+    let d = c.in_ok-long_enough-3.ensures in
+    let e = c.in_err-check_good.ensures in
+    let t = c.from_residual-in_err-check_good in
+    let r = err_from_is_err_and t.result t.ensures.1 in
+    on_store_not_good (none_short_three a b d) e.0 (rw (r.1, r.2, e.1) refl) (refl, refl)
 
 pub returns : goal.returns
 unfolding book_outcome
 returns c =
+    let good = c.in_ok-check_good.ensures.0 in
+    let a = c.in_ok-long_enough.ensures in
+    let b = c.in_ok-long_enough-2.ensures in
+    let d = c.in_ok-long_enough-3.ensures in
     on_store-model (λ m. (◌≡◌ {A = Outcome} (answers []) (answers [])) × BookDone m _ _ _ _)
-    (none_short_three c.if-store-lt-STORE_LENGTH.false c.if-table-lt-TABLE_LENGTH.false c.if-book-lt-BOOK_LENGTH.false)
-    (decides_passed c.good.result _ c.good.ensures c.if-not-good.false-raw)
+    (none_short_three a b d) good
     (refl, c.book_good.ensures)

@@ -1,7 +1,6 @@
 -- The steps that are listed by label have the model's ranks and its book.
 use mathlib.Core.Path.{◌∙◌}
 use Rattle.model.specs.Laws.System.StoredLaws.{stored_states}
-use Rattle.moves.specs.Laws.LabelsLaws.{label_list_of_labels}
 use Rattle.judge.specs.Laws.StoreBooksLaws.{ranks_of_labels, book_filled_of_labels}
 use Rattle.judge.proofs.book.book_labels.Goals as goal
 
@@ -9,7 +8,6 @@ pub fill_books-requires : goal.fill_books-requires
 fill_books-requires c =
     let e = c.states-n.ensures ∙ stored_states c.requires.stored in
     record {
-      label_list = label_list_of_labels c.list_store_labels.ensures e;
       table_length_in_bounds = c.requires.table_length_in_bounds;
     }
 

@@ -7,14 +7,6 @@ use Rattle.books.specs.Laws.RowsLaws.{book_filled_of_alike}
 use Rattle.judge.specs.Laws.StoreBooksLaws.{book_filled_of_steps}
 use Rattle.judge.proofs.book.book_steps.Goals as goal
 
-pub fill_plain_table-last-requires : goal.fill_plain_table-last-requires
-fill_plain_table-last-requires c =
-    record {
-      stored = c.requires.stored;
-      roles_of = record { roles_length = omega arith; roles_are = c.roles.ensures };
-      table_length_in_bounds = c.requires.table_length_in_bounds.0;
-    }
-
 pub returns-then-last-eq0 : goal.returns-then-last-eq0
 returns-then-last-eq0 c =
     let ranks = ranked_of_steps c.requires.stored c.requires.by_index c.fill_plain_table-last.ensures in

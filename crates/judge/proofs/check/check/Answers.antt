@@ -1,40 +1,45 @@
--- Tested in the order of the refusals; on a good store the promise is what `check_good` answers.
-use mathlib.Core.Path.{refl}
-use Rattle.text.specs.Laws.FirstShortLaws.{first_short_is, second_short, none_short_two}
-use Rattle.text.specs.Laws.DecidesLaws.{decides_passed, decides-refused}
-use Rattle.model.proofs.Laws.OnStoreLaws.{on_store_short, on_store_not_good, on_store-model}
-use Rattle.model.proofs.Laws.System.GoodStoredLaws.{passed→Stored}
-use Rattle.model.specs.System.{view}
+-- Tested in the order of the refusals; the rest is Check on a good store.
+use Rattle.std.proofs.Common.{refl}
+use Rattle.std.proofs.lemmas.Result.{err_from_is_err_and}
 use Rattle.lts.specs.Weak.{WeakMove}
+use Rattle.model.specs.System.{view}
 use Rattle.books.specs.Checks.{CheckDone}
 use Rattle.judge.specs.CheckPromise.{check_outcome}
+use Rattle.text.specs.Laws.FirstShortLaws.{first_short_is, second_short, none_short_two}
+use Rattle.model.proofs.Laws.OnStoreLaws.{on_store_short, on_store_not_good, on_store-model}
 use Rattle.judge.proofs.check.check.Goals as goal
 
-pub returns-then-store-lt-STORE_LENGTH : goal.returns-then-store-lt-STORE_LENGTH
+pub returns-in_err-long_enough : goal.returns-in_err-long_enough
 unfolding check_outcome
-returns-then-store-lt-STORE_LENGTH c = on_store_short (first_short_is _ _ c.if-store-lt-STORE_LENGTH.true) refl tt
+returns-in_err-long_enough c =
+    let e = c.in_err-long_enough.ensures in
+    let t = c.from_residual in
+    let r = err_from_is_err_and t.result t.ensures.1 in
+    on_store_short (first_short_is _ _ e.0) (rw (r.1, r.2, e.1) refl) tt
 
-pub returns-then-book-lt-BOOK_LENGTH : goal.returns-then-book-lt-BOOK_LENGTH
+pub returns-in_err-long_enough-2 : goal.returns-in_err-long_enough-2
 unfolding check_outcome
-returns-then-book-lt-BOOK_LENGTH c = on_store_short (second_short _ _ c.if-store-lt-STORE_LENGTH.false
-    c.if-book-lt-BOOK_LENGTH.true) refl tt
+returns-in_err-long_enough-2 c =
+    let a = c.in_ok-long_enough.ensures in
+    let e = c.in_err-long_enough-2.ensures in
+    let t = c.from_residual-in_err-long_enough-2 in
+    let r = err_from_is_err_and t.result t.ensures.1 in
+    on_store_short (second_short _ _ a e.0) (rw (r.1, r.2, e.1) refl) tt
 
-pub returns-then-not-good : goal.returns-then-not-good
+pub returns-in_err-check_good : goal.returns-in_err-check_good
 unfolding check_outcome
-returns-then-not-good c =
-    on_store_not_good (none_short_two c.if-store-lt-STORE_LENGTH.false c.if-book-lt-BOOK_LENGTH.false)
-    (decides-refused c.good.result _ c.good.ensures c.if-not-good.true-raw) refl tt
-
-pub check_good-requires : goal.check_good-requires
-check_good-requires c =
-    record {
-      stored = passed→Stored _ c.good.result c.if-store-lt-STORE_LENGTH.false c.good.ensures c.if-not-good.false-raw;
-      book_length_in_bounds = c.if-book-lt-BOOK_LENGTH.false;
-    }
+returns-in_err-check_good c =
+    let a = c.in_ok-long_enough.ensures in
+    let b = c.in_ok-long_enough-2.ensures in
+    let e = c.in_err-check_good.ensures in
+    let t = c.from_residual-in_err-check_good in
+    let r = err_from_is_err_and t.result t.ensures.1 in
+    on_store_not_good (none_short_two a b) e.0 (rw (r.1, r.2, e.1) refl) tt
 
 pub returns : goal.returns
 unfolding check_outcome
 returns c =
-    on_store-model (λ m. CheckDone (WeakMove (view m)) _ _)
-    (none_short_two c.if-store-lt-STORE_LENGTH.false c.if-book-lt-BOOK_LENGTH.false)
-    (decides_passed c.good.result _ c.good.ensures c.if-not-good.false-raw) c.check_good.ensures
+    let good = c.in_ok-check_good.ensures.0 in
+    let a = c.in_ok-long_enough.ensures in
+    let b = c.in_ok-long_enough-2.ensures in
+    on_store-model (λ m. CheckDone (WeakMove (view m)) _ _) (none_short_two a b) good c.check_good-2.ensures

@@ -1,7 +1,6 @@
 -- The steps that are listed by label are the model's, so the same books are sound.
 use mathlib.Core.Path.{◌∙◌}
 use Rattle.model.specs.Laws.System.StoredLaws.{stored_states}
-use Rattle.moves.specs.Laws.LabelsLaws.{label_list_of_labels}
 use Rattle.judge.specs.Laws.StoreBooksLaws.{check_done_of_labels}
 use Rattle.judge.proofs.check.check_labels.Goals as goal
 
@@ -9,7 +8,6 @@ pub check_books-requires : goal.check_books-requires
 check_books-requires c =
     let e = c.states-n.ensures ∙ stored_states c.requires.stored in
     record {
-      label_list = label_list_of_labels c.list_store_labels.ensures e;
       book_length_in_bounds = c.requires.book_length_in_bounds;
     }
 

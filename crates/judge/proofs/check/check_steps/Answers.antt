@@ -1,20 +1,19 @@
 -- The steps that are listed are the model's, and none is silent, so the same books are sound.
-use mathlib.Core.Path.{◌∙◌}
+use Rattle.std.proofs.Common.{◌∙◌}
 use Rattle.model.specs.Laws.System.StoredLaws.{stored_states}
 use Rattle.by_state.specs.Laws.MoveListLaws.{move_list_of_lists}
 use Rattle.books.specs.Laws.ListedLaws.{ordered_of_lists, check_done_of_listed}
 use Rattle.judge.proofs.check.check_steps.Goals as goal
 
-pub check_book-requires : goal.check_book-requires
-check_book-requires c =
-    let e = c.states-n.ensures ∙ stored_states c.requires.stored in
+pub invariant_of-moves : goal.invariant_of-moves
+invariant_of-moves c =
+    let e = c.states.ensures ∙ stored_states c.requires.stored in
     record {
-      move_list = move_list_of_lists c.list_store_moves.ensures.lists e;
+      listed = move_list_of_lists c.list_store_moves.ensures.lists e;
       ordered = ordered_of_lists c.list_store_moves.ensures.lists e c.list_store_moves.ensures.ordered;
-      book_length_in_bounds = c.requires.book_length_in_bounds;
     }
 
 pub returns : goal.returns
 returns c =
-    let e = c.states-n.ensures ∙ stored_states c.requires.stored in
+    let e = c.states.ensures ∙ stored_states c.requires.stored in
     check_done_of_listed c.list_store_moves.ensures.lists e c.requires.by_index c.check_book.ensures

@@ -1,58 +1,47 @@
--- Each refusal is a way of the promise; on a good store the promise is what `judge_good` leaves.
-use native.Mathlib.Omega.{arith}
-use Rattle.model.specs.Store.{Good}
-use Rattle.text.specs.Laws.DecidesLaws.{decides_passed, decides-refused}
-use Rattle.model.proofs.Laws.System.GoodStoredLaws.{good→Stored}
+-- Each refusal is a way of the promise; on a good store it is what `judge_good` leaves.
+use Rattle.std.proofs.lemmas.Result.{err_from_is_err_and}
 use Rattle.judge.specs.Laws.JudgePromiseLaws.{judge_first_short, judge_second_short, judge_third_short}
 use Rattle.judge.specs.Laws.JudgePromiseLaws.{judge_not_good, judge_done}
 use Rattle.judge.proofs.judge.judge.Goals as goal
 
-pub returns-then-store-lt-STORE_LENGTH : goal.returns-then-store-lt-STORE_LENGTH
-returns-then-store-lt-STORE_LENGTH c =
-    let args = c.args in
-    judge_first_short args.store.now args.distances.now args.table.now c.if-store-lt-STORE_LENGTH.true
+pub returns-in_err-long_enough : goal.returns-in_err-long_enough
+returns-in_err-long_enough c =
+    let e = c.in_err-long_enough.ensures in
+    let t = c.from_residual in
+    let r = err_from_is_err_and t.result t.ensures.1 in
+    rw (r.1, r.2, e.1) (judge_first_short _ _ _ e.0)
 
-pub returns-then-distances-lt-DISTANCES_LENGTH : goal.returns-then-distances-lt-DISTANCES_LENGTH
-returns-then-distances-lt-DISTANCES_LENGTH c =
-    let args = c.args in
-    judge_second_short args.store.now args.distances.now args.table.now c.if-store-lt-STORE_LENGTH.false
-    c.if-distances-lt-DISTANCES_LENGTH.true
+pub returns-in_err-long_enough-2 : goal.returns-in_err-long_enough-2
+returns-in_err-long_enough-2 c =
+    let a = c.in_ok-long_enough.ensures in
+    let e = c.in_err-long_enough-2.ensures in
+    let t = c.from_residual-in_err-long_enough-2 in
+    let r = err_from_is_err_and t.result t.ensures.1 in
+    rw (r.1, r.2, e.1) (judge_second_short _ _ _ a e.0)
 
-pub returns-then-table-lt-TABLE_LENGTH : goal.returns-then-table-lt-TABLE_LENGTH
-returns-then-table-lt-TABLE_LENGTH c =
-    let args = c.args in
-    judge_third_short args.store.now args.distances.now args.table.now c.if-store-lt-STORE_LENGTH.false
-    c.if-distances-lt-DISTANCES_LENGTH.false c.if-table-lt-TABLE_LENGTH.true
+pub returns-in_err-long_enough-3 : goal.returns-in_err-long_enough-3
+returns-in_err-long_enough-3 c =
+    let a = c.in_ok-long_enough.ensures in
+    let b = c.in_ok-long_enough-2.ensures in
+    let e = c.in_err-long_enough-3.ensures in
+    let t = c.from_residual-in_err-long_enough-3 in
+    let r = err_from_is_err_and t.result t.ensures.1 in
+    rw (r.1, r.2, e.1) (judge_third_short _ _ _ a b e.0)
 
-pub good-requires : goal.good-requires
-good-requires c = c.if-store-lt-STORE_LENGTH.false
-
-pub returns-then-not-good : goal.returns-then-not-good
-returns-then-not-good c =
-    let args = c.args in
-    let store = args.store.now in
-    judge_not_good store args.distances.now args.table.now c.if-store-lt-STORE_LENGTH.false
-    c.if-distances-lt-DISTANCES_LENGTH.false
-    c.if-table-lt-TABLE_LENGTH.false
-    (decides-refused c.good.result (Good store) c.good.ensures c.if-not-good.true-raw)
-
-pub judge_good-v-requires : goal.judge_good-v-requires
-judge_good-v-requires c =
-    let store = c.args.store.now in
-    let good = decides_passed c.good.result (Good store) c.good.ensures c.if-not-good.false-raw in
-    record {
-      stored = good→Stored store c.if-store-lt-STORE_LENGTH.false good;
-      index_length_is = omega arith;
-      roles_length = omega arith;
-      distances_length_is = c.if-distances-lt-DISTANCES_LENGTH.false;
-      table_length_is = c.if-table-lt-TABLE_LENGTH.false;
-    }
+pub returns-in_err-check_good : goal.returns-in_err-check_good
+returns-in_err-check_good c =
+    let a = c.in_ok-long_enough.ensures in
+    let b = c.in_ok-long_enough-2.ensures in
+    let d = c.in_ok-long_enough-3.ensures in
+    let e = c.in_err-check_good.ensures in
+    let t = c.from_residual-in_err-check_good in
+    let r = err_from_is_err_and t.result t.ensures.1 in
+    rw (r.1, r.2, e.1) (judge_not_good _ _ _ a b d e.0)
 
 pub returns : goal.returns
 returns c =
-    let args = c.args in
-    let store = args.store.now in
-    let good = decides_passed c.good.result (Good store) c.good.ensures c.if-not-good.false-raw in
-    judge_done store args.distances.now args.table.now c.if-store-lt-STORE_LENGTH.false
-    c.if-distances-lt-DISTANCES_LENGTH.false
-    c.if-table-lt-TABLE_LENGTH.false good _ _ _ _ _ c.judge_good-v.ensures
+    let good = c.in_ok-check_good.ensures.0 in
+    let a = c.in_ok-long_enough.ensures in
+    let b = c.in_ok-long_enough-2.ensures in
+    let d = c.in_ok-long_enough-3.ensures in
+    judge_done _ _ _ a b d good _ _ _ _ _ c.judge_good.ensures

@@ -12,14 +12,6 @@ returns-then-states-p c =
     let e = c.states.ensures ∙ stored_states c.requires.stored in
     no_state_done c.requires.stored c.args.p _ _ (omega (arith, e, c.if-states-p.true))
 
-pub fill_distances-requires : goal.fill_distances-requires
-fill_distances-requires c =
-    record {
-      stored = c.requires.stored;
-      index = c.index.ensures;
-      index_length_in_bounds = (omega arith, c.requires.distances_length_in_bounds.0);
-    }
-
 pub is_unreachable-requires : goal.is_unreachable-requires
 is_unreachable-requires c =
     let e = c.states.ensures ∙ stored_states c.requires.stored in
@@ -35,14 +27,13 @@ returns-then-is_unreachable c =
     unreachable_done c.requires.stored c.args.p _ (omega (arith, e, c.if-states-p.false))
     c.fill_distances.ensures (decides_true _ _ c.is_unreachable.ensures c.if-is_unreachable.true)
 
-pub fill_run-n-requires : goal.fill_run-n-requires
-fill_run-n-requires c =
+pub fill_run-requires : goal.fill_run-requires
+fill_run-requires c =
     let e = c.states.ensures ∙ stored_states c.requires.stored in
     let has-distance = decides_false _ _ c.is_unreachable.ensures c.if-is_unreachable.false in
     let r = list_reachable c.requires.stored c.fill_distances.ensures.list (omega (arith, e, c.if-states-p.false))
     has-distance in
     record {
-      stored = c.requires.stored;
       distances_length_in_bounds = (
         omega (
           arith,
@@ -60,4 +51,4 @@ returns c =
     filled_done c.requires.stored c.args.p (omega (arith, e, c.if-states-p.false))
     c.fill_distances.ensures
     (decides_false _ _ c.is_unreachable.ensures c.if-is_unreachable.false)
-    c.fill_run-n.ensures
+    c.fill_run.ensures

@@ -1,5 +1,4 @@
 -- Where no step branches the model is deterministic, and where no silent step is found none can be reached.
-use Rattle.letters.specs.Laws.LettersLaws.{found_at, found_nothing}
 use Rattle.letters.specs.Laws.WordsLaws.{deterministic_of_no_branch}
 use Rattle.letters.proofs.ShowAnswers.{branching_done, silent_done}
 use Rattle.letters.proofs.word.show.Goals as goal
@@ -22,23 +21,18 @@ first_silent-requires c =
     }
 
 pub show_word-requires : goal.show_word-requires
-show_word-requires c =
-    let unbranched = found_nothing _ c.in-Nothing.is c.first_branch.ensures in
-    let still = found_nothing _ c.in-Nothing-first_silent.is c.first_silent.ensures in
-    record {
-      showable = c.requires;
-      deterministic_model = (deterministic_of_no_branch c.requires.lists.stored unbranched, still);
-    }
+show_word-requires c = record {
+  showable = c.requires;
+  deterministic_model = (
+    deterministic_of_no_branch c.requires.lists.stored c.in-None.ensures,
+    c.in-None-first_silent.ensures,
+  );
+}
 
-pub returns-in-At : goal.returns-in-At
-returns-in-At c =
-    branching_done _ _ (found_at _ c.in-At.is c.first_branch.ensures)
+pub returns-in-Some : goal.returns-in-Some
+returns-in-Some c = branching_done _ _ c.in-Some.ensures
 
-pub returns-in-At-first_silent : goal.returns-in-At-first_silent
-returns-in-At-first_silent c =
-    let unbranched = found_nothing _ c.in-Nothing.is c.first_branch.ensures in
-    silent_done _ _ (deterministic_of_no_branch c.requires.lists.stored unbranched)
-    (found_at _ c.in-At-first_silent.is c.first_silent.ensures)
-
-pub returns-in-Nothing-first_silent : goal.returns-in-Nothing-first_silent
-returns-in-Nothing-first_silent c = c.show_word.ensures
+pub returns-in-Some-first_silent : goal.returns-in-Some-first_silent
+returns-in-Some-first_silent c =
+    silent_done _ _ (deterministic_of_no_branch c.requires.lists.stored c.in-None.ensures)
+    c.in-Some-first_silent.ensures

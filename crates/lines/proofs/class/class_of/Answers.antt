@@ -1,38 +1,30 @@
--- No place below q of the row is 0, and place p is. Assumes nothing.
-use mathlib.Core.Path.{sym, ◌∙◌}
-use native.Mathlib.Omega.{arith}
-use borrow.Author.Count.{below_more}
+-- The first place of the row with 0, or place p, which has it.
+use Rattle.std.proofs.Common.{rules, arith, ◌≡◌, ◌<◌, get_or, ℕ, List, Option, Some, None, MatchOption, tests}
+use Rattle.std.specs.Option.{unwrap_or}
+use Rattle.text.specs.First.{First}
+use Rattle.text.specs.Limits.{pair_place}
+use Rattle.model.proofs.Laws.Store.EachAllLaws.{first_below}
+use Rattle.lines.specs.Inner.Entries.{LowestZero}
 use Rattle.lines.proofs.class.class_of.Goals as goal
 
-pub loop-q-init : goal.loop-q-init
-loop-q-init c = (omega arith, λ i l. absurd (omega arith))
+abbrev Zero : List ℕ → ℕ → ℕ → Type 0
+Zero t p i = get_or t (pair_place p i) 0 ≡ 0
 
-pub rank_at-requires : goal.rank_at-requires
-rank_at-requires c =
+lowest : (t : List ℕ) (p : ℕ) → Zero t p p → (r : Option ℕ)
+    → MatchOption r ((k : ℕ) → k < p → ¬ (Zero t p k)) (λ i. (i < p) × First (Zero t p) i)
+    → LowestZero t p (unwrap_or r p)
+lowest t p z None h = record { le = omega arith; zero = z; lowest = h }
+lowest t p z (Some i) h =
     record {
-      p_lt_state_limit = (
-        c.requires.p_lt_state_limit.0,
-        omega
-            (arith, c.requires.p_lt_state_limit.0, c.loop-q-test.true),
-      );
-      table_length_in_bounds = c.requires.p_lt_state_limit.1;
+      le = omega (arith, h.0);
+      zero = h.1.holds;
+      lowest = λ k l e. absurd (omega (arith, l, h.1.first k e));
     }
-
-pub returns-then-rank_at-eq0 : goal.returns-then-rank_at-eq0
-returns-then-rank_at-eq0 c =
-    let inv = c.loop-q.invariant in
-    record { le = inv.0; zero = sym c.rank_at.ensures ∙ c.if-rank_at-eq0.true; lowest = inv.1 }
-
-pub loop-q-preserved : goal.loop-q-preserved
-loop-q-preserved c = (
-  omega (arith, c.loop-q-test.true),
-  below_more _ _ c.loop-q.invariant.1 (λ e. c.if-rank_at-eq0.false (c.rank_at.ensures ∙ e)),
-)
 
 pub returns : goal.returns
 returns c =
-    record {
-      le = omega arith;
-      zero = c.requires.p_value;
-      lowest = λ i l. c.loop-q.invariant.1 i (omega (arith, c.loop-q-test.false));
-    }
+    let t = c.args.table.now in
+    let p = c.args.p.0 in
+    rw c.unwrap_or.ensures (lowest t p c.requires.p_value c.find-zero.result
+    (first_below (Zero t p) p _ _ c.find-zero.result c.find-zero.ensures.ran (λ x q k. search (rules, tests))
+    (λ x q k. search (rules, tests))))

@@ -1,12 +1,7 @@
 -- The verdict, the states, what follows them and the end, each from where the last one ended. Assumes nothing.
-use mathlib.Core.List.{[], ◌∷◌}
-use mathlib.Core.Path.{◌≡◌, refl, ◌∙◌}
-use Prim.Native.Nat.{ℕ, ◌+◌, ◌≤◌}
-use native.Mathlib.Omega.{arith}
-use lib.ListN.{length}
+use Rattle.std.proofs.Common.{[], ◌∷◌, ◌≡◌, refl, ℕ, ◌+◌, ◌≤◌, arith, length}
 use Rattle.model.specs.StoredModel.{model_at}
 use Rattle.writer.specs.Inner.Writable.{Writable}
-use Rattle.writer.specs.Laws.WroteLaws.{wrote-length}
 use Rattle.writer.specs.Laws.NameLaws.{name_length_le}
 use Rattle.lines.specs.PageLines.{verdict_line}
 use Rattle.lines.specs.Inner.LinesWritten.{LinesWritten}
@@ -134,12 +129,6 @@ line_end-requires c =
     (leak_room_left (goal.at.line_end-requires c).After-state_lines-states
     (states_room_left (goal.at.line_end-requires c).After-line_end-verdict
     (start_room (goal.at.line_end-requires c).Start)))) c.last_text.ensures
-
-pub shape_of-out : goal.shape_of-out
-shape_of-out c =
-    wrote-length c.line_end.ensures ∙ wrote-length c.last_text.ensures
-    ∙ wrote-length c.leak_lines-leak.ensures.wrote ∙ wrote-length c.state_lines-states.ensures.wrote
-    ∙ wrote-length c.line_end-verdict.ensures ∙ wrote-length c.verdict_text.ensures
 
 pub returns : goal.returns
 returns c =

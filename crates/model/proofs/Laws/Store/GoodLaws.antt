@@ -1,6 +1,6 @@
 -- A store is good exactly if its places are.
 -- Document 01, "The model store": "A store is good if some text reads to it." Assumes nothing.
-use Rattle.std.specs.Prelude.{List, ℕ, ◌≤◌, length}
+use Rattle.std.proofs.Common.{List, ℕ, ◌≤◌, length}
 use Rattle.text.specs.Limits.{store_length}
 use Rattle.model.specs.Store.{Good}
 use Rattle.model.proofs.Laws.Store.StoredModelLaws.{Good→Holds, Holds→Good}

@@ -1,8 +1,7 @@
 -- The tests of well-formed models and of good stores decide them.
 -- Document 01, "The text" and "The model store"; document 02, (iii) and (vi). Assumes nothing.
-use Rattle.std.specs.Prelude.{Bool, not, ◌&&◌, ◌⊎◌, ◌≡◌, ℕ, T, leb, eqb, length, take}
-use mathlib.Core.List.{List, [], ◌∷◌, ◌++◌}
-use Rattle.std.proofs.Common.{inl, inr, subst, arith, T_not, leb→le, le→leb}
+use Rattle.std.proofs.Common.{Bool, not, ◌&&◌, ◌⊎◌, ◌≡◌, ℕ, T, leb, eqb, length, take, List, [], ◌∷◌, ◌++◌, inl, inr}
+use Rattle.std.proofs.Common.{subst, arith, T_not, leb→le, le→leb}
 use Rattle.std.proofs.Math.Dec.{eqb→eq, eqb_refl}
 use Rattle.lts.proofs.TestsLaws.{T_cases, and_left, and_right, and_intro}
 use Rattle.text.specs.declared.Head.{Head}

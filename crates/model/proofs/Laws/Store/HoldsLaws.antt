@@ -1,11 +1,8 @@
 -- A store that holds the model that it shows has good places.
 -- Document 01, "The model store"; document 02, (iii) and (vi). Assumes nothing.
-use mathlib.Core.List.{List, [], ◌∷◌, ◌++◌, append_assoc}
-use Rattle.std.proofs.Common.{⊎_elim, sym, ◌∙◌, subst, length-drop, length-take-le, take_all}
-use Rattle.std.specs.Prelude.{◌≡◌, drop}
+use Rattle.std.proofs.Common.{List, [], ◌∷◌, ◌++◌, append_assoc, ⊎_elim, sym, ◌∙◌, subst, length-drop, length-take-le}
+use Rattle.std.proofs.Common.{take_all, ◌≡◌, drop, ℕ, zero, suc, ◌+◌, ◌-◌, ◌≤◌, ◌<◌, arith}
 use Rattle.std.proofs.Math.Path.{ap}
-use Prim.Native.Nat.{ℕ, zero, suc, ◌+◌, ◌-◌, ◌≤◌, ◌<◌}
-use native.Mathlib.Omega.{arith}
 use Rattle.std.proofs.Math.Dec.{T, T_not}
 use Rattle.std.proofs.Math.ListN.{length, get_or}
 use Rattle.lts.proofs.TestsLaws.{lt_or_le, and_right}

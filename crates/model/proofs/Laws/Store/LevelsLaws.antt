@@ -1,7 +1,6 @@
 -- The store of a model without a high action is not good.
 -- Document 02, (vi). Assumes nothing.
-use Rattle.std.specs.Prelude.{not, List, ◌++◌, ◌≡◌, ℕ, T, length}
-use Rattle.std.proofs.Common.{sym, subst, T_not}
+use Rattle.std.proofs.Common.{not, List, ◌++◌, ◌≡◌, ℕ, T, length, sym, subst, T_not}
 use Rattle.text.specs.Model.{ActionLine, Model, some_high?}
 use Rattle.model.specs.Inner.StoredActions.{Short}
 use Rattle.model.specs.Store.{head_row, store_of, Good}

@@ -1,24 +1,24 @@
 -- The names and levels of actions as they stand in the store, and the test whether a name is used.
 -- Document 01, "The text" and "The model store". Assumes nothing.
-use Rattle.std.specs.Prelude.{Bool, true, false, ◌||◌, ◌≡◌, refl, T, drop, get_or}
-use mathlib.Core.List.{List, [], ◌∷◌, ◌++◌, append_assoc}
+use Rattle.std.proofs.Common.{Bool, true, false, MatchBool, ◌≡◌, refl, T, take, drop, ◌||◌, get_or, List, [], ◌∷◌, ◌++◌}
+use Rattle.std.proofs.Common.{append_assoc, ap, ◌∙◌, subst, drop-cons, drop-drop, drop_at, get_or-drop, ext_get_or}
+use Rattle.std.proofs.Common.{add-one, ℕ, zero, suc}
+use Rattle.std.proofs.Common.{◌+◌, ◌-◌, ◌*◌, ◌≤◌, ◌<◌, arith}
 use Rattle.std.proofs.Math.Path.{sym}
-use Rattle.std.proofs.Common.{ap, ◌∙◌, subst, drop-cons, drop-drop, drop_at, get_or-drop, ext_get_or}
-use Prim.Native.Nat.{ℕ, zero, suc, ◌+◌, ◌-◌, ◌*◌, ◌≤◌, ◌<◌}
-use native.Mathlib.Omega.{arith}
-use Rattle.std.proofs.Math.Numerals.{add-one}
 use Rattle.std.proofs.Math.ListN.{length, replicate, get_or-append}
-use Rattle.std.proofs.Math.Seq.{drop-length}
+use Rattle.std.proofs.Math.Seq.{take-append_seam, drop-length}
 use Rattle.lts.proofs.TestsLaws.{T→true}
 use Rattle.text.specs.Limits.{name_limit, actions_begin, name_length_column, name_column, action_size, actions_length}
 use Rattle.text.specs.Limits.{steps_length, action_place}
+use Rattle.std.specs.Bool.{Decides}
 use Rattle.text.specs.Split.{same?}
-use Rattle.text.specs.Laws.SameLaws.{same?→eq, same?_refl, same?-length}
+use Rattle.text.specs.Laws.SameLaws.{same?→eq, eq→same?, same?_refl, same?-length}
 use Rattle.text.specs.Model.{ActionLine, Model, no_action}
 use Rattle.text.specs.Lines.{used?}
 use Rattle.model.specs.Store.{padded, action_numbers, actions_numbers, steps_numbers, head_row}
 use Rattle.model.specs.Store.{extra_numbers, store_of}
 use Rattle.model.specs.Inner.StoredActions.{ActionStored, ActionsStored, Short}
+use Rattle.model.specs.Laws.Store.ListedLaws.{used?_listed, listed_used?}
 use Rattle.model.specs.Laws.Store.StoreLaws.{action_numbers-length}
 use Rattle.model.proofs.Laws.Store.StoredModelLaws.{listed_all, action_at_lem}
 use Rattle.model.specs.StoredModel.{action_at, listed}
@@ -61,6 +61,24 @@ module _ (store : List ℕ) (at : ℕ) (a : ActionLine) (s : ActionStored store 
         let n : length a.name ≡ length name = sym stored_length ∙ l in
         let e : a.name ≡ name = ext_get_or 0 a.name name n (λ i k. sym (stored_byte i k) ∙ h i (rw n at k)) in
         rw e (sym (T→true (same? name name) (same?_refl name)))
+
+    stored_part : (p n : ℕ) → p ≡ at + name_column → n ≡ length name → take n (drop p store) ≡ a.name
+    unfolding action_numbers padded
+    stored_part p n d e =
+        let z : List ℕ = replicate (name_limit - length a.name) 0 in
+        let m : n ≡ length a.name = e ∙ sym l ∙ stored_length in
+        rw (d, ← drop-drop 2 at store, s.stored, append_assoc, m) (take-append_seam a.name (z ++ s.after))
+
+    -- what decides whether the places hold the name answers whether it is the action's
+    pub named_part : (p n : ℕ) (r : Bool) → p ≡ at + name_column → n ≡ length name
+        → Decides r (take n (drop p store) ≡ name) → r ≡ same? a.name name
+    named_part p n true d e h = sym (T→true _ (eq→same? a.name name (sym (stored_part p n d e) ∙ h.0 refl)))
+    named_part p n false d e h = go (same? a.name name) refl
+      where
+        go : (b : Bool) → same? a.name name ≡ b → false ≡ same? a.name name
+        go true t =
+            let f : false ≡ true = h.1 (stored_part p n d e ∙ same?→eq a.name name (subst T (sym t) tt)) in cc
+        go false t = sym t
 
 -- ---- the names of some actions
 
@@ -136,3 +154,36 @@ actions_stored_store_of m rest short =
     let z : List ℕ = replicate (actions_length - length n) 0 in
     let y : List ℕ = padded steps_length (steps_numbers m.steps) ++ (extra_numbers m.extra_starts ++ rest) in
     record { after = z ++ y; stored = simp append_assoc; short = short }
+
+-- ---- whether a name is used
+
+module _ (store : List ℕ) (actions : List ActionLine) (s : ActionsStored store actions_begin actions) (name : List ℕ)
+    (n : ℕ) (e : length actions ≡ n) where
+  -- what each test of an action that stands at place p says of its name
+  abbrev pub SaysAt : Bool → ℕ → Type 0
+  SaysAt b k = (a : ActionLine) → ActionStored store (action_place k) a → b ≡ same? a.name name
+
+  listed_used : T (used? name (listed n (action_at store))) → T (used? name actions)
+  listed_used t = rw (listed_stored store actions n (sym e) s) at t
+
+  used_listed : T (used? name actions) → T (used? name (listed n (action_at store)))
+  used_listed t = rw (listed_stored store actions n (sym e) s) t
+
+  pub used?_answer : (r : Bool) → MatchBool r ((k : ℕ) × (k < n) × SaysAt true k) ((k : ℕ) → k < n → SaysAt false k)
+      → r ≡ used? name actions
+  used?_answer true h =
+      let l : h.0 < length actions = rw e h.1 in
+      let a = get_or actions h.0 no_action in
+      let f = same?→eq a.name name (subst T (h.2 a (action_stored_at store actions s h.0 l)) tt) in
+      let g = ap (λ (x : ActionLine). x.name) (action_at_stored store actions s h.0 l) ∙ f in
+      sym (T→true _ (listed_used (listed_used? name (action_at store) n h.0 h.1 g)))
+  used?_answer false h = go (used? name actions) refl
+    where
+      go : (b : Bool) → used? name actions ≡ b → false ≡ used? name actions
+      go true t =
+          let w = used?_listed name (action_at store) n (used_listed (subst T (sym t) tt)) in
+          let l : w.0 < length actions = rw e w.1 in
+          let a = get_or actions w.0 no_action in
+          let g = ap (λ (x : ActionLine). x.name) (sym (action_at_stored store actions s w.0 l)) ∙ w.2 in
+          absurd (subst T (sym (h w.0 w.1 a (action_stored_at store actions s w.0 l))) (eq→same? a.name name g))
+      go false t = sym t

@@ -1,12 +1,9 @@
 -- A store that holds a well-formed model shows it: each accessor gives its part, so the model is the only one.
 -- Document 01, "The model store"; document 02, (iii). Assumes nothing.
-use mathlib.Core.List.{List, ◌++◌}
-use Rattle.std.specs.Prelude.{◌↔◌, ◌≡◌, refl, get_or, take, drop}
+use Rattle.std.proofs.Common.{List, ◌++◌, ◌↔◌, ◌≡◌, refl, get_or, take, drop, ◌∙◌, subst, add-zero, take-append-drop}
+use Rattle.std.proofs.Common.{length-append, take-suc, take_at, get_or-drop, drop-drop, ℕ, zero, suc, ◌+◌, ◌≤◌, ◌<◌}
+use Rattle.std.proofs.Common.{arith}
 use Rattle.std.proofs.Math.Path.{sym, ap}
-use Rattle.std.proofs.Common.{◌∙◌, subst, add-zero, take-append-drop, length-append, take-suc, take_at, get_or-drop}
-use Rattle.std.proofs.Common.{drop-drop}
-use Prim.Native.Nat.{ℕ, zero, suc, ◌+◌, ◌≤◌, ◌<◌}
-use native.Mathlib.Omega.{arith}
 use Rattle.std.proofs.Math.ListN.{length, get_or-append}
 use Rattle.std.proofs.Math.Seq.{take-length}
 use Rattle.text.specs.declared.Head.{Head}

@@ -1,7 +1,7 @@
 -- A good store has all that the judge uses of it.
 -- Document 01, "The text" and "The model store"; document 02, (iii). Assumes nothing.
-use Rattle.std.specs.Prelude.{Bool, false, not, List, [], ◌++◌, ◌≡◌, ℕ, ◌≤◌, length}
-use Rattle.std.proofs.Common.{⊎_elim, sym, ap, subst, arith, eq-or-lt_of_le, length-append, length-take}
+use Rattle.std.proofs.Common.{Bool, false, not, List, [], ◌++◌, ◌≡◌, ℕ, ◌≤◌, length, ⊎_elim, sym, ap, subst, arith}
+use Rattle.std.proofs.Common.{eq-or-lt_of_le, length-append, length-take}
 use Rattle.text.specs.Limits.{store_length}
 use Rattle.text.specs.Decides.{Decides}
 use Rattle.text.specs.Laws.DecidesLaws.{decides_passed}

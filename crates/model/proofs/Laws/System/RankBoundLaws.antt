@@ -1,7 +1,6 @@
 -- The low steps of a model make a game, and so do the moves that are played; no rank of two of its states exceeds its
 -- states minus 1. Document 01, "Rank"; document 02, (vii). Assumes nothing.
-use Rattle.std.specs.Prelude.{List, ℕ, ◌-◌, ◌≤◌, ◌<◌}
-use Rattle.std.proofs.Common.{arith}
+use Rattle.std.proofs.Common.{List, ℕ, ◌-◌, ◌≤◌, ◌<◌, arith}
 use Rattle.lts.specs.Alike.{Rank}
 use Rattle.lts.specs.Checked.{low_round, weak_round}
 use Rattle.lts.proofs.CheckedLaws.{low_game, weak_view_game, no_silent_label_of_decided}

@@ -1,8 +1,7 @@
 -- A model has no silent step that can be reached exactly where its view has none, and then its ranks between reachable
 -- states are those under the low steps; two of its states have the rank 0 exactly where a weak bisimulation of source
 -- 002 pairs them. Document 02, (vii); definition 1 of source 002. Assumes nothing.
-use Rattle.std.specs.Prelude.{List, ◌↔◌, ◌≡◌, refl, ℕ, zero, suc, ◌≤◌, ◌<◌}
-use Rattle.std.proofs.Common.{sym, ap, ◌∙◌, subst, arith, eqb→eq}
+use Rattle.std.proofs.Common.{List, ◌↔◌, ◌≡◌, refl, ℕ, zero, suc, ◌≤◌, ◌<◌, sym, ap, ◌∙◌, subst, arith, eqb→eq}
 use Rattle.lts.proofs.TestsLaws.{T-eqb}
 use Rattle.lts.specs.Alike.{Rank}
 use Rattle.lts.specs.Checked.{low_round, weak_round}

@@ -1,8 +1,8 @@
 -- A text whose first line and `A` lines are good, and that has no high action, is refused at the last `A` line,
 -- whatever follows it.
 -- Document 02, (vi). Assumes nothing.
-use Rattle.std.specs.Prelude.{not, List, [], ◌∷◌, ◌++◌, map, ◌≡◌, refl, ℕ, ◌+◌, ◌≤◌, ◌<◌, T, length}
-use Rattle.std.proofs.Common.{append_assoc, ap, ◌∙◌, arith, le-ltb}
+use Rattle.std.proofs.Common.{not, List, [], ◌∷◌, ◌++◌, map, ◌≡◌, refl, ℕ, ◌+◌, ◌≤◌, ◌<◌, T, length, append_assoc, ap}
+use Rattle.std.proofs.Common.{◌∙◌, arith, le-ltb}
 use Rattle.text.specs.Bytes.{kind_of, line_end, byte_line_end}
 use Rattle.text.specs.declared.Fault.TheVariants.{NoHigh}
 use Rattle.text.specs.declared.Head.{Head}

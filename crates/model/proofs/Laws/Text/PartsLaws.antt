@@ -1,8 +1,7 @@
 -- The parts of a model's text are read to the model, and only the parts of its text are.
 -- Document 01, "The text"; document 02, (iii) and (vi). Assumes nothing.
-use Rattle.std.specs.Prelude.{true, false, not, ◌≡◌, refl, ℕ, ◌+◌, ◌-◌, ◌<◌, T}
-use mathlib.Core.List.{List, [], ◌∷◌, ◌++◌, map}
-use Rattle.std.proofs.Common.{sym, ◌∙◌, subst, arith}
+use Rattle.std.proofs.Common.{true, false, not, ◌≡◌, refl, ℕ, ◌+◌, ◌-◌, ◌<◌, T, List, [], ◌∷◌, ◌++◌, map, sym, ◌∙◌}
+use Rattle.std.proofs.Common.{subst, arith}
 use Rattle.std.proofs.Math.Path.{ap}
 use Rattle.std.proofs.Math.ListN.{length, length-append}
 use Rattle.lts.proofs.TestsLaws.{T→true, not-T→false}

@@ -1,7 +1,7 @@
 -- Exactly the texts that state a model are read, each to its model.
 -- Document 01, "The text". Assumes nothing.
-use Rattle.std.specs.Prelude.{Bool, true, false, cond, List, ◌≡◌, refl, ◌↔◌, ℕ, ◌≤◌, ◌<◌, ltb, length}
-use Rattle.std.proofs.Common.{sym, ap, ◌∙◌, subst, arith, lit<, le-ltb}
+use Rattle.std.proofs.Common.{Bool, true, false, cond, List, ◌≡◌, refl, ◌↔◌, ℕ, ◌≤◌, ◌<◌, ltb, length, sym, ap, ◌∙◌}
+use Rattle.std.proofs.Common.{subst, arith, lit<, le-ltb}
 use Rattle.text.specs.Bytes.{kind_of, line_end, byte_line_end}
 use Rattle.text.specs.Laws.BytesLaws.{line_end_only}
 use Rattle.text.specs.Limits.{text_limit, out_length}

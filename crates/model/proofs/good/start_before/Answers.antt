@@ -1,8 +1,5 @@
 -- The start before an extra start, by whether it is the first.
-use mathlib.Core.List.{List}
-use mathlib.Core.Path.{◌≡◌, refl, ap, ◌∙◌}
-use Prim.Native.Nat.{ℕ, zero, suc, ◌-◌}
-use native.Mathlib.Omega.{arith}
+use Rattle.std.proofs.Common.{List, ◌≡◌, refl, ap, ◌∙◌, ℕ, zero, suc, ◌-◌, arith}
 use Rattle.text.specs.declared.Head.{Head}
 use Rattle.model.specs.StoredModel.{extra_start_at}
 use Rattle.model.specs.Inner.GoodPlaces.{start_before}
@@ -21,5 +18,5 @@ before-later h s (suc i) n = let e : suc i - 1 ≡ i = omega arith in ap (extra_
 pub returns-then-i-eq0 : goal.returns-then-i-eq0
 returns-then-i-eq0 c = before_first _ _ _ c.if-i-eq0.true
 
-pub returns : goal.returns
-returns c = c.extra_start.ensures ∙ before-later _ _ _ c.if-i-eq0.false
+pub returns-else-i-eq0 : goal.returns-else-i-eq0
+returns-else-i-eq0 c = c.extra_start.ensures ∙ before-later _ _ _ c.if-i-eq0.false

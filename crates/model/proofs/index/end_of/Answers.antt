@@ -1,45 +1,28 @@
--- All steps from `from` up to `to` leave q; the steps rise by source.
-use mathlib.Core.Path.{ap, ◌∙◌}
-use native.Mathlib.Omega.{arith}
-use borrow.Author.Count.{below_more}
-use Rattle.text.specs.declared.State.{State}
-use Rattle.model.specs.Laws.System.StoredLaws.{stored_steps, stored_source}
+-- The steps of q end at the first step from `from` on that leaves another state.
+use Rattle.std.proofs.Common.{rules, arith, ◌≡◌, ◌≢◌, ◌≤◌, ◌<◌, ◌+◌, ℕ, length, List, Option, Some, None, MatchOption}
+use Rattle.std.proofs.Common.{tests}
+use Rattle.std.proofs.lemmas.Iterator.{first_from_Range}
+use Rattle.std.specs.Option.{unwrap_or}
+use Rattle.text.specs.Model.{Model}
+use Rattle.model.specs.StoredModel.{model_at}
+use Rattle.model.specs.System.{source}
+use Rattle.model.specs.Inner.Stored.{Stored}
+use Rattle.model.specs.Inner.Index.{Begins}
 use Rattle.model.specs.Laws.System.IndexLaws.{begins-suc}
 use Rattle.model.proofs.index.end_of.Goals as goal
 
-pub steps-n-requires : goal.steps-n-requires
-steps-n-requires c = c.requires.stored.length_le
+ends_at : {s : List ℕ} {m : Model} → Stored s m → (q from n : ℕ) → Begins m q from → n ≡ length m.steps → (r : Option ℕ)
+    → MatchOption r ((k : ℕ) → from ≤ k → k < n → source m k ≡ q)
+    (λ i. (from ≤ i) × (i < n) × (source m i ≢ q) × ((k : ℕ) → from ≤ k → k < i → source m k ≡ q))
+    → Begins m (q + 1) (unwrap_or r n)
+ends_at st q from n b e None h =
+    begins-suc st q from n b (omega arith) (λ j l k. h j k l) (λ l. absurd (omega arith))
+ends_at st q from n b e (Some i) h =
+    begins-suc st q from i b (omega arith) (λ j l k. h.3 j k l) (λ l. omega (arith, b.above i h.0 l, h.2))
 
-pub loop-to-init : goal.loop-to-init
-loop-to-init c =
-    let e = c.steps-n.ensures ∙ stored_steps c.requires.stored in
-    (e, omega arith, omega (arith, e, c.requires.begins.from_le), λ j l k. absurd (omega arith))
-
-pub source-p-requires : goal.source-p-requires
-source-p-requires c =
-    let F = c.requires.stored in
-    (F.length_le, omega (arith, c.loop-to-test.true, c.loop-to.invariant.0, F.steps_le))
-
-pub loop-to-preserved : goal.loop-to-preserved
-loop-to-preserved c =
-    let inv = c.loop-to.invariant in
-    let l = c.loop-to-test.true in
-    let top = inv.0 in
-    let e =
-    ap (λ (x : State). x.0) c.source-p.ensures
-    ∙ stored_source c.requires.stored _ (omega arith) in
-    (top, omega (arith, inv.1), omega (arith, l), below_more _ _ inv.3 (λ k. omega (arith, e, c.if-p-q.false)))
-
-pub returns-after-loop-to : goal.returns-after-loop-to
-returns-after-loop-to c =
-    let inv = c.loop-to.invariant in
-    begins-suc c.requires.stored _ _ _ c.requires.begins (omega (arith, inv.0, inv.2)) inv.3
-    (λ l. absurd (omega (arith, inv.0, c.loop-to-test.false)))
-
-pub returns-then-p-q : goal.returns-then-p-q
-returns-then-p-q c =
-    let inv = c.loop-to.invariant in
-    begins-suc c.requires.stored _ _ _ c.requires.begins (omega (arith, inv.0, inv.2)) inv.3
-    (λ l.
-    let e = ap (λ (x : State). x.0) c.source-p.ensures ∙ stored_source c.requires.stored _ l in
-    omega (arith, e, c.requires.begins.above c.loop-to.to inv.1 l, c.if-p-q.true))
+pub returns : goal.returns
+returns c =
+    let m = model_at c.args.store.places.now in
+    rw c.unwrap_or.ensures (ends_at c.args.store.stored _ _ _ c.requires c.steps-n.ensures c.find.result
+    (first_from_Range _ _ _ c.find.result (λ j. source m j ≢ c.args.q.0) (λ j. source m j ≡ c.args.q.0)
+    c.find.ensures.ran (λ x q k. search (rules, tests)) (λ x q k. search (rules, tests))))

@@ -1,22 +1,15 @@
--- No action that the loop has passed is high; where it stops early, one is.
-use native.Mathlib.Omega.{arith}
-use Rattle.model.specs.Laws.Store.EachFromLaws.{each_from_nil, each_from_snoc}
+-- The test of an action decides whether it is high.
+use Rattle.std.proofs.Common.{rules, ◌≡◌, tests}
+use Rattle.text.specs.Model.{high}
+use Rattle.text.specs.Laws.DecidesLaws.{decides_iff}
+use Rattle.model.specs.StoredModel.{action_at}
 use Rattle.model.specs.Laws.Store.ListedLaws.{some_high?_listed, listed_some_high?}
+use Rattle.model.proofs.Laws.Store.EachAllLaws.{any_below}
 use Rattle.model.proofs.levels.some_high.Goals as goal
 
-pub loop-i-init : goal.loop-i-init
-loop-i-init c = each_from_nil _
-
-pub returns-then-level-eq-HIGH : goal.returns-then-level-eq-HIGH
-returns-then-level-eq-HIGH c =
-    listed_some_high? _ _ c.loop-i.i (omega arith)
-    (omega (arith, c.level.ensures, c.if-level-eq-HIGH.true))
-
-pub loop-i-preserved : goal.loop-i-preserved
-loop-i-preserved c =
-    each_from_snoc _ c.loop-i.invariant
-    (λ e. omega (arith, e, c.level.ensures, c.if-level-eq-HIGH.false))
-
 pub returns : goal.returns
-returns c = λ t.
-    let w = some_high?_listed _ _ t in c.loop-i.invariant.at w.0 (omega arith) (omega arith) w.2
+returns c =
+    let s = c.args.store.now in
+    decides_iff c.any.result (λ w. listed_some_high? _ _ w.0 w.1 w.2) (λ t. some_high?_listed _ _ t)
+    (any_below (λ k. (action_at s k).level ≡ high) _ _ _ c.any.ensures.ran (λ x q k. search (rules, tests))
+    (λ x q k. search (rules, tests)))

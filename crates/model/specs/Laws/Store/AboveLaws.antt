@@ -1,8 +1,8 @@
 -- The order of steps is transitive, so a well-formed model stays so when a step is taken out.
 -- Document 01, "The text": "strictly rising by source, then action, then target"; document 02, (iii). Assumes nothing.
-use Rattle.std.specs.Prelude.{Bool, ◌&&◌, ◌||◌, List, [], ◌∷◌, ◌++◌, ◌⊎◌, ◌≡◌, refl, ℕ, suc, ◌≤◌, ◌<◌, ltb, eqb, length}
-use Rattle.std.specs.Prelude.{get_or, take, drop}
-use Rattle.std.proofs.Common.{append-nil, inl, inr, sym, ◌∙◌, arith, lt→ltb, length-append, length-take, length-drop}
+use Rattle.std.proofs.Common.{Bool, ◌&&◌, ◌||◌, List, [], ◌∷◌, ◌++◌, ◌⊎◌, ◌≡◌, refl, ℕ, suc, ◌≤◌, ◌<◌, ltb, eqb, length}
+use Rattle.std.proofs.Common.{get_or, take, drop, append-nil, inl, inr, sym, ◌∙◌, arith, lt→ltb, length-append}
+use Rattle.std.proofs.Common.{length-take, length-drop}
 use Rattle.std.proofs.Math.Path.{subst}
 use Rattle.std.proofs.Math.Dec.{T, ltb→lt, eqb→eq, eqb_refl}
 use Rattle.std.proofs.Math.Seq.{split_at}

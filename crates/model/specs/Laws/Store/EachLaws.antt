@@ -1,9 +1,7 @@
 -- Laws of `EachAfter`: what holds of each element and of the list of those before it.
 -- Assumes nothing.
-use mathlib.Core.List.{List, [], ◌∷◌, ◌++◌, append_assoc, append-nil}
-use Prim.Native.Nat.{ℕ, zero, suc, ◌<◌}
-use Rattle.std.proofs.Common.{arith}
-use Rattle.std.specs.Prelude.{length, get_or, take}
+use Rattle.std.proofs.Common.{List, [], ◌∷◌, ◌++◌, append_assoc, append-nil, ℕ, zero, suc, ◌<◌, arith, length, get_or}
+use Rattle.std.proofs.Common.{take}
 use Rattle.text.specs.All.{All}
 use Rattle.model.specs.WellFormed.{EachAfter}
 

@@ -1,7 +1,7 @@
 -- Two actions have one name exactly if its length and its twelve places are the same.
 -- Document 01, "The model store". Assumes nothing.
-use Rattle.std.specs.Prelude.{List, ◌≡◌, ℕ, zero, suc, ◌+◌, ◌≤◌, ◌<◌, length, get_or, drop}
-use Rattle.std.proofs.Common.{⊎_elim, sym, ap, ◌∙◌, arith, get_or-take, get_or-drop}
+use Rattle.std.proofs.Common.{List, ◌≡◌, ℕ, zero, suc, ◌+◌, ◌≤◌, ◌<◌, length, get_or, drop, ⊎_elim, sym, ap, ◌∙◌, arith}
+use Rattle.std.proofs.Common.{get_or-take, get_or-drop}
 use Rattle.lts.proofs.TestsLaws.{lt_or_le}
 use Rattle.text.specs.Limits.{action_limit, name_limit, store_length, name_length_place, name_place}
 use Rattle.model.specs.StoredModel.{action_at}

@@ -1,9 +1,8 @@
 -- Parts of a list by their places: place by place, where two are the same, and where zeros stand behind them.
 -- Assumes nothing.
-use Rattle.std.specs.Prelude.{Bool, List, [], ◌∷◌, ◌++◌, ◌≡◌, ℕ, zero, suc, ◌+◌, ◌-◌, ◌≤◌, ◌<◌, T, length, get_or, take}
-use Rattle.std.specs.Prelude.{drop, replicate}
-use Rattle.std.proofs.Common.{sym, ap, ◌∙◌, arith, add-one, length-drop, length-take-le, drop-cons, drop-drop, take-add}
-use Rattle.std.proofs.Common.{get_or-take, get_or-drop, get_or-append-add, ext_get_or}
+use Rattle.std.proofs.Common.{Bool, List, [], ◌∷◌, ◌++◌, ◌≡◌, ℕ, zero, suc, ◌+◌, ◌-◌, ◌≤◌, ◌<◌, T, length, get_or, take}
+use Rattle.std.proofs.Common.{drop, replicate, sym, ap, ◌∙◌, arith, add-one, length-drop, length-take-le, drop-cons}
+use Rattle.std.proofs.Common.{drop-drop, take-add, get_or-take, get_or-drop, get_or-append-add, ext_get_or}
 use Rattle.std.proofs.lemmas.List.{length-replicate, get_or-replicate}
 use Rattle.std.proofs.Math.ListN.{get_or-append}
 use Rattle.lts.proofs.TestsLaws.{and_left, and_right, and_intro}

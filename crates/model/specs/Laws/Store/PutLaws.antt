@@ -1,9 +1,10 @@
 -- The store of a model is filled from zeros: its first line, then action by action, extra start by extra start and step
 -- by step.
 -- Document 01, "The model store"; document 02, (iii). Assumes nothing.
-use Rattle.std.specs.Prelude.{List, [], ◌∷◌, ◌++◌, ◌≡◌, refl, ℕ, zero, suc, ◌+◌, ◌-◌, ◌*◌, ◌≤◌, ◌<◌, length, take, drop}
-use Rattle.std.specs.Prelude.{get_or, set, replicate}
-use Rattle.std.proofs.Common.{append_assoc, append-nil, sym, ap, ◌∙◌, arith, add-one, length-append, take-suc}
+use Rattle.std.proofs.Common.{List, [], ◌∷◌, ◌++◌, ◌≡◌, refl, ℕ, zero, suc, ◌+◌, ◌-◌, ◌*◌, ◌≤◌, ◌<◌, length, take, drop}
+use Rattle.std.proofs.Common.{get_or}
+use Rattle.std.proofs.Common.{set, replicate, append_assoc, append-nil, sym, ap, ◌∙◌, arith, add-one, length-append}
+use Rattle.std.proofs.Common.{take-suc}
 use Rattle.std.proofs.Common.{drop-cons, length-take-le}
 use Rattle.std.proofs.lemmas.List.{length-replicate, replicate-append-replicate, set_at}
 use Rattle.std.proofs.lemmas.List.Edits.{sets}

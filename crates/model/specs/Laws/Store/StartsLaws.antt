@@ -1,7 +1,6 @@
 -- The extra starts of a well-formed model rise below the number of states, so there are at most 127 of them.
 -- Document 02, (iii): "strictly rising and above the start in line 1, so at most 127". Assumes nothing.
-use Rattle.std.specs.Prelude.{List, [], ◌∷◌, ◌++◌, ◌≡◌, refl, ℕ, zero, suc, ◌+◌, ◌≤◌, ◌<◌, length, get_or}
-use Rattle.std.proofs.Common.{arith}
+use Rattle.std.proofs.Common.{List, [], ◌∷◌, ◌++◌, ◌≡◌, refl, ℕ, zero, suc, ◌+◌, ◌≤◌, ◌<◌, length, get_or, arith}
 use Rattle.text.specs.declared.Head.{Head}
 use Rattle.text.specs.Limits.{extra_limit}
 use Rattle.text.specs.Model.{Model, last_start}

@@ -1,12 +1,9 @@
 -- The store of a well-formed model: its length, its numbers, and where each action, step and extra start of the model
 -- stands.
 -- Document 01, "The model store"; document 02, (iii). Assumes nothing.
-use mathlib.Core.List.{List, [], ◌++◌, append_assoc}
-use Rattle.std.specs.Prelude.{◌≡◌, get_or, drop}
+use Rattle.std.proofs.Common.{List, [], ◌++◌, append_assoc, ◌≡◌, get_or, drop, ◌∙◌, lit<, ℕ, ◌+◌, ◌-◌, ◌*◌, ◌≤◌, ◌<◌}
+use Rattle.std.proofs.Common.{arith}
 use Rattle.std.proofs.Math.Path.{refl, ap}
-use Rattle.std.proofs.Common.{◌∙◌, lit<}
-use Prim.Native.Nat.{ℕ, ◌+◌, ◌-◌, ◌*◌, ◌≤◌, ◌<◌}
-use native.Mathlib.Omega.{arith}
 use Rattle.std.proofs.Math.ListN.{length, replicate, length-append}
 use Rattle.std.proofs.Math.Seq.{drop-append-add, drop_at}
 use Rattle.text.specs.declared.Head.{Head}

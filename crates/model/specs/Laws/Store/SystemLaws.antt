@@ -2,8 +2,8 @@
 -- deterministic as `lts` says it (steps of one source and action have one target). A low action is one of the model's,
 -- and a start is line 1's or an extra one.
 -- Document 01, "Deterministic" and "The text"; document 02, (iii). Assumes nothing.
-use Rattle.std.specs.Prelude.{◌⊎◌, ◌↔◌, ◌≡◌, refl, ℕ, zero, suc, ◌≤◌, ◌<◌, T, length, get_or}
-use Rattle.std.proofs.Common.{inl, inr, ⊎_elim, sym, ap, subst, ◌∙◌, arith, eqb→eq}
+use Rattle.std.proofs.Common.{◌⊎◌, ◌↔◌, ◌≡◌, refl, ℕ, zero, suc, ◌≤◌, ◌<◌, T, length, get_or, inl, inr, ⊎_elim, sym, ap}
+use Rattle.std.proofs.Common.{subst, ◌∙◌, arith, eqb→eq}
 use Rattle.std.proofs.Math.ListN.{get_or-eq_default}
 use Rattle.lts.specs.Run.{Deterministic}
 use Rattle.lts.proofs.TestsLaws.{lt_or_le}

@@ -1,7 +1,7 @@
 -- The index of steps, one state more at a time.
 -- Document 01, "The text": steps rise by source. Assumes nothing.
-use Rattle.std.specs.Prelude.{List, ◌≡◌, ℕ, ◌+◌, ◌≤◌, ◌<◌, length, get_or, set}
-use Rattle.std.proofs.Common.{⊎_elim, sym, subst, arith, get_or-set_same, get_or-set_other}
+use Rattle.std.proofs.Common.{List, ◌≡◌, ℕ, ◌+◌, ◌≤◌, ◌<◌, length, get_or, set, ⊎_elim, sym, subst, arith}
+use Rattle.std.proofs.Common.{get_or-set_same, get_or-set_other}
 use Rattle.lts.proofs.TestsLaws.{lt_or_le, lt-suc_cases}
 use Rattle.text.specs.Model.{Model}
 use Rattle.model.specs.System.{source}

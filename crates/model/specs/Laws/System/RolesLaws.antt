@@ -1,7 +1,7 @@
 -- The roles of actions, one more at a time.
 -- Document 01, "The model store": "level (0 L, 1 D, 2 H)"; document 02, (vii). Assumes nothing.
-use Rattle.std.specs.Prelude.{List, ◌≡◌, ℕ, ◌+◌, ◌<◌, T, eqb, length, get_or, set}
-use Rattle.std.proofs.Common.{⊎_elim, sym, ap, ◌∙◌, subst, arith, eqb→eq, get_or-set_same, get_or-set_other, eq-eqb}
+use Rattle.std.proofs.Common.{List, ◌≡◌, ℕ, ◌+◌, ◌<◌, T, eqb, length, get_or, set, ⊎_elim, sym, ap, ◌∙◌, subst, arith}
+use Rattle.std.proofs.Common.{eqb→eq, get_or-set_same, get_or-set_other, eq-eqb}
 use Rattle.lts.proofs.TestsLaws.{lt-suc_cases}
 use Rattle.text.specs.Model.{low, release, high, silent, Model}
 use Rattle.model.specs.System.{level, view}

@@ -1,10 +1,8 @@
 -- The line of an action reads back to it, and only that line does.
 -- Document 01, "The text"; document 02, (vii). Assumes nothing.
-use Rattle.std.specs.Prelude.{Bool, true, false, cond, not, ◌⊎◌, ℕ, zero, suc, ◌≤◌, ◌<◌, eqb, length, get_or}
-use mathlib.Core.List.{List, [], ◌∷◌}
-use Rattle.std.proofs.Common.{inl, inr, ◌∙◌, subst, eqb→eq}
+use Rattle.std.proofs.Common.{Bool, true, false, cond, not, ◌⊎◌, ℕ, zero, suc, ◌≤◌, ◌<◌, eqb, length, get_or, List, []}
+use Rattle.std.proofs.Common.{◌∷◌, inl, inr, ◌∙◌, subst, eqb→eq, arith}
 use Rattle.std.proofs.Math.Path.{◌≡◌, refl, ap}
-use native.Mathlib.Omega.{arith}
 use Rattle.std.proofs.Math.Dec.{T}
 use borrow.Author.Tests.{eqb-false}
 use Rattle.lts.proofs.TestsLaws.{and_left, and_right, or_cases, not-T→false}

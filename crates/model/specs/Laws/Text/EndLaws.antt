@@ -1,7 +1,6 @@
 -- The last line of a text, and nothing behind it, are read, and only they are.
 -- Document 01, "The text": "Then `E`, and the text ends." Assumes nothing.
-use Rattle.std.specs.Prelude.{List, [], ◌∷◌, ◌≡◌, refl, ℕ, suc, ◌<◌, length}
-use Rattle.std.proofs.Common.{arith}
+use Rattle.std.proofs.Common.{List, [], ◌∷◌, ◌≡◌, refl, ℕ, suc, ◌<◌, length, arith}
 use Rattle.text.specs.Bytes.{byte_e}
 use Rattle.text.specs.declared.Fault.TheVariants.{Shape}
 use Rattle.text.specs.Split.{same?}

@@ -1,10 +1,11 @@
 -- A letter and fields joined by commas are read back to the fields, and only such a line is; the same of the numbers of
 -- a row.
 -- Document 01, "The text". Assumes nothing.
-use Rattle.std.specs.Prelude.{Bool, true, false, cond, List, [], ◌∷◌, map, ◌≡◌, ℕ, ◌<◌, T, eqb, length, get_or}
+use Rattle.std.specs.Prelude.{Result, Ok, Err}
+use Rattle.std.proofs.Common.{Bool, true, false, cond, List, [], ◌∷◌, map, ◌≡◌, ℕ, ◌<◌, T, eqb, length, get_or, sym, ap}
+use Rattle.std.proofs.Common.{◌∙◌, subst, arith}
 use Rattle.std.proofs.Math.Option.{Option, none, some}
 use Rattle.std.proofs.Math.Path.{refl}
-use Rattle.std.proofs.Common.{sym, ap, ◌∙◌, subst, arith}
 use Rattle.std.proofs.Math.Dec.{eqb_refl}
 use Rattle.std.proofs.lemmas.List.{length-map}
 use Rattle.std.proofs.lemmas.Bool.{eqb-false}
@@ -12,8 +13,8 @@ use Rattle.lts.proofs.TestsLaws.{T→true, and_left, and_right, and_intro}
 use Rattle.text.specs.declared.Fault.{Fault}
 use Rattle.text.specs.declared.Fault.TheVariants.{Shape}
 use Rattle.text.specs.declared.number.Bounds.{Bounds}
-use Rattle.text.specs.declared.number.Number.{Number}
-use Rattle.text.specs.declared.number.Number.TheVariants.{Value, BadDigits, Outside}
+use Rattle.text.specs.declared.number.NumberFault.{NumberFault}
+use Rattle.text.specs.declared.number.NumberFault.TheVariants.{BadDigits, Outside}
 use Rattle.text.specs.declared.row.Row.{Row}
 use Rattle.text.specs.declared.row.Row.TheVariants.{HeadRow, StartRow, StepRow}
 use Rattle.text.specs.Bytes.{kind_of, digit, capital, comma, byte_comma}
@@ -65,16 +66,16 @@ module _ (letter : ℕ) (fs : List (List ℕ)) where
 
 -- ---- numbers
 
-number_in-digits : (b : Bounds) (n : ℕ) → n < 100000 → T (in_bounds? b n) → number_in b (digits n) ≡ Value n
+number_in-digits : (b : Bounds) (n : ℕ) → n < 100000 → T (in_bounds? b n) → number_in b (digits n) ≡ Ok n
 unfolding number_in bounded
 number_in-digits b n h t = rw (number_of-digits n h, bounded, T→true (in_bounds? b n) t)
 
-digits_of_number_in : (b : Bounds) (f : List ℕ) (n : ℕ) → number_in b f ≡ Value n
+digits_of_number_in : (b : Bounds) (f : List ℕ) (n : ℕ) → number_in b f ≡ Ok n
     → (f ≡ digits n) × (n < 100000) × T (in_bounds? b n)
 unfolding number_in bounded
 digits_of_number_in b f n h = by_number (number_of f) refl h
   where
-    by_test : (m : ℕ) → number_of f ≡ some m → (t : Bool) → in_bounds? b m ≡ t → cond t (Value m) Outside ≡ Value n
+    by_test : (m : ℕ) → number_of f ≡ some m → (t : Bool) → in_bounds? b m ≡ t → cond t (Ok m) (Err Outside) ≡ Ok n
         → (f ≡ digits n) × (n < 100000) × T (in_bounds? b n)
     by_test m e true d q =
         let k : m ≡ n = cc in
@@ -82,7 +83,7 @@ digits_of_number_in b f n h = by_number (number_of f) refl h
         (w.0, w.1, subst (λ (x : ℕ). T (in_bounds? b x)) k (rw d tt))
     by_test m e false d q = let z : ◌≡◌ {A = ℕ} 0 1 = cc in absurd (omega arith)
 
-    by_number : (o : Option ℕ) → number_of f ≡ o → bounded b o ≡ Value n
+    by_number : (o : Option ℕ) → number_of f ≡ o → bounded b o ≡ Ok n
         → (f ≡ digits n) × (n < 100000) × T (in_bounds? b n)
     by_number (some m) e q = by_test m e (in_bounds? b m) refl q
     by_number none e q = let z : ◌≡◌ {A = ℕ} 0 1 = cc in absurd (omega arith)
@@ -98,14 +99,14 @@ numbers_of-digits (b ∷ bs) (n ∷ ns) l s t =
     let rest = and_right (in_bounds? b n) (fits? bs ns) t in
     rw (number_in-digits b n s.0 first, numbers_of-digits bs ns (omega arith) s.1 rest)
 
-good-cons_number : (a : Number) (l : Line (List ℕ)) (ns : List ℕ) → cons_number a l ≡ good ns
-    → (v : ℕ) × (vs : List ℕ) × (a ≡ Value v) × (l ≡ good vs) × (v ∷ vs ≡ ns)
+good-cons_number : (a : Result ℕ NumberFault) (l : Line (List ℕ)) (ns : List ℕ) → cons_number a l ≡ good ns
+    → (v : ℕ) × (vs : List ℕ) × (a ≡ Ok v) × (l ≡ good vs) × (v ∷ vs ≡ ns)
 unfolding cons_number
-good-cons_number (Value v) (good vs) ns h = let e : v ∷ vs ≡ ns = cc in (v, vs, refl, refl, e)
-good-cons_number (Value v) (bad fault) ns h = let z : ◌≡◌ {A = ℕ} 0 1 = cc in absurd (omega arith)
-good-cons_number BadDigits l ns h = let z : ◌≡◌ {A = ℕ} 0 1 = cc in absurd (omega arith)
-good-cons_number Outside (good vs) ns h = let z : ◌≡◌ {A = ℕ} 0 1 = cc in absurd (omega arith)
-good-cons_number Outside (bad fault) ns h = let z : ◌≡◌ {A = ℕ} 0 1 = cc in absurd (omega arith)
+good-cons_number (Ok v) (good vs) ns h = let e : v ∷ vs ≡ ns = cc in (v, vs, refl, refl, e)
+good-cons_number (Ok v) (bad fault) ns h = let z : ◌≡◌ {A = ℕ} 0 1 = cc in absurd (omega arith)
+good-cons_number (Err BadDigits) l ns h = let z : ◌≡◌ {A = ℕ} 0 1 = cc in absurd (omega arith)
+good-cons_number (Err Outside) (good vs) ns h = let z : ◌≡◌ {A = ℕ} 0 1 = cc in absurd (omega arith)
+good-cons_number (Err Outside) (bad fault) ns h = let z : ◌≡◌ {A = ℕ} 0 1 = cc in absurd (omega arith)
 
 pub digits_of-numbers_of : (bs : List Bounds) (fs : List (List ℕ)) (ns : List ℕ) → length fs ≡ length bs
     → numbers_of bs fs ≡ good ns → (fs ≡ map digits ns) × Small ns × T (fits? bs ns)

@@ -1,10 +1,7 @@
 -- The lines of heads, extra starts and steps read back to them, and only those lines do.
 -- Document 01, "The text"; document 02, (iii). Assumes nothing.
-use mathlib.Core.List.{List, [], ◌∷◌, map}
+use Rattle.std.proofs.Common.{List, [], ◌∷◌, map, ◌∙◌, ℕ, length, get_or, arith}
 use Rattle.std.proofs.Math.Path.{◌≡◌, refl, sym, ap, subst}
-use Rattle.std.proofs.Common.{◌∙◌}
-use Rattle.std.specs.Prelude.{ℕ, length, get_or}
-use native.Mathlib.Omega.{arith}
 use Rattle.std.proofs.Math.Dec.{T}
 use Rattle.text.specs.declared.Fault.TheVariants.{Order, StartOrder}
 use Rattle.text.specs.declared.Head.{Head}

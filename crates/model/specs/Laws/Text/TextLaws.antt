@@ -1,7 +1,7 @@
 -- The text of a model is its lines joined by line ends, and no line holds a line end or a number above a byte.
 -- Document 01, "The text"; document 02, (iii). Assumes nothing.
-use Rattle.std.specs.Prelude.{List, [], ◌∷◌, ◌++◌, map, ◌≡◌, ℕ, ◌<◌, T, length}
-use Rattle.std.proofs.Common.{append_assoc, inl, inr, sym, ◌∙◌, arith, lit<, length-append}
+use Rattle.std.proofs.Common.{List, [], ◌∷◌, ◌++◌, map, ◌≡◌, ℕ, ◌<◌, T, length, append_assoc, inl, inr, sym, ◌∙◌, arith}
+use Rattle.std.proofs.Common.{lit<, length-append}
 use Rattle.std.proofs.Math.Path.{refl}
 use Rattle.std.proofs.lemmas.Bool.{eqb-false}
 use Rattle.text.specs.declared.Head.{Head}

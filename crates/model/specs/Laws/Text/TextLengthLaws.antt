@@ -1,7 +1,6 @@
 -- The lengths of a model's lines, and of its text: at most the 15,182 bytes that Write's list has.
 -- Document 01, "The operations, in the order of the work", 8; document 02, (iii). Assumes nothing.
-use Rattle.std.specs.Prelude.{List, [], refl, ℕ, ◌*◌, ◌≤◌, ◌<◌, T, length}
-use Rattle.std.proofs.Common.{arith, length-append}
+use Rattle.std.proofs.Common.{List, [], refl, ℕ, ◌*◌, ◌≤◌, ◌<◌, T, length, arith, length-append}
 use Rattle.text.specs.declared.Head.{Head}
 use Rattle.text.specs.declared.StepLine.{StepLine}
 use Rattle.text.specs.Limits.{out_length}

@@ -6,12 +6,6 @@ use Rattle.held.specs.Laws.ZeroLaws.{separate_zero}
 use Rattle.moves.specs.Laws.HoldingLaws.{low_held-zero}
 use Rattle.moves.proofs.table.fill_plain_table.Goals as goal
 
-pub rank_low-requires : goal.rank_low-requires
-rank_low-requires c =
-    let none = empty-zeros pool_length in
-    record {
-      stored = c.requires.stored;
-      roles_of = c.requires.roles_of;
-      table_length_in_bounds = c.requires.table_length_in_bounds;
-      separate = (separate_zero (get_or-zeros slots_length) none, low_held-zero none);
-    }
+pub rank_low-requires-clause-separate : goal.rank_low-requires-clause-separate
+rank_low-requires-clause-separate c =
+    let none = empty-zeros pool_length in (separate_zero (get_or-zeros slots_length) none, low_held-zero none)

@@ -9,27 +9,14 @@ use Rattle.moves.specs.Laws.LabellingLaws.{no-tick}
 use Rattle.moves.specs.Laws.LabelsLaws.{ranked_of_steps}
 use Rattle.moves.proofs.table.fill_table.Goals as goal
 
-pub fill_label_table-requires : goal.fill_label_table-requires
-fill_label_table-requires c =
-    record {
-      stored = c.requires.stored;
-      roles_of = c.requires.roles_of;
-      table_length_in_bounds = c.requires.table_length_in_bounds;
-      pooled = pooled_zero (get_or-zeros slots_length) (empty-zeros pool_length);
-    }
+pub fill_label_table-requires-clause-pooled : goal.fill_label_table-requires-clause-pooled
+fill_label_table-requires-clause-pooled c = pooled_zero (get_or-zeros slots_length) (empty-zeros pool_length)
 
-pub rank_low-requires : goal.rank_low-requires
-rank_low-requires c =
-    let none = empty-zeros pool_length in
-    record {
-      stored = c.requires.stored;
-      roles_of = c.requires.roles_of;
-      table_length_in_bounds = c.requires.table_length_in_bounds;
-      separate = (separate_zero (get_or-zeros slots_length) none, low_held-zero none);
-    }
+pub rank_low-requires-clause-separate : goal.rank_low-requires-clause-separate
+rank_low-requires-clause-separate c =
+    let none = empty-zeros pool_length in (separate_zero (get_or-zeros slots_length) none, low_held-zero none)
 
 pub returns : goal.returns
 returns c =
-    let still = no-tick c.requires.stored (decides_false c.some_silent.result _ c.some_silent.ensures
-    c.if-some_silent.false) in
-    ranked_of_steps c.requires.stored still c.rank_low.ensures
+    let F = c.args.store.store.stored in
+    ranked_of_steps F (no-tick F (decides_false _ _ c.some_silent.ensures c.if-some_silent.false)) c.rank_low.ensures

@@ -1,5 +1,5 @@
 -- The lists are made once, by `judge_good`; the page is printed from them. Assumes nothing.
-use native.Mathlib.Omega.{arith}
+use Rattle.std.proofs.Common.{arith}
 use Rattle.model.proofs.Laws.System.GoodStoredLaws.{good→Stored}
 use Rattle.page.specs.Laws.PageLaws.{page_printed}
 use Rattle.page.proofs.page.page_good.Goals as goal

@@ -1,29 +1,17 @@
 -- Each refusal is a way of the promise; on a good store it is what `page_good` makes. Assumes nothing.
-use native.Mathlib.Omega.{arith}
-use Rattle.text.specs.Laws.DecidesLaws.{decides_passed, decides-refused}
+use Rattle.std.proofs.lemmas.Result.{err_from_is_err_and}
 use Rattle.page.proofs.PageAnswers.{short_promised, not_good_promised, printed_promised}
 use Rattle.page.proofs.page.page_in_form.Goals as goal
 
-pub returns-then-short-gt0 : goal.returns-then-short-gt0
-returns-then-short-gt0 c =
-    short_promised _ _ _ _ _ _ _ c.first_short-short.result c.first_short-short.ensures c.if-short-gt0.true
+pub returns-in-Some : goal.returns-in-Some
+returns-in-Some c = short_promised _ _ _ _ _ _ _ c.in-Some.place c.in-Some.ensures
 
-pub good-requires : goal.good-requires
-good-requires c = (c.first_short-short.ensures.none_short (omega (arith, c.if-short-gt0.false))).store_length_is
-
-pub returns-then-not-good : goal.returns-then-not-good
-returns-then-not-good c =
-    not_good_promised _ _ _ _ _ _ _ (c.first_short-short.ensures.none_short (omega (arith, c.if-short-gt0.false)))
-    (decides-refused c.good.result _ c.good.ensures c.if-not-good.true-raw)
-
-pub page_good-made-requires : goal.page_good-made-requires
-page_good-made-requires c =
-    record {
-      good = decides_passed c.good.result _ c.good.ensures c.if-not-good.false-raw;
-      long = c.first_short-short.ensures.none_short (omega (arith, c.if-short-gt0.false));
-    }
+pub returns-in_err-check_good : goal.returns-in_err-check_good
+returns-in_err-check_good c =
+    let p = err_from_is_err_and c.from_residual.result c.from_residual.ensures.1 in
+    let e = c.in_err-check_good.ensures in
+    rw (p.1, p.2, e.1) (not_good_promised _ _ _ _ _ _ _ c.in_default.ensures e.0)
 
 pub returns : goal.returns
 returns c =
-    printed_promised _ _ _ _ _ _ _ (c.first_short-short.ensures.none_short (omega (arith, c.if-short-gt0.false)))
-    (decides_passed c.good.result _ c.good.ensures c.if-not-good.false-raw) _ _ _ _ _ _ c.page_good-made.ensures
+    printed_promised _ _ _ _ _ _ _ c.in_default.ensures c.in_ok-check_good.ensures.0 _ _ _ _ _ _ c.page_good-end.ensures

@@ -1,5 +1,5 @@
 -- What Read left is printed as Page does, or why it refused. Assumes nothing.
-use native.Mathlib.Omega.{arith}
+use Rattle.std.proofs.Common.{arith, refl, Ok, Err}
 use Rattle.tell.proofs.TextAnswers.{read_long_good}
 use Rattle.page.specs.Laws.PageLaws.{page_length_le}
 use Rattle.page.proofs.PrintAnswers.{unread_promised, read_promised}
@@ -8,7 +8,7 @@ use Rattle.page.proofs.print.print_text.Goals as goal
 
 pub page_good-requires : goal.page_good-requires
 page_good-requires c =
-    let good = read_long_good c.read-read.ensures.read_promise c.in-Done.is in
+    let good = read_long_good c.in-Ok.ensures.read_promise in
     record {
       good = good.1;
       long = record {
@@ -23,16 +23,16 @@ page_good-requires c =
 
 pub fault_line-requires : goal.fault_line-requires
 fault_line-requires c = (
-  refuses_of c.read-read.ensures.read_promise c.requires.store_length_is c.in_default.not-Done,
+  refuses_of c.in-Err.ensures.read_promise c.requires.store_length_is,
   omega (arith, page_length_le c.args.form, c.requires.out_length),
 )
 
-pub returns-in-Done : goal.returns-in-Done
-returns-in-Done c =
-    read_promised _ _ _ _ _ _ _ _ c.requires c.read-read.result c.read-read.ensures.read_promise c.in-Done.is _ _ _ _
+pub returns-in-Ok : goal.returns-in-Ok
+returns-in-Ok c =
+    read_promised _ _ _ _ _ _ _ _ c.requires (Ok tt) c.in-Ok.ensures.read_promise refl _ _ _ _
     _ _ c.page_good.ensures
 
-pub returns-in_default : goal.returns-in_default
-returns-in_default c =
-    unread_promised _ _ _ _ _ _ _ _ c.requires c.read-read.result c.read-read.ensures.read_promise _ _
+pub returns-in-Err : goal.returns-in-Err
+returns-in-Err c =
+    unread_promised _ _ _ _ _ _ _ _ c.requires (Err _) c.in-Err.ensures.read_promise _ _
     c.fault_line.ensures

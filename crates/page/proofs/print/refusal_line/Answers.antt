@@ -1,5 +1,5 @@
 -- The text of the line, then its end. Assumes nothing.
-use native.Mathlib.Omega.{arith}
+use Rattle.std.proofs.Common.{arith}
 use Rattle.writer.specs.Laws.WroteLaws.{wrote-append, wrote-length}
 use Rattle.lines.specs.Laws.PageLinesLaws.{fault_bytes-length, fault-length_le}
 use Rattle.page.proofs.print.refusal_line.Goals as goal

@@ -6,12 +6,12 @@ use Rattle.ranking.specs.Laws.TableWritesLaws.{rows_zero, rows_add_one, rows_le,
 use Rattle.ranking.proofs.writes.write_rows.Goals as goal
 
 pub loop-i-init : goal.loop-i-init
-loop-i-init c = (omega arith, written_refl _, rows_zero, refl)
+loop-i-init c = (written_refl _, rows_zero, refl)
 
 pub write_row-requires : goal.write_row-requires
 write_row-requires c =
     record {
-      table_length_in_bounds = omega (arith, c.requires.table_length_in_bounds, c.loop-i.invariant.3);
+      table_length_in_bounds = omega (arith, c.requires.table_length_in_bounds, c.loop-i.invariant.2);
       n_le_state_limit = (c.requires.n_le_state_limit.0, c.requires.n_le_state_limit.2 c.loop-i.i (omega arith));
     }
 
@@ -19,20 +19,19 @@ pub loop-i-preserved : goal.loop-i-preserved
 loop-i-preserved c =
     let inv = c.loop-i.invariant in
     let below = c.requires.n_le_state_limit.2 in
-    let rows = rows_stay c.write_row.ensures.written (λ i l. below i (omega arith)) inv.2 in (
-      omega arith,
-      written_trans inv.1 c.write_row.ensures.written,
+    let rows = rows_stay c.write_row.ensures.written (λ i l. below i (omega arith)) inv.1 in (
+      written_trans inv.0 c.write_row.ensures.written,
       rows_add_one rows c.write_row.ensures.row_written,
-      c.write_row.auto.table ∙ inv.3,
+      c.write_row.auto.table ∙ inv.2,
     )
 
 pub shape_of-table : goal.shape_of-table
-shape_of-table c = c.loop-i.invariant.3
+shape_of-table c = c.loop-i.invariant.2
 
 pub returns : goal.returns
 returns c =
     let inv = c.loop-i.invariant in
     record {
-      written = inv.1;
-      rows_written = rows_le (omega arith) inv.2;
+      written = inv.0;
+      rows_written = rows_le (omega arith) inv.1;
     }

@@ -1,4 +1,6 @@
 -- By the test that led to each return; the lines' promise is the whole one where both tests pass.
+use Rattle.std.proofs.Common.{refl}
+use Rattle.std.proofs.lemmas.Result.{err_from_is_err_and}
 use Rattle.read_write.specs.Laws.ReadAnswerLaws.{read_answer_done, read_answer_faulty}
 use Rattle.read_write.specs.Laws.ReadAnswerLaws.{read_promise_short, read_promise_long, read_promise_lines}
 use Rattle.read_write.specs.Laws.ReadAnswerLaws.{read_cause_short, read_cause_long, read_cause_lines}
@@ -18,21 +20,20 @@ returns-then-text-gt-TEXT_LIMIT c =
       read_cause = read_cause_long _ _ long c.if-text-gt-TEXT_LIMIT.true;
     }
 
-pub read_lines-read-requires : goal.read_lines-read-requires
-read_lines-read-requires c = c.if-store-lt-STORE_LENGTH.false
-
-pub returns-in-Done : goal.returns-in-Done
-returns-in-Done c =
-    let done = read_answer_done c.read_lines-read.ensures c.in-Done.is in record {
-      read_promise = read_promise_lines _ _ c.if-store-lt-STORE_LENGTH.false _ c.if-text-gt-TEXT_LIMIT.false done _
-          c.read_lines-read.ensures.filled;
-      read_cause = read_cause_lines _ _ c.if-store-lt-STORE_LENGTH.false _ c.if-text-gt-TEXT_LIMIT.false done;
-    }
-
-pub returns-in-Faulty : goal.returns-in-Faulty
-returns-in-Faulty c =
-    let faulty = read_answer_faulty c.read_lines-read.ensures c.in-Faulty.is in record {
+pub returns-in_err-read_lines : goal.returns-in_err-read_lines
+returns-in_err-read_lines c =
+    let p = err_from_is_err_and c.from_residual.result c.from_residual.ensures.1 in
+    let faulty = read_answer_faulty c.read_lines.ensures c.in_err-read_lines.was in
+    rw (p.1, p.2) (record {
       read_promise = read_promise_lines _ _ c.if-store-lt-STORE_LENGTH.false _ c.if-text-gt-TEXT_LIMIT.false faulty _
-          c.read_lines-read.ensures.filled;
+          c.read_lines.ensures.filled;
       read_cause = read_cause_lines _ _ c.if-store-lt-STORE_LENGTH.false _ c.if-text-gt-TEXT_LIMIT.false faulty;
+    })
+
+pub returns : goal.returns
+returns c =
+    let done = read_answer_done c.read_lines.ensures c.in_ok-read_lines.was in record {
+      read_promise = read_promise_lines _ _ c.if-store-lt-STORE_LENGTH.false _ c.if-text-gt-TEXT_LIMIT.false done _
+          c.read_lines.ensures.filled;
+      read_cause = read_cause_lines _ _ c.if-store-lt-STORE_LENGTH.false _ c.if-text-gt-TEXT_LIMIT.false done;
     }

@@ -1,5 +1,5 @@
 -- By where the search ends: past the text, at its end, or at a line end.
-use native.Mathlib.Omega.{arith}
+use Rattle.std.proofs.Common.{arith}
 use Rattle.text.specs.Bytes.{line_end}
 use Rattle.text.specs.Laws.SplitLaws.{found_le}
 use Rattle.reader.specs.Laws.TextReadLaws.{after_line_past, after_line_absent, after_line_line}

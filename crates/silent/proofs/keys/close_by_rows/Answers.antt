@@ -4,13 +4,13 @@ use Rattle.silent.specs.Laws.RowsLaws.{rows_to-zero, rows_to-suc, rows_to→Gath
 use Rattle.silent.proofs.keys.close_by_rows.Goals as goal
 
 pub loop-k-init : goal.loop-k-init
-loop-k-init c = (omega arith, rows_to-zero _ _)
+loop-k-init c = rows_to-zero _ _
 
 pub loop-k-preserved : goal.loop-k-preserved
 loop-k-preserved c =
     let inv = c.loop-k.invariant in
-    (omega arith, rows_to-suc inv.1 c.set_at.ensures c.union.ensures c.put_set.ensures)
+    rows_to-suc inv c.set_at.ensures c.union.ensures c.put_set.ensures
 
 pub returns : goal.returns
 returns c =
-    rows_to→Gathered (omega arith) c.requires.1 c.loop-k.invariant.1
+    rows_to→Gathered (omega arith) c.requires.1 c.loop-k.invariant

@@ -8,28 +8,27 @@ use Rattle.silent.specs.Laws.ClosedLaws.{closed_within→Closed}
 use Rattle.silent.proofs.keys.close_sets.Goals as goal
 
 pub loop-passes-init : goal.loop-passes-init
-loop-passes-init c = (omega arith, closed_within_zero c.requires.of_states)
+loop-passes-init c = closed_within_zero c.requires.of_states
 
 pub pass-requires : goal.pass-requires
 pass-requires c =
-    let L = c.requires.label_list in
+    let L = c.args.steps.listed in
     record {
-      label_list = L;
       of_states = along_silent→OfStates (λ p q s. label_step_source_lt L (omega arith) s)
-          c.loop-passes.invariant.1.silent;
+          c.loop-passes.invariant.silent;
     }
 
 pub returns-then-not-pass : goal.returns-then-not-pass
 returns-then-not-pass c =
-    let L = c.requires.label_list in
-    closed_of_closed_under L.states_le c.loop-passes.invariant.1 c.pass.ensures.spread_once
+    let L = c.args.steps.listed in
+    closed_of_closed_under L.states_le c.loop-passes.invariant c.pass.ensures.spread_once
     (c.pass.ensures.closed_under (not-true c.pass.result c.if-not-pass.true-raw))
 
 pub loop-passes-preserved : goal.loop-passes-preserved
 loop-passes-preserved c =
-    let L = c.requires.label_list in
-    (omega arith, closed_within_suc L.states_le c.loop-passes.invariant.1 c.pass.ensures.spread_once)
+    let L = c.args.steps.listed in
+    closed_within_suc L.states_le c.loop-passes.invariant c.pass.ensures.spread_once
 
 pub returns : goal.returns
 returns c =
-    closed_within→Closed (decided_tick_label c.requires.label_list) (omega arith) c.loop-passes.invariant.1
+    closed_within→Closed (decided_tick_label c.args.steps.listed) (omega arith) c.loop-passes.invariant

@@ -5,12 +5,11 @@ use Rattle.silent.proofs.keys.low_keys.Goals as goal
 pub close_along-requires : goal.close_along-requires
 close_along-requires c =
     record {
-      label_list = c.requires.label_list;
       targets = c.requires.targets;
-      of_states = gathered→OfStates c.requires.label_list c.requires.a_lt_action_limit c.gather.ensures;
+      of_states = gathered→OfStates c.args.steps.listed c.requires.a_lt_action_limit c.gather.ensures;
     }
 
 pub returns : goal.returns
 returns c =
-    keys_of_gathered c.requires.label_list c.requires.a_lt_action_limit c.requires.keys c.gather.ensures
+    keys_of_gathered c.args.steps.listed c.requires.a_lt_action_limit c.requires.keys c.gather.ensures
     c.close_along.ensures

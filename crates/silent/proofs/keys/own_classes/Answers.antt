@@ -7,7 +7,7 @@ use Rattle.silent.specs.Laws.LoopsLaws.{own_classes_none, own_classes-suc}
 use Rattle.silent.proofs.keys.own_classes.Goals as goal
 
 pub loop-p-init : goal.loop-p-init
-loop-p-init c = (omega arith, own_classes_none c.clear_sets.ensures)
+loop-p-init c = own_classes_none c.clear_sets.ensures
 
 pub add_member-requires : goal.add_member-requires
 add_member-requires c =
@@ -18,10 +18,10 @@ add_member-requires c =
     }
 
 pub loop-p-preserved : goal.loop-p-preserved
-loop-p-preserved c = (omega arith, own_classes-suc c.loop-p.invariant.1 c.add_member.ensures)
+loop-p-preserved c = own_classes-suc c.loop-p.invariant c.add_member.ensures
 
 pub returns : goal.returns
 returns c =
     let a = c.args in
     let e : c.loop-p.p ≡ a.n = omega arith in
-    subst (λ (k : ℕ). OwnClasses k a.class.now c.loop-p.sets) e c.loop-p.invariant.1
+    subst (λ (k : ℕ). OwnClasses k a.class.now c.loop-p.sets) e c.loop-p.invariant

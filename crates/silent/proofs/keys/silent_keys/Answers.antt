@@ -4,10 +4,9 @@ use Rattle.silent.proofs.keys.silent_keys.Goals as goal
 
 pub close_sets-requires : goal.close_sets-requires
 close_sets-requires c = record {
-  label_list = c.requires.label_list;
   of_states = own_classes→OfStates c.own_classes.ensures;
 }
 
 pub returns : goal.returns
 returns c =
-    keys_of_own c.requires.label_list c.own_classes.ensures c.close_sets.ensures
+    keys_of_own c.args.steps.listed c.own_classes.ensures c.close_sets.ensures

@@ -5,11 +5,10 @@ use Rattle.silent.proofs.keys.silent_keys_along.Goals as goal
 pub close_along-requires : goal.close_along-requires
 close_along-requires c =
     record {
-      label_list = c.requires.label_list;
       targets = c.requires.targets;
       of_states = own_classes→OfStates c.own_classes.ensures;
     }
 
 pub returns : goal.returns
 returns c =
-    keys_of_own c.requires.label_list c.own_classes.ensures c.close_along.ensures
+    keys_of_own c.args.steps.listed c.own_classes.ensures c.close_along.ensures

@@ -6,14 +6,13 @@ use Rattle.silent.proofs.targets.low_targets.Goals as goal
 pub low_keys-requires : goal.low_keys-requires
 low_keys-requires c =
     record {
-      label_list = c.requires.label_list;
       targets = c.requires.targets;
-      class_numbers = class_numbers_of_own c.requires.label_list.states_le c.requires.own_numbers;
+      class_numbers = class_numbers_of_own c.args.steps.listed.states_le c.requires.own_numbers;
       a_lt_action_limit = c.requires.a_lt_action_limit;
-      keys = keys_of_targets (λ p a q m. label_move_target_lt c.requires.label_list m) c.requires.own_numbers
+      keys = keys_of_targets (λ p a q m. label_move_target_lt c.args.steps.listed m) c.requires.own_numbers
           c.requires.targets;
     }
 
 pub returns : goal.returns
 returns c =
-    targets_of_keys (λ p a q m. label_move_target_lt c.requires.label_list m) c.requires.own_numbers c.low_keys.ensures
+    targets_of_keys (λ p a q m. label_move_target_lt c.args.steps.listed m) c.requires.own_numbers c.low_keys.ensures

@@ -1,11 +1,7 @@
 -- The states below p have their own numbers, and nothing has changed behind all of them.
-use Prim.Native.Nat.{◌≤◌, ◌-◌}
 use Rattle.text.specs.Lists.{Past}
 use Rattle.silent.specs.Inner.Targets.{OwnNumbers}
 use Rattle.silent.proofs.targets.own_numbers.Given as goal
 
 abbrev pub invariant-loop-p : goal.invariant-loop-p
-invariant-loop-p l = (l.p ≤ l.n) × Past l.n l.initial.class l.class × OwnNumbers l.p l.class
-
-abbrev pub decreases-loop-p : goal.decreases-loop-p
-decreases-loop-p l = l.n - l.p
+invariant-loop-p l = Past l.n l.initial.class l.class × OwnNumbers l.p l.class

@@ -6,11 +6,10 @@ use Rattle.silent.proofs.targets.silent_targets.Goals as goal
 pub silent_keys-requires : goal.silent_keys-requires
 silent_keys-requires c =
     record {
-      label_list = c.requires.label_list;
-      class_numbers = class_numbers_of_own c.requires.label_list.states_le c.requires.own_numbers;
+      class_numbers = class_numbers_of_own c.args.steps.listed.states_le c.requires.own_numbers;
     }
 
 pub returns : goal.returns
 returns c =
-    targets_of_keys (λ p a q m. label_move_target_lt c.requires.label_list m) c.requires.own_numbers
+    targets_of_keys (λ p a q m. label_move_target_lt c.args.steps.listed m) c.requires.own_numbers
     c.silent_keys.ensures

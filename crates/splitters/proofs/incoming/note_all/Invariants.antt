@@ -1,5 +1,5 @@
 -- Each state below q has got all labels of the list.
-use Prim.Native.Nat.{◌-◌, ◌<◌}
+use Rattle.std.proofs.Common.{◌-◌, ◌<◌}
 use Rattle.text.specs.Limits.{state_limit}
 use Rattle.splitters.specs.Inner.Splitters.{SetsOf}
 use Rattle.splitters.proofs.incoming.note_all.Given as goal

@@ -1,60 +1,44 @@
 -- The labels that are not left are used: at first those that do not lead into the class, which divide nothing by it.
-use Prim.Native.Nat.{◌<◌}
-use native.Mathlib.Omega.{arith}
-use Rattle.held.specs.Laws.HeldLaws.{held_list_pooled}
+use Rattle.held.specs.Laws.ListedLaws.{held_list}
+use Rattle.std.proofs.Common.{refl, ◌∙◌, arith}
 use Rattle.splitters.specs.Laws.RefiningLaws.{used_but_start, used_but_next, used_but_end, turned-row}
-use Rattle.sets.specs.Laws.WalkLaws.{walk_nearer}
+use Rattle.splitters.specs.Laws.StatesLaws.{split_twice_at}
 use Rattle.splitters.proofs.refining.refine_class.Goals as goal
 
 pub loop-i-init : goal.loop-i-init
-loop-i-init c = (
-  c.least-i.ensures,
-  omega arith,
-  c.requires.partition,
-  used_but_start c.args.labels.now c.requires.held_list.0 c.requires.held_list.1 c.set_at-new.ensures
-      c.union-left.ensures,
-)
+loop-i-init c =
+    let start = used_but_start c.args.moves.labels.now c.args.parts.now.states_le (held_list c.args.moves)
+    c.requires.into c.set_at-new.ensures c.union-i-items.ensures in
+    (refl, omega arith, rw c.into_iter-i-iterator.ensures start)
 
-pub bounds-labels-i : goal.bounds-labels-i
-bounds-labels-i c = omega (arith, c.loop-i-test, c.requires.held_list.0.count_le)
+pub returns-then-i-moves-clause-used_split : goal.returns-then-i-moves-clause-used_split
+returns-then-i-moves-clause-used_split c =
+    let least = c.in-Some.ensures.steps.least in
+    used_but_end c.args.moves.labels.now (λ i l. least.none_before i (omega (arith, l, c.if-i-moves.true)))
+    c.loop-i.invariant.2
+
+pub bounds-moves-i : goal.bounds-moves-i
+bounds-moves-i c = omega (arith, c.if-i-moves.false, (held_list c.args.moves).count_le)
 
 pub target_row-row-requires : goal.target_row-row-requires
 target_row-row-requires c =
-    c.requires.held_list.0.label c.loop-i.i (omega (arith, c.loop-i-test))
+    (held_list c.args.moves).label c.in-Some.i (omega (arith, c.if-i-moves.false))
 
-pub split_moves-parts-requires : goal.split_moves-parts-requires
-split_moves-parts-requires c =
-    let L = c.requires.held_list.0 in
-    let inv = c.loop-i.invariant in
-    let l : c.loop-i.i < c.args.count = omega (arith, c.loop-i-test) in record {
-      n_le_state_limit = (L.states_le, omega (arith, c.requires.j_lt_state_limit.1, inv.1));
-      partition = inv.2;
-      row_bound = (c.target_row-row.ensures.1, held_list_pooled L);
-      turned = turned-row L l c.target_row-row.ensures.0;
-    }
-
-pub loop-i-smaller : goal.loop-i-smaller
-loop-i-smaller c =
-    let inv = c.loop-i.invariant in
-    let room = c.requires.held_list.0.count_le in
-    walk_nearer inv.0 (omega (arith, c.loop-i-test, room)) (c.drop_least-left.ensures _ inv.0)
-    c.least-i-in-loop-i.ensures
+pub split_moves-requires-clause-turned : goal.split_moves-requires-clause-turned
+split_moves-requires-clause-turned c =
+    turned-row (held_list c.args.moves) (omega (arith, c.if-i-moves.false)) c.target_row-row.ensures.0
 
 pub loop-i-preserved : goal.loop-i-preserved
 loop-i-preserved c =
-    let inv = c.loop-i.invariant in (
-      c.least-i-in-loop-i.ensures,
-      omega (arith, inv.1, c.split_moves-parts.ensures.partition_2.1),
-      c.split_moves-parts.ensures.partition_2.0,
-      used_but_next c.args.labels.now (omega (arith, c.loop-i-test)) c.target_row-row.ensures.0
-          c.set_at-new.ensures c.set_at-from.ensures
-          (c.drop_least-left.ensures _ inv.0) inv.3 c.split_moves-parts.ensures.split_twice,
+    let inv = c.loop-i.invariant in
+    let grown = c.split_moves.ensures.grown in (
+      grown.0 ∙ inv.0,
+      omega (arith, inv.1, grown.1),
+      used_but_next c.args.moves.labels.now (omega (arith, c.if-i-moves.false)) c.target_row-row.ensures.0
+          c.set_at-new.ensures c.set_at-from.ensures c.in-Some.ensures.steps.left inv.2
+          (split_twice_at inv.0 c.split_moves.ensures.split_twice),
     )
 
-pub returns : goal.returns
-returns c =
-    let inv = c.loop-i.invariant in
-    record {
-      partition_2 = (inv.2, inv.1);
-      used_split = used_but_end c.args.labels.now inv.0 (omega arith) inv.3;
-    }
+pub returns-clause-used_split : goal.returns-clause-used_split
+returns-clause-used_split c =
+    used_but_end c.args.moves.labels.now (λ i l. c.in-None.ensures.steps.none i) c.loop-i.invariant.2

@@ -1,41 +1,29 @@
 -- The new classes are noted, the classes are split by the moves to them, and the round is noted for those that it made.
 -- ---- places of the function
-use native.Mathlib.Omega.{arith}
+use Rattle.held.specs.Laws.ListedLaws.{held_list}
+use Rattle.held.specs.Moves.{held_moves}
+use Rattle.std.proofs.Common.{◌∙◌}
+use Rattle.splitters.specs.Inner.Splitters.{Rounded}
 use Rattle.splitters.specs.Laws.RoundLaws.{rounded_of_used_split}
+use Rattle.splitters.specs.Laws.StatesLaws.{partition_at, used_split_at}
 use Rattle.splitters.proofs.rounds.round.Goals as goal
+use Rattle.splitters.proofs.rounds.round.Goals.{After-note_round}
 
-pub note_fresh-requires : goal.note_fresh-requires
-note_fresh-requires c =
-    let Y = c.requires.k_lt_classes.1 in
-    let limit = c.requires.held_list.0.states_le in
-    let room = Y.partition.classes_le in
-    (omega (arith, limit, room), λ j l m. omega (arith, limit, room, Y.origin_lt j l m))
+-- It leaves the classes one round later.
+rounded : (c : After-note_round) → Rounded (held_moves c.args.moves)
+    c.args.moves.n c.args.tree.now.k c.args.tree.now.parts.class c.refine.new.parts.class c.refine.new.parts.members
+    c.refine.new.parts.origin c.note_fresh.new.fresh c.note_round.new.when c.args.tree.now.parts.classes
+    c.refine.new.parts.classes c.refine.new.parts.together
+rounded c =
+    let ready = c.requires.k_lt_classes in
+    let split = c.refine.ensures in
+    rounded_of_used_split (held_list c.args.moves) ready.2 c.note_fresh.ensures.0 c.note_fresh.ensures.1
+    (partition_at (split.grown.0 ∙ ready.0) c.refine.new.parts.partition) split.grown.1
+    (used_split_at ready.0 split.used_split) c.note_round.ensures
 
-pub refine-next-requires : goal.refine-next-requires
-refine-next-requires c =
-    let Y = c.requires.k_lt_classes.1 in
-    record {
-      first_le = (Y.first_le, omega arith);
-      partition = Y.partition;
-      held_list = c.requires.held_list;
-    }
+pub returns-then-classes-old-clause-rounded : goal.returns-then-classes-old-clause-rounded
+returns-then-classes-old-clause-rounded c =
+    rounded (goal.at.returns-then-classes-old-clause-rounded c).After-note_round
 
-pub overflow_add-k : goal.overflow_add-k
-overflow_add-k c =
-    omega (
-      arith,
-      c.requires.held_list.0.states_le,
-      c.requires.k_lt_classes.1.partition.classes_le,
-      c.requires.k_lt_classes.0,
-    )
-
-pub note_round-requires : goal.note_round-requires
-note_round-requires c =
-    omega (arith, c.refine-next.ensures.partition_2.0.classes_le, c.requires.held_list.0.states_le)
-
-pub returns : goal.returns
-returns c =
-    rounded_of_used_split c.requires.held_list.0 c.requires.k_lt_classes.1 c.note_fresh.ensures.0
-    c.note_fresh.ensures.1 c.refine-next.ensures.partition_2.0 c.refine-next.ensures.partition_2.1
-    c.refine-next.ensures.used_split
-    c.note_round.ensures
+pub returns-clause-rounded : goal.returns-clause-rounded
+returns-clause-rounded c = rounded (goal.at.returns-clause-rounded c).After-note_round

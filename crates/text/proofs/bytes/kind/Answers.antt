@@ -1,7 +1,5 @@
 -- A byte is the comma or the line end, or stands in one of the three ranges, or below, between or above them.
-use borrow.Author.Rules.{rules}
-use native.Mathlib.Omega.{arith}
-use mathlib.Core.Path.{sym, ap}
+use Rattle.std.proofs.Common.{rules, arith, sym, ap}
 use Rattle.text.specs.Bytes.{kind_of}
 use Rattle.text.specs.Laws.BytesLaws.{digit_kind, small_letter_kind, capital_kind, other_kind}
 use Rattle.text.proofs.bytes.kind.Goals as goal

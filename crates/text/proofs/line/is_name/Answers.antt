@@ -1,45 +1,33 @@
--- `is_name` goes through the bytes: those that are left decide the test of them all.
-use mathlib.Core.Logic.{inl, inr, ⊎_elim}
-use mathlib.Core.Path.{sym, ap, ◌∙◌}
-use Prim.Native.Nat.{◌<◌}
-use native.Mathlib.Omega.{arith}
-use lib.ListN.{length, drop_of_length-le}
-use Rattle.text.specs.Lines.{all_of, name_byte?}
-use Rattle.text.specs.Laws.ListLaws.{drop_next}
-use Rattle.text.specs.Laws.ActionLaws.{all_name-nil, all_name-cons, all_name_bad, name_short, name_long, name_all}
+-- `is_name` tests the length, then each byte.
+use Rattle.std.proofs.Common.{List, ℕ, false, refl, ◌≡◌, ◌∙◌, ◌⊎◌, inl, inr, ◌≤◌, ◌<◌, sym, arith, length, rules}
+use Rattle.lts.proofs.TestsLaws.{lt_or_le}
+use Rattle.std.proofs.lemmas.Bool.Decides.{nat_tests}
+use Rattle.std.proofs.lemmas.Iterator.{YieldsList-from_slice}
+use Rattle.std.proofs.lemmas.Iterator.Search.{all_from_yields_List}
+use Rattle.text.specs.Limits.{name_limit}
+use Rattle.text.specs.Lines.{name_byte?, name?}
+use Rattle.text.specs.Laws.ActionLaws.{name_short, name_long, name_all, all_of_list}
 use Rattle.text.proofs.line.is_name.Goals as goal
 
-pub returns-then-f-lt1 : goal.returns-then-f-lt1
-returns-then-f-lt1 c = sym (name_short _ c.if-f-lt1.true)
-
-pub returns-then-f : goal.returns-then-f
-returns-then-f c = sym (name_long _ c.if-f.true)
-
-pub returns-then-k-ne-SMALL_LETTER : goal.returns-then-k-ne-SMALL_LETTER
-returns-then-k-ne-SMALL_LETTER c =
+pub returns-then-contains : goal.returns-then-contains
+returns-then-contains c =
     let f = c.args.f.now in
-    let i = c.loop-i.invariant in
-    let lt : c.loop-i.i < length f = omega arith in
-    let e = c.kind-k.ensures in
-    sym
-    (name_all f i.0 i.1 ∙ sym i.3 ∙ ap (all_of name_byte?) (drop_next f c.loop-i.i lt)
-    ∙ all_name_bad _ _ (λ z. c.if-k-ne-DIGIT.true (e ∙ z)) (λ z. c.if-k-ne-SMALL_LETTER.true (e ∙ z)))
+    let n = c.new.ensures in
+    let within = rw (n.start, n.end, n.exhausted, c.if-contains.true) at c.contains.ensures.value in
+    let least : 1 ≤ length f = grind (arith, nat_tests) in
+    let most : length f ≤ name_limit = grind (arith, nat_tests) in
+    all_from_yields_List name_byte? _ _ _ c.all.ensures.ran (YieldsList-from_slice f cc) (λ x b q k. search rules)
+    ∙ sym (name_all f least most ∙ all_of_list name_byte? f)
 
-pub loop-i-preserved : goal.loop-i-preserved
-loop-i-preserved c =
-    let f = c.args.f.now in
-    let i = c.loop-i.invariant in
-    let lt : c.loop-i.i < length f = omega arith in
-    let e = sym c.kind-k.ensures in
-    let kinds = ⊎_elim (λ w. inr (e ∙ w.if-k-ne-SMALL_LETTER.false)) (λ w. inl (e ∙ w.if-k-ne-DIGIT.false))
-    c.if-k-ne-DIGIT.branch-raw in
-    let next = ap (all_of name_byte?) (drop_next f c.loop-i.i lt) in
-    (i.0, i.1, omega arith, sym (all_name-cons _ _ kinds) ∙ sym next ∙ i.3)
-
-pub returns : goal.returns
-returns c =
-    let f = c.args.f.now in
-    let i = c.loop-i.invariant in
-    sym
-    (name_all f i.0 i.1 ∙ sym i.3
-    ∙ ap (all_of name_byte?) (drop_of_length-le f {i = c.loop-i.i} c.loop-i-test.false) ∙ all_name-nil)
+pub returns-else-contains : goal.returns-else-contains
+returns-else-contains c =
+    c.if-contains.false ∙ sym (go c.args.f.now refl (lt_or_le _ 1) (lt_or_le name_limit _))
+  where
+    go : (f : List ℕ) → c.args.f.now ≡ f → (length f < 1) ⊎ (1 ≤ length f)
+        → (name_limit < length f) ⊎ (length f ≤ name_limit) → name? f ≡ false
+    go f e (inl l) m = name_short f l
+    go f e (inr l) (inl m) = name_long f m
+    go f e (inr l) (inr m) =
+        let n = c.new.ensures in
+        let within = rw (n.start, n.end, n.exhausted, c.if-contains.false, e) at c.contains.ensures.value in
+        absurd (grind (arith, nat_tests))

@@ -1,45 +1,32 @@
--- `level_of` compares a byte with the four letters of levels, each of which is a capital.
-use mathlib.Core.Path.{refl, ◌∙◌}
-use borrow.Author.Tests.{eq-eqb, ne_eqb}
+-- `level_of` compares a byte with the letters of levels.
+use Rattle.std.proofs.Common.{arith, ne_eqb}
 use Rattle.text.specs.Inner.PartAnswers.{level_read}
-use Rattle.text.specs.Laws.ActionLaws.{level_of_byte, level_of_other}
+use Rattle.text.specs.Lines.{level_of}
+use Rattle.text.specs.Split.{same?}
+use Rattle.text.specs.Laws.ActionLaws.{level_of_byte}
 use Rattle.text.proofs.line.level_of.Goals as goal
 
-pub returns-then-kind-ne-CAPITAL : goal.returns-then-kind-ne-CAPITAL
-unfolding level_read
-returns-then-kind-ne-CAPITAL c = level_of_other _ (λ e. c.if-kind-ne-CAPITAL.true (c.kind.ensures ∙ e))
+pub returns-in-76 : goal.returns-in-76
+unfolding level_read level_of same?
+returns-in-76 c = rw c.in-76.is
 
-pub returns-then-b-eq76 : goal.returns-then-b-eq76
-unfolding level_read
-returns-then-b-eq76 c = level_of_byte _ (eq-eqb _ _ c.if-b-eq76.true) refl refl refl
+pub returns-in-68 : goal.returns-in-68
+unfolding level_read level_of same?
+returns-in-68 c = rw c.in-68.is
 
-pub returns-then-b-eq68 : goal.returns-then-b-eq68
-unfolding level_read
-returns-then-b-eq68 c = level_of_byte _ (ne_eqb _ _ c.if-b-eq76.false) (eq-eqb _ _ c.if-b-eq68.true) refl refl
+pub returns-in-72 : goal.returns-in-72
+unfolding level_read level_of same?
+returns-in-72 c = rw c.in-72.is
 
-pub returns-then-b-eq72 : goal.returns-then-b-eq72
+pub returns-in-84 : goal.returns-in-84
+unfolding level_read level_of same?
+returns-in-84 c = rw c.in-84.is
+
+pub returns-in_default : goal.returns-in_default
 unfolding level_read
-returns-then-b-eq72 c =
+returns-in_default c =
     level_of_byte _
-    (ne_eqb _ _ c.if-b-eq76.false)
-    (ne_eqb _ _ c.if-b-eq68.false)
-    (eq-eqb _ _ c.if-b-eq72.true)
-    refl
-
-pub returns-then-b-eq84 : goal.returns-then-b-eq84
-unfolding level_read
-returns-then-b-eq84 c =
-    level_of_byte _
-    (ne_eqb _ _ c.if-b-eq76.false)
-    (ne_eqb _ _ c.if-b-eq68.false)
-    (ne_eqb _ _ c.if-b-eq72.false)
-    (eq-eqb _ _ c.if-b-eq84.true)
-
-pub returns : goal.returns
-unfolding level_read
-returns c =
-    level_of_byte _
-    (ne_eqb _ _ c.if-b-eq76.false)
-    (ne_eqb _ _ c.if-b-eq68.false)
-    (ne_eqb _ _ c.if-b-eq72.false)
-    (ne_eqb _ _ c.if-b-eq84.false)
+    (ne_eqb _ _ (λ e. omega arith))
+    (ne_eqb _ _ (λ e. omega arith))
+    (ne_eqb _ _ (λ e. omega arith))
+    (ne_eqb _ _ (λ e. omega arith))

@@ -1,8 +1,5 @@
 -- By cases on the row, whose numbers stand in the last columns.
-use mathlib.Core.Path.{◌≡◌, sym, ap, ◌∙◌, subst}
-use Prim.Native.Nat.{ℕ, ◌-◌, ◌≤◌}
-use native.Mathlib.Omega.{arith}
-use lib.ListN.{get_or}
+use Rattle.std.proofs.Common.{◌≡◌, sym, ap, ◌∙◌, subst, ℕ, ◌-◌, ◌≤◌, arith, get_or}
 use Rattle.text.specs.declared.row.Row.{Row}
 use Rattle.text.specs.Numbers.{below}
 use Rattle.text.specs.Lines.{head_bounds, start_bounds, row_count, row_bounds}

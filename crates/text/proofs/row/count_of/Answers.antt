@@ -1,5 +1,5 @@
 -- By cases on the row.
-use mathlib.Core.Path.{sym, ap}
+use Rattle.std.proofs.Common.{sym, ap}
 use Rattle.text.specs.Lines.{row_count}
 use Rattle.text.proofs.row.count_of.Goals as goal
 

@@ -1,14 +1,10 @@
 -- `row_fault` tests the faults that come before that of the numbers: no line end, then other fields.
-use mathlib.Core.Path.{ap, ◌∙◌}
-use Prim.Native.Nat.{◌-◌, ◌<◌}
-use native.Mathlib.Omega.{arith}
-use lib.ListN.{length, take, drop}
-use borrow.Author.Tests.{not-true, not-false}
-use Rattle.text.specs.Bytes.{line_end, kind_of}
+use Rattle.std.proofs.Common.{arith, ◌-◌, ◌<◌, length, take, drop}
+use Rattle.text.specs.Bytes.{line_end}
 use Rattle.text.specs.Lines.{row_letter, row_count}
 use Rattle.text.specs.Inner.PartAnswers.{Fields}
 use Rattle.text.specs.Laws.SplitLaws.{found_le}
-use Rattle.text.specs.Laws.RowLaws.{row_letter-capital, row_count_pos}
+use Rattle.text.specs.Laws.RowLaws.{row_count_pos}
 use Rattle.text.specs.Laws.RowAtLaws.{fields_row, refused_absent, refused_shape, refused_digits}
 use Rattle.text.proofs.row.row_fault.Goals as goal
 use Rattle.text.proofs.row.row_fault.Goals.{After-fields}
@@ -35,16 +31,14 @@ slice_bounds-fields-end c =
     omega (arith, found_le line_end _ _ _ c.requires.0 c.find-e.ensures)
 
 pub fields-requires : goal.fields-requires
-fields-requires c =
-    let row = c.args.row in
-    (ap kind_of c.letter_of.ensures ∙ row_letter-capital row, omega (arith, c.count_of.ensures, row_count_pos row))
+fields-requires c = omega (arith, c.count_of.ensures, row_count_pos c.args.row)
 
 pub returns-then-not-fields : goal.returns-then-not-fields
 returns-then-not-fields c =
-    refused_shape _ _ _ _ c.find-e.ensures (inside (goal.at.returns-then-not-fields c).After-fields)
-    ((tested (goal.at.returns-then-not-fields c).After-fields).no_fields (not-true _ c.if-not-fields.true-raw))
+    let t = (goal.at.returns-then-not-fields c).After-fields in
+    refused_shape _ _ _ _ c.find-e.ensures (inside t) ((tested t).no_fields c.if-not-fields.true)
 
-pub returns : goal.returns
-returns c =
-    refused_digits _ _ _ _ c.find-e.ensures (inside (goal.at.returns c).After-fields) c.requires.1 _
-    ((tested (goal.at.returns c).After-fields).yes_fields (not-false _ c.if-not-fields.false-raw))
+pub returns-else-not-fields : goal.returns-else-not-fields
+returns-else-not-fields c =
+    let t = (goal.at.returns-else-not-fields c).After-fields in
+    refused_digits _ _ _ _ c.find-e.ensures (inside t) c.requires.1 _ ((tested t).yes_fields c.if-not-fields.false)

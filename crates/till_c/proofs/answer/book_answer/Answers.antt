@@ -1,41 +1,12 @@
 -- Each answer of Book is told by the same number, place and values.
-use borrow.Author.Rules.{rules}
 use Rattle.judge.specs.BookPromise.{book_outcome}
 use Rattle.till_c.specs.AnswerLaws.{tells_at}
 use Rattle.till_c.proofs.answer.book_answer.Goals as goal
 
-pub enum_told-1 : goal.enum_told-1
+pub returns-in-Ok : goal.returns-in-Ok
 unfolding book_outcome
-enum_told-1 c = search rules
+returns-in-Ok c = tells_at book_outcome c.in-Ok.is c.done.ensures
 
-pub done-requires : goal.done-requires
+pub returns-in-Err : goal.returns-in-Err
 unfolding book_outcome
-done-requires c = search rules
-
-pub enum_known-answer : goal.enum_known-answer
-unfolding book_outcome
-enum_known-answer c = search rules
-
-pub refusal-requires : goal.refusal-requires
-unfolding book_outcome
-refusal-requires c = search rules
-
-pub enum_told-in-NotGood : goal.enum_told-in-NotGood
-unfolding book_outcome
-enum_told-in-NotGood c = search rules
-
-pub refusal-requires-in-NotGood : goal.refusal-requires-in-NotGood
-unfolding book_outcome
-refusal-requires-in-NotGood c = search rules
-
-pub returns-in-Done : goal.returns-in-Done
-unfolding book_outcome
-returns-in-Done c = tells_at book_outcome c.in-Done.is c.done.ensures
-
-pub returns-in-ShortList : goal.returns-in-ShortList
-unfolding book_outcome
-returns-in-ShortList c = tells_at book_outcome c.in-ShortList.is c.refusal.ensures
-
-pub returns-in-NotGood : goal.returns-in-NotGood
-unfolding book_outcome
-returns-in-NotGood c = tells_at book_outcome c.in-NotGood.is c.refusal-in-NotGood.ensures
+returns-in-Err c = tells_at book_outcome c.in-Err.is c.store_refusal.ensures

@@ -20,10 +20,10 @@ pub refusal-requires : goal.refusal-requires
 unfolding checked_outcome
 refusal-requires c = search rules
 
-pub returns-in-Sound : goal.returns-in-Sound
+pub returns-in-Ok : goal.returns-in-Ok
 unfolding checked_outcome
-returns-in-Sound c = tells_at checked_outcome c.in-Sound.is c.done.ensures
+returns-in-Ok c = tells_at checked_outcome c.in-Ok.is c.done.ensures
 
-pub returns-in-Bad : goal.returns-in-Bad
+pub returns-in-Err : goal.returns-in-Err
 unfolding checked_outcome
-returns-in-Bad c = tells_at checked_outcome c.in-Bad.is c.refusal.ensures
+returns-in-Err c = tells_at checked_outcome c.in-Err.is c.refusal.ensures

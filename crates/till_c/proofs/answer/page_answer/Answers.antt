@@ -1,41 +1,12 @@
--- Each answer of Page is told by the same number, place and values.
-use borrow.Author.Rules.{rules}
+-- Each answer of Page and of Roll is told by the same number, place and values. Assumes nothing.
 use Rattle.page.specs.PagePromise.{page_outcome}
 use Rattle.till_c.specs.AnswerLaws.{tells_at}
 use Rattle.till_c.proofs.answer.page_answer.Goals as goal
 
-pub enum_known-answer : goal.enum_known-answer
+pub returns-in-Ok : goal.returns-in-Ok
 unfolding page_outcome
-enum_known-answer c = search rules
+returns-in-Ok c = tells_at page_outcome c.in-Ok.is c.value.ensures
 
-pub value-requires : goal.value-requires
+pub returns-in-Err : goal.returns-in-Err
 unfolding page_outcome
-value-requires c = search rules
-
-pub enum_known-answer-in-ShortList-1 : goal.enum_known-answer-in-ShortList-1
-unfolding page_outcome
-enum_known-answer-in-ShortList-1 c = search rules
-
-pub refusal-requires : goal.refusal-requires
-unfolding page_outcome
-refusal-requires c = search rules
-
-pub enum_told-1 : goal.enum_told-1
-unfolding page_outcome
-enum_told-1 c = search rules
-
-pub refusal-requires-in-NotGood : goal.refusal-requires-in-NotGood
-unfolding page_outcome
-refusal-requires-in-NotGood c = search rules
-
-pub returns-in-Printed : goal.returns-in-Printed
-unfolding page_outcome
-returns-in-Printed c = tells_at page_outcome c.in-Printed.is c.value.ensures
-
-pub returns-in-ShortList : goal.returns-in-ShortList
-unfolding page_outcome
-returns-in-ShortList c = tells_at page_outcome c.in-ShortList.is c.refusal.ensures
-
-pub returns-in-NotGood : goal.returns-in-NotGood
-unfolding page_outcome
-returns-in-NotGood c = tells_at page_outcome c.in-NotGood.is c.refusal-in-NotGood.ensures
+returns-in-Err c = tells_at page_outcome c.in-Err.is c.store_refusal.ensures

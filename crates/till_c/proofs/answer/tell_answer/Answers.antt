@@ -1,8 +1,8 @@
 -- A text that is not read, and one that is.
 use Rattle.till_c.proofs.answer.tell_answer.Goals as goal
 
-pub returns-in-Unread : goal.returns-in-Unread
-returns-in-Unread c = rw c.in-Unread.is c.unread_answer.ensures
+pub returns-in-Ok : goal.returns-in-Ok
+returns-in-Ok c = rw c.in-Ok.is c.judged_answer.ensures
 
-pub returns-in-Judged : goal.returns-in-Judged
-returns-in-Judged c = rw c.in-Judged.is c.judged_answer.ensures
+pub returns-in-Err : goal.returns-in-Err
+returns-in-Err c = rw c.in-Err.is c.unread_answer.ensures

@@ -13,7 +13,7 @@ loop-x-preserved c =
       omega arith,
       λ d e.
           entries_written-fill c.args.above.now c.args.w e (omega arith) (omega arith) (inv.1 d e)
-          c.put.ensures c.fill_entry-v.ensures,
+          refl c.fill_entry.ensures,
     )
 
 pub returns : goal.returns

@@ -1,5 +1,5 @@
 -- In the cleared book the first sides open, and then the second ones where the first cannot.
-use native.Mathlib.Omega.{arith}
+use Rattle.std.proofs.Common.{arith}
 use Rattle.text.specs.Laws.ListsLaws.{past_trans}
 use Rattle.books.specs.Laws.RowsLaws.{empty_of_cleared}
 use Rattle.silent.specs.Laws.LabelledLaws.{label_move_game}
@@ -10,16 +10,15 @@ use Rattle.weak_books.proofs.book.fill_label_book.Goals as goal
 pub open_first-requires : goal.open_first-requires
 open_first-requires c =
     record {
-      label_list = c.requires.label_list;
       ranks = c.requires.ranks;
       book_length_in_bounds = omega (arith, c.clear.ensures.past.same_length, c.requires.book_length_in_bounds);
-      opened_before = opened_before_start c.requires.label_list.states_le (empty_of_cleared c.clear.ensures);
+      opened_before = opened_before_start c.args.steps.listed.states_le (empty_of_cleared c.clear.ensures);
     }
 
 pub turn_rows-requires : goal.turn_rows-requires
 turn_rows-requires c =
     let same = past_trans c.clear.ensures.past c.open_first.ensures.past in (
-      c.requires.label_list.states_le,
+      c.args.steps.listed.states_le,
       c.requires.ranks.1,
       omega
           (arith, same.same_length, c.requires.book_length_in_bounds),
@@ -27,7 +26,7 @@ turn_rows-requires c =
 
 pub returns : goal.returns
 returns c =
-    let L = c.requires.label_list in
+    let L = c.args.steps.listed in
     book_filled_of_turned (label_move_game L) (label_move_label_lt L) L.states_le c.requires.ranks.0 c.requires.by_index
     c.open_first.ensures.opened_before_2 c.turn_rows.ensures
     (past_trans c.clear.ensures.past c.open_first.ensures.past)

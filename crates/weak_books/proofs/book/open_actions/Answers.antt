@@ -1,5 +1,5 @@
 -- The openings with actions below a are written.
-use native.Mathlib.Omega.{arith}
+use Rattle.std.proofs.Common.{arith}
 use Rattle.weak_books.specs.Laws.OpenedLaws.{only_at_refl, only_at_trans, opened_to_at}
 use Rattle.weak_books.proofs.book.open_actions.Goals as goal
 
@@ -10,7 +10,6 @@ pub open_action-requires : goal.open_action-requires
 open_action-requires c =
     let inv = c.loop-a.invariant in
     record {
-      label_list = c.requires.label_list;
       own_numbers = c.requires.own_numbers;
       targets = c.requires.targets;
       irreflexive = c.requires.irreflexive;

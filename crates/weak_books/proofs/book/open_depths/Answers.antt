@@ -1,5 +1,5 @@
 -- The entries of the depths up to this one are written, and the states of these ranks are lower.
-use native.Mathlib.Omega.{arith}
+use Rattle.std.proofs.Common.{arith}
 use Rattle.text.specs.Laws.ListsLaws.{past_refl, past_trans}
 use Rattle.weak_books.specs.Laws.DepthLaws.{opened_before_at}
 use Rattle.weak_books.proofs.book.open_depths.Goals as goal
@@ -12,7 +12,6 @@ pub open_depth-requires : goal.open_depth-requires
 open_depth-requires c =
     let inv = c.loop-depth.invariant in
     record {
-      label_list = c.requires.label_list;
       own_numbers = c.requires.own_numbers;
       targets = c.requires.targets;
       ranks = c.requires.ranks;

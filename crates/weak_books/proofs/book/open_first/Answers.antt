@@ -5,7 +5,6 @@ use Rattle.weak_books.proofs.book.open_first.Goals as goal
 pub open_depths-requires : goal.open_depths-requires
 open_depths-requires c =
     record {
-      label_list = c.requires.label_list;
       own_numbers = c.own_numbers.ensures.0;
       targets = c.silent_targets.ensures;
       ranks = c.requires.ranks;

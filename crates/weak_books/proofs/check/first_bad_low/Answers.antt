@@ -1,5 +1,5 @@
 -- Entry k is the first bad one with an action below a.
-use native.Mathlib.Omega.{arith}
+use Rattle.std.proofs.Common.{arith}
 use Rattle.weak_books.specs.Laws.TestedLaws.{first_below-zero, first_below_add_one, first_below_at}
 use Rattle.weak_books.specs.Laws.NotedLaws.{used_to_le}
 use Rattle.weak_books.proofs.check.first_bad_low.Goals as goal
@@ -12,7 +12,7 @@ first_bad_with-k-requires c =
     let le = c.loop-a.invariant.1.number_le in
     let limits = c.requires.limit_le_table_length in
     record {
-      label_list = c.requires.label_list;
+      own_numbers = c.requires.own_numbers;
       targets = c.requires.targets;
       a_lt_action_limit = (c.loop-a-test.true, used_to_le le c.requires.used_to);
       limit_le_table_length = (omega (arith, le, limits.0), limits.1);

@@ -1,8 +1,5 @@
 -- The entries before entry k with this action are sound.
-use mathlib.Core.Path.{◌≡◌}
-use Prim.Native.Nat.{ℕ}
-use native.Mathlib.Omega.{arith}
-use Rattle.text.specs.Laws.DecidesLaws.{decides_passed, decides-refused}
+use Rattle.std.proofs.Common.{◌≡◌, ℕ, arith}
 use Rattle.weak_books.specs.Inner.Tested.{SetMove}
 use Rattle.weak_books.specs.Laws.TestedLaws.{sound_under_zero, sound_under_add_one}
 use Rattle.weak_books.specs.Laws.TestedLaws.{first_under_bad, first_under_none}
@@ -17,13 +14,13 @@ pub returns-then-not-sound_if_under : goal.returns-then-not-sound_if_under
 returns-then-not-sound_if_under c =
     let a = c.args in
     first_under_bad (SetMove a.sets.now) (λ (b : ℕ). b ≡ a.a.0) a.book.now c.loop-k-test.true
-    (decides-refused c.sound_if_under.result _ c.sound_if_under.ensures c.if-not-sound_if_under.true-raw)
+    c.if-not-sound_if_under.ensures
     c.loop-k.invariant.1
 
 pub loop-k-preserved : goal.loop-k-preserved
 loop-k-preserved c =
     let a = c.args in
-    let here = decides_passed c.sound_if_under.result _ c.sound_if_under.ensures c.if-not-sound_if_under.false-raw in
+    let here = c.if-not-sound_if_under.ensures in
     let more = sound_under_add_one (SetMove a.sets.now) (λ (b : ℕ). b ≡ a.a.0) a.book.now here
     c.loop-k.invariant.1 in
     (omega arith, more)

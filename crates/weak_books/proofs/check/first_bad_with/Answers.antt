@@ -3,14 +3,13 @@ use Rattle.weak_books.specs.Laws.TestedLaws.{first_under_of_targets}
 use Rattle.weak_books.specs.Laws.NotedLaws.{first_under_unused}
 use Rattle.weak_books.proofs.check.first_bad_with.Goals as goal
 
-pub returns-then-used-of-eq0 : goal.returns-then-used-of-eq0
-returns-then-used-of-eq0 c = first_under_unused c.requires.a_lt_action_limit.1 c.if-used-of-eq0.true
+pub returns-then-used-a-eq0 : goal.returns-then-used-a-eq0
+returns-then-used-a-eq0 c = first_under_unused c.requires.a_lt_action_limit.1 c.if-used-a-eq0.true
 
 pub low_targets-requires : goal.low_targets-requires
 low_targets-requires c =
     record {
-      label_list = c.requires.label_list.0;
-      own_numbers = c.requires.label_list.1;
+      own_numbers = c.requires.own_numbers;
       a_lt_action_limit = c.requires.a_lt_action_limit.0;
       targets = c.requires.targets;
     }

@@ -1,7 +1,6 @@
 -- The entries before entry k have labels, which are noted.
-use native.Mathlib.Omega.{arith}
-use Rattle.text.specs.Laws.DecidesLaws.{decides_true, decides_false}
-use Rattle.weak_books.specs.Laws.NotedLaws.{used_to_zero, used_to_kept, used_to_add_one}
+use Rattle.std.proofs.Common.{arith}
+use Rattle.weak_books.specs.Laws.NotedLaws.{used_to_zero, used_to_kept, used_to_le, used_to_add_one}
 use Rattle.weak_books.proofs.check.note_actions.Goals as goal
 
 pub loop-k-init : goal.loop-k-init
@@ -9,7 +8,7 @@ loop-k-init c = (omega arith, used_to_zero)
 
 pub returns-then-note_action : goal.returns-then-note_action
 returns-then-note_action c =
-    let no_label = decides_true c.note_action.result _ c.note_action.ensures.decides c.if-note_action.true in
+    let no_label = c.if-note_action.ensures.decides in
     record {
       number_le = omega arith;
       used_to = used_to_kept c.note_action.ensures.action_noted c.loop-k.invariant.1;
@@ -18,10 +17,14 @@ returns-then-note_action c =
 
 pub loop-k-preserved : goal.loop-k-preserved
 loop-k-preserved c =
-    let label = decides_false c.note_action.result _ c.note_action.ensures.decides c.if-note_action.false in
+    let label = c.if-note_action.ensures.decides in
     (omega arith, used_to_add_one label c.note_action.ensures.action_noted c.loop-k.invariant.1)
 
 pub returns : goal.returns
 returns c =
     let inv = c.loop-k.invariant in
-    record { number_le = inv.0; used_to = inv.1; bad = λ l. absurd (omega (arith, l, c.loop-k-test.false)) }
+    record {
+      number_le = omega arith;
+      used_to = used_to_le c.loop-k-test.false inv.1;
+      bad = λ l. absurd (omega (arith, l));
+    }

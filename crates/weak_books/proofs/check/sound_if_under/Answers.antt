@@ -1,34 +1,33 @@
--- The bytes read are those of entry k, which is that of p and q.
-use mathlib.Core.Path.{◌≡◌, sym, ◌∙◌}
-use Prim.Native.Nat.{ℕ}
-use native.Mathlib.Omega.{arith}
-use Rattle.text.specs.Laws.DecidesLaws.{decides_iff}
+-- The bytes read are those of entry k, which is that of p and q; the side says who opens.
+use Rattle.std.proofs.Common.{ap, sym, ◌∙◌, ◌≡◌, ℕ}
+use Rattle.lts.specs.Book.{Entry, LowerEntry}
+use Rattle.books.specs.Books.{book_of}
+use Rattle.books.specs.Inner.Sides.{BySide, entry_of}
+use Rattle.sets.specs.Inner.Sets.{Member}
 use Rattle.weak_books.specs.Inner.Tested.{SetMove}
-use Rattle.weak_books.specs.Laws.TestedLaws.{present_at_number, sound_if_absent, sound_if_other, sound_if_at_number}
+use Rattle.weak_books.specs.Laws.HeldEntryLaws.{opens_of_sets}
+use Rattle.weak_books.specs.Laws.TestedLaws.{sound_if_absent, sound_if_other, sound_if_opens}
 use Rattle.weak_books.proofs.check.sound_if_under.Goals as goal
 
-pub returns-then-book-at-eq0 : goal.returns-then-book-at-eq0
-returns-then-book-at-eq0 c =
+pub returns-then-entry-eq0 : goal.returns-then-entry-eq0
+returns-then-entry-eq0 c =
     let a = c.args in
-    sound_if_absent a.book.now a.k (SetMove a.sets.now) (λ (b : ℕ). b ≡ a.a.0) c.if-book-at-eq0.true
+    sound_if_absent a.book.now a.k (SetMove a.sets.now) (λ (b : ℕ). b ≡ a.a.0)
+    (sym (ap (λ (x : Entry). x.side) c.entry_at-entry.ensures) ∙ c.if-entry-eq0.true)
 
-pub returns-then-byte_value-a : goal.returns-then-byte_value-a
-returns-then-byte_value-a c =
+pub returns-then-from-a : goal.returns-then-from-a
+returns-then-from-a c =
     let a = c.args in
     sound_if_other a.book.now a.k (SetMove a.sets.now) (λ (b : ℕ). b ≡ a.a.0)
-    (λ e. c.if-byte_value-a.true (c.byte_value.ensures ∙ e))
-
-pub sound_under-requires : goal.sound_under-requires
-sound_under-requires c =
-    let there = present_at_number c.args.book.now c.args.k c.if-book-at-eq0.false in
-    record {
-      p_lt_state_limit = (omega arith, omega arith, c.requires.1);
-      present = there;
-    }
+    (λ e. c.if-from-a.true (c.from.ensures ∙ ap (λ (x : Entry). x.action) c.entry_at-entry.ensures ∙ e))
 
 pub returns : goal.returns
 returns c =
     let a = c.args in
-    decides_iff c.sound_under.result (λ s _. s)
-    (sound_if_at_number a.book.now a.k (SetMove a.sets.now) (λ (b : ℕ). b ≡ a.a.0) c.requires.0
-    c.if-book-at-eq0.false (sym c.byte_value.ensures ∙ c.if-byte_value-a.false)) c.sound_under.ensures
+    let e = entry_of c.entry_at-entry.result in
+    let opener = c.in-Some.opener in
+    sound_if_opens a.book.now c.requires.0 e c.entry_at-entry.ensures c.if-entry-eq0.false
+    (sym c.from.ensures ∙ c.if-from-a.false) a.sets.now c.in-Some.ensures c.opens_by_answers.result
+    (opens_of_sets (Member a.sets.now) (BySide opener.side (LowerEntry (book_of a.book.now) e.depth)) opener.state.0
+    opener.other.0 e.target c.set_at-targets.ensures
+    c.set_at-answers.ensures c.opens_by_answers.result (rw c.from-2.ensures at c.opens_by_answers.ensures))

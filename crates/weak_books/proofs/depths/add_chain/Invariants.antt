@@ -1,6 +1,5 @@
 -- Whatever the rest of the chain adds, the whole chain has added.
-use mathlib.Core.List.{List}
-use Prim.Native.Nat.{ℕ, ◌≤◌}
+use Rattle.std.proofs.Common.{List, ℕ, ◌≤◌}
 use Rattle.text.specs.Limits.{table_length}
 use Rattle.weak_books.specs.Inner.Depths.{OnChain, LowerAdded}
 use Rattle.weak_books.proofs.depths.add_chain.Given as goal

@@ -1,5 +1,5 @@
 -- The entries below entry k are chained.
-use native.Mathlib.Omega.{arith}
+use Rattle.std.proofs.Common.{arith}
 use Rattle.weak_books.specs.Laws.ChainsLaws.{chained_at}
 use Rattle.weak_books.proofs.depths.chain_entries.Goals as goal
 

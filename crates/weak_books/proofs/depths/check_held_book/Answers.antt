@@ -1,4 +1,5 @@
 -- Where nothing is stored yet no entry is chained and no label flagged; the first bad entry of all is told.
+use Rattle.held.specs.Laws.ListedLaws.{held_list}
 use Rattle.text.specs.Limits.{table_length}
 use Rattle.text.specs.Laws.ListLaws.{get_or-zeros}
 use Rattle.books.specs.Laws.ChecksLaws.{check_done_of_told}
@@ -13,7 +14,7 @@ chain_entries-requires c =
 
 pub flag_labels-requires : goal.flag_labels-requires
 flag_labels-requires c =
-    let H = c.requires.held_list in
+    let H = held_list c.args.moves in
     (H.count_le, λ i l. label_lt (H.label i l), get_or-zeros byte_values)
 
 pub returns : goal.returns

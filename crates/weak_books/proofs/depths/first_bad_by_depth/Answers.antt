@@ -1,5 +1,5 @@
 -- The sets have the entries below depth d, and these are tested.
-use native.Mathlib.Omega.{arith}
+use Rattle.std.proofs.Common.{arith}
 use Rattle.sets.specs.Inner.Sets.{sets_length}
 use Rattle.sets.specs.Laws.SetsLaws.{empty-zeros}
 use Rattle.weak_books.specs.Laws.LowerLaws.{lower_by-zero, lower_by_next}
@@ -16,7 +16,7 @@ first_bad_on-bad-requires c =
     let d = c.loop-d.d in
     let l = c.loop-d-test.true in record {
       from_le_table_length = (C.head_le d l, c.requires.book_length_in_bounds);
-      held_list = c.requires.held_list;
+      flagged = c.requires.flagged;
       lower_by = inv.1;
       by_index = C.falls;
       by_index_2 = λ k h. (C.only d k l h).1;

@@ -1,21 +1,16 @@
 -- The first i labels are flagged.
-use native.Mathlib.Omega.{arith}
+use Rattle.std.proofs.Common.{refl, arith}
 use Rattle.weak_books.specs.Laws.HeldEntryLaws.{flagged-zero, flagged_next, flagged_at}
 use Rattle.weak_books.proofs.depths.flag_labels.Goals as goal
 
 pub loop-i-init : goal.loop-i-init
 loop-i-init c = (omega arith, flagged-zero c.requires.2)
 
-pub put-requires : goal.put-requires
-put-requires c =
-    let label = c.requires.1 c.loop-i.i c.loop-i-test.true in
-    omega (arith, c.wide.ensures, label)
-
 pub loop-i-preserved : goal.loop-i-preserved
 loop-i-preserved c =
     let label = c.requires.1 c.loop-i.i c.loop-i-test.true in (
       omega (arith, c.loop-i-test.true),
-      flagged_next c.wide.ensures (omega (arith, c.wide.ensures, label)) c.put.ensures c.loop-i.invariant.1,
+      flagged_next refl (omega (arith, label)) refl c.loop-i.invariant.1,
     )
 
 pub returns : goal.returns

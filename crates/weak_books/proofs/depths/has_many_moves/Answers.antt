@@ -1,4 +1,5 @@
 -- No label before the i-th is one with which a state has many moves.
+use Rattle.held.specs.Laws.ListedLaws.{held_list}
 use native.Mathlib.Omega.{arith}
 use lib.ListN.{get_or}
 use borrow.Author.Count.{below_more}
@@ -11,7 +12,7 @@ loop-i-init c = (omega arith, λ j l. absurd (omega (arith, l)))
 
 pub has_many_moves_with-requires : goal.has_many_moves_with-requires
 has_many_moves_with-requires c =
-    (c.requires.label c.loop-i.i c.loop-i-test.true, c.requires.slot_lt)
+    (held_list c.args.moves).label c.loop-i.i c.loop-i-test.true
 
 pub returns-then-has_many_moves_with : goal.returns-then-has_many_moves_with
 returns-then-has_many_moves_with c =
@@ -25,7 +26,7 @@ pub loop-i-preserved : goal.loop-i-preserved
 loop-i-preserved c =
     let a = c.args in (
       omega (arith, c.loop-i-test.true),
-      below_more (λ j. ¬ (ManyMoves a.slots.now a.pool.now (get_or a.labels.now j 0))) c.loop-i.i
+      below_more (λ j. ¬ (ManyMoves a.moves.slots.now a.moves.pool.now (get_or a.moves.labels.now j 0))) c.loop-i.i
           c.loop-i.invariant.1 (decides_false c.has_many_moves_with.result _ c.has_many_moves_with.ensures
           c.if-has_many_moves_with.false),
     )

@@ -6,7 +6,7 @@ use Rattle.weak_books.proofs.depths.has_many_moves.Given as goal
 
 abbrev pub invariant-loop-i : goal.invariant-loop-i
 invariant-loop-i l =
-    (l.i ≤ l.count) × ((j : ℕ) → j < l.i → ¬ (ManyMoves l.slots l.pool (get_or l.labels j 0)))
+    (l.i ≤ l.moves.count) × ((j : ℕ) → j < l.i → ¬ (ManyMoves l.moves.slots.now l.moves.pool.now (get_or l.moves.labels.now j 0)))
 
 abbrev pub decreases-loop-i : goal.decreases-loop-i
-decreases-loop-i l = l.count - l.i
+decreases-loop-i l = l.moves.count - l.i

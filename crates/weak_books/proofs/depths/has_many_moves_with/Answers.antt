@@ -1,8 +1,5 @@
 -- No state before p has many moves.
-use mathlib.Core.Path.{subst}
-use Prim.Native.Nat.{ℕ}
-use native.Mathlib.Omega.{arith}
-use borrow.Author.Count.{below_more}
+use Rattle.std.proofs.Common.{subst, ℕ, arith, below_more}
 use Rattle.sets.specs.Inner.SetValues.{SetOf}
 use Rattle.held.specs.Held.{target_row, HeldAt}
 use Rattle.weak_books.specs.Inner.ManyMoves.{Many}
@@ -12,12 +9,12 @@ use Rattle.weak_books.proofs.depths.has_many_moves_with.Goals.{After-held}
 
 -- The targets of the moves of p with the label.
 targets : (c : After-held)
-    → SetOf (HeldAt c.args.slots.now
-    c.args.pool.now (target_row c.args.a)
+    → SetOf (HeldAt c.args.moves.slots.now
+    c.args.moves.pool.now (target_row c.args.a)
     c.loop-p.p) c.held.result
 targets c =
     let a = c.args in
-    subst (λ (row : ℕ). SetOf (HeldAt a.slots.now a.pool.now row c.loop-p.p) c.held.result)
+    subst (λ (row : ℕ). SetOf (HeldAt a.moves.slots.now a.moves.pool.now row c.loop-p.p) c.held.result)
     c.target_row-row.ensures.0 c.held.ensures
 
 pub loop-p-init : goal.loop-p-init
@@ -41,7 +38,7 @@ pub loop-p-preserved : goal.loop-p-preserved
 loop-p-preserved c =
     let a = c.args in (
       omega (arith, c.loop-p-test.true),
-      below_more (λ x. ¬ (Many (HeldAt a.slots.now a.pool.now (target_row a.a) x))) c.loop-p.p
+      below_more (λ x. ¬ (Many (HeldAt a.moves.slots.now a.moves.pool.now (target_row a.a) x))) c.loop-p.p
           c.loop-p.invariant.1 (many_not (targets (goal.at.loop-p-preserved c).After-held) (omega arith) (omega arith)
           (λ l. omega (arith, l, c.if-size-gt-FEW_ANSWERS.false, c.size.ensures))),
     )

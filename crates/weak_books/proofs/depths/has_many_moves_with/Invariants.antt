@@ -7,7 +7,7 @@ use Rattle.weak_books.proofs.depths.has_many_moves_with.Given as goal
 
 abbrev pub invariant-loop-p : goal.invariant-loop-p
 invariant-loop-p l =
-    (l.p ≤ state_limit) × ((x : ℕ) → x < l.p → ¬ (Many (HeldAt l.slots l.pool (target_row l.a) x)))
+    (l.p ≤ state_limit) × ((x : ℕ) → x < l.p → ¬ (Many (HeldAt l.moves.slots.now l.moves.pool.now (target_row l.a) x)))
 
 abbrev pub decreases-loop-p : goal.decreases-loop-p
 decreases-loop-p l = state_limit - l.p

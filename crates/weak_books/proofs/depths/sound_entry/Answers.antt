@@ -1,48 +1,62 @@
--- The bytes read are the entry's; its action is listed, and the side says who opens.
-use Prim.Native.Nat.{◌+◌, ◌*◌}
-use native.Mathlib.Omega.{arith}
-use Rattle.text.specs.Limits.{entry_size}
+-- The bytes read are those of entry k; its action is listed, and the side says who opens.
+use Rattle.held.specs.Laws.ListedLaws.{held_list}
+use Rattle.std.proofs.Common.{sym, ap, ◌∙◌, subst, arith}
+use Rattle.lts.specs.Book.{Entry, LowerEntry}
+use Rattle.books.specs.Books.{book_of}
+use Rattle.books.specs.declared.entry.Side.{Side}
+use Rattle.books.specs.Inner.Sides.{BySide, entry_of}
+use Rattle.books.specs.Laws.EntryLaws.{turn_lt}
+use Rattle.held.specs.Held.{target_row, HeldAt}
+use Rattle.sets.specs.Inner.Sets.{Member}
+use Rattle.weak_books.specs.Inner.Depths.{Pairs, LowerBy}
 use Rattle.weak_books.specs.Laws.HeldEntryLaws.{listed_label}
-use Rattle.weak_books.specs.Laws.HeldEntryLaws.{entry_unflagged, entry_first, entry_second, entry_other}
+use Rattle.weak_books.specs.Laws.HeldEntryLaws.{entry_opens_by_sets, opens_of_sets}
 use Rattle.weak_books.proofs.depths.sound_entry.Goals as goal
+use Rattle.weak_books.proofs.depths.sound_entry.Goals.{After-entry_at-entry}
 
-pub bounds-flags-a : goal.bounds-flags-a
-bounds-flags-a c =
-    let k = c.args.k in
-    omega (arith, c.byte_value-a.ensures, c.shared_slice_known-3-1.given (entry_size * k + 1))
-
-pub returns-then-flags-a-eq0 : goal.returns-then-flags-a-eq0
-returns-then-flags-a-eq0 c =
-    let a = c.args in
-    entry_unflagged a.labels.now a.count a.slots.now a.pool.now a.book.now a.k
-    c.byte_value-a.ensures c.byte_value.ensures c.requires.held_list.1 c.requires.k_lt_table_length.2
-    c.if-flags-a-eq0.true
+lower_by : (c : After-entry_at-entry)
+    → LowerBy c.args.book.now c.entry_at-entry.result.depth c.args.there.now c.args.back.now
+lower_by c = subst (λ (x : Entry). LowerBy c.args.book.now x.depth c.args.there.now c.args.back.now)
+    (sym c.entry_at-entry.ensures) c.requires.lower_by
 
 pub target_row-row-requires : goal.target_row-row-requires
 target_row-row-requires c =
-    listed_label c.requires.held_list.0 (c.requires.held_list.1.only _ c.if-flags-a-eq0.false)
+    rw c.from.ensures (listed_label (held_list c.args.moves) (c.requires.flagged.only _ c.if-flags-entry-eq0.false))
 
-pub returns-then-side-eq1 : goal.returns-then-side-eq1
-returns-then-side-eq1 c =
-    let a = c.args in
-    entry_first a.labels.now a.count a.slots.now a.pool.now a.book.now a.k
-    c.byte_value-a.ensures c.byte_value.ensures c.if-side-eq1.true c.requires.k_lt_table_length.0
-    (c.requires.held_list.1.only _ c.if-flags-a-eq0.false) c.target_row-row.ensures.0 c.requires.lower_by
-    c.opens_in_row.result
-    c.opens_in_row.ensures
+pub held-targets-requires : goal.held-targets-requires
+held-targets-requires c =
+    let lt = turn_lt (omega (arith, c.requires.k_lt_table_length.0)) (omega arith) c.in-Some.ensures in
+    (omega (arith, c.target_row-row.ensures.1), lt.0)
 
-pub returns-then-side-eq2 : goal.returns-then-side-eq2
-returns-then-side-eq2 c =
-    let a = c.args in
-    entry_second a.labels.now a.count a.slots.now a.pool.now a.book.now a.k
-    c.byte_value-a.ensures c.byte_value.ensures c.if-side-eq2.true c.requires.k_lt_table_length.0
-    (c.requires.held_list.1.only _ c.if-flags-a-eq0.false) c.target_row-row.ensures.0 c.requires.lower_by
-    c.opens_in_row-then-side-eq2.result
-    c.opens_in_row-then-side-eq2.ensures
+pub held-answers-requires : goal.held-answers-requires
+held-answers-requires c =
+    let lt = turn_lt (omega (arith, c.requires.k_lt_table_length.0)) (omega arith) c.in-Some.ensures in
+    (omega (arith, c.target_row-row.ensures.1), lt.1)
 
-pub returns : goal.returns
-returns c =
+pub returns-in-First : goal.returns-in-First
+returns-in-First c =
     let a = c.args in
-    entry_other a.labels.now a.count a.slots.now a.pool.now a.book.now a.k
-    c.byte_value-a.ensures c.byte_value.ensures c.requires.k_lt_table_length.2 c.if-side-eq1.false
-    c.if-side-eq2.false
+    let e = entry_of c.entry_at-entry.result in
+    let opener = c.in-Some.opener in
+    let sets = subst (λ (s : Side). Pairs (BySide s (LowerEntry (book_of a.book.now) e.depth)) a.there.now)
+    (sym c.in-First.is) (lower_by (goal.at.returns-in-First c).After-entry_at-entry).firsts in
+    entry_opens_by_sets a.moves.labels.now a.moves.count a.moves.slots.now a.moves.pool.now a.book.now a.k e c.entry_at-entry.ensures
+    c.requires.k_lt_table_length.0 (c.requires.flagged.only _ c.if-flags-entry-eq0.false)
+    (c.target_row-row.ensures.0 ∙ ap target_row c.from.ensures) c.opens_by_sets.result c.in-Some.ensures sets
+    (opens_of_sets (HeldAt a.moves.slots.now a.moves.pool.now c.target_row-row.result) (Member a.there.now) opener.state.0
+    opener.other.0 e.target
+    c.held-targets.ensures c.held-answers.ensures c.opens_by_sets.result (rw c.from-2.ensures at c.opens_by_sets.ensures))
+
+pub returns-in-Second : goal.returns-in-Second
+returns-in-Second c =
+    let a = c.args in
+    let e = entry_of c.entry_at-entry.result in
+    let opener = c.in-Some.opener in
+    let sets = subst (λ (s : Side). Pairs (BySide s (LowerEntry (book_of a.book.now) e.depth)) a.back.now)
+    (sym c.in-Second.is) (lower_by (goal.at.returns-in-Second c).After-entry_at-entry).seconds in
+    entry_opens_by_sets a.moves.labels.now a.moves.count a.moves.slots.now a.moves.pool.now a.book.now a.k e c.entry_at-entry.ensures
+    c.requires.k_lt_table_length.0 (c.requires.flagged.only _ c.if-flags-entry-eq0.false)
+    (c.target_row-row.ensures.0 ∙ ap target_row c.from.ensures) c.opens_by_sets-in-Second.result c.in-Some.ensures sets
+    (opens_of_sets (HeldAt a.moves.slots.now a.moves.pool.now c.target_row-row.result) (Member a.back.now) opener.state.0
+    opener.other.0 e.target
+    c.held-targets.ensures c.held-answers.ensures c.opens_by_sets-in-Second.result (rw c.from-2.ensures at c.opens_by_sets-in-Second.ensures))

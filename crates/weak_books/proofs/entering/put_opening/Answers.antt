@@ -1,15 +1,21 @@
 -- The entry is that of the side that opens.
-use Rattle.weak_books.specs.Laws.EntryApartLaws.{opening_entry_first, opening_entry-second, entry_written_as}
+use Rattle.std.proofs.Common.{◌≡◌, sym, ap, ◌∙◌, Option, None}
+use Rattle.books.specs.Inner.Sides.{entry_of}
+use Rattle.weak_books.specs.declared.opening.Opening.{Opening}
+use Rattle.weak_books.specs.Inner.Entering.{opening_entry}
+use Rattle.weak_books.specs.Laws.EnteringLaws.{entry_written_as}
 use Rattle.weak_books.proofs.entering.put_opening.Goals as goal
-
-pub returns-then-first-lt-STATE_LIMIT : goal.returns-then-first-lt-STATE_LIMIT
-returns-then-first-lt-STATE_LIMIT c =
-    let taken = c.if-first-lt-STATE_LIMIT.true in
-    entry_written_as (opening_entry_first c.args.first c.args.second c.args.depth taken)
-    c.put_entry.ensures
+use Rattle.weak_books.proofs.entering.put_opening.Goals.{in-Some, in-None}
 
 pub returns : goal.returns
 returns c =
-    let left = c.if-first-lt-STATE_LIMIT.false in
-    entry_written_as (opening_entry-second c.args.first c.args.second c.args.depth left)
-    c.put_entry-2.ensures
+    let a = c.args in
+    let from : Option Opening → _ = λ first. opening_entry first a.second a.depth in
+    let back : Option Opening → _ = λ second. opening_entry None second a.depth in
+    let e : entry_of c.match-first.entry ≡ opening_entry a.first a.second a.depth =
+    elim c.match-first.branch [
+      | in-Some w ↦ ap entry_of w.entry-is ∙ w.entry_by-entry.ensures ∙ sym (ap from w.in-Some.is)
+      | in-None w ↦ ap entry_of w.entry-is ∙ w.entry_by-entry-in-None.ensures
+          ∙ sym (ap from w.in-None.is ∙ ap back w.unwrap.ensures)
+    ] in
+    entry_written_as e c.put_entry.ensures

@@ -1,5 +1,5 @@
 -- The set of the class before without that of the class after.
-use native.Mathlib.Omega.{arith}
+use Rattle.std.proofs.Common.{arith}
 use Rattle.held.specs.Laws.PoolLaws.{set_of_number}
 use Rattle.weak_books.specs.Laws.EnteringLaws.{separated_below-set}
 use Rattle.weak_books.proofs.entering.separated_from.Goals as goal

@@ -1,66 +1,33 @@
 -- The bytes read are those of entry k; its action is listed, and the side says who opens.
-use mathlib.Core.Path.{refl}
-use Prim.Native.Nat.{◌+◌, ◌*◌}
-use native.Mathlib.Omega.{arith}
-use Rattle.text.specs.Limits.{entry_size}
-use Rattle.weak_books.specs.Laws.HeldEntryLaws.{listed_label, entry_absent, entry_unflagged, entry_other}
-use Rattle.weak_books.specs.Laws.HeldEntryLaws.{entry_first_opens, entry_second_opens}
+use Rattle.std.proofs.Common.{ap, ◌∙◌}
+use Rattle.lts.specs.Book.{LowerEntry}
+use Rattle.books.specs.Books.{book_of}
+use Rattle.books.specs.Inner.Sides.{BySide, entry_of}
+use Rattle.held.specs.Held.{target_row, HeldAt}
+use Rattle.weak_books.specs.Laws.HeldEntryLaws.{listed_label, entry_absent}
+use Rattle.weak_books.specs.Laws.HeldEntryLaws.{entry_opens, opens_of_sets}
+use Rattle.held.specs.Laws.ListedLaws.{held_list}
 use Rattle.weak_books.proofs.entries.is_sound.Goals as goal
 
-pub returns-then-side-eq0 : goal.returns-then-side-eq0
-returns-then-side-eq0 c =
+pub returns-then-entry-eq0 : goal.returns-then-entry-eq0
+returns-then-entry-eq0 c =
     let a = c.args in
-    entry_absent a.labels.now a.count a.slots.now a.pool.now a.book.now a.k refl refl
-    c.if-side-eq0.true
-
-pub bounds-flags-a : goal.bounds-flags-a
-bounds-flags-a c =
-    let k = c.args.k in
-    omega (arith, c.byte_value-a.ensures, c.shared_slice_known-3-1.given (entry_size * k + 1))
-
-pub returns-then-flags-a-eq0 : goal.returns-then-flags-a-eq0
-returns-then-flags-a-eq0 c =
-    let a = c.args in
-    entry_unflagged a.labels.now a.count a.slots.now a.pool.now a.book.now a.k
-    c.byte_value-a.ensures refl c.requires.held_list.1 c.if-side-eq0.false c.if-flags-a-eq0.true
+    entry_absent a.moves.labels.now a.moves.count a.moves.slots.now a.moves.pool.now a.book.now a.k (entry_of c.entry_at-entry.result)
+    c.entry_at-entry.ensures c.if-entry-eq0.true
 
 pub target_row-row-requires : goal.target_row-row-requires
 target_row-row-requires c =
-    listed_label c.requires.held_list.0 (c.requires.held_list.1.only _ c.if-flags-a-eq0.false)
-
-pub opens_by_answers-requires : goal.opens_by_answers-requires
-opens_by_answers-requires c =
-    record {
-      row_lt_slot_rows = (omega arith, c.requires.held_list.0.slot_lt);
-      p_lt_state_limit = (omega arith, omega arith, c.requires.k_lt_table_length.1);
-    }
-
-pub returns-then-side-eq1 : goal.returns-then-side-eq1
-returns-then-side-eq1 c =
-    let a = c.args in
-    entry_first_opens a.labels.now a.count a.slots.now a.pool.now a.book.now a.k
-    c.byte_value-a.ensures c.byte_value.ensures c.requires.k_lt_table_length.0
-    (c.requires.held_list.1.only _ c.if-flags-a-eq0.false) c.target_row-row.ensures.0 c.opens_by_answers.result
-    c.if-side-eq1.true c.opens_by_answers.ensures
-
-pub opens_by_answers-requires-then-side-eq2 : goal.opens_by_answers-requires-then-side-eq2
-opens_by_answers-requires-then-side-eq2 c =
-    record {
-      row_lt_slot_rows = (omega arith, c.requires.held_list.0.slot_lt);
-      p_lt_state_limit = (omega arith, omega arith, c.requires.k_lt_table_length.1);
-    }
-
-pub returns-then-side-eq2 : goal.returns-then-side-eq2
-returns-then-side-eq2 c =
-    let a = c.args in
-    entry_second_opens a.labels.now a.count a.slots.now a.pool.now a.book.now a.k
-    c.byte_value-a.ensures c.byte_value.ensures c.requires.k_lt_table_length.0
-    (c.requires.held_list.1.only _ c.if-flags-a-eq0.false) c.target_row-row.ensures.0
-    c.opens_by_answers-then-side-eq2.result
-    c.if-side-eq2.true c.opens_by_answers-then-side-eq2.ensures
+    rw c.from.ensures (listed_label (held_list c.args.moves) (c.requires.flagged.only _ c.if-flags-entry-eq0.false))
 
 pub returns : goal.returns
 returns c =
     let a = c.args in
-    entry_other a.labels.now a.count a.slots.now a.pool.now a.book.now a.k refl refl
-    c.if-side-eq0.false c.if-side-eq1.false c.if-side-eq2.false
+    let e = entry_of c.entry_at-entry.result in
+    let opener = c.in-Some.opener in
+    entry_opens a.moves.labels.now a.moves.count a.moves.slots.now a.moves.pool.now a.book.now a.k e c.entry_at-entry.ensures
+    c.requires.k_lt_table_length.0 (c.requires.flagged.only _ c.if-flags-entry-eq0.false)
+    (c.target_row-row.ensures.0 ∙ ap target_row c.from.ensures) c.opens_by_answers.result c.in-Some.ensures
+    (opens_of_sets (HeldAt a.moves.slots.now a.moves.pool.now c.target_row-row.result)
+    (BySide opener.side (LowerEntry (book_of a.book.now) e.depth)) opener.state.0 opener.other.0 e.target
+    c.held-targets.ensures c.held-answers.ensures c.opens_by_answers.result
+    (rw c.from-2.ensures at c.opens_by_answers.ensures))

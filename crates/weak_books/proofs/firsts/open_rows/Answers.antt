@@ -1,5 +1,5 @@
 -- The entries of the states below p are written.
-use native.Mathlib.Omega.{arith}
+use Rattle.std.proofs.Common.{arith}
 use Rattle.weak_books.specs.Laws.FirstsLaws.{label_opened_none, label_opened_to, label_opened_then}
 use Rattle.weak_books.proofs.firsts.open_rows.Goals as goal
 

@@ -1,7 +1,5 @@
 -- q is added if its rank is the one sought.
-use mathlib.Core.Path.{◌≡◌, sym, ◌∙◌, subst}
-use Prim.Native.Nat.{ℕ}
-use lib.ListN.{get_or}
+use Rattle.std.proofs.Common.{◌≡◌, sym, ◌∙◌, subst, ℕ, get_or}
 use Rattle.text.specs.Limits.{pair_place}
 use Rattle.sets.specs.Laws.SetsLaws.{joined-map}
 use Rattle.weak_books.specs.Laws.RankedLaws.{joined_none}

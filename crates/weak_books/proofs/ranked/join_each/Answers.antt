@@ -1,7 +1,5 @@
 -- The sets below p have got the members.
-use mathlib.Core.Path.{refl, ◌∙◌}
-use Prim.Native.Nat.{◌<◌}
-use native.Mathlib.Omega.{arith}
+use Rattle.std.proofs.Common.{refl, ◌∙◌, ◌<◌, arith}
 use Rattle.text.specs.Limits.{state_limit}
 use Rattle.weak_books.specs.Laws.RankedLaws.{joined_below-zero, joined_below-suc, joined_below_at}
 use Rattle.weak_books.proofs.ranked.join_each.Goals as goal

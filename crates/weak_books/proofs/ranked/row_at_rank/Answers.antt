@@ -1,6 +1,5 @@
 -- The states below q whose rank beside p is r are added.
-use mathlib.Core.Path.{refl, ◌∙◌}
-use native.Mathlib.Omega.{arith}
+use Rattle.std.proofs.Common.{refl, ◌∙◌, arith}
 use Rattle.weak_books.specs.Laws.RankedLaws.{joined_none, row_at_rank_suc, row_at_rank_at}
 use Rattle.weak_books.proofs.ranked.row_at_rank.Goals as goal
 

@@ -1,8 +1,6 @@
 -- The states below q whose rank beside p is r are added.
-use mathlib.Core.Path.{◌≡◌}
-use Prim.Native.Nat.{◌≤◌, ◌-◌}
+use Rattle.std.proofs.Common.{◌≡◌, ◌≤◌, length}
 use Rattle.sets.specs.Inner.Sets.{Joined}
-use lib.ListN.{length}
 use Rattle.weak_books.specs.Laws.RankedLaws.{RowAtRank}
 use Rattle.weak_books.proofs.ranked.row_at_rank.Given as goal
 
@@ -10,6 +8,3 @@ abbrev pub invariant-loop-q : goal.invariant-loop-q
 invariant-loop-q l =
     (l.q ≤ l.n) × (length l.sets ≡ length l.initial.sets) × Joined l.p.0 (RowAtRank l.table l.r l.p.0 l.q)
     l.initial.sets l.sets
-
-abbrev pub decreases-loop-q : goal.decreases-loop-q
-decreases-loop-q l = l.n - l.q

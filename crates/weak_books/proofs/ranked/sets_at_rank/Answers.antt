@@ -1,5 +1,5 @@
 -- The sets below p have the states of rank r.
-use native.Mathlib.Omega.{arith}
+use Rattle.std.proofs.Common.{arith}
 use Rattle.weak_books.specs.Laws.RankedLaws.{at_rank_zero, at_rank_suc, at_rank_at}
 use Rattle.weak_books.proofs.ranked.sets_at_rank.Goals as goal
 

@@ -1,10 +1,7 @@
 -- The sets below p have the states of rank r.
-use Prim.Native.Nat.{◌≤◌, ◌-◌}
+use Rattle.std.proofs.Common.{◌≤◌}
 use Rattle.weak_books.specs.Inner.RankSets.{AtRank}
 use Rattle.weak_books.proofs.ranked.sets_at_rank.Given as goal
 
 abbrev pub invariant-loop-p : goal.invariant-loop-p
 invariant-loop-p l = (l.p ≤ l.n) × AtRank l.n l.table l.r l.p l.sets
-
-abbrev pub decreases-loop-p : goal.decreases-loop-p
-decreases-loop-p l = l.n - l.p

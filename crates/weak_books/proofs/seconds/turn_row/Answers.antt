@@ -1,5 +1,5 @@
 -- The entries before that of p and q are written.
-use native.Mathlib.Omega.{arith}
+use Rattle.std.proofs.Common.{arith}
 use Rattle.weak_books.specs.Laws.TurnedLaws.{all_turned_none, all_turned_then, all_turned_pair, all_turned_to}
 use Rattle.weak_books.proofs.seconds.turn_row.Goals as goal
 

@@ -1,5 +1,5 @@
 -- The entries of the states below p are written.
-use native.Mathlib.Omega.{arith}
+use Rattle.std.proofs.Common.{arith}
 use Rattle.weak_books.specs.Laws.TurnedLaws.{all_turned_none, all_turned_row, all_turned_to}
 use Rattle.weak_books.proofs.seconds.turn_rows.Goals as goal
 

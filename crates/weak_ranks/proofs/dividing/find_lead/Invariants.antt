@@ -1,6 +1,5 @@
 -- The leads below r, of the class of p, have other keys.
-use mathlib.Core.Path.{◌≡◌}
-use Prim.Native.Nat.{◌-◌}
+use Rattle.std.proofs.Common.{◌≡◌, ◌-◌}
 use Rattle.weak_ranks.specs.Inner.Dividing.{Sought}
 use Rattle.weak_ranks.proofs.dividing.find_lead.Given as goal
 

@@ -1,34 +1,23 @@
--- Each answer is what `level_byte` computes to by the tests that were passed. Assumes nothing.
-use borrow.Author.Tests.{eq-eqb, ne_eqb}
+-- Each answer is what `level_byte` computes to at the level that was matched. Assumes nothing.
+use Rattle.std.proofs.Common.{arith, ne_eqb}
 use Rattle.model.specs.Text.{level_byte}
 use Rattle.writer.proofs.lines.level_letter.Goals as goal
 
-pub returns-then-level-eq-LOW : goal.returns-then-level-eq-LOW
+pub returns-in-0 : goal.returns-in-0
 unfolding level_byte
-returns-then-level-eq-LOW c = rw (eq-eqb c.args.level 0 c.if-level-eq-LOW.true)
+returns-in-0 c = rw c.in-0.is
 
-pub returns-then-level-eq-RELEASE : goal.returns-then-level-eq-RELEASE
+pub returns-in-1 : goal.returns-in-1
 unfolding level_byte
-returns-then-level-eq-RELEASE c =
-    let level = c.args.level in
-    rw (ne_eqb level 0 c.if-level-eq-LOW.false, eq-eqb level 1 c.if-level-eq-RELEASE.true)
+returns-in-1 c = rw c.in-1.is
 
-pub returns-then-level-eq-HIGH : goal.returns-then-level-eq-HIGH
+pub returns-in-2 : goal.returns-in-2
 unfolding level_byte
-returns-then-level-eq-HIGH c =
-    let level = c.args.level in
-    rw (
-      ne_eqb level 0 c.if-level-eq-LOW.false,
-      ne_eqb level 1 c.if-level-eq-RELEASE.false,
-      eq-eqb level 2 c.if-level-eq-HIGH.true,
-    )
+returns-in-2 c = rw c.in-2.is
 
-pub returns : goal.returns
+pub returns-in_default : goal.returns-in_default
 unfolding level_byte
-returns c =
+returns-in_default c =
+    let h = c.in_default in
     let level = c.args.level in
-    rw (
-      ne_eqb level 0 c.if-level-eq-LOW.false,
-      ne_eqb level 1 c.if-level-eq-RELEASE.false,
-      ne_eqb level 2 c.if-level-eq-HIGH.false,
-    )
+    rw (ne_eqb level 0 (omega arith), ne_eqb level 1 (omega arith), ne_eqb level 2 (omega arith))

@@ -1,25 +1,24 @@
--- Behind the loop stand i blanks, and each round writes one more. Assumes nothing.
-use mathlib.Core.Path.{◌≡◌, refl}
-use native.Mathlib.Omega.{arith}
-use lib.ListN.{replicate-append-replicate}
-use borrow.Author.Rules.{rules}
+-- The blanks stand where they were filled in. Assumes nothing.
+use Rattle.std.proofs.Common.{◌≡◌, ◌∙◌, ◌+◌, ◌-◌, length, take, drop, replicate, ap, refl, sym, arith}
+use Rattle.std.proofs.Common.{length-take, length-drop}
+use Rattle.std.proofs.lemmas.Slice.{put_mid-paste}
+use Rattle.std.proofs.lemmas.List.{length-replicate}
 use Rattle.text.specs.Bytes.{byte_blank}
-use Rattle.writer.specs.Laws.WroteLaws.{wrote-nil, wrote-append}
+use Rattle.writer.specs.Laws.WroteLaws.{wrote-paste}
+use Rattle.columns.specs.Rows.{blanks}
 use Rattle.columns.proofs.line.RollLine.blanks.Goals as goal
-
-pub loop-i-init : goal.loop-i-init
-loop-i-init c = (search rules, search rules, omega arith, wrote-nil)
-
-pub loop-i-preserved : goal.loop-i-preserved
-loop-i-preserved c = (
-  search rules,
-  search rules,
-  omega arith,
-  rw (← replicate-append-replicate c.loop-i.i 1 byte_blank)
-      (wrote-append c.loop-i.invariant.3 c.byte-at.ensures),
-)
 
 pub returns : goal.returns
 returns c =
-    let e : c.loop-i.i ≡ c.args.n = omega (arith, c.loop-i.invariant.0, c.loop-i-test.false) in
-    (rw (← e) c.loop-i.invariant.3, refl)
+    let n = c.args.n in
+    let at = c.args.self.at.at in
+    let out = c.args.out.now in
+    let same : n ≡ at + n - at = omega arith in
+    let number : n ≡ length (blanks n) = sym (length-replicate n byte_blank) in
+    let room : length (take (at + n - at) (drop at out)) ≡ n =
+    omega (arith, c.requires, length-take (at + n - at) (drop at out), length-drop at out) in
+    let filled = c.fill.ensures.after (λ y h. h) ∙ ap (λ k. replicate k byte_blank) room in (
+      rw (put_mid-paste at (at + n - at) out c.fill.new.self (blanks n) n filled same number)
+          (wrote-paste out at (blanks n) n number c.requires),
+      refl,
+    )

@@ -1,13 +1,12 @@
 -- Each column goes on from where the last one ended. Assumes nothing.
-use mathlib.Core.Path.{◌∙◌}
-use native.Mathlib.Omega.{arith}
+use Rattle.std.proofs.Common.{◌∙◌, arith}
 use Rattle.writer.specs.Laws.WroteLaws.{wrote-append, wrote-length}
 use Rattle.columns.specs.StateRows.{state_columns}
 use Rattle.columns.specs.Laws.ColumnsLaws.{columns_short, column_place}
 use Rattle.columns.proofs.line.RollLine.columns.Goals as goal
 
-pub blanks-row-requires : goal.blanks-row-requires
-blanks-row-requires c =
+pub blanks-requires : goal.blanks-requires
+blanks-requires c =
     let short = columns_short c.requires.distance_fits c.requires.class_le_p.0 in
     let w = c.number.ensures.0 in
     omega (arith, c.requires.class_le_p.1, column_place _ w short.state_le, wrote-length w)
@@ -16,18 +15,18 @@ pub distance-requires : goal.distance-requires
 distance-requires c =
     let short = columns_short c.requires.distance_fits c.requires.class_le_p.0 in
     let w = c.number.ensures.0 in
-    let x = c.blanks-row.ensures.0 in
+    let x = c.blanks.ensures.0 in
     let same = wrote-length (wrote-append w x) in
     record {
       distance_fits = c.requires.distance_fits;
       number_width_in_bounds = omega (arith, c.requires.class_le_p.1, column_place _ w short.state_le, x.place, same);
     }
 
-pub blanks-row-requires-2 : goal.blanks-row-requires-2
-blanks-row-requires-2 c =
+pub blanks-requires-2 : goal.blanks-requires-2
+blanks-requires-2 c =
     let short = columns_short c.requires.distance_fits c.requires.class_le_p.0 in
     let w = c.number.ensures.0 in
-    let x = c.blanks-row.ensures.0 in
+    let x = c.blanks.ensures.0 in
     let y = c.distance.ensures.0 in
     omega (
       arith,
@@ -42,9 +41,9 @@ pub number-requires-2 : goal.number-requires-2
 number-requires-2 c =
     let short = columns_short c.requires.distance_fits c.requires.class_le_p.0 in
     let w = c.number.ensures.0 in
-    let x = c.blanks-row.ensures.0 in
+    let x = c.blanks.ensures.0 in
     let y = c.distance.ensures.0 in
-    let z = c.blanks-row-2.ensures.0 in (
+    let z = c.blanks-2.ensures.0 in (
       omega (arith, c.requires.distance_fits.state_lt, c.requires.class_le_p.0),
       omega (
         arith,
@@ -62,11 +61,11 @@ unfolding state_columns
 returns c = (
   wrote-append
       (wrote-append
-      (wrote-append (wrote-append c.number.ensures.0 c.blanks-row.ensures.0)
+      (wrote-append (wrote-append c.number.ensures.0 c.blanks.ensures.0)
       c.distance.ensures.0)
-      c.blanks-row-2.ensures.0)
+      c.blanks-2.ensures.0)
       c.number-2.ensures.0,
-  c.number-2.ensures.1 ∙ c.blanks-row-2.ensures.1 ∙ c.distance.ensures.1
-      ∙ c.blanks-row.ensures.1
+  c.number-2.ensures.1 ∙ c.blanks-2.ensures.1 ∙ c.distance.ensures.1
+      ∙ c.blanks.ensures.1
       ∙ c.number.ensures.1,
 )

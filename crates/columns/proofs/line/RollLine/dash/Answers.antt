@@ -6,4 +6,4 @@ use Rattle.columns.proofs.line.RollLine.dash.Goals as goal
 pub returns : goal.returns
 unfolding flush_right
 returns c =
-    (wrote-append c.blanks-row.ensures.0 c.byte-at.ensures, c.blanks-row.ensures.1)
+    (wrote-append c.blanks-row.ensures.0 c.byte.ensures, c.blanks-row.ensures.1)

@@ -1,5 +1,5 @@
 -- The test decides which of the two fields it is. Assumes nothing.
-use native.Mathlib.Omega.{arith}
+use Rattle.std.proofs.Common.{arith}
 use Rattle.text.specs.Laws.DecidesLaws.{decides_true, decides_false}
 use Rattle.columns.specs.StateRows.{distance_text}
 use Rattle.columns.specs.Laws.DistanceOfLaws.{distance_of_unreachable, distance_of_reachable}
@@ -18,9 +18,9 @@ number-requires c =
     c.if-is_unreachable.false) in
     (omega (arith, l, c.distance_at.ensures), c.requires.number_width_in_bounds)
 
-pub returns : goal.returns
+pub returns-else-is_unreachable : goal.returns-else-is_unreachable
 unfolding distance_text
-returns c =
+returns-else-is_unreachable c =
     let e = distance_of_reachable c.args.distances.now c.args.p.0
     (decides_false c.is_unreachable.result _ c.is_unreachable.ensures c.if-is_unreachable.false) in
     (rw e (rw c.distance_at.ensures at c.number.ensures.0), c.number.ensures.1)

@@ -1,6 +1,5 @@
 -- The blanks end at the last column, and the line end follows. Assumes nothing.
-use Prim.Native.Nat.{◌-◌}
-use native.Mathlib.Omega.{arith}
+use Rattle.std.proofs.Common.{◌-◌, arith}
 use lib.ListN.{length-replicate}
 use Rattle.text.specs.Bytes.{byte_blank}
 use Rattle.writer.specs.Laws.WroteLaws.{wrote-append, wrote-length}
@@ -9,7 +8,7 @@ use Rattle.columns.proofs.line.RollLine.end.Goals as goal
 
 pub byte-requires : goal.byte-requires
 byte-requires c =
-    let w = c.blanks-row.ensures.0 in
+    let w = c.blanks.ensures.0 in
     let l = length-replicate (roll_width - (c.args.self.at.at - c.args.self.begin)) byte_blank in
     omega (
       arith,
@@ -23,4 +22,4 @@ byte-requires c =
 
 pub returns : goal.returns
 returns c =
-    wrote-append c.blanks-row.ensures.0 c.byte.ensures
+    wrote-append c.blanks.ensures.0 c.byte.ensures

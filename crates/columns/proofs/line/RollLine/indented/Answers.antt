@@ -1,12 +1,12 @@
 -- The blanks, and the name behind them. Assumes nothing.
-use native.Mathlib.Omega.{arith}
+use Rattle.std.proofs.Common.{arith}
 use lib.ListN.{length-replicate}
 use Rattle.text.specs.Bytes.{byte_blank}
 use Rattle.writer.specs.Laws.WroteLaws.{wrote-append, wrote-length}
 use Rattle.columns.proofs.line.RollLine.indented.Goals as goal
 
-pub action_name-at-requires : goal.action_name-at-requires
-action_name-at-requires c =
+pub action_name-requires : goal.action_name-requires
+action_name-requires c =
     let w = c.blanks-row.ensures.0 in
     let n = length-replicate c.args.indent byte_blank in
     record {
@@ -17,4 +17,4 @@ action_name-at-requires c =
 
 pub returns : goal.returns
 returns c =
-    (wrote-append c.blanks-row.ensures.0 c.action_name-at.ensures, c.blanks-row.ensures.1)
+    (wrote-append c.blanks-row.ensures.0 c.action_name.ensures, c.blanks-row.ensures.1)

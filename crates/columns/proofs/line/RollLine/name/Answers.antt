@@ -1,6 +1,5 @@
 -- A name that fits stands behind a blank; one that does not begins a next line. Assumes nothing.
-use mathlib.Core.Path.{◌∙◌}
-use native.Mathlib.Omega.{arith}
+use Rattle.std.proofs.Common.{◌∙◌, arith}
 use Rattle.writer.specs.Laws.NameLaws.{action_limit_lt, name_length_le, name_length_stored}
 use Rattle.writer.specs.Laws.WroteLaws.{wrote-length}
 use Rattle.columns.specs.Laws.FillingLaws.{ended_place, filled_fits, filled_next}
@@ -35,11 +34,11 @@ indented-requires-2 c =
     let n = c.name_length-name_length.ensures ∙ name_length_stored c.requires.writable c.args.a.0
     c.requires.a_in_bounds in
     let l = name_length_le c.requires.writable c.args.a.0 c.requires.a_in_bounds in
-    let place = ended_place room.begin_le room.at_le c.end-at.ensures in
+    let place = ended_place room.begin_le room.at_le c.end.ensures in
     let next = room.next_lt (omega (arith, n, c.if-used-name_length-le-WIDTH.false)) in record {
       writable = c.requires.writable;
       a_in_bounds = c.requires.a_in_bounds;
-      a_in_bounds_2 = omega (arith, place, c.start.ensures.0, next, l, wrote-length c.end-at.ensures);
+      a_in_bounds_2 = omega (arith, place, c.start.ensures.0, next, l, wrote-length c.end.ensures);
     }
 
 pub returns : goal.returns
@@ -48,4 +47,4 @@ returns c =
     c.requires.a_in_bounds in
     filled_next (name_length_le c.requires.writable c.args.a.0 c.requires.a_in_bounds)
     (omega (arith, n, c.if-used-name_length-le-WIDTH.false))
-    c.end-at.ensures c.start.ensures c.indented-2.ensures.1 c.indented-2.ensures.0
+    c.end.ensures c.start.ensures c.indented-2.ensures.1 c.indented-2.ensures.0

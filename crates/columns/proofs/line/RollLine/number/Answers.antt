@@ -1,7 +1,5 @@
 -- The blanks make up for the digits that are fewer than three. Assumes nothing.
-use Prim.Native.Nat.{◌-◌}
-use native.Mathlib.Omega.{arith}
-use lib.Dec.{lit<}
+use Rattle.std.proofs.Common.{◌-◌, arith, lit<}
 use lib.ListN.{length-replicate}
 use Rattle.text.specs.Bytes.{byte_blank}
 use Rattle.text.specs.Laws.DigitsLaws.{digits-length_le}
@@ -15,8 +13,8 @@ overflow_sub-digit_count c =
     let l = digits-length_le number_width c.args.n c.requires.0 (lit< tt) (omega arith) in
     omega (arith, c.digit_count.ensures, l)
 
-pub number-at-requires : goal.number-at-requires
-number-at-requires c =
+pub number-requires : goal.number-requires
+number-requires c =
     let w = c.blanks-row.ensures.0 in
     let l = digits-length_le number_width c.args.n c.requires.0 (lit< tt) (omega arith) in
     omega (
@@ -33,6 +31,6 @@ pub returns : goal.returns
 unfolding flush_right
 returns c = (
   rw c.digit_count.ensures at
-      (wrote-append c.blanks-row.ensures.0 c.number-at.ensures),
+      (wrote-append c.blanks-row.ensures.0 c.number.ensures),
   c.blanks-row.ensures.1,
 )

@@ -1,5 +1,5 @@
 -- One letter. Assumes nothing.
-use native.Mathlib.Omega.{arith}
+use Rattle.std.proofs.Common.{arith}
 use Rattle.lines.specs.PageLines.{line_text}
 use Rattle.lines.proofs.lines.PagePosition.last_text.Goals as goal
 

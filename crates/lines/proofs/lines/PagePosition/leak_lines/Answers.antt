@@ -1,11 +1,7 @@
 -- The run and the word are filled where they are printed from; a passed model has no such lines. Assumes nothing.
-use mathlib.Core.Path.{refl, sym, ap, subst, ◌∙◌}
-use Prim.Native.Nat.{◌+◌, ◌≤◌}
-use native.Mathlib.Omega.{arith}
-use lib.ListN.{length}
+use Rattle.std.proofs.Common.{refl, ap, ◌∙◌, ◌+◌, ◌≤◌, arith, length}
 use Rattle.text.specs.declared.State.{State}
 use Rattle.model.specs.StoredModel.{model_at}
-use Rattle.model.specs.System.{ReachableIn}
 use Rattle.verdicts.specs.declared.judging.Verdict.TheVariants.{Refused}
 use Rattle.verdicts.specs.Verdicts.{RefusedAt}
 use Rattle.distances.specs.Laws.RunTailLaws.{run_written_le}
@@ -36,25 +32,6 @@ returns-in_default c =
     rw c.in_default.is
     (written_nil {P = NoLeakLines _ _ _ _} (record { run_kept = refl; word_kept = refl; lines_are = refl }))
 
-pub source-p-requires : goal.source-p-requires
-source-p-requires c =
-    let st = c.requires.judged_lists.showable.lists.stored in
-    (st.length_le, omega (arith, (refused c).leak.high_step.number_lt, st.steps_le))
-
-pub fill_run-n-requires : goal.fill_run-n-requires
-fill_run-n-requires c =
-    let J = c.requires.judged_lists in
-    let lists = J.showable.lists in
-    let high_step = (refused (goal.at.fill_run-n-requires c).In-Refused).leak.high_step in
-    let e =
-    ap (λ (x : State). x.0) c.source-p.ensures ∙ stored_source lists.stored c.in-Refused.j.0
-    high_step.number_lt
-    in record {
-      stored = lists.stored;
-      distances_length_in_bounds = (lists.distances_length_is, lists.distances_are);
-      reachable_in = (subst (ReachableIn _) (sym e) high_step.reachable, J.run_length_is);
-    }
-
 pub run_lines-page-requires : goal.run_lines-page-requires
 run_lines-page-requires c = (
   run_written_le c.fill_run-n.ensures,
@@ -65,10 +42,6 @@ run_lines-page-requires c = (
     room (goal.at.run_lines-page-requires c).In-Refused,
   ),
 )
-
-pub show-shown-requires : goal.show-shown-requires
-show-shown-requires c =
-    rw c.in-Refused.is at c.requires.judged_lists.showable
 
 pub shown_lines-requires : goal.shown_lines-requires
 shown_lines-requires c =

@@ -1,5 +1,5 @@
 -- Each field goes on from where the last one ended; the text's length is what its fields ask for. Assumes nothing.
-use native.Mathlib.Omega.{arith}
+use Rattle.std.proofs.Common.{arith}
 use Rattle.model.specs.StoredModel.{model_at}
 use Rattle.model.specs.System.{name_of}
 use Rattle.writer.specs.Laws.WroteLaws.{wrote-append}

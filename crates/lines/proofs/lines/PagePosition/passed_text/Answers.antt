@@ -1,5 +1,5 @@
 -- Each field goes on from where the last one ended; the text's length is what its fields ask for. Assumes nothing.
-use native.Mathlib.Omega.{arith}
+use Rattle.std.proofs.Common.{arith}
 use Rattle.writer.specs.Laws.WroteLaws.{wrote-append}
 use Rattle.lines.specs.PageLines.{line_text}
 use Rattle.lines.specs.Laws.PageLinesLaws.{passed_length}

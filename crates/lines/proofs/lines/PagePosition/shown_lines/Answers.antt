@@ -1,8 +1,5 @@
 -- A word's letters and the end that allows it, or `N` where none is shown. Assumes nothing.
-use mathlib.Core.List.{List, [], ◌∷◌}
-use mathlib.Core.Path.{◌≡◌, refl, subst}
-use Prim.Native.Nat.{ℕ, ◌+◌, ◌≤◌}
-use native.Mathlib.Omega.{arith}
+use Rattle.std.proofs.Common.{List, [], ◌∷◌, ◌≡◌, refl, subst, ℕ, ◌+◌, ◌≤◌}
 use Rattle.text.specs.Model.{Model}
 use Rattle.model.specs.StoredModel.{model_at}
 use Rattle.letters.specs.declared.word.End.{End}
@@ -32,16 +29,6 @@ module _ {shown : Shown} {n : ℕ} {end : End} (e : shown ≡ Word n end) where
 
   room_of : (form : Form) (at : ℕ) {long : ℕ} → at + shown_room form shown ≤ long → at + word_room form n ≤ long
   room_of form at {long} h = subst (λ (a : Shown). at + shown_room form a ≤ long) e h
-
-pub word_lines-page-requires : goal.word_lines-page-requires
-word_lines-page-requires c =
-    let e = c.in-Word.is in
-    let fits = room_of e c.args.form c.args.self.at.at c.requires.shown_in_bounds in
-    record {
-      writable = c.requires.writable;
-      letters = letters_of e c.requires.spelled;
-      n_in_bounds = omega (arith, fits);
-    }
 
 pub allows_text-requires : goal.allows_text-requires
 allows_text-requires c =

@@ -1,7 +1,5 @@
 -- On a page a text and its end, on the roll the state's columns and names. Assumes nothing.
-use mathlib.Core.Path.{ap}
-use native.Mathlib.Omega.{arith}
-use lib.ListN.{length}
+use Rattle.std.proofs.Common.{ap, arith, length}
 use Rattle.model.specs.StoredModel.{model_at}
 use Rattle.writer.specs.Laws.WroteLaws.{wrote-append, wrote-length}
 use Rattle.lines.specs.PageLines.{state_line}

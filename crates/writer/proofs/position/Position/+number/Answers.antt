@@ -1,11 +1,6 @@
 -- The digits of n are those of n / 10 and one more: a call for the first, a byte for the last. The measure is n.
-use mathlib.Core.List.{[], ◌∷◌, ◌++◌}
-use Prim.Native.Nat.{ℕ, ◌+◌, ◌/◌, ◌%◌, ◌≤◌, ◌<◌}
-use native.Mathlib.Omega.{arith}
-use mathlib.Core.Path.{◌≡◌, refl, ap, ◌∙◌}
-use lib.Dec.{lit<}
-use lib.ListN.{length, length-append}
-use borrow.Author.Rules.{rules}
+use Rattle.std.proofs.Common.{[], ◌∷◌, ◌++◌, ℕ, ◌+◌, ◌/◌, ◌%◌, ◌≤◌, ◌<◌, arith, ◌≡◌, refl, ap, ◌∙◌, lit<, length}
+use Rattle.std.proofs.Common.{length-append, rules}
 use Rattle.writer.specs.Laws.WroteLaws.{wrote-append}
 use Rattle.text.specs.Bytes.{byte_zero}
 use Rattle.text.specs.Numbers.{digits}
@@ -33,8 +28,8 @@ byte-requires t c = omega (arith, ap length (digits_lt c.args.n (search rules)))
 pub returns-then-n-lt10 : goal.returns-then-n-lt10
 returns-then-n-lt10 t c = rw (digits_lt c.args.n (search rules)) c.byte.ensures
 
-pub number-at-requires : goal.number-at-requires
-number-at-requires t c =
+pub number-requires : goal.number-requires
+number-requires t c =
     let l = digits_le-length c.args.n (search rules) (omega arith) in
     (omega arith, omega arith)
 
@@ -44,4 +39,4 @@ byte-requires-2 t c = omega (arith, digits_le-length c.args.n (search rules) (om
 pub returns : goal.returns
 returns t c =
     rw (digits_le c.args.n (search rules) (omega arith))
-    (wrote-append c.number-at.ensures c.byte-2.ensures)
+    (wrote-append c.number.ensures c.byte-2.ensures)

@@ -1,8 +1,5 @@
 -- The part of the store that is handed on is the action's name, and its numbers are bytes. Assumes nothing.
-use mathlib.Core.Path.{sym, ap, subst}
-use Prim.Native.Nat.{ℕ, ◌<◌}
-use native.Mathlib.Omega.{arith}
-use lib.ListN.{length}
+use Rattle.std.proofs.Common.{sym, ap, subst, ℕ, ◌<◌, arith, length}
 use Rattle.text.specs.All.{All}
 use Rattle.writer.specs.Laws.NameLaws.{action_limit_lt, name_part, name_part_le, name_bytes_lt}
 use Rattle.writer.proofs.position.Position.action_name.Goals as goal

@@ -1,22 +1,14 @@
--- Behind the loop stand the first i bytes of the text, and each round writes one more. Assumes nothing.
-use native.Mathlib.Omega.{arith}
-use borrow.Author.Rules.{rules}
-use lib.Seq.{take_all}
-use Rattle.writer.specs.Laws.WroteLaws.{wrote-nil, wrote-append, take_next}
+-- The whole text stands where it was copied to. Assumes nothing.
+use Rattle.std.proofs.Common.{◌≡◌, ◌+◌, ◌-◌, length, refl, arith}
+use Rattle.std.proofs.lemmas.Slice.{put_mid-paste}
+use Rattle.writer.specs.Laws.WroteLaws.{wrote-paste}
 use Rattle.writer.proofs.position.Position.text.Goals as goal
-
-pub loop-i-init : goal.loop-i-init
-loop-i-init c = (search rules, search rules, omega arith, wrote-nil)
-
-pub loop-i-preserved : goal.loop-i-preserved
-loop-i-preserved c = (
-  search rules,
-  search rules,
-  omega arith,
-  rw (← take_next c.args.text.now c.loop-i.i (search rules))
-      (wrote-append c.loop-i.invariant.3 c.byte-at.ensures),
-)
 
 pub returns : goal.returns
 returns c =
-    rw (take_all c.loop-i.i c.args.text.now (search rules)) at c.loop-i.invariant.3
+    let text = c.args.text.now in
+    let at = c.args.self.at in
+    let n : length text ≡ at + length text - at = omega arith in
+    rw (put_mid-paste at (at + length text - at) c.args.out.now c.copy_from_slice.new.self text (length text)
+    c.copy_from_slice.ensures.after n refl)
+    (wrote-paste c.args.out.now at text (length text) refl c.requires)
