@@ -11,7 +11,7 @@ ghost use Rattle.books.specs.Inner.Sides.{BySide, side_place, BadTold};
 ghost use Rattle.books.specs.Inner.Still.{Still, StaysUnanswered};
 
 use crate::entry::{Entry, Opener, Side, entry_at, who_opens};
-use crate::groups::{group_targets, index_moves};
+use crate::groups::{group_from, group_to, index_moves};
 use crate::listed::{IndexedMoves, ListedMoves};
 use ranking::table::pair_place;
 use text::limits::{ACTION_LIMIT, GROUPS_LENGTH, ROW, SILENT_ACTION, TABLE_LENGTH};
@@ -21,12 +21,24 @@ use text::{Action, State};
 #[derive(Clone, Copy, PartialEq, Eq)]
 pub struct BadEntry(pub usize);
 
+// The value of a byte, in the width of states and actions.
+pub fn byte_value(b: u8) -> u16
+    ensures { result ≡ b }
+{
+    u16::from(b)
+}
+
 // Whether p has a move with the action a to t.
 fn has_move(indexed: IndexedMoves, p: State, a: Action, t: State) -> bool
     requires { (p.0 < state_limit) × (a.0 < action_limit) }
     ensures { Decides result (Indexed indexed.entry.groups.now indexed.entry.targets.now p.0 a.0 t.0) }
 {
-    group_targets(indexed, p, a).iter().any(|&u| u == t.0)
+    for i in group_from(indexed.groups, p, a)..group_to(indexed.groups, p, a) {
+        if indexed.targets[i] == t.0 {
+            return true;
+        }
+    }
+    false
 }
 
 // The number of the entry of the opener's t and the other's u: the first side's state comes first.
@@ -65,8 +77,8 @@ fn answers_lower_entries(
         ((u : ℕ) → Indexed indexed.entry.groups.now indexed.entry.targets.now q.0 a.0 u
         → BySide side (LowerEntry (book_of book.now) depth) t.0 u) }
 {
-    for &u in group_targets(indexed, q, a) {
-        if !is_lower(book, side, t, State(u), depth) {
+    for i in group_from(indexed.groups, q, a)..group_to(indexed.groups, q, a) {
+        if !is_lower(book, side, t, State(indexed.targets[i]), depth) {
             return false;
         }
     }
@@ -80,8 +92,8 @@ fn opens(indexed: IndexedMoves, book: &[u8], opener: Opener, entry: Entry) -> bo
         (BySide opener.side (LowerEntry (book_of book.now) entry.depth)) opener.state.0 opener.other.0 entry.action
         entry.target) }
 {
-    let a = Action(u16::from(entry.action));
-    let t = State(u16::from(entry.target));
+    let a = Action(byte_value(entry.action));
+    let t = State(byte_value(entry.target));
     if a.0 >= ACTION_LIMIT || !has_move(indexed, opener.state, a, t) {
         return false;
     }
@@ -94,8 +106,8 @@ fn stays(n: u16, opener: Opener, entry: Entry) -> bool
     ensures { Decides result ((entry.action ≡ silent_label)
         × StaysUnanswered n opener.state.0 opener.other.0 entry.target) }
 {
-    u16::from(entry.action) == SILENT_ACTION
-        && u16::from(entry.target) == opener.state.0
+    byte_value(entry.action) == SILENT_ACTION
+        && byte_value(entry.target) == opener.state.0
         && opener.state.0 < n
         && n <= opener.other.0
 }

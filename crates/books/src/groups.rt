@@ -17,14 +17,29 @@ fn group_place(p: State, a: Action) -> usize
     usize::from(ACTION_LIMIT) * usize::from(p.0) + usize::from(a.0)
 }
 
-// The targets of the moves of p with the action a.
+// Where the moves of p with the action a begin in the lists.
+pub fn group_from(groups: &[u16; GROUPS_LENGTH], p: State, a: Action) -> usize
+    requires { (p.0 < state_limit) × (a.0 < action_limit) }
+    ensures { result ≡ get_or groups.now (group_place p.0 a.0) 0 }
+{
+    usize::from(groups[group_place(p, a)])
+}
+
+// Where they end.
+pub fn group_to(groups: &[u16; GROUPS_LENGTH], p: State, a: Action) -> usize
+    requires { (p.0 < state_limit) × (a.0 < action_limit) }
+    ensures { result ≡ get_or groups.now (group_place p.0 a.0 + 1) 0 }
+{
+    usize::from(groups[group_place(p, a) + 1])
+}
+
+// The targets of the moves of p with the action a, as a list. Walking the places between the two bounds is faster.
 pub fn group_targets<'a>(indexed: IndexedMoves<'a>, p: State, a: Action) -> &'a [u16]
     requires { (p.0 < state_limit) × (a.0 < action_limit) }
     ensures { GroupTargets indexed.entry.groups.now indexed.entry.targets.now p.0 a.0 result.now }
 {
-    let at = group_place(p, a);
-    let from = usize::from(indexed.groups[at]);
-    let to = usize::from(indexed.groups[at + 1]);
+    let from = group_from(indexed.groups, p, a);
+    let to = group_to(indexed.groups, p, a);
     if to < from {
         // The bounds of a group without moves may stand in any order.
         return &[];

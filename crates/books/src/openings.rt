@@ -7,7 +7,7 @@ ghost use Rattle.books.specs.Inner.Groups.{Indexed};
 ghost use Rattle.ranking.specs.Inner.LowerRanks.{RankIn};
 ghost use Rattle.books.specs.Inner.Openings.{LowerAnswers, FirstOpening};
 
-use crate::groups::group_targets;
+use crate::groups::{group_from, group_to};
 use crate::listed::IndexedMoves;
 use by_state::lists::{moves_from, moves_to};
 use ranking::table::rank_at;
@@ -36,8 +36,8 @@ fn answers_lower_ranks(
     ensures { Decides result (LowerAnswers (Indexed indexed.entry.groups.now indexed.entry.targets.now)
         table.now depth q.0 a.0 t.0) }
 {
-    for &u in group_targets(indexed, q, a) {
-        if !is_lower_rank(table, t, State(u), depth) {
+    for i in group_from(indexed.groups, q, a)..group_to(indexed.groups, q, a) {
+        if !is_lower_rank(table, t, State(indexed.targets[i]), depth) {
             return false;
         }
     }

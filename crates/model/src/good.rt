@@ -35,7 +35,7 @@ fn same(store: &[u16], p: usize, q: usize, n: usize) -> bool
     requires { (p + n ≤ length store.now) × (q + n ≤ length store.now) }
     ensures { Decides result (EachFrom (SameAt store.now p q) 0 n) }
 {
-    store[p..p + n] == store[q..q + n]
+    (0..n).all(|k| store[p + k] == store[q + k])
 }
 
 // Whether a number is a digit or a small letter. A number of 256 or more is no byte.

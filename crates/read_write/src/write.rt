@@ -1,7 +1,8 @@
 // The operation Write.
 ghost use Rattle.read_write.specs.WritePromise.{write_outcome, WritePromise};
 
-use model::refusal::{Refusal, check_good, long_enough};
+use model::good::good;
+use model::refusal::{Refusal, long_enough};
 use text::limits::{OUT_LENGTH, STORE_LENGTH};
 use writer::position::Position;
 
@@ -11,6 +12,8 @@ pub fn write(store: &[u16], out: &mut [u8]) -> Result<usize, Refusal>
 {
     long_enough(1, store.len(), STORE_LENGTH)?;
     long_enough(2, out.len(), OUT_LENGTH)?;
-    check_good(store)?;
+    if !good(store) {
+        return Err(Refusal::NotGood);
+    }
     Ok(Position::start().model(out, store).at)
 }

@@ -4,7 +4,7 @@ ghost use Rattle.reader.specs.Inner.ReadSoFar.{AfterSteps, Through};
 use crate::answers::{LineFault, LineStart};
 use text::Fault;
 use text::bytes::LINE_END;
-use text::line::find;
+use text::line::{find, is_letter};
 
 // The last line, and nothing after it.
 pub fn last_line(text: &[u8], start: LineStart, out: &[u16]) -> Result<(), LineFault>
@@ -16,7 +16,7 @@ pub fn last_line(text: &[u8], start: LineStart, out: &[u16]) -> Result<(), LineF
     if e == text.len() {
         return Err(start.faulty(Fault::Absent));
     }
-    if e != at + 1 || text[at] != b'E' {
+    if e != at + 1 || !is_letter(text[at], b'E') {
         return Err(start.faulty(Fault::Shape));
     }
     if e + 1 != text.len() {

@@ -7,13 +7,14 @@ ghost use Rattle.reader.specs.Inner.ReadSoFar.{AfterAllActions, AfterStarts, Fur
 use crate::answers::{LineFault, LineStart};
 use model::put::put_extra_start;
 use text::Head;
+use text::line::is_letter;
 use text::scan::start_at;
 
 // Whether the line at a place begins with `I`; past the text there is none.
 fn is_start_line(text: &[u8], at: usize) -> bool
     ensures { Decides result (get_or text.now at 0 ≡ byte_i) }
 {
-    at < text.len() && text[at] == b'I'
+    at < text.len() && is_letter(text[at], b'I')
 }
 
 // The lines of the extra starts, into a store that holds the first line and the actions.

@@ -9,7 +9,7 @@ use text::limits::ROW;
 
 // A partition of n states: how many classes there are, the states whose class has another state, the number of each
 // state's class, each class as a set, and what each class was divided off.
-#[derive(Drop)]
+#[derive(Clone, Copy)]
 pub struct Parts {
     pub n: u16,
     pub classes: u16,
@@ -18,5 +18,5 @@ pub struct Parts {
     pub members: [u64; SETS_LENGTH],
     pub origin: [u16; ROW],
     pub ghost states_le: { n ≤ state_limit },
-    pub ghost partition: { Partition n class members classes together },
+    pub ghost partition: { ∥ Partition n class members classes together ∥₁ },
 }

@@ -3,6 +3,7 @@ ghost use Rattle.held.specs.Moves.{held_moves};
 ghost use Rattle.std.specs.Prelude.{ℕ, ◌≡◌, ◌+◌, ◌≤◌, ◌<◌, length, get_or};
 ghost use Rattle.text.specs.Limits.{state_limit, table_length};
 ghost use Rattle.ranking.specs.Table.{Ranked};
+ghost use Rattle.sets.specs.Inner.Sets.{Member};
 ghost use Rattle.splitters.specs.Inner.Splitters.{Into, Ready, Rounded, Rounds, LastRounded, Counted};
 
 use crate::incoming::note_labels;
@@ -18,7 +19,7 @@ use tree::note_round;
 
 // The splitting tree after k rounds: the classes that it has come to, of which those from `first` on are new, the
 // states under each of the others, and the round that made each class. The list `rest` is for a round's own use.
-#[derive(Drop)]
+#[derive(Clone, Copy)]
 pub struct SplittingTree {
     pub parts: Parts,
     pub k: u8,
@@ -34,6 +35,9 @@ pub fn one_class(n: u16) -> SplittingTree
     ensures states { result.parts.n ≡ n }
     ensures no_round { (result.k ≡ 0) × (result.first ≡ 0) × (result.parts.classes ≡ 1) }
     ensures zeros { (j : ℕ) → (get_or result.parts.class j 0 ≡ 0) × (get_or result.parts.origin j 0 ≡ 0) }
+    ensures no_further_set { (j x : ℕ) → ¬ (j ≡ 0) → ¬ (Member result.parts.members j x) }
+    ensures nothing_noted { (j : ℕ) → (get_or result.under j 0 ≡ 0) × (get_or result.rest j 0 ≡ 0)
+        × (get_or result.when j 0 ≡ 0) }
 {
     let all = below(n);
     let mut members = [0u64; SETS_LENGTH];

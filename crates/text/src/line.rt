@@ -1,5 +1,6 @@
 // What one line of a text states.
 ghost use Rattle.std.specs.Prelude.{[], ◌∷◌, ◌≡◌, ◌+◌, ◌≤◌, ◌<◌, length, drop};
+ghost use Rattle.text.specs.Decides.{Decides};
 ghost use Rattle.text.specs.Bytes.{byte_a};
 ghost use Rattle.text.specs.Split.{split, index_of};
 ghost use Rattle.text.specs.Model.{above?};
@@ -7,7 +8,7 @@ ghost use Rattle.text.specs.Lines.{fields_of, level_of, name_byte?, name?, actio
 ghost use Rattle.text.specs.Inner.LineAnswers.{action_read};
 ghost use Rattle.text.specs.Inner.PartAnswers.{Fields, level_read};
 
-use crate::bytes::{COMMA, DIGIT, SMALL_LETTER, kind};
+use crate::bytes::{CAPITAL, COMMA, DIGIT, SMALL_LETTER, kind};
 use crate::limits::{HIGH, LOW, NAME_LIMIT, RELEASE, SILENT};
 use crate::{Fault, StepLine};
 
@@ -31,18 +32,28 @@ fn count(s: &[u8], k: u8) -> usize
     s.iter().filter(|&&b| kind(b) == k).count()
 }
 
+// Whether a byte is a letter: of its kind, and then this one.
+pub fn is_letter(b: u8, letter: u8) -> bool
+    ensures { Decides result (b ≡ letter) }
+{
+    kind(b) == kind(letter) && b == letter
+}
+
 // Whether a line has a letter as its first field, and n more fields, which stand from place 2 on.
 pub fn fields(line: &[u8], letter: u8, n: usize) -> bool
     requires { 0 < n }
     ensures { Fields letter n line.now result }
 {
-    count(line, COMMA) == n && find(line, 0, COMMA) == 1 && line[0] == letter
+    count(line, COMMA) == n && find(line, 0, COMMA) == 1 && is_letter(line[0], letter)
 }
 
-// The level that a byte stands for.
+// The level that a byte stands for, which is a capital by its kind.
 fn level_of(b: u8) -> Option<u16>
     ensures { level_of (b ∷ []) ≡ level_read result }
 {
+    if kind(b) != CAPITAL {
+        return None;
+    }
     match b {
         b'L' => Some(LOW),
         b'D' => Some(RELEASE),

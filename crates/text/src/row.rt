@@ -10,7 +10,7 @@ ghost use Rattle.text.specs.Inner.Columns.{columns, numbers_in, ColumnsTo, Colum
 
 use crate::bytes::{COMMA, LINE_END, kind};
 use crate::limits::{ACTION_LIMIT, STATE_LIMIT, STEP_LIMIT};
-use crate::line::{fields, find};
+use crate::line::{fields, find, is_letter};
 use crate::number::{Bounds, NumberAt, NumberFault, below, number_at, within};
 use crate::{Fault, Head, State, StepLine};
 
@@ -133,7 +133,7 @@ fn begins(text: &[u8], at: usize, letter: u8) -> bool
     requires { at ≤ length text.now }
     ensures { Decides result (RowBegins letter text.now at) }
 {
-    2 <= text.len() - at && text[at] == letter && kind(text[at + 1]) == COMMA
+    2 <= text.len() - at && is_letter(text[at], letter) && kind(text[at + 1]) == COMMA
 }
 
 // The kind of the byte that follows the number in a column.

@@ -14,7 +14,7 @@ pub record Partition (n : ℕ) (class members : List ℕ) (classes : ℕ) (toget
   pub class_lt : (p : ℕ) → p < n → get_or class p 0 < classes
   pub member : (p : ℕ) → p < n → Member members (get_or class p 0) p
   pub member_only : (c p : ℕ) → c < classes → Member members c p → (p < n) × (get_or class p 0 ≡ c)
-  pub some : (c : ℕ) → c < classes → ¬ ((p : ℕ) → p < n → ¬ (get_or class p 0 ≡ c))
+  pub some : (c : ℕ) → c < classes → (p : ℕ) × (p < n) × (get_or class p 0 ≡ c)
   pub together_all : (p q : ℕ) → p < n → q < n → Same class p q → ¬ (p ≡ q) → In together p
   pub together_lt : (p : ℕ) → In together p → p < n
 

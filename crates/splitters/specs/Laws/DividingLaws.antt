@@ -129,7 +129,7 @@ module _ {n c classes : ℕ} {class members : List ℕ} {together moved kept : S
             class_lt = λ p lp. below p lp (in_or_not moved p);
             member = member_next;
             member_only = member_only_next;
-            some = λ i k none. let h = some i k in none h.0 h.1 h.2;
+            some = some;
             together_all = together_next;
             together_lt = λ p i. P.together_lt p (a.0 p (b.0 p i));
           }

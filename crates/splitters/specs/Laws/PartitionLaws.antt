@@ -2,6 +2,8 @@
 -- Assumes nothing.
 use Rattle.std.specs.Prelude.{List, ◌⊎◌, ◌≡◌, refl, ℕ, zero, suc, ◌+◌, ◌≤◌, ◌<◌, get_or}
 use Rattle.std.proofs.Common.{inl, inr, sym, ◌∙◌, subst, arith}
+use Rattle.std.proofs.Math.Logic.{∥∥₁_elim}
+use Rattle.std.proofs.Props.{props}
 use Rattle.lts.proofs.PigeonholeLaws.{injective_le}
 use Rattle.lts.proofs.TestsLaws.{eq_or_not, lt_or_le, lt-suc_cases}
 use Rattle.by_state.specs.Inner.Numbered.{Same}
@@ -33,12 +35,25 @@ search_class class c (suc m) = go (search_class class c m) (eq_or_not (get_or cl
 pub state_of_class : {n classes : ℕ} {class members : List ℕ} {together : Set}
     → Partition n class members classes together → (c : ℕ) → c < classes
     → (p : ℕ) × (p < n) × (get_or class p 0 ≡ c)
-state_of_class {n} {class = class} P c l = go (search_class class c n)
+state_of_class P c l = P.some c l
+
+-- Of a partition of which only that it is one is known, all is known: a state of a class is found again by a search.
+pub partition_of : {n classes : ℕ} {class members : List ℕ} {together : Set}
+    → ∥ Partition n class members classes together ∥₁ → Partition n class members classes together
+partition_of {n} {classes} {class} h = record {
+  classes_le = ∥∥₁_elim h (Prim.hlevel props) (λ P. P.classes_le);
+  class_lt = ∥∥₁_elim h (Prim.hlevel props) (λ P. P.class_lt);
+  member = ∥∥₁_elim h (Prim.hlevel props) (λ P. P.member);
+  member_only = ∥∥₁_elim h (Prim.hlevel props) (λ P. P.member_only);
+  some = λ c l. found c l (search_class class c n);
+  together_all = ∥∥₁_elim h (Prim.hlevel props) (λ P. P.together_all);
+  together_lt = ∥∥₁_elim h (Prim.hlevel props) (λ P. P.together_lt);
+}
   where
-    go : ((p : ℕ) × (p < n) × (get_or class p 0 ≡ c)) ⊎ ((p : ℕ) → p < n → ¬ (get_or class p 0 ≡ c))
-        → (p : ℕ) × (p < n) × (get_or class p 0 ≡ c)
-    go (inl h) = h
-    go (inr f) = absurd (P.some c l f)
+    found : (c : ℕ) → c < classes → ((p : ℕ) × (p < n) × (get_or class p 0 ≡ c))
+        ⊎ ((p : ℕ) → p < n → ¬ (get_or class p 0 ≡ c)) → (p : ℕ) × (p < n) × (get_or class p 0 ≡ c)
+    found c l (inl x) = x
+    found c l (inr none) = absurd (∥∥₁_elim h (Prim.hlevel props) (λ P. let x = P.some c l in none x.0 x.1 x.2))
 
 -- ---- no more classes than states
 

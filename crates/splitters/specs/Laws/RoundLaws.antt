@@ -67,7 +67,7 @@ partition_one {n} {class} {members' = members'} some A M z = record {
   member_only = λ c p l m.
       let e : c ≡ 0 = omega (arith, l) in
       (A.only p (M.put.all p (subst (λ (d : ℕ). Member members' d p) e m)), z p ∙ sym e);
-  some = λ c l none. let e : c ≡ 0 = omega (arith, l) in none 0 some (z 0 ∙ sym e);
+  some = λ c l. let e : c ≡ 0 = omega (arith, l) in (0, some, z 0 ∙ sym e);
   together_all = λ p q lp lq e d. A.all p lp;
   together_lt = λ p i. A.only p i;
 }

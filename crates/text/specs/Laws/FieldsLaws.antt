@@ -13,6 +13,7 @@ use borrow.Author.Tests.{ltb-true, ltb-false, eq-eqb, ne_eqb}
 use Rattle.text.specs.declared.Fault.{Fault}
 use Rattle.text.specs.declared.Fault.TheVariants.{Shape}
 use Rattle.text.specs.Bytes.{comma, kind_of}
+use Rattle.text.specs.Decides.{Decides}
 use Rattle.text.specs.Split.{cons_first, split, index_of, same?}
 use Rattle.text.specs.Laws.SplitLaws.{split-end, split-cons, split_first, split_part, split_last, split_none}
 use Rattle.text.specs.Laws.SplitLaws.{split-nil, split-found, found_le}
@@ -20,6 +21,7 @@ use Rattle.lts.proofs.TestsLaws.{and_left, and_right}
 use Rattle.text.specs.Laws.SameLaws.{and-false, same?→eq, same?-length}
 use Rattle.text.specs.Lines.{good, bad, checked, fields_from, fields_of}
 use Rattle.text.specs.Inner.PartAnswers.{Fields}
+use Rattle.text.specs.Laws.DecidesLaws.{decides_eqb}
 
 -- ---- the number of parts
 
@@ -215,11 +217,14 @@ module _ (letter n : ℕ) (line : List ℕ) (parts : split comma line ≡ (get_o
           no_fields = λ z. absurd (clash (sym z));
         }
 
+    -- by what decides whether the first byte is the letter
+    pub fields_letter_decided : 2 ≤ length line → length (split comma line) ≡ n + 1
+        → (r : Bool) → Decides r (get_or line 0 0 ≡ letter) → Fields letter n line r
+    fields_letter_decided le counted true h = fields_yes le counted h
+    fields_letter_decided le counted false h = fields_other_letter h
+
     -- by the test of the first byte
     pub fields_letter_test : 2 ≤ length line → length (split comma line) ≡ n + 1
         → Fields letter n line (eqb (get_or line 0 0) letter)
-    fields_letter_test le counted = go (eqb (get_or line 0 0) letter) refl
-      where
-        go : (t : Bool) → eqb (get_or line 0 0) letter ≡ t → Fields letter n line t
-        go true t = fields_yes le counted (eqb-true _ _ t)
-        go false t = fields_other_letter (eqb-false _ _ t)
+    fields_letter_test le counted =
+        fields_letter_decided le counted _ (decides_eqb (get_or line 0 0) letter (λ e. e) (λ e. e))

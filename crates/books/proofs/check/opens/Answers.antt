@@ -4,6 +4,6 @@ use Rattle.books.proofs.check.opens.Goals as goal
 
 pub returns : goal.returns
 returns c =
-    rw (← c.from.ensures, ← c.from-2.ensures)
+    rw (← c.byte_value.ensures, ← c.byte_value-2.ensures)
     (decides_iff c.answers_lower_entries.result (λ h. record { opening = c.if-not-has_move.ensures; answers = h })
     (λ o. o.answers) c.answers_lower_entries.ensures)

@@ -22,20 +22,15 @@ returns-in_err-long_enough-2 c =
     let r = err_from_is_err_and t.result t.ensures.1 in
     rw (r.1, r.2, e.1) (short_out_promised _ _ a e.0)
 
-pub returns-in_err-check_good : goal.returns-in_err-check_good
-returns-in_err-check_good c =
-    let a = c.in_ok-long_enough.ensures in
-    let b = c.in_ok-long_enough-2.ensures in
-    let e = c.in_err-check_good.ensures in
-    let t = c.from_residual-in_err-check_good in
-    let r = err_from_is_err_and t.result t.ensures.1 in
-    rw (r.1, r.2, e.1) (not_good_promised _ _ a b e.0)
+pub returns-then-not-good : goal.returns-then-not-good
+returns-then-not-good c =
+    not_good_promised _ _ c.in_ok-long_enough.ensures c.in_ok-long_enough-2.ensures c.if-not-good.ensures
 
 pub model-requires : goal.model-requires
 model-requires c =
     let w : Writable c.args.store.now = record {
       long = c.in_ok-long_enough.ensures;
-      good = c.in_ok-check_good.ensures.0;
+      good = c.if-not-good.ensures;
     } in
     record {
       writable = w;
@@ -44,7 +39,7 @@ model-requires c =
 
 pub returns : goal.returns
 returns c =
-    let good = c.in_ok-check_good.ensures.0 in
+    let good = c.if-not-good.ensures in
     let a = c.in_ok-long_enough.ensures in
     let b = c.in_ok-long_enough-2.ensures in
     let text = rw c.start.ensures at c.model.ensures in

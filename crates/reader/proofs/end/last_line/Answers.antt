@@ -6,7 +6,7 @@ use Rattle.reader.specs.Inner.ReadSoFar.{Through}
 use Rattle.reader.specs.Laws.ReadStepsLaws.{end_absent, end_long, end_other, end_more, end_done}
 use Rattle.reader.proofs.end.last_line.Goals as goal
 use Rattle.reader.proofs.end.last_line.Goals.{Else-e-text, then-e-at-via-then-e-at}
-use Rattle.reader.proofs.end.last_line.Goals.{then-e-at-via-else-e-at+then-text-at-ne69}
+use Rattle.reader.proofs.end.last_line.Goals.{then-e-at-via-else-e-at+then-not-is_letter}
 
 -- where the line has an end
 inside : (c : Else-e-text)
@@ -28,8 +28,8 @@ returns-then-e-at c =
     let i = inside (goal.at.returns-then-e-at c).Else-e-text in
     rw c.faulty-then-e-at.ensures (elim c.then-e-at.branch [
       | then-e-at-via-then-e-at w ↦ end_long _ _ _ c.requires _ c.find-e.ensures i w.if-e-at.true
-      | then-e-at-via-else-e-at+then-text-at-ne69 w ↦
-          end_other _ _ _ c.requires _ c.find-e.ensures i w.if-e-at.false w.if-text-at-ne69.true
+      | then-e-at-via-else-e-at+then-not-is_letter w ↦
+          end_other _ _ _ c.requires _ c.find-e.ensures i w.if-e-at.false w.if-not-is_letter.ensures
     ])
 
 pub returns-then-e-text-2 : goal.returns-then-e-text-2
@@ -37,10 +37,10 @@ unfolding Through
 returns-then-e-text-2 c =
     rw (c.faulty-then-e-text-2.ensures, c.next.ensures)
     (end_more _ _ _ c.requires _ c.find-e.ensures (inside (goal.at.returns-then-e-text-2 c).Else-e-text)
-    c.if-e-at.false c.if-text-at-ne69.false c.if-e-text-2.true)
+    c.if-e-at.false c.if-not-is_letter.ensures c.if-e-text-2.true)
 
 pub returns : goal.returns
 unfolding Through
 returns c =
     end_done _ _ _ c.requires _ c.find-e.ensures (inside (goal.at.returns c).Else-e-text)
-    c.if-e-at.false c.if-text-at-ne69.false c.if-e-text-2.false
+    c.if-e-at.false c.if-not-is_letter.ensures c.if-e-text-2.false

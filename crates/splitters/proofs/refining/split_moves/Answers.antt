@@ -7,6 +7,7 @@ use Rattle.text.specs.Laws.DecidesLaws.{decides_true}
 use Rattle.splitters.specs.Inner.Splitters.{LeadsInto}
 use Rattle.splitters.specs.Laws.CutLaws.{CutTo, cut_to_fresh, cut_to-rest, split-cut}
 use Rattle.splitters.specs.Laws.CutLaws.{leads_within, split_twice_of_splits, split_twice_once, split_twice_none}
+use Rattle.splitters.specs.Laws.PartitionLaws.{partition_of}
 use Rattle.splitters.specs.Laws.StatesLaws.{partition_at, split_at}
 use Rattle.splitters.proofs.refining.split_moves.Goals as goal
 use Rattle.splitters.proofs.refining.split_moves.Goals.{After-is_empty}
@@ -16,7 +17,7 @@ cut : (c : After-is_empty) → CutTo c.args.parts.now.n c.args.parts.now.class
     (LeadsInto c.args.moves.slots.now c.args.moves.pool.now c.args.row c.args.fresh)
     c.both-from.result
 cut c =
-    cut_to_fresh c.requires.turned c.args.parts.now.states_le c.args.parts.now.partition c.sources.ensures
+    cut_to_fresh c.requires.turned c.args.parts.now.states_le (partition_of c.args.parts.now.partition) c.sources.ensures
     c.both-from.ensures
 
 pub sources-requires-clause-row_bound : goal.sources-requires-clause-row_bound
@@ -41,7 +42,7 @@ pub returns-clause-split_twice : goal.returns-clause-split_twice
 returns-clause-split_twice c =
     let same = c.split.ensures.grown.0 in
     let first = cut (goal.at.returns-clause-split_twice c).After-is_empty in
-    let rest = cut_to-rest first c.split.ensures.split.by.same_before (partition_at same c.split.new.self.partition)
+    let rest = cut_to-rest first c.split.ensures.split.by.same_before (partition_at same (partition_of c.split.new.self.partition))
     c.both-left.ensures c.leading-to_rest.ensures in
     split_twice_of_splits (split-cut first c.split.ensures.split)
     (split-cut rest (split_at same c.split-2.ensures.split))

@@ -5,6 +5,7 @@ use Rattle.held.specs.Laws.ListedLaws.{held_list}
 use Rattle.std.proofs.Common.{refl, ◌∙◌}
 use Rattle.held.specs.Laws.HeldLaws.{held_move_game}
 use Rattle.ranking.specs.Laws.RoundsLaws.{ranked_of_finished}
+use Rattle.splitters.specs.Laws.PartitionLaws.{partition_of}
 use Rattle.splitters.specs.Laws.RoundLaws.{rounds-zero, finished_of_last}
 use Rattle.splitters.specs.Laws.StatesLaws.{partition_at}
 use Rattle.splitters.proofs.rounds.rank_held.Goals as goal
@@ -14,7 +15,7 @@ rounds-last-requires-clause-rounds c =
     let one = c.one_class-tree in (
       one.ensures.states,
       rounds-zero one.ensures.no_round one.ensures.zeros
-          (partition_at one.ensures.states one.result.parts.partition),
+          (partition_at one.ensures.states (partition_of one.result.parts.partition)),
     )
 
 pub returns : goal.returns

@@ -4,6 +4,7 @@ use Rattle.held.specs.Laws.ListedLaws.{held_list}
 use Rattle.held.specs.Moves.{held_moves}
 use Rattle.std.proofs.Common.{◌∙◌}
 use Rattle.splitters.specs.Inner.Splitters.{Rounded}
+use Rattle.splitters.specs.Laws.PartitionLaws.{partition_of}
 use Rattle.splitters.specs.Laws.RoundLaws.{rounded_of_used_split}
 use Rattle.splitters.specs.Laws.StatesLaws.{partition_at, used_split_at}
 use Rattle.splitters.proofs.rounds.round.Goals as goal
@@ -18,7 +19,7 @@ rounded c =
     let ready = c.requires.k_lt_classes in
     let split = c.refine.ensures in
     rounded_of_used_split (held_list c.args.moves) ready.2 c.note_fresh.ensures.0 c.note_fresh.ensures.1
-    (partition_at (split.grown.0 ∙ ready.0) c.refine.new.parts.partition) split.grown.1
+    (partition_at (split.grown.0 ∙ ready.0) (partition_of c.refine.new.parts.partition)) split.grown.1
     (used_split_at ready.0 split.used_split) c.note_round.ensures
 
 pub returns-then-classes-old-clause-rounded : goal.returns-then-classes-old-clause-rounded

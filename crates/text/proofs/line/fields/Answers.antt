@@ -4,7 +4,7 @@ use Rattle.std.proofs.lemmas.Bool.{eqb-true, eqb-false}
 use Rattle.text.specs.Bytes.{comma}
 use Rattle.text.specs.Split.{split}
 use Rattle.text.specs.Laws.FieldsLaws.{byte_field}
-use Rattle.text.specs.Laws.FieldsLaws.{fields_other-count, fields_other_place, fields_letter_test}
+use Rattle.text.specs.Laws.FieldsLaws.{fields_other-count, fields_other_place, fields_letter_decided}
 use Rattle.text.proofs.line.fields.Goals as goal
 use Rattle.text.proofs.line.fields.Goals.{Then-find-eq1, then-count-n, else-count-n}
 
@@ -28,7 +28,7 @@ bounds-line-0 c = omega (arith, (first (goal.at.bounds-line-0 c).Then-find-eq1).
 pub returns-then-find-eq1 : goal.returns-then-find-eq1
 returns-then-find-eq1 c =
     let b = first (goal.at.returns-then-find-eq1 c).Then-find-eq1 in
-    fields_letter_test _ _ _ b.2 b.1 b.0
+    fields_letter_decided _ _ _ b.2 b.1 b.0 _ c.is_letter.ensures
 
 pub returns-else-find-eq1 : goal.returns-else-find-eq1
 returns-else-find-eq1 c = rw c.if-find-eq1.false (elim c.if-count-n.branch [

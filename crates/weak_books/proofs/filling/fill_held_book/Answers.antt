@@ -7,6 +7,7 @@ use Rattle.text.specs.Laws.ListsLaws.{past_trans}
 use Rattle.held.specs.Laws.HeldLaws.{held_move_game}
 use Rattle.ranking.specs.Laws.RoundsLaws.{ranked_of_finished}
 use Rattle.books.specs.Laws.RowsLaws.{empty_of_cleared}
+use Rattle.splitters.specs.Laws.PartitionLaws.{partition_of}
 use Rattle.splitters.specs.Laws.RoundLaws.{rounds-zero, tree_of_last, member_sets_of_last, finished_of_last}
 use Rattle.splitters.specs.Laws.StatesLaws.{partition_at}
 use Rattle.weak_books.specs.Laws.BookUpToLaws.{book_up_to-zero, book_filled_of_settled}
@@ -24,7 +25,7 @@ book_rounds-requires c =
       rounds = (
         one.ensures.states,
         rounds-zero one.ensures.no_round one.ensures.zeros
-            (partition_at one.ensures.states one.result.parts.partition),
+            (partition_at one.ensures.states (partition_of one.result.parts.partition)),
       );
       book_length_in_bounds = (
         omega (arith, c.requires.table_length_in_bounds.1, c.clear-2.ensures.past.same_length),

@@ -2,6 +2,7 @@
 use Rattle.std.proofs.Common.{◌<◌, refl, ◌∙◌, arith}
 use Rattle.sets.specs.Laws.WithinLaws.{words_le}
 use Rattle.splitters.specs.Inner.Partition.{Partition}
+use Rattle.splitters.specs.Laws.PartitionLaws.{partition_of}
 use Rattle.splitters.specs.Laws.StatesLaws.{partition_at, split_at}
 use Rattle.splitters.specs.Laws.SplitLaws.{split_empty}
 use Rattle.splitters.specs.Laws.SplittingLaws.{left_of_together, split_together, class_of_left_lt}
@@ -12,14 +13,14 @@ use Rattle.splitters.proofs.parts.Parts.split.Goals.{After-class_at-c}
 -- The classes are a partition of the same states.
 now : (c : After-class_at-c) → Partition c.args.self.now.n c.loop-p.self.class c.loop-p.self.members
     c.loop-p.self.classes c.loop-p.self.together
-now c = partition_at c.loop-p.invariant.0 c.loop-p.self.partition
+now c = partition_at c.loop-p.invariant.0 (partition_of c.loop-p.self.partition)
 
 class_lt : (c : After-class_at-c) → c.class_at-c.result.0 < c.loop-p.self.classes
 class_lt c = class_of_left_lt (now c) c.loop-p.invariant.2 c.in-Some.ensures.taken c.class_at-c.ensures
 
 pub loop-p-init : goal.loop-p-init
 loop-p-init c =
-    let P = c.args.self.now.partition in (
+    let P = partition_of c.args.self.now.partition in (
       refl,
       omega arith,
       left_of_together P c.both-left.ensures,
@@ -29,7 +30,7 @@ loop-p-init c =
 pub set_at-requires : goal.set_at-requires
 set_at-requires c =
     let d = (goal.at.set_at-requires c).After-class_at-c in
-    omega (arith, class_lt d, c.loop-p.self.partition.classes_le, c.loop-p.self.states_le)
+    omega (arith, class_lt d, (partition_of c.loop-p.self.partition).classes_le, c.loop-p.self.states_le)
 
 pub split_class-requires : goal.split_class-requires
 split_class-requires c =
